@@ -1,0 +1,55 @@
+use Rattle.std.proofs.Common.{◌≡◌, ℕ, List, Bool, true, false, ◌&&◌, ◌||◌, true≢false, Option, Some, None, refl, sym, ◌∙◌, ap, IsTrue, inl, inr, ◌⊎◌, bytes_eq}
+use Rattle.std.specs.Option.{option_eq}
+use Rattle.std.specs.Cmp.Lexicographic.{bytes_decides}
+use Rattle.cm_names.specs.declared.child.ChildName.{ChildName}
+use Rattle.cm_decl.specs.declared.node.Node.{Node}
+use Rattle.cm_decl.specs.declared.node.Node.TheVariants.{Own, Child}
+use Rattle.cm_decl.specs.Same.{same_child, same_node}
+
+pub and_first : (p q : Bool) → IsTrue (p && q) → IsTrue p
+and_first true q h = refl
+and_first false q h = absurd (true≢false (sym h))
+
+pub and_second : (p q : Bool) → IsTrue (p && q) → IsTrue q
+and_second true q h = h
+and_second false q h = absurd (true≢false (sym h))
+
+pub or_split : (p q : Bool) → IsTrue (p || q) → IsTrue p ⊎ IsTrue q
+or_split true q h = inl refl
+or_split false q h = inr h
+
+pub never : {A : Type 0} → IsTrue false → A
+never h = absurd (true≢false (sym h))
+
+same_parts : (coll : Option (List ℕ)) (name : List ℕ) → IsTrue (option_eq bytes_eq coll coll && bytes_eq name name)
+same_parts None name = (bytes_decides name name).1 refl
+same_parts (Some coll) name = rw ((bytes_decides coll coll).1 refl) ((bytes_decides name name).1 refl)
+
+-- a node is the same as itself
+pub same_node-refl : (x : Node) → IsTrue (same_node x x)
+same_node-refl Own = refl
+same_node-refl (Child n) = same_parts n.coll n.name
+
+named : Option (List ℕ) → List ℕ → ChildName
+named coll name = record { coll = coll; name = name }
+
+parts_same : (c d : Option (List ℕ)) (m n : List ℕ) → IsTrue (option_eq bytes_eq c d && bytes_eq m n) → named c m ≡ named d n
+unfolding named
+parts_same None None m n h = ap (named None) ((bytes_decides m n).0 h)
+parts_same None (Some d) m n h = never h
+parts_same (Some c) None m n h = never h
+parts_same (Some c) (Some d) m n h =
+    let colls : c ≡ d = (bytes_decides c d).0 (and_first (bytes_eq c d) (bytes_eq m n) h) in
+    let names : m ≡ n = (bytes_decides m n).0 (and_second (bytes_eq c d) (bytes_eq m n) h) in
+    ap (λ z. named (Some z) m) colls ∙ ap (named (Some d)) names
+
+-- what passes the test of sameness is the same
+pub same_child_exact : (a b : ChildName) → IsTrue (same_child a b) → a ≡ b
+unfolding named
+same_child_exact a b h = parts_same a.coll b.coll a.name b.name h
+
+pub same_node_exact : (x y : Node) → IsTrue (same_node x y) → x ≡ y
+same_node_exact Own Own h = refl
+same_node_exact Own (Child b) h = never h
+same_node_exact (Child a) Own h = never h
+same_node_exact (Child a) (Child b) h = ap Child (same_child_exact a b h)

@@ -1,0 +1,47 @@
+-- The faults of offers that are made to a child when it is created.
+use Rattle.std.specs.Prelude.{ℕ, ◌+◌, List, [], ◌∷◌, ◌++◌, Bool, false, ◌&&◌, ◌||◌, Option, Some, None, is_none, find, if◌then◌else◌}
+use Rattle.std.specs.List.{list_any}
+use Rattle.std.specs.Str.{bytes_eq}
+use Rattle.cm_names.specs.declared.child.ChildName.{ChildName}
+use Rattle.cm_decl.specs.declared.decl.Decl.{Decl}
+use Rattle.cm_decl.specs.declared.rows.Give.{Give}
+use Rattle.cm_decl.specs.Rules.{Rule, UnknownRef, NotDeclared, RepeatedTarget, RequiredVoid, number_of, is_child, is_unknown, is_required_void}
+use Rattle.cm_decl.specs.Breaks.{has_undeclared_source}
+
+-- a source is a declared child, or a dynamic one that is there
+abbrev pub is_there : Decl → (ChildName → Bool) → ChildName → Bool
+is_there d dynamic c = if is_none c.coll then is_child d c else dynamic c
+
+-- whether the declaration offers something of this name to the collection
+abbrev pub is_offered : Decl → List ℕ → List ℕ → Bool
+is_offered d coll name = list_any (λ o. bytes_eq o.to coll && bytes_eq o.give.target_name name) d.offers
+
+-- whether an offer to a new child breaks a rule, behind the offers to it that stand before
+abbrev pub give_breaks : Decl → (ChildName → Bool) → List ℕ → List Give → Give → Rule → Bool
+give_breaks d dynamic coll before g UnknownRef = is_unknown (is_there d dynamic) g.from
+give_breaks d dynamic coll before g NotDeclared = has_undeclared_source d g
+give_breaks d dynamic coll before g RepeatedTarget =
+    is_offered d coll g.target_name || list_any (λ h. bytes_eq h.target_name g.target_name) before
+give_breaks d dynamic coll before g RequiredVoid = is_required_void g
+give_breaks d dynamic coll before g _ = false
+
+-- the rules that such offers have to keep
+abbrev pub give_rules : List Rule
+give_rules = UnknownRef ∷ NotDeclared ∷ RepeatedTarget ∷ RequiredVoid ∷ []
+
+-- the first rule that such an offer breaks
+abbrev pub give_fault : Decl → (ChildName → Bool) → List ℕ → List Give → Give → Option Rule
+give_fault d dynamic coll before g = find (give_breaks d dynamic coll before g) give_rules
+
+-- the first bad one of these offers, which stand behind the i offers before: its index and the number of its fault
+abbrev pub bad_give_from : Decl → (ChildName → Bool) → List ℕ → ℕ → List Give → List Give → Option (ℕ × ℕ)
+bad_give_from d dynamic coll i before [] = None
+bad_give_from d dynamic coll i before (g ∷ gs) =
+    elim (give_fault d dynamic coll before g) as (λ _. Option (ℕ × ℕ)) [
+      | Some rule ↦ Some (i, number_of rule)
+      | None ↦ bad_give_from d dynamic coll (i + 1) (before ++ g ∷ []) gs
+    ]
+
+-- the first bad offer to a new child of a collection; dynamic tells which dynamic children are there and not doomed
+abbrev pub bad_give : Decl → (ChildName → Bool) → List ℕ → List Give → Option (ℕ × ℕ)
+bad_give d dynamic coll gives = bad_give_from d dynamic coll 0 [] gives

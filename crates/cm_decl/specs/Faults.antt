@@ -1,0 +1,58 @@
+-- The faults of a declaration, and the first of them.
+use Rattle.std.specs.Prelude.{◌≡◌, ℕ, ◌<◌, List, [], Option, Some, None, IsTrue, ◌⊎◌}
+use Rattle.cm_decl.specs.declared.decl.Decl.{Decl}
+use Rattle.cm_decl.specs.declared.node.Node.{Node}
+use Rattle.cm_decl.specs.declared.section.Section.{Section}
+use Rattle.cm_decl.specs.declared.section.Section.TheVariants.{Manifest, Program, Children, Collections, Capabilities, Uses, Offers, Exposes, Graph}
+use Rattle.cm_decl.specs.Rules.{Rule, number_of}
+use Rattle.cm_decl.specs.Clashes.{Place, clash}
+use Rattle.cm_decl.specs.Breaks.{breaks}
+
+-- what is reported: a number, a row, the row that it clashes with, and the nodes of a cycle
+pub record Fault : Type 0 where
+  pub number : ℕ
+  pub section : Section
+  pub index : ℕ
+  pub against : Option Place
+  pub cycle : List Node
+
+-- a fault stands where its row breaks the rule of its number
+pub record Stands (d : Decl) (f : Fault) : Type 0 where
+  pub rule : Rule
+  pub broken : IsTrue (breaks d rule f.section f.index)
+  pub numbered : f.number ≡ number_of rule
+  pub clashing : f.against ≡ clash d rule f.section f.index
+  pub no_cycle : f.cycle ≡ []
+
+-- the order in which sections are reported
+abbrev pub section_rank : Section → ℕ
+section_rank Manifest = 0
+section_rank Program = 1
+section_rank Children = 2
+section_rank Collections = 3
+section_rank Capabilities = 4
+section_rank Uses = 5
+section_rank Offers = 6
+section_rank Exposes = 7
+section_rank Graph = 8
+
+-- the first is reported before the second: by section, then by index, then by number
+abbrev pub IsBefore : Fault → Fault → Type 0
+IsBefore f g =
+    (section_rank f.section < section_rank g.section) ⊎
+    ((section_rank f.section ≡ section_rank g.section) ×
+    ((f.index < g.index) ⊎ ((f.index ≡ g.index) × (f.number < g.number))))
+
+-- a fault that stands, and before which none stands
+pub record IsFirst (d : Decl) (f : Fault) : Type 0 where
+  pub stands : Stands d f
+  pub none_before : (g : Fault) → Stands d g → IsBefore g f → ⊥
+
+-- the first of the faults that stand in a part of the declaration, or none where none stands there
+abbrev pub IsFirstIn : Decl → (Fault → Type 0) → Option Fault → Type 0
+IsFirstIn d In None = (g : Fault) → Stands d g → In g → ⊥
+IsFirstIn d In (Some f) = Stands d f × In f × ((g : Fault) → Stands d g → In g → IsBefore g f → ⊥)
+
+-- no fault stands
+abbrev pub IsFaultless : Decl → Type 0
+IsFaultless d = (f : Fault) → Stands d f → ⊥

@@ -1,0 +1,110 @@
+-- The realm graph of a declaration and of children that were created in its collections.
+use Rattle.std.specs.Prelude.{◌≡◌, ℕ, ◌<◌, List, [], ◌∷◌, ◌++◌, Bool, true, false, ◌&&◌, Option, Some, None, filter, map, flat_map, unwrap_or, slice_get, count_by, if◌then◌else◌, IsTrue, ◌⊎◌}
+use Rattle.std.specs.List.{list_any}
+use Rattle.std.specs.Str.{bytes_eq}
+use Rattle.std.specs.Option.{option_eq}
+use Rattle.cm_names.specs.declared.child.ChildName.{ChildName}
+use Rattle.cm_names.specs.declared.dependency.Dependency.{Dependency}
+use Rattle.cm_names.specs.declared.dependency.Dependency.TheVariants.{Strong, Weak}
+use Rattle.cm_decl.specs.declared.decl.Decl.{Decl}
+use Rattle.cm_decl.specs.declared.rows.Child.{Child as DeclaredChild}
+use Rattle.cm_decl.specs.declared.rows.Give.{Give}
+use Rattle.cm_decl.specs.declared.node.DynChild.{DynChild}
+use Rattle.cm_decl.specs.declared.origin.Origin.{Origin}
+use Rattle.cm_decl.specs.declared.origin.Origin.TheVariants as origin
+use Rattle.cm_decl.specs.declared.node.Node.{Node}
+use Rattle.cm_decl.specs.declared.node.Node.TheVariants.{Own, Child}
+use Rattle.cm_decl.specs.Same.{same_child, same_node}
+use Rattle.cm_decl.specs.Realm.{Realm, Directly, Depends}
+
+-- the node that a source is, if it is one
+abbrev pub node_of : Origin → Option Node
+node_of origin.Own = Some Own
+node_of (origin.Child c) = Some (Child c)
+node_of _ = None
+
+abbrev pub is_strong : Dependency → Bool
+is_strong Strong = true
+is_strong Weak = false
+
+-- the name that an offer to a child is to: that of its collection, if it is in one, else its own
+abbrev pub target_of : ChildName → List ℕ
+target_of c = unwrap_or c.coll c.name
+
+-- what a declaration offers to a child
+abbrev pub offers_to : Decl → ChildName → List Give
+offers_to d c = map (λ o. o.give) (filter (λ o. bytes_eq o.to (target_of c)) d.offers)
+
+-- the sources of what a child strongly depends on: by the offers to it and by what it was given alone
+abbrev pub child_sources : Decl → ChildName → List Give → List Origin
+child_sources d c gives = map (λ g. g.from) (filter (λ g. is_strong g.dependency) (offers_to d c ++ gives))
+
+abbrev pub is_from_child : Origin → Bool
+is_from_child (origin.Child c) = true
+is_from_child _ = false
+
+-- the children that the component itself strongly uses
+abbrev pub own_sources : Decl → List Origin
+own_sources d = map (λ u. u.from) (filter (λ u. is_strong u.dependency && is_from_child u.from) d.uses)
+
+abbrev pub static_name : List ℕ → ChildName
+static_name name = record { coll = None; name = name }
+
+abbrev pub static_node : DeclaredChild → Node
+static_node k = Child (static_name k.name)
+
+abbrev pub dynamic_node : DynChild → Node
+dynamic_node k = Child k.name
+
+-- the component itself, each declared child and each listed dynamic child
+abbrev pub nodes : Decl → List DynChild → List Node
+nodes d dynamic = Own ∷ map static_node d.children ++ map dynamic_node dynamic
+
+abbrev pub is_node : Decl → List DynChild → Node → Bool
+is_node d dynamic x = list_any (λ y. same_node y x) (nodes d dynamic)
+
+-- what the dynamic children of a name were given
+abbrev pub gives_of : List DynChild → ChildName → List Give
+gives_of dynamic c = flat_map (λ k. k.gives) (filter (λ k. same_child k.name c) dynamic)
+
+-- the sources that a node strongly depends on
+abbrev pub sources_of : Decl → List DynChild → Node → List Origin
+sources_of d dynamic Own = own_sources d
+sources_of d dynamic (Child c) = child_sources d c (gives_of dynamic c)
+
+abbrev pub is_from_node : Node → Origin → Bool
+is_from_node y from = option_eq same_node (node_of from) (Some y)
+
+-- the first node strongly depends on the second: the second is a source of the first, and both are nodes
+abbrev pub strong_edge : Decl → List DynChild → Node → Node → Bool
+strong_edge d dynamic x y =
+    list_any (is_from_node y) (sources_of d dynamic x) && is_node d dynamic x && is_node d dynamic y
+
+abbrev pub StrongOn : Decl → List DynChild → Node → Node → Type 0
+StrongOn d dynamic x y = IsTrue (strong_edge d dynamic x y)
+
+-- the realm graph
+abbrev pub realm : Decl → List DynChild → Realm Node
+realm d dynamic = record { own = Own; has = is_node d dynamic; edge = strong_edge d dynamic }
+
+-- the first node depends on the second, directly or through others, the implied edges included
+abbrev pub DependsOn : Decl → List DynChild → Node → Node → Type 0
+DependsOn d dynamic x y = Depends (realm d dynamic) x y
+
+-- each node stands once, and stands before all nodes that it depends on
+pub record IsOrder (r : Realm Node) (order : List Node) : Type 0 where
+  pub once : (x : Node) → count_by (same_node x) order ≡ (if r.has x then 1 else 0)
+  pub before : (x y : Node) (i j : ℕ) → slice_get order i ≡ Some x → slice_get order j ≡ Some y → Directly r x y → i < j
+
+-- a node that a further child of a collection would depend on directly: a source of the offers to the collection or of
+-- what the child is given, or, by an implied edge, the component itself
+abbrev pub WouldDirectly : Decl → List DynChild → List ℕ → List Give → Node → Type 0
+WouldDirectly d dynamic coll gives y =
+    IsTrue (list_any (is_from_node y) (child_sources d (record { coll = Some coll; name = [] }) gives) && is_node d dynamic y) ⊎ (y ≡ Own)
+
+-- a further child of a collection, on which no node depends, would depend on this node: directly, or through one that it
+-- would depend on directly
+pub record WouldDepend (d : Decl) (dynamic : List DynChild) (coll : List ℕ) (gives : List Give) (y : Node) : Type 0 where
+  pub first : Node
+  pub direct : WouldDirectly d dynamic coll gives first
+  pub onward : (first ≡ y) ⊎ DependsOn d dynamic first y

@@ -1,0 +1,14 @@
+pub mod Words
+pub mod Same
+pub mod NodeOrder
+pub mod Rules
+pub mod Clashes
+pub mod Breaks
+pub mod Faults
+pub mod Reach
+pub mod Realm
+pub mod Graph
+pub mod Cycle
+pub mod Valid
+pub mod Dynamic
+pub mod Examples

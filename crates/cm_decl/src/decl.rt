@@ -1,0 +1,32 @@
+//! Declarations.
+
+use crate::{Capability, Child, Collection, Give, Offer, Usage};
+use cm_names::{List, Name, Plain};
+
+/// What a component manifest declares.
+///
+/// Each list stands in the order of the manifest, with one row for each name and, among the
+/// offers, for each name and target: for the first name all targets, then for the next.
+#[derive(Debug, Drop, Clone, PartialEq, Eq)]
+pub struct Decl {
+    /// The runner of the component's program, if it has a program.
+    pub runner: Option<Name>,
+    /// The children that are always there.
+    pub children: List<Child>,
+    /// The collections that children can be created in.
+    pub collections: List<Collection>,
+    /// The capabilities that the component itself provides.
+    pub capabilities: List<Capability>,
+    /// The capabilities that it uses.
+    pub uses: List<Usage>,
+    /// What it passes on to its children and collections.
+    pub offers: List<Offer>,
+    /// What it passes on to its parent.
+    pub exposes: List<Give>,
+}
+
+impl Plain for Decl {
+    ghost use Rattle.std.proofs.Common.{rules};
+
+    ghost exact = { Prim.search rules };
+}

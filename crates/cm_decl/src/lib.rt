@@ -1,0 +1,25 @@
+//! Declarations of components: their plain data, and what it means for one to be valid.
+//!
+//! A [`Decl`] is what a component manifest says, row by row. The definitions in `specs/` say
+//! which faults a declaration has and in what order they are reported, and which node of its
+//! realm graph depends on which; the validator and the graph are proved against them.
+//!
+//! The rows are those of Fuchsia's component manifest reference (fuchsia.dev).
+#![tactic(auto)]
+
+pub mod decl;
+pub mod kind;
+pub mod laws;
+pub mod node;
+pub mod origin;
+pub mod rows;
+pub mod section;
+#[cfg(test)]
+mod tests;
+
+pub use decl::Decl;
+pub use kind::Kind;
+pub use node::{DynChild, Node};
+pub use origin::Origin;
+pub use rows::{Capability, Child, Collection, Durability, Give, Offer, Usage};
+pub use section::Section;

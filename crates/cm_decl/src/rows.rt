@@ -1,0 +1,148 @@
+//! The rows of a declaration.
+//!
+//! Each type is a row of one section of Fuchsia's component manifest reference (fuchsia.dev),
+//! with every default filled in.
+
+use crate::{Kind, Origin};
+use cm_names::{Availability, CapPath, Dependency, Name, Plain, Rights, SubDir, Text};
+
+/// A child that the manifest declares: a row of `children`.
+#[derive(Debug, Drop, Clone, PartialEq, Eq)]
+pub struct Child {
+    /// Its name among the children and collections of this component.
+    pub name: Name,
+    /// Where its manifest is, as the manifest writes it: 1 to 4,096 bytes from 0x21 to 0x7E.
+    pub url: Text,
+    /// Whether it starts together with its parent (`startup`: `eager`), and not only when it
+    /// is needed (`lazy`).
+    pub eager: bool,
+}
+
+impl Plain for Child {
+    ghost use Rattle.std.proofs.Common.{rules};
+
+    ghost exact = { Prim.search rules };
+}
+
+/// How long an instance in a collection stays: `durability` of a collection.
+#[derive(Debug, Clone, Copy, PartialEq, Eq)]
+pub enum Durability {
+    /// Until it is destroyed, or its parent is.
+    Transient,
+    /// Until it has run once.
+    SingleRun,
+}
+
+impl Plain for Durability {
+    ghost use Rattle.std.proofs.Common.{rules};
+
+    ghost exact = { Prim.search rules };
+}
+
+/// A place for children that are created while the component runs: a row of `collections`.
+#[derive(Debug, Drop, Clone, PartialEq, Eq)]
+pub struct Collection {
+    /// Its name among the children and collections of this component.
+    pub name: Name,
+    /// How long its instances stay.
+    pub durability: Durability,
+    /// Whether a child may be created with offers of its own (`allowed_offers`:
+    /// `static_and_dynamic`), and not with the declared ones alone (`static_only`).
+    pub dynamic_offers: bool,
+}
+
+impl Plain for Collection {
+    ghost use Rattle.std.proofs.Common.{rules};
+
+    ghost exact = { Prim.search rules };
+}
+
+/// A capability that the component itself provides: a row of `capabilities`.
+#[derive(Debug, Drop, Clone, PartialEq, Eq)]
+pub struct Capability {
+    /// What it is.
+    pub kind: Kind,
+    /// Its name among the capabilities of this component.
+    pub name: Name,
+    /// Where it stands in the outgoing directory of the component.
+    pub path: CapPath,
+    /// The rights that a directory is provided with; `None` for a protocol.
+    pub rights: Option<Rights>,
+}
+
+impl Plain for Capability {
+    ghost use Rattle.std.proofs.Common.{rules};
+
+    ghost exact = { Prim.search rules };
+}
+
+/// A capability that the component uses: a row of `use`. It is never from `void`.
+#[derive(Debug, Drop, Clone, PartialEq, Eq)]
+pub struct Usage {
+    /// What is used.
+    pub kind: Kind,
+    /// The name that the capability has at its source.
+    pub name: Name,
+    /// Where it comes from.
+    pub from: Origin,
+    /// Where it stands in the namespace of the component.
+    pub path: CapPath,
+    /// The rights that are asked for a directory; `None` for a protocol.
+    pub rights: Option<Rights>,
+    /// The part of the directory that is used, if it isn't the whole.
+    pub subdir: Option<SubDir>,
+    /// Whether the component stops before its source.
+    pub dependency: Dependency,
+    /// How much the component needs it.
+    pub availability: Availability,
+}
+
+impl Plain for Usage {
+    ghost use Rattle.std.proofs.Common.{rules};
+
+    ghost exact = { Prim.search rules };
+}
+
+/// A capability that is passed on: what a row of `offer` and a row of `expose` have in common,
+/// and what a child that is created is offered.
+#[derive(Debug, Drop, Clone, PartialEq, Eq)]
+pub struct Give {
+    /// What is given.
+    pub kind: Kind,
+    /// The name that the capability has at its source.
+    pub source_name: Name,
+    /// Where it comes from. An expose is never from `parent`.
+    pub from: Origin,
+    /// The name that the capability has at its target.
+    pub target_name: Name,
+    /// The most rights that are passed on of a directory; `None` where the row states none.
+    pub rights: Option<Rights>,
+    /// The part of the directory that is given, if it isn't the whole.
+    pub subdir: Option<SubDir>,
+    /// Whether the target stops before the source. An expose has `Strong`.
+    pub dependency: Dependency,
+    /// How surely it is given.
+    pub availability: Availability,
+}
+
+impl Plain for Give {
+    ghost use Rattle.std.proofs.Common.{rules};
+
+    ghost exact = { Prim.search rules };
+}
+
+/// A capability that is passed on to a child or to all children in a collection: a row of
+/// `offer`.
+#[derive(Debug, Drop, Clone, PartialEq, Eq)]
+pub struct Offer {
+    /// The name of the child or the collection.
+    pub to: Name,
+    /// What is offered.
+    pub give: Give,
+}
+
+impl Plain for Offer {
+    ghost use Rattle.std.proofs.Common.{rules};
+
+    ghost exact = { Prim.search rules };
+}

@@ -1,0 +1,35 @@
+//! Where bytes come from.
+
+ghost use Rattle.std.specs.Prelude.{◌<◌, length};
+ghost use Rattle.cm_io.specs.Outside.{ReadCause, Reads};
+
+use std::sync::Wait;
+use std::thread::Threads;
+
+/// What one read came to.
+#[derive(Debug, Clone, Copy, PartialEq, Eq)]
+pub enum Got {
+    /// So many bytes, at least one, stand at the front of the buffer.
+    Bytes(usize),
+    /// Nothing is left.
+    End,
+    /// The source failed; its count of faults rose.
+    Failed,
+}
+
+/// Where bytes come from. A source counts its faults, from 0 to 2^64 - 1, where the count stays.
+pub trait Source: Drop {
+    ghost use Rattle.std.specs.Prelude.{ℕ, List, Option};
+
+    /// The bytes that are left, where they are known.
+    ghost left: { Self → Option (List ℕ) };
+
+    /// How often it failed.
+    ghost faults: { Self → ℕ };
+
+    /// Reads the next bytes, as many as come at once and fit.
+    fn read<R: Threads + Wait + Sync>(&mut self, rt: &R, into: &mut [u8]) -> Got
+        requires { 0 < length into.old }
+        ensures bytes { Reads (left self.old) (left self.new) into.new result }
+        ensures cause { ReadCause (faults self.old) (faults self.new) result };
+}

@@ -1,0 +1,31 @@
+use Rattle.std.proofs.Common.{◌≡◌, ◌<◌, ◌++◌, [], ◌∷◌, length, map, get_or, true≢false, sym, ap, subst, ◌∙◌, inl, arith, rules}
+use Rattle.std.proofs.lemmas.List.{get_or-map, length-map}
+use Rattle.std.proofs.lemmas.List.Elements.{All-more}
+use Rattle.cm_names.specs.Child.{child_text}
+use Rattle.cm_names.specs.Moniker.{IsChild}
+use Rattle.cm_names.proofs.JoinLemmas.{joined_more}
+use Rattle.cm_names.proofs.MonikerParts.{written_whole, names_whole}
+use Rattle.cm_names.proofs.moniker.Moniker.write.Goals as goal
+use Rattle.cm_names.proofs.moniker.Moniker.write.Goals.{then-i-gt0+in_ok-push_str, else-i-gt0}
+
+pub loop-i-preserved : goal.loop-i-preserved
+loop-i-preserved c =
+    let same = c.as_slice-part-items.ensures in
+    let within : c.loop-i.i < length c.args.self.now.parts = omega (arith, ap length same) in
+    let at : c.part-item.result ≡ get_or c.args.self.now.parts c.loop-i.i c.part-item.result = c.part-item.is ∙ ap (λ xs. get_or xs c.loop-i.i c.part-item.result) same in
+    let text_at : child_text c.part-item.result ≡ get_or (map child_text c.args.self.now.parts) c.loop-i.i [] = ap child_text at ∙ sym (get_or-map child_text c.args.self.now.parts c.loop-i.i c.part-item.result [] within) in
+    let slash : 0 < c.loop-i.i → c.if-i-gt0.text ≡ c.loop-i.text ++ 47 ∷ [] = elim c.if-i-gt0.branch [ then-i-gt0+in_ok-push_str w ↦ λ _. search rules | else-i-gt0 w ↦ λ later. absurd (omega arith) ] in
+    let none : c.loop-i.i ≡ 0 → c.if-i-gt0.text ≡ c.loop-i.text = elim c.if-i-gt0.branch [ then-i-gt0+in_ok-push_str w ↦ λ first. absurd (omega arith) | else-i-gt0 w ↦ λ _. search rules ] in
+    record {
+      text = c.in_ok-push_child.ensures.text ∙ joined_more 47 (map child_text c.args.self.now.parts) c.loop-i.i [] (child_text c.part-item.result) c.loop-i.text c.if-i-gt0.text (omega (arith, length-map c.args.self.now.parts child_text)) text_at c.loop-i.invariant.text slash none;
+      names = All-more IsChild c.args.self.now.parts c.loop-i.i c.part-item.result within c.loop-i.invariant.names (subst IsChild at c.in_ok-push_child.ensures.is_child);
+    }
+
+pub returns-clause-grammar : goal.returns-clause-grammar
+returns-clause-grammar c =
+    let same = c.as_slice-part-items.ensures in
+    let end : c.loop-i.i ≡ length c.args.self.now.parts = omega (arith, ap length same) in
+    record {
+      names = names_whole c.args.self.now.parts c.loop-i.i end c.loop-i.invariant.names;
+      written = inl (written_whole c.args.self.now.parts c.loop-i.i c.loop-i.text (λ empty. true≢false (sym (c.is_root.ensures.1 empty) ∙ c.if-is_root.false)) end c.loop-i.invariant.text);
+    }

@@ -1,0 +1,7 @@
+use Rattle.std.proofs.Common.{◌≡◌, take}
+use Rattle.std.specs.List.{join_with_byte}
+use Rattle.cm_names.proofs.rights.joined.Given as goal
+
+-- the words so far are joined
+abbrev pub invariant-loop-i : goal.invariant-loop-i
+invariant-loop-i l = l.text ≡ join_with_byte 44 (take l.i l.words)

@@ -1,0 +1,9 @@
+pub mod Name
+pub mod Path
+pub mod Child
+pub mod Availability
+pub mod Fronts
+pub mod Moniker
+pub mod MonikerPlaces
+pub mod RightBits
+pub mod Rights

@@ -1,0 +1,92 @@
+-- Which texts are paths and subdirectories, and the first fault of a text that is none.
+use Rattle.std.specs.Prelude.{◌≡◌, ℕ, ◌+◌, List, [], ◌∷◌, ◌++◌, length, codes, Bool, false, not, ◌&&◌, ◌||◌, ◌==◌, nat_le, nat_lt, if◌then◌else◌, Option, Some, option_map, position, slice_get}
+use Rattle.std.specs.List.{list_all, slice_split, filter_map, flat_map}
+use Rattle.std.specs.Str.{bytes_eq}
+use Rattle.cm_names.specs.declared.path.PathFault.{PathFault}
+use Rattle.cm_names.specs.declared.path.PathFault.TheVariants.{Empty, TooLong, BadByte, NotAbsolute, NotRelative, EmptyPart, DotPart}
+
+-- ---- the grammar
+
+abbrev pub is_slash : ℕ → Bool
+is_slash b = b == 47
+
+-- a printing ASCII byte other than the space and the slash
+abbrev pub is_part_byte : ℕ → Bool
+is_part_byte b = nat_le 33 b && nat_le b 126 && not (is_slash b)
+
+-- `.` or `..`
+abbrev pub is_dots : List ℕ → Bool
+is_dots part = bytes_eq part (codes ".") || bytes_eq part (codes "..")
+
+-- one or more of these bytes, and not dots alone
+abbrev pub is_part : List ℕ → Bool
+is_part part = not (length part == 0) && not (is_dots part) && list_all is_part_byte part
+
+-- what stands between the slashes
+abbrev pub parts_of : List ℕ → List (List ℕ)
+parts_of t = slice_split is_slash t
+
+-- parts joined by slashes
+abbrev pub is_relative : List ℕ → Bool
+is_relative t = list_all is_part (parts_of t)
+
+-- a slash, and parts joined by slashes, in at most 4,096 bytes
+abbrev pub is_path : List ℕ → Bool
+is_path [] = false
+is_path (b ∷ bs) = nat_le (length (b ∷ bs)) 4096 && is_slash b && is_relative bs
+
+-- parts joined by slashes, in at most 4,096 bytes
+abbrev pub is_subdir : List ℕ → Bool
+is_subdir t = nat_le (length t) 4096 && is_relative t
+
+-- ---- the faults
+
+-- the fault of a part whose first byte stands at this place
+abbrev pub part_fault : ℕ → List ℕ → Option PathFault
+part_fault place part =
+    if length part == 0 then Some (EmptyPart place)
+    else if is_dots part then Some (DotPart place)
+    else option_map (λ i. BadByte (place + i)) (position (λ b. not (is_part_byte b)) part)
+
+-- the parts, each with the place of its first byte
+abbrev pub placed : ℕ → List (List ℕ) → List (ℕ × List ℕ)
+placed place [] = []
+placed place (part ∷ parts) = (place, part) ∷ placed (place + length part + 1) parts
+
+-- the first fault of the parts of a text that begins at this place
+abbrev pub parts_fault : ℕ → List ℕ → Option PathFault
+parts_fault place t = slice_get (filter_map (λ p. part_fault p.0 p.1) (placed place (parts_of t))) 0
+
+-- the first fault of a text that is to be a path
+abbrev pub path_fault : List ℕ → Option PathFault
+path_fault [] = Some Empty
+path_fault (b ∷ bs) =
+    if nat_lt 4096 (length (b ∷ bs)) then Some TooLong
+    else if is_slash b then parts_fault 1 bs
+    else Some NotAbsolute
+
+-- the first fault of a text that is to be a subdirectory
+abbrev pub subdir_fault : List ℕ → Option PathFault
+subdir_fault [] = Some Empty
+subdir_fault (b ∷ bs) =
+    if nat_lt 4096 (length (b ∷ bs)) then Some TooLong
+    else if is_slash b then Some NotRelative
+    else parts_fault 0 (b ∷ bs)
+
+-- ---- what is made of paths
+
+-- the path that a protocol has by default
+abbrev pub service_path : List ℕ → List ℕ
+service_path name = codes "/svc/" ++ name
+
+-- a subdirectory behind a slash
+abbrev pub slashed : List ℕ → List ℕ
+slashed subdir = codes "/" ++ subdir
+
+-- the path, and each subdirectory behind a slash
+abbrev pub joined : List ℕ → List (List ℕ) → List ℕ
+joined path subdirs = path ++ flat_map slashed subdirs
+
+-- the first path begins with the second one and a slash
+abbrev pub IsInside : List ℕ → List ℕ → Type 0
+IsInside path folder = (rest : List ℕ) × (path ≡ folder ++ (codes "/" ++ rest))

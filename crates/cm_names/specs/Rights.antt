@@ -1,0 +1,178 @@
+-- Rights, and the words that stand for them.
+use Rattle.std.specs.Prelude.{◌≡◌, ◌≢◌, ℕ, min, List, [], ◌∷◌, ◌++◌, length, codes, map, filter, Bool, true, false, not, ◌||◌, if◌then◌else◌, Option, Some, None, option_map, Result, Ok, Err}
+use Rattle.std.specs.List.{list_all, list_any, join_with_byte}
+use Rattle.std.specs.Str.{bytes_eq}
+use Rattle.cm_names.specs.declared.rights.Right.{Right}
+use Rattle.cm_names.specs.declared.rights.Right.TheVariants.{Connect, Enumerate, Execute, GetAttributes, ModifyDirectory, ReadBytes, Traverse, UpdateAttributes, WriteBytes}
+use Rattle.cm_names.specs.declared.rights.RightsFault.{RightsFault}
+use Rattle.cm_names.specs.declared.rights.RightsFault.TheVariants.{Empty, UnknownRight, RepeatedRight}
+
+-- a set of the nine rights: which of them are in it
+pub record RightSet : Type 0 where
+  pub connect : Bool
+  pub enumerate : Bool
+  pub execute : Bool
+  pub get_attributes : Bool
+  pub modify_directory : Bool
+  pub read_bytes : Bool
+  pub traverse : Bool
+  pub update_attributes : Bool
+  pub write_bytes : Bool
+
+abbrev pub no_rights : RightSet
+no_rights =
+    record { connect = false; enumerate = false; execute = false; get_attributes = false; modify_directory = false; read_bytes = false; traverse = false; update_attributes = false; write_bytes = false }
+
+-- what is in either
+abbrev pub union : RightSet → RightSet → RightSet
+union a b = record {
+  connect = a.connect || b.connect;
+  enumerate = a.enumerate || b.enumerate;
+  execute = a.execute || b.execute;
+  get_attributes = a.get_attributes || b.get_attributes;
+  modify_directory = a.modify_directory || b.modify_directory;
+  read_bytes = a.read_bytes || b.read_bytes;
+  traverse = a.traverse || b.traverse;
+  update_attributes = a.update_attributes || b.update_attributes;
+  write_bytes = a.write_bytes || b.write_bytes;
+}
+
+abbrev pub implies : Bool → Bool → Bool
+implies a b = not a || b
+
+-- ---- single rights
+
+-- the nine rights in their order
+abbrev pub all_rights : List Right
+all_rights =
+    Connect ∷ Enumerate ∷ Execute ∷ GetAttributes ∷ ModifyDirectory ∷ ReadBytes ∷ Traverse ∷ UpdateAttributes ∷ WriteBytes ∷ []
+
+-- a right's name
+abbrev pub word_of : Right → List ℕ
+word_of Connect = codes "connect"
+word_of Enumerate = codes "enumerate"
+word_of Execute = codes "execute"
+word_of GetAttributes = codes "get_attributes"
+word_of ModifyDirectory = codes "modify_directory"
+word_of ReadBytes = codes "read_bytes"
+word_of Traverse = codes "traverse"
+word_of UpdateAttributes = codes "update_attributes"
+word_of WriteBytes = codes "write_bytes"
+
+-- whether a right is in a set
+abbrev pub has : RightSet → Right → Bool
+has r Connect = r.connect
+has r Enumerate = r.enumerate
+has r Execute = r.execute
+has r GetAttributes = r.get_attributes
+has r ModifyDirectory = r.modify_directory
+has r ReadBytes = r.read_bytes
+has r Traverse = r.traverse
+has r UpdateAttributes = r.update_attributes
+has r WriteBytes = r.write_bytes
+
+-- the set of that right at most
+abbrev pub only_if : Bool → Right → RightSet
+only_if b Connect = record no_rights { connect = b }
+only_if b Enumerate = record no_rights { enumerate = b }
+only_if b Execute = record no_rights { execute = b }
+only_if b GetAttributes = record no_rights { get_attributes = b }
+only_if b ModifyDirectory = record no_rights { modify_directory = b }
+only_if b ReadBytes = record no_rights { read_bytes = b }
+only_if b Traverse = record no_rights { traverse = b }
+only_if b UpdateAttributes = record no_rights { update_attributes = b }
+only_if b WriteBytes = record no_rights { write_bytes = b }
+
+-- the set of one right
+abbrev pub only : Right → RightSet
+only right = only_if true right
+
+-- each right of the second set is in the first
+abbrev pub contains : RightSet → RightSet → Bool
+contains a b = list_all (λ right. implies (has b right) (has a right)) all_rights
+
+-- ---- the table of words
+
+-- what `r*`, `w*` and `x*` have in common
+abbrev pub walking : RightSet
+walking = record no_rights { connect = true; enumerate = true; traverse = true }
+
+-- `r*`
+abbrev pub reading : RightSet
+reading = record walking { read_bytes = true; get_attributes = true }
+
+-- `w*`
+abbrev pub writing : RightSet
+writing = record walking { write_bytes = true; modify_directory = true; update_attributes = true }
+
+-- `x*`
+abbrev pub executing : RightSet
+executing = record walking { execute = true }
+
+-- the right of that name
+abbrev pub right_named : List ℕ → Option Right
+right_named t =
+    if bytes_eq t (codes "connect") then Some Connect
+    else if bytes_eq t (codes "enumerate") then Some Enumerate
+    else if bytes_eq t (codes "execute") then Some Execute
+    else if bytes_eq t (codes "get_attributes") then Some GetAttributes
+    else if bytes_eq t (codes "modify_directory") then Some ModifyDirectory
+    else if bytes_eq t (codes "read_bytes") then Some ReadBytes
+    else if bytes_eq t (codes "traverse") then Some Traverse
+    else if bytes_eq t (codes "update_attributes") then Some UpdateAttributes
+    else if bytes_eq t (codes "write_bytes") then Some WriteBytes
+    else None
+
+-- what a word stands for
+unfoldable pub rights_of_word : List ℕ → Option RightSet
+rights_of_word t =
+    if bytes_eq t (codes "r*") then Some reading
+    else if bytes_eq t (codes "w*") then Some writing
+    else if bytes_eq t (codes "x*") then Some executing
+    else if bytes_eq t (codes "rw*") then Some (union reading writing)
+    else if bytes_eq t (codes "rx*") then Some (union reading executing)
+    else option_map only (right_named t)
+
+-- ---- lists of words
+
+-- an index as the faults have it, which is 2 ^ 32 - 1 for all that are larger
+abbrev pub index_of : ℕ → ℕ
+index_of n = min n 4294967295
+
+abbrev pub with_rights : RightSet → Result RightSet RightsFault → Result RightSet RightsFault
+with_rights r (Ok others) = Ok (union r others)
+with_rights r (Err e) = Err e
+
+-- one word more, behind the earlier ones
+abbrev pub with_word : List (List ℕ) → List ℕ → Option RightSet → Result RightSet RightsFault → Result RightSet RightsFault
+with_word earlier word None others = Err (UnknownRight (index_of (length earlier)))
+with_word earlier word (Some r) others =
+    if list_any (bytes_eq word) earlier then Err (RepeatedRight (index_of (length earlier))) else with_rights r others
+
+-- the union of the words, which stand behind the earlier ones, or their first fault
+abbrev pub rights_behind : List (List ℕ) → List (List ℕ) → Result RightSet RightsFault
+rights_behind earlier [] = Ok no_rights
+rights_behind earlier (word ∷ rest) =
+    with_word earlier word (rights_of_word word) (rights_behind (earlier ++ word ∷ []) rest)
+
+-- the union of the words, or the first fault
+unfoldable pub rights_of : List (List ℕ) → Result RightSet RightsFault
+rights_of [] = Err Empty
+rights_of (word ∷ rest) = rights_behind [] (word ∷ rest)
+
+-- the set, where the words have no fault
+abbrev pub accepted : Result RightSet RightsFault → Option RightSet
+accepted (Ok r) = Some r
+accepted (Err e) = None
+
+-- the names of the rights that are in the set, in their order
+abbrev pub words_of : RightSet → List (List ℕ)
+words_of r = map word_of (filter (has r) all_rights)
+
+-- those, joined by commas
+abbrev pub text_of : RightSet → List ℕ
+text_of r = join_with_byte 44 (words_of r)
+
+-- the names of a set's rights are read as that set
+abbrev pub WordsAreReadBack : Type 0
+WordsAreReadBack = (r : RightSet) → r ≢ no_rights → rights_of (words_of r) ≡ Ok r

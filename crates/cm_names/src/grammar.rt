@@ -1,0 +1,126 @@
+//! The grammar of monikers, read byte by byte.
+
+ghost use Rattle.std.specs.Prelude.{◌≡◌, ◌≤◌, length, IfSome, IfNone};
+ghost use Rattle.cm_names.specs.Fronts.{IsLongestFront};
+ghost use Rattle.cm_names.specs.Moniker.{IsMonikerText};
+ghost use Rattle.cm_names.specs.MonikerPlaces.{next, may_end, begin_name};
+
+use crate::moniker::MAX_BYTES;
+use crate::name::{begins, continues};
+
+/// The number of bytes that a name may have.
+const MAX_NAME_BYTES: u32 = 255;
+
+/// Where the text of a moniker stands behind some of its bytes.
+#[derive(Debug, Clone, Copy, PartialEq, Eq)]
+pub enum MonikerPlace {
+    /// Nothing yet.
+    Start,
+    /// The whole of it, a dot.
+    Whole,
+    /// A slash in front.
+    Root,
+    /// A slash between two parts.
+    Part,
+    /// So many bytes of a part's first name.
+    First(u32),
+    /// The colon of a part.
+    Colon,
+    /// So many bytes of a part's second name.
+    Second(u32),
+}
+
+impl MonikerPlace {
+    /// The place behind one byte more, where the text of some moniker goes on with it. It leaves
+    /// the moniker's length aside.
+    pub fn next(self, byte: u8) -> Option<MonikerPlace>
+        ensures { result ≡ next self byte }
+    {
+        match self {
+            MonikerPlace::Start => match byte {
+                b'.' => Some(MonikerPlace::Whole),
+                b'/' => Some(MonikerPlace::Root),
+                _ => first_at(byte),
+            },
+            MonikerPlace::Whole => None,
+            MonikerPlace::Root | MonikerPlace::Part => first_at(byte),
+            MonikerPlace::First(n) => {
+                if byte == b':' {
+                    Some(MonikerPlace::Colon)
+                } else if byte == b'/' {
+                    Some(MonikerPlace::Part)
+                } else if continues(byte) && n < MAX_NAME_BYTES {
+                    Some(MonikerPlace::First(n + 1))
+                } else {
+                    None
+                }
+            }
+            MonikerPlace::Colon => {
+                if begins(byte) {
+                    Some(MonikerPlace::Second(1))
+                } else {
+                    None
+                }
+            }
+            MonikerPlace::Second(n) => {
+                if byte == b'/' {
+                    Some(MonikerPlace::Part)
+                } else if continues(byte) && n < MAX_NAME_BYTES {
+                    Some(MonikerPlace::Second(n + 1))
+                } else {
+                    None
+                }
+            }
+        }
+    }
+
+    /// Whether the text of some moniker ends here.
+    pub fn may_end(self) -> bool
+        ensures { result ≡ may_end self }
+    {
+        match self {
+            MonikerPlace::Start | MonikerPlace::Part | MonikerPlace::Colon => false,
+            MonikerPlace::Whole
+            | MonikerPlace::Root
+            | MonikerPlace::First(_)
+            | MonikerPlace::Second(_) => true,
+        }
+    }
+}
+
+fn first_at(byte: u8) -> Option<MonikerPlace>
+    ensures { result ≡ begin_name MonikerPlace.First byte }
+{
+    if begins(byte) {
+        Some(MonikerPlace::First(1))
+    } else {
+        None
+    }
+}
+
+/// The length of the longest front of the bytes that the text of some moniker begins with, where
+/// they aren't such a text.
+pub fn bad_place(bytes: &[u8]) -> Option<usize>
+    requires { length bytes.now ≤ 4096 }
+    ensures front { IfSome result (IsLongestFront IsMonikerText bytes.now) }
+    ensures not_whole { IfSome result (λ _. IsMonikerText bytes.now → ⊥) }
+    ensures whole { IfNone result (IsMonikerText bytes.now) }
+{
+    let mut place = MonikerPlace::Start;
+    for (i, byte) in bytes.iter().enumerate() {
+        match place.next(*byte) {
+            Some(next) => {
+                if i + 1 == MAX_BYTES && !next.may_end() {
+                    return Some(i);
+                }
+                place = next;
+            }
+            None => return Some(i),
+        }
+    }
+    if place.may_end() {
+        None
+    } else {
+        Some(bytes.len())
+    }
+}

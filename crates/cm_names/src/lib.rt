@@ -1,0 +1,34 @@
+//! The small types that every other part of the component manager is made of: texts, lists,
+//! names, paths, monikers, rights and the words of a manifest.
+//!
+//! Contracts see [`Text`] as the list of its bytes, [`List`] as the list of its items, and a
+//! name or a path as the bytes of its text, so that definitions speak of plain lists.
+#![tactic(auto)]
+
+pub mod availability;
+pub mod child;
+pub mod dependency;
+pub mod grammar;
+pub mod list;
+pub mod memory;
+pub mod moniker;
+pub mod name;
+pub mod path;
+pub mod plain;
+pub mod rights;
+#[cfg(test)]
+mod tests;
+pub mod text;
+
+pub use availability::Availability;
+pub use child::ChildName;
+pub use dependency::Dependency;
+pub use grammar::MonikerPlace;
+pub use list::{Bytes, List};
+pub use memory::Memory;
+pub use moniker::{Moniker, MonikerFault};
+pub use name::{Name, NameFault};
+pub use path::{CapPath, PathFault, SubDir};
+pub use plain::Plain;
+pub use rights::{Right, Rights, RightsFault};
+pub use text::Text;

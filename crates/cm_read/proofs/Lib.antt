@@ -1,0 +1,12 @@
+pub mod OnLiterals
+pub mod Examples
+pub mod TextExamples
+pub mod Keys
+pub mod MarkLemmas
+pub mod RowLemmas
+pub mod TextLemmas
+pub mod RoundTrip
+pub mod RowsBack
+pub mod DeclBack
+pub mod PairLemmas
+pub mod TextBack

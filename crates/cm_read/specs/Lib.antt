@@ -1,0 +1,10 @@
+pub mod Numbers
+pub mod Reading
+pub mod Fields
+pub mod Words
+pub mod Items
+pub mod Sections
+pub mod Manifest
+pub mod Texts
+pub mod Writing
+pub mod Readable

@@ -1,0 +1,96 @@
+-- What a manifest declares, or its first fault.
+use Rattle.std.specs.Prelude.{ℕ, List, [], ◌∷◌, length, codes, nat_lt, Option, Some, None, ok_or, Result, Ok, Err, if◌then◌else◌}
+use Rattle.std.specs.Str.{is_utf8}
+use Rattle.serde_json.specs.Data.{Data}
+use Rattle.serde_json.specs.Find.{get, as_object}
+use Rattle.serde_json.specs.Read as json
+use Rattle.cm_text.specs.Json.{json_of}
+use Rattle.cm_text.specs.declared.fault.TextFault.{TextFault}
+use Rattle.cm_decl.specs.declared.section.Section.TheVariants as section
+use Rattle.cm_decl.specs.declared.decl.Decl.{Decl}
+use Rattle.cm_read.specs.declared.fault.ReadFault.{ReadFault}
+use Rattle.cm_read.specs.Numbers.{not_utf8, not_json, not_object, too_large, max_bytes}
+use Rattle.cm_read.specs.Reading.{Read, ◌>>=◌, bad, start}
+use Rattle.cm_read.specs.Fields.{if_there, object_at, known_at, name_at}
+use Rattle.cm_read.specs.Sections.{section_at}
+use Rattle.cm_read.specs.Items.{child_at, collection_at, capability_at, use_at, offer_at, expose_at}
+
+-- the sections of a manifest
+abbrev pub section_names : List (List ℕ)
+section_names =
+    codes "program" ∷ codes "children" ∷ codes "collections" ∷ codes "capabilities" ∷ codes "use"
+    ∷ codes "offer" ∷ codes "expose" ∷ codes "facets" ∷ []
+
+-- a fault of the whole manifest
+abbrev pub whole : ℕ → ReadFault
+whole number = bad (start section.Manifest) number []
+
+-- the runner of a program, whose other members are read over
+unfoldable pub program_at : Data → Read (List ℕ)
+program_at d = do
+  members ← object_at (start section.Program) d
+  name_at (start section.Program) (codes "runner") d
+
+-- the runner, if there is a program
+unfoldable pub runner_at : Data → Read (Option (List ℕ))
+runner_at d = if_there (get (codes "program") d) program_at
+
+-- the manifest is an object with known sections alone
+unfoldable pub sections_at : Data → Read (Unit {0})
+sections_at d = do
+  members ← ok_or (as_object d) (whole not_object)
+  known_at (start section.Manifest) section_names members
+
+-- the declaration that a value is: the sections in their order, and `facets` is read over
+unfoldable pub decl_at : Data → Read Decl
+decl_at d = do
+  known ← sections_at d
+  runner ← runner_at d
+  children ← section_at child_at section.Children (get (codes "children") d)
+  collections ← section_at collection_at section.Collections (get (codes "collections") d)
+  capabilities ← section_at capability_at section.Capabilities (get (codes "capabilities") d)
+  uses ← section_at use_at section.Uses (get (codes "use") d)
+  offers ← section_at offer_at section.Offers (get (codes "offer") d)
+  exposes ← section_at expose_at section.Exposes (get (codes "expose") d)
+  Ok (record {
+    runner = runner;
+    children = children;
+    collections = collections;
+    capabilities = capabilities;
+    uses = uses;
+    offers = offers;
+    exposes = exposes;
+  })
+
+-- the declaration that a value is, where the text has one
+abbrev pub of_data : Option Data → Read Decl
+of_data None = Err (whole not_json)
+of_data (Some d) = decl_at d
+
+-- the declaration that a JSON text is
+abbrev pub decl_of_json : List ℕ → Read Decl
+decl_of_json text = of_data (json.read text)
+
+-- the JSON text of a text in the relaxed spelling, where it has one
+abbrev pub json_text : Result (List ℕ) TextFault → Read (List ℕ)
+json_text (Ok json) = Ok json
+json_text (Err e) = Err (whole not_json)
+
+-- the declaration that a text in the relaxed spelling is
+abbrev pub decl_of_text : List ℕ → Read Decl
+decl_of_text text = do
+  json ← json_text (json_of text)
+  decl_of_json json
+
+-- the text that bytes are
+abbrev pub text_of : List ℕ → Read (List ℕ)
+text_of bytes =
+    if nat_lt max_bytes (length bytes) then Err (whole too_large)
+    else if is_utf8 bytes then Ok bytes
+    else Err (whole not_utf8)
+
+-- the declaration that bytes are, or their first fault
+abbrev pub decl_of_bytes : List ℕ → Read Decl
+decl_of_bytes bytes = do
+  text ← text_of bytes
+  decl_of_text text

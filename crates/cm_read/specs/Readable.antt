@@ -1,0 +1,119 @@
+-- Which declarations a manifest can have, and that these are read back from their text.
+use Rattle.std.specs.Prelude.{◌≡◌, ◌≢◌, ℕ, ◌≤◌, List, length, Bool, true, false, Option, Some, None, Ok, IsTrue, All}
+use Rattle.cm_names.specs.Name.{IsName}
+use Rattle.cm_names.specs.Path.{is_path, is_subdir}
+use Rattle.cm_names.specs.Rights.{RightSet, no_rights}
+use Rattle.cm_names.specs.declared.dependency.Dependency.TheVariants.{Strong}
+use Rattle.cm_decl.specs.declared.kind.Kind.{Kind}
+use Rattle.cm_decl.specs.declared.kind.Kind.TheVariants as kind
+use Rattle.cm_decl.specs.declared.origin.Origin.{Origin}
+use Rattle.cm_decl.specs.declared.origin.Origin.TheVariants as origin
+use Rattle.cm_decl.specs.declared.rows.Child.{Child}
+use Rattle.cm_decl.specs.declared.rows.Collection.{Collection}
+use Rattle.cm_decl.specs.declared.rows.Capability.{Capability}
+use Rattle.cm_decl.specs.declared.rows.Usage.{Usage}
+use Rattle.cm_decl.specs.declared.rows.Give.{Give}
+use Rattle.cm_decl.specs.declared.rows.Offer.{Offer}
+use Rattle.cm_decl.specs.declared.decl.Decl.{Decl}
+use Rattle.cm_read.specs.Numbers.{max_rows}
+use Rattle.cm_read.specs.Fields.{is_url}
+use Rattle.cm_read.specs.Manifest.{decl_of_json}
+use Rattle.cm_read.specs.Writing.{decl_text}
+
+-- ---- values
+
+-- some right
+abbrev pub AreRights : RightSet → Type 0
+AreRights rights = rights ≢ no_rights
+
+-- a subdirectory
+abbrev pub IsSubDir : List ℕ → Type 0
+IsSubDir t = IsTrue (is_subdir t)
+
+-- an origin of a section that has parent and void where it is said; a child is one that is declared
+abbrev pub IsOrigin : Bool → Bool → Origin → Type 0
+IsOrigin parent void origin.Parent = IsTrue parent
+IsOrigin parent void origin.Own = Unit {0}
+IsOrigin parent void origin.Framework = Unit {0}
+IsOrigin parent void (origin.Child child) = (child.coll ≡ None) × IsName child.name
+IsOrigin parent void origin.Void = IsTrue void
+
+-- a fact of the value, if there is one
+abbrev pub ForSomeOf : {A : Type 0} → Option A → (A → Type 0) → Type 0
+ForSomeOf None P = Unit {0}
+ForSomeOf (Some x) P = P x
+
+-- a value that a directory may have, and a protocol has not
+abbrev pub MayHave : {A : Type 0} → Kind → Option A → (A → Type 0) → Type 0
+MayHave kind.Protocol given P = given ≡ None
+MayHave kind.Directory given P = ForSomeOf given P
+
+-- a value that a directory has, and a protocol has not
+abbrev pub MustHave : {A : Type 0} → Kind → Option A → (A → Type 0) → Type 0
+MustHave kind.Protocol given P = given ≡ None
+MustHave kind.Directory None P = ⊥
+MustHave kind.Directory (Some x) P = P x
+
+-- ---- rows
+
+-- a row of `children`
+pub record IsChild (c : Child) : Type 0 where
+  pub name : IsName c.name
+  pub url : IsTrue (is_url c.url)
+
+-- a row of `collections`
+pub record IsCollection (c : Collection) : Type 0 where
+  pub name : IsName c.name
+
+-- a row of `capabilities`
+pub record IsCapability (c : Capability) : Type 0 where
+  pub name : IsName c.name
+  pub path : IsTrue (is_path c.path)
+  pub rights : MustHave c.kind c.rights AreRights
+
+-- a row of `use`
+pub record IsUsage (u : Usage) : Type 0 where
+  pub name : IsName u.name
+  pub from : IsOrigin true false u.from
+  pub path : IsTrue (is_path u.path)
+  pub rights : MustHave u.kind u.rights AreRights
+  pub subdir : MayHave u.kind u.subdir IsSubDir
+
+-- what a row of `offer` and one of `expose` have in common; an offer may come from the parent
+pub record IsGive (parent : Bool) (g : Give) : Type 0 where
+  pub source_name : IsName g.source_name
+  pub from : IsOrigin parent true g.from
+  pub target_name : IsName g.target_name
+  pub rights : MayHave g.kind g.rights AreRights
+  pub subdir : MayHave g.kind g.subdir IsSubDir
+
+-- a row of `offer`
+pub record IsOffer (o : Offer) : Type 0 where
+  pub to : IsName o.to
+  pub give : IsGive true o.give
+
+-- a row of `expose`
+pub record IsExpose (g : Give) : Type 0 where
+  pub give : IsGive false g
+  pub dependency : g.dependency ≡ Strong
+
+-- a section of such rows, within the limit
+pub record AreRows {A : Type 0} (IsRow : A → Type 0) (rows : List A) : Type 0 where
+  pub limit : length rows ≤ max_rows
+  pub each : All IsRow rows
+
+-- ---- declarations
+
+-- what reading can give
+pub record IsReadable (d : Decl) : Type 0 where
+  pub runner : ForSomeOf d.runner IsName
+  pub children : AreRows IsChild d.children
+  pub collections : AreRows IsCollection d.collections
+  pub capabilities : AreRows IsCapability d.capabilities
+  pub uses : AreRows IsUsage d.uses
+  pub offers : AreRows IsOffer d.offers
+  pub exposes : AreRows IsExpose d.exposes
+
+-- the text of a readable declaration is read as that declaration
+abbrev pub TextsAreReadBack : Type 0
+TextsAreReadBack = (d : Decl) → IsReadable d → decl_of_json (decl_text d) ≡ Ok d

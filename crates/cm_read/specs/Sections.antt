@@ -1,0 +1,28 @@
+-- The rows of a section.
+use Rattle.std.specs.Prelude.{◌+◌, ◌-◌, ◌^◌, min, List, [], ◌++◌, length, Option, Some, None, ok_or, Ok, Err, nat_le, if◌then◌else◌}
+use Rattle.serde_json.specs.Data.{Data, Items, no_items, item}
+use Rattle.serde_json.specs.Find.{as_array}
+use Rattle.cm_decl.specs.declared.section.Section.{Section}
+use Rattle.cm_read.specs.declared.fault.Place.{Place}
+use Rattle.cm_read.specs.Numbers.{wrong_type, too_many_rows, max_rows}
+use Rattle.cm_read.specs.Reading.{Read, ◌>>=◌, bad, start}
+
+-- the place of the next item; the index stands still at the greatest one
+abbrev pub next : Place → Place
+next at = record at { index = min (at.index + 1) (2 ^ 32 - 1) }
+
+-- the rows of the items, one item after another
+abbrev pub rows_at : {A : Type 0} → (Place → Data → Read (List A)) → Place → Items → Read (List A)
+rows_at read at no_items = Ok []
+rows_at read at (item d ds) = do
+  first ← read at d
+  others ← rows_at read (next at) ds
+  Ok (first ++ others)
+
+-- the rows of a section: none where it is missing
+abbrev pub section_at : {A : Type 0} → (Place → Data → Read (List A)) → Section → Option Data → Read (List A)
+section_at read s None = Ok []
+section_at read s (Some d) = do
+  items ← ok_or (as_array d) (bad (start s) wrong_type [])
+  rows ← rows_at read (start s) items
+  if nat_le (length rows) max_rows then Ok rows else Err (bad (start s) too_many_rows [])

@@ -1,0 +1,348 @@
+//! The fields of an item.
+
+ghost use Rattle.std.specs.Prelude.{◌≡◌, option_map};
+ghost use Rattle.std.specs.List.{list_any, list_all};
+ghost use Rattle.std.specs.Str.{bytes_eq};
+ghost use Rattle.serde_json.specs.View.{view, members_view, items_view};
+ghost use Rattle.cm_read.specs.Fields as spec;
+ghost use Rattle.cm_read.specs.Fields.{map_now};
+ghost use Rattle.cm_read.specs.Reading.{Gives, GivesBy};
+
+use crate::fault::{Place, ReadFault, fault};
+use crate::number::{
+    BAD_NAME, BAD_PATH, BAD_RIGHTS, MISSING, UNKNOWN_FIELD, UNKNOWN_WORD, WRONG_TYPE,
+};
+use cm_names::{CapPath, List, Name, NameFault, PathFault, Rights, SubDir, Text};
+use serde_json::{Map, Value};
+use std::alloc::Global;
+
+/// The most bytes of a URL text.
+const MAX_URL: usize = 4096;
+
+/// The value of a field that has to be there.
+pub fn needed<'a>(
+    alloc: Global,
+    at: Place,
+    item: &'a Value,
+    key: &str,
+) -> Result<&'a Value, ReadFault>
+    ensures { GivesBy (λ v. view v.now) result (spec.needed_at at key.now (view item.now)) }
+{
+    match item.get(key) {
+        Some(value) => Ok(value),
+        None => Err(fault(alloc, at, MISSING, key)),
+    }
+}
+
+/// The text that a value is.
+pub fn text_of<'a>(
+    alloc: Global,
+    at: Place,
+    value: &'a Value,
+    key: &str,
+) -> Result<&'a str, ReadFault>
+    ensures { GivesBy (λ s. s.now) result (spec.text_at at key.now (view value.now)) }
+{
+    match value.as_str() {
+        Some(text) => Ok(text),
+        None => Err(fault(alloc, at, WRONG_TYPE, key)),
+    }
+}
+
+/// The name that a text is.
+pub fn name_from(alloc: Global, at: Place, key: &str, text: &str) -> Result<Name, ReadFault>
+    ensures { Gives result (spec.name_from at key.now text.now) }
+{
+    match Name::read(alloc, text) {
+        Ok(name) => Ok(name),
+        Err(NameFault::Memory) => Err(ReadFault::Memory),
+        Err(_) => Err(fault(alloc, at, BAD_NAME, key)),
+    }
+}
+
+/// Whether each byte is a printing ASCII byte other than the space.
+fn has_url_bytes(text: &str) -> bool
+    ensures { result ≡ list_all spec.is_url_byte text.now }
+{
+    text.as_bytes().iter().all(|b| *b >= 33 && *b <= 126)
+}
+
+/// Whether the text is a URL text.
+fn is_url(text: &str) -> bool
+    ensures { result ≡ spec.is_url text.now }
+{
+    !text.is_empty() && text.len() <= MAX_URL && has_url_bytes(text)
+}
+
+/// The path that a text is.
+fn path_from(alloc: Global, at: Place, key: &str, text: &str) -> Result<CapPath, ReadFault>
+    ensures { Gives result (spec.path_from at key.now text.now) }
+{
+    match CapPath::read(alloc, text) {
+        Ok(path) => Ok(path),
+        Err(PathFault::Memory) => Err(ReadFault::Memory),
+        Err(_) => Err(fault(alloc, at, BAD_PATH, key)),
+    }
+}
+
+/// The subdirectory that a text is.
+fn subdir_from(alloc: Global, at: Place, key: &str, text: &str) -> Result<SubDir, ReadFault>
+    ensures { Gives result (spec.subdir_from at key.now text.now) }
+{
+    match SubDir::read(alloc, text) {
+        Ok(path) => Ok(path),
+        Err(PathFault::Memory) => Err(ReadFault::Memory),
+        Err(_) => Err(fault(alloc, at, BAD_PATH, key)),
+    }
+}
+
+/// The name that a value is.
+#[tactic(auto, unfolding(crate::specs::Fields::name_in_at))]
+pub fn name_in(alloc: Global, at: Place, value: &Value, key: &str) -> Result<Name, ReadFault>
+    ensures { Gives result (spec.name_in_at at key.now (view value.now)) }
+{
+    let text = text_of(alloc, at, value, key)?;
+    name_from(alloc, at, key, text)
+}
+
+/// The name in a field that has to be there.
+#[tactic(auto, unfolding(crate::specs::Fields::name_at))]
+pub fn name_of(alloc: Global, at: Place, item: &Value, key: &str) -> Result<Name, ReadFault>
+    ensures { Gives result (spec.name_at at key.now (view item.now)) }
+{
+    let value = needed(alloc, at, item, key)?;
+    name_in(alloc, at, value, key)
+}
+
+/// The URL text in a field that has to be there.
+#[tactic(auto, unfolding(crate::specs::Fields::url_at))]
+pub fn url_of(alloc: Global, at: Place, item: &Value, key: &str) -> Result<Text, ReadFault>
+    ensures { Gives result (spec.url_at at key.now (view item.now)) }
+{
+    let value = needed(alloc, at, item, key)?;
+    let text = text_of(alloc, at, value, key)?;
+    if !is_url(text) {
+        return Err(fault(alloc, at, BAD_NAME, key));
+    }
+    Ok(Text::from_str(alloc, text)?)
+}
+
+/// The path that a value is.
+#[tactic(auto, unfolding(crate::specs::Fields::path_in_at))]
+pub fn path_in(alloc: Global, at: Place, value: &Value, key: &str) -> Result<CapPath, ReadFault>
+    ensures { Gives result (spec.path_in_at at key.now (view value.now)) }
+{
+    let text = text_of(alloc, at, value, key)?;
+    path_from(alloc, at, key, text)
+}
+
+/// The path in a field that has to be there.
+#[tactic(auto, unfolding(crate::specs::Fields::path_at))]
+pub fn path_of(alloc: Global, at: Place, item: &Value, key: &str) -> Result<CapPath, ReadFault>
+    ensures { Gives result (spec.path_at at key.now (view item.now)) }
+{
+    let value = needed(alloc, at, item, key)?;
+    path_in(alloc, at, value, key)
+}
+
+/// The subdirectory that a value is.
+#[tactic(auto, unfolding(crate::specs::Fields::subdir_in_at))]
+fn subdir_in(alloc: Global, at: Place, value: &Value, key: &str) -> Result<SubDir, ReadFault>
+    ensures { Gives result (spec.subdir_in_at at key.now (view value.now)) }
+{
+    let text = text_of(alloc, at, value, key)?;
+    subdir_from(alloc, at, key, text)
+}
+
+/// The subdirectory in a field that may be missing.
+#[tactic(auto, unfolding(crate::specs::Fields::subdir_at))]
+pub fn subdir_of(
+    alloc: Global,
+    at: Place,
+    item: &Value,
+    key: &str,
+) -> Result<Option<SubDir>, ReadFault>
+    ensures { Gives result (spec.subdir_at at key.now (view item.now)) }
+{
+    let Some(value) = item.get(key) else {
+        return Ok(None);
+    };
+    let subdir = subdir_in(alloc, at, value, key)?;
+    Ok(Some(subdir))
+}
+
+/// The texts that the values are.
+fn texts_in(alloc: Global, at: Place, values: &[Value], key: &str) -> Result<List<Text>, ReadFault>
+    ensures { Gives result (spec.texts_in_at at key.now (items_view values.now)) }
+{
+    let mut texts = List::new(alloc);
+    for value in values {
+        let text = text_of(alloc, at, value, key)?;
+        texts.push(Text::from_str(alloc, text)?)?;
+    }
+    Ok(texts)
+}
+
+/// A text, or a list of one or more texts.
+#[tactic(auto, unfolding(crate::specs::Fields::texts_at))]
+fn texts_of(alloc: Global, at: Place, value: &Value, key: &str) -> Result<List<Text>, ReadFault>
+    ensures { Gives result (spec.texts_at at key.now (view value.now)) }
+{
+    match value {
+        Value::Array(values) => {
+            let texts = texts_in(alloc, at, values.as_slice(), key)?;
+            if texts.len() == 0 {
+                return Err(fault(alloc, at, WRONG_TYPE, key));
+            }
+            Ok(texts)
+        }
+        _ => {
+            let text = text_of(alloc, at, value, key)?;
+            let text = Text::from_str(alloc, text)?;
+            let mut texts = List::new(alloc);
+            texts.push(text)?;
+            Ok(texts)
+        }
+    }
+}
+
+/// The names that the texts are.
+fn each_name(alloc: Global, at: Place, key: &str, texts: &[Text]) -> Result<List<Name>, ReadFault>
+    ensures { Gives result (spec.each (spec.name_from at key.now) texts.now) }
+{
+    let mut names = List::new(alloc);
+    for text in texts {
+        names.push(name_from(alloc, at, key, text.as_str())?)?;
+    }
+    Ok(names)
+}
+
+/// A name, or a list of one or more names.
+#[tactic(auto, unfolding(crate::specs::Fields::names_at))]
+pub fn names_of(alloc: Global, at: Place, value: &Value, key: &str) -> Result<List<Name>, ReadFault>
+    ensures { Gives result (spec.names_at at key.now (view value.now)) }
+{
+    let texts = texts_of(alloc, at, value, key)?;
+    each_name(alloc, at, key, texts.as_slice())
+}
+
+/// What stands behind a `#` at the front.
+pub fn behind_mark(text: &str) -> Option<&str>
+    ensures { option_map (λ s. s.now) result ≡ spec.behind_mark text.now }
+{
+    text.strip_prefix('#')
+}
+
+/// The name of the reference that a text is.
+fn reference_from(alloc: Global, at: Place, key: &str, text: &str) -> Result<Name, ReadFault>
+    ensures { Gives result (spec.reference_from at key.now text.now) }
+{
+    match behind_mark(text) {
+        None => Err(fault(alloc, at, UNKNOWN_WORD, key)),
+        Some(name) => name_from(alloc, at, key, name),
+    }
+}
+
+/// The names of the references that the texts are.
+fn each_reference(
+    alloc: Global,
+    at: Place,
+    key: &str,
+    texts: &[Text],
+) -> Result<List<Name>, ReadFault>
+    ensures { Gives result (spec.each (spec.reference_from at key.now) texts.now) }
+{
+    let mut names = List::new(alloc);
+    for text in texts {
+        names.push(reference_from(alloc, at, key, text.as_str())?)?;
+    }
+    Ok(names)
+}
+
+/// A reference, or a list of one or more references.
+#[tactic(auto, unfolding(crate::specs::Fields::references_at))]
+pub fn references_of(
+    alloc: Global,
+    at: Place,
+    value: &Value,
+    key: &str,
+) -> Result<List<Name>, ReadFault>
+    ensures { Gives result (spec.references_at at key.now (view value.now)) }
+{
+    let texts = texts_of(alloc, at, value, key)?;
+    each_reference(alloc, at, key, texts.as_slice())
+}
+
+/// The rights that a list of words stands for.
+#[tactic(auto, unfolding(crate::specs::Fields::rights_in_at))]
+pub fn rights_in(alloc: Global, at: Place, value: &Value, key: &str) -> Result<Rights, ReadFault>
+    ensures { Gives result (spec.rights_in_at at key.now (view value.now)) }
+{
+    let Some(items) = value.as_array() else {
+        return Err(fault(alloc, at, WRONG_TYPE, key));
+    };
+    let words = texts_in(alloc, at, items.as_slice(), key)?;
+    match Rights::read_words(words.as_slice()) {
+        Ok(rights) => Ok(rights),
+        Err(_) => Err(fault(alloc, at, BAD_RIGHTS, key)),
+    }
+}
+
+/// The rights in a field that has to be there.
+#[tactic(auto, unfolding(crate::specs::Fields::rights_at))]
+pub fn rights_of(alloc: Global, at: Place, item: &Value, key: &str) -> Result<Rights, ReadFault>
+    ensures { Gives result (spec.rights_at at key.now (view item.now)) }
+{
+    let value = needed(alloc, at, item, key)?;
+    rights_in(alloc, at, value, key)
+}
+
+/// Whether the key is among the known ones.
+fn is_known(known: &[&str], key: &str) -> bool
+    ensures { result ≡ list_any (λ w. bytes_eq w.now key.now) known.now }
+{
+    known.iter().any(|word| *word == key)
+}
+
+/// The first key that isn't known, in byte order.
+fn unknown_key<'a>(map: &'a Map<String, Value>, known: &[&str]) -> Option<&'a str>
+    ensures { option_map (λ s. s.now) result
+        ≡ spec.unknown_in (map_now known.now) (members_view map.now.entries) }
+{
+    for key in map.keys() {
+        if !is_known(known, key.as_str()) {
+            return Some(key.as_str());
+        }
+    }
+    None
+}
+
+/// The members of an item, which has to be an object.
+pub fn object_of<'a>(
+    alloc: Global,
+    at: Place,
+    item: &'a Value,
+) -> Result<&'a Map<String, Value>, ReadFault>
+    ensures { GivesBy (λ m. members_view m.now.entries) result (spec.object_at at (view item.now)) }
+{
+    match item.as_object() {
+        Some(members) => Ok(members),
+        None => Err(fault(alloc, at, WRONG_TYPE, "")),
+    }
+}
+
+/// The least key that isn't among the known ones is refused.
+pub fn check_known(
+    alloc: Global,
+    at: Place,
+    members: &Map<String, Value>,
+    known: &[&str],
+) -> Result<(), ReadFault>
+    ensures { Gives result
+        (spec.known_at at (map_now known.now) (members_view members.now.entries)) }
+{
+    match unknown_key(members, known) {
+        Some(key) => Err(fault(alloc, at, UNKNOWN_FIELD, key)),
+        None => Ok(()),
+    }
+}

@@ -1,0 +1,145 @@
+//! Whole manifests.
+
+ghost use Rattle.std.specs.Prelude.{◌<◌, ◌^◌, length, IfOk};
+ghost use Rattle.serde_json.specs.View.{view};
+ghost use Rattle.cm_text.specs.Json.{json_of};
+ghost use Rattle.cm_read.specs.Manifest as spec;
+ghost use Rattle.cm_read.specs.Reading.{Gives, GivesBy};
+
+use crate::fault::{ReadFault, start, whole};
+use crate::fields::{name_of, object_of};
+use crate::known::section_known;
+use crate::number::{NOT_JSON, NOT_OBJECT, NOT_UTF8, TOO_LARGE};
+use crate::sections::section_of;
+use cm_decl::{Capability, Child, Collection, Decl, Give, Offer, Section, Usage};
+use cm_names::{Name, Text};
+use cm_text::TextFault;
+use serde_json::Value;
+use std::alloc::Global;
+
+/// The most bytes of a manifest.
+const MAX_BYTES: usize = 1_048_576;
+
+/// The runner of a program.
+#[tactic(auto, unfolding(crate::specs::Manifest::program_at))]
+fn program_in(alloc: Global, value: &Value) -> Result<Name, ReadFault>
+    ensures { Gives result (spec.program_at (view value.now)) }
+{
+    object_of(alloc, start(Section::Program), value)?;
+    name_of(alloc, start(Section::Program), value, "runner")
+}
+
+/// The runner, if there is a program.
+#[tactic(auto, unfolding(crate::specs::Manifest::runner_at))]
+fn runner_of(alloc: Global, value: &Value) -> Result<Option<Name>, ReadFault>
+    ensures { Gives result (spec.runner_at (view value.now)) }
+{
+    let Some(value) = value.get("program") else {
+        return Ok(None);
+    };
+    let runner = program_in(alloc, value)?;
+    Ok(Some(runner))
+}
+
+/// The manifest is an object with known sections alone.
+#[tactic(auto, unfolding(crate::specs::Manifest::sections_at))]
+fn check_sections(alloc: Global, value: &Value) -> Result<(), ReadFault>
+    ensures { Gives result (spec.sections_at (view value.now)) }
+{
+    let Some(members) = value.as_object() else {
+        return Err(whole(alloc, NOT_OBJECT));
+    };
+    section_known(alloc, start(Section::Manifest), members)
+}
+
+/// The declaration that a value is.
+#[tactic(auto, unfolding(crate::specs::Manifest::decl_at))]
+fn decl_of(alloc: Global, value: &Value) -> Result<Decl, ReadFault>
+    ensures { Gives result (spec.decl_at (view value.now)) }
+{
+    check_sections(alloc, value)?;
+    let runner = runner_of(alloc, value)?;
+    let children = section_of::<Child>(alloc, Section::Children, value.get("children"))?;
+    let collections = section_of::<Collection>(
+        alloc,
+        Section::Collections,
+        value.get("collections"),
+    )?;
+    let capabilities = section_of::<Capability>(
+        alloc,
+        Section::Capabilities,
+        value.get("capabilities"),
+    )?;
+    let uses = section_of::<Usage>(alloc, Section::Uses, value.get("use"))?;
+    let offers = section_of::<Offer>(alloc, Section::Offers, value.get("offer"))?;
+    let exposes = section_of::<Give>(alloc, Section::Exposes, value.get("expose"))?;
+    Ok(Decl {
+        runner,
+        children,
+        collections,
+        capabilities,
+        uses,
+        offers,
+        exposes,
+    })
+}
+
+/// The declaration of a manifest in plain JSON, or its first fault. Faults 41 and 30 don't come.
+///
+/// The fields, their defaults and the words are those of Fuchsia's component manifest reference
+/// (fuchsia.dev). Of a repeated key the last value counts. [`ReadFault`] says when each fault
+/// comes; `Err(Memory)` where memory runs out.
+pub fn read_decl_text(alloc: Global, text: &str) -> Result<Decl, ReadFault>
+    ensures { Gives result (spec.decl_of_json text.now) }
+{
+    match Value::from_str(alloc, text) {
+        Ok(value) => decl_of(alloc, &value),
+        Err(error) => {
+            if error.is_memory() {
+                return Err(ReadFault::Memory);
+            }
+            Err(whole(alloc, NOT_JSON))
+        }
+    }
+}
+
+/// The text that bytes are.
+#[tactic(auto, using(crate::proofs::TextLemmas::utf8_test, crate::proofs::TextLemmas::utf8_test_false))]
+fn text_of(alloc: Global, bytes: &[u8]) -> Result<&str, ReadFault>
+    ensures text { GivesBy (λ s. s.now) result (spec.text_of bytes.now) }
+    ensures short { IfOk result (λ s. length s.now < 2 ^ 32) }
+{
+    if bytes.len() > MAX_BYTES {
+        return Err(whole(alloc, TOO_LARGE));
+    }
+    match std::str::from_utf8(bytes) {
+        Ok(text) => Ok(text),
+        Err(_) => Err(whole(alloc, NOT_UTF8)),
+    }
+}
+
+/// The JSON text of a text in the relaxed spelling.
+fn json_text(alloc: Global, text: &str) -> Result<Text, ReadFault>
+    requires { length text.now < 2 ^ 32 }
+    ensures { Gives result (spec.json_text (json_of text.now)) }
+{
+    match cm_text::to_json(alloc, text) {
+        Ok(json) => Ok(json),
+        Err(TextFault::Memory) => Err(ReadFault::Memory),
+        Err(_) => Err(whole(alloc, NOT_JSON)),
+    }
+}
+
+/// The declaration of a manifest in the relaxed spelling of JSON, or its first fault.
+///
+/// The fields, their defaults and the words are those of Fuchsia's component manifest reference
+/// (fuchsia.dev), and the spelling is that of its manifest files: comments, trailing commas, single
+/// quotes and keys without quotes. Of a repeated key the last value counts. [`ReadFault`] says when
+/// each fault comes; `Err(Memory)` where memory runs out.
+pub fn read_decl(alloc: Global, bytes: &[u8]) -> Result<Decl, ReadFault>
+    ensures { Gives result (spec.decl_of_bytes bytes.now) }
+{
+    let text = text_of(alloc, bytes)?;
+    let json = json_text(alloc, text)?;
+    read_decl_text(alloc, json.as_str())
+}

@@ -1,0 +1,288 @@
+//! Fields with listed words, and where a capability comes from.
+
+ghost use Rattle.std.specs.Prelude.{◌≡◌, option_map};
+ghost use Rattle.serde_json.specs.View.{view};
+ghost use Rattle.cm_read.specs.Fields as fields;
+ghost use Rattle.cm_read.specs.Words as spec;
+ghost use Rattle.cm_read.specs.Reading.{Gives};
+
+use crate::fault::{Place, ReadFault, fault};
+use crate::fields::{behind_mark, name_from, needed, text_of};
+use crate::number::UNKNOWN_WORD;
+use cm_decl::{Durability, Origin};
+use cm_names::{Availability, ChildName, Dependency};
+use serde_json::Value;
+use std::alloc::Global;
+
+/// Whether the child starts together with its parent.
+#[tactic(auto, unfolding(crate::specs::Words::startup_named))]
+fn startup_named(text: &str) -> Option<bool>
+    ensures { result ≡ spec.startup_named text.now }
+{
+    match text {
+        "lazy" => Some(false),
+        "eager" => Some(true),
+        _ => None,
+    }
+}
+
+/// How long an instance in a collection stays.
+#[tactic(auto, unfolding(crate::specs::Words::durability_named))]
+fn durability_named(text: &str) -> Option<Durability>
+    ensures { result ≡ spec.durability_named text.now }
+{
+    match text {
+        "transient" => Some(Durability::Transient),
+        "single_run" => Some(Durability::SingleRun),
+        _ => None,
+    }
+}
+
+/// Whether a child may be created with offers of its own.
+#[tactic(auto, unfolding(crate::specs::Words::offers_named))]
+fn offers_named(text: &str) -> Option<bool>
+    ensures { result ≡ spec.offers_named text.now }
+{
+    match text {
+        "static_only" => Some(false),
+        "static_and_dynamic" => Some(true),
+        _ => None,
+    }
+}
+
+/// Whether the order of stops is bound.
+#[tactic(auto, unfolding(crate::specs::Words::dependency_named))]
+fn dependency_named(text: &str) -> Option<Dependency>
+    ensures { result ≡ spec.dependency_named text.now }
+{
+    match text {
+        "strong" => Some(Dependency::Strong),
+        "weak" => Some(Dependency::Weak),
+        _ => None,
+    }
+}
+
+/// How much a capability is needed.
+#[tactic(auto, unfolding(crate::specs::Words::availability_named))]
+fn availability_named(text: &str) -> Option<Availability>
+    ensures { result ≡ spec.availability_named text.now }
+{
+    match text {
+        "required" => Some(Availability::Required),
+        "optional" => Some(Availability::Optional),
+        _ => None,
+    }
+}
+
+/// Where a use comes from, other than from a child.
+#[tactic(auto, unfolding(crate::specs::Words::use_origin_named))]
+fn use_origin_named(text: &str) -> Option<Origin>
+    ensures { result ≡ spec.use_origin_named text.now }
+{
+    match text {
+        "parent" => Some(Origin::Parent),
+        "self" => Some(Origin::Own),
+        "framework" => Some(Origin::Framework),
+        _ => None,
+    }
+}
+
+/// Where an expose comes from, other than from a child.
+#[tactic(auto, unfolding(crate::specs::Words::expose_origin_named))]
+fn expose_origin_named(text: &str) -> Option<Origin>
+    ensures { result ≡ spec.expose_origin_named text.now }
+{
+    match text {
+        "self" => Some(Origin::Own),
+        "framework" => Some(Origin::Framework),
+        "void" => Some(Origin::Void),
+        _ => None,
+    }
+}
+
+/// Where an offer comes from, other than from a child: the parent too.
+#[tactic(auto, unfolding(crate::specs::Words::offer_origin_named))]
+fn offer_origin_named(text: &str) -> Option<Origin>
+    ensures { result ≡ spec.offer_origin_named text.now }
+{
+    match text {
+        "parent" => Some(Origin::Parent),
+        _ => expose_origin_named(text),
+    }
+}
+
+/// An expose goes to the parent alone.
+#[tactic(auto, unfolding(crate::specs::Words::expose_target_named))]
+fn expose_target_named(text: &str) -> Option<()>
+    ensures { result ≡ spec.expose_target_named text.now }
+{
+    match text {
+        "parent" => Some(()),
+        _ => None,
+    }
+}
+
+/// `startup`, by default `lazy`.
+#[tactic(auto, unfolding(crate::specs::Words::startup_at))]
+pub fn startup_of(alloc: Global, at: Place, item: &Value) -> Result<bool, ReadFault>
+    ensures { Gives result (spec.startup_at at (view item.now)) }
+{
+    let Some(value) = item.get("startup") else {
+        return Ok(false);
+    };
+    let text = text_of(alloc, at, value, "startup")?;
+    match startup_named(text) {
+        Some(word) => Ok(word),
+        None => Err(fault(alloc, at, UNKNOWN_WORD, "startup")),
+    }
+}
+
+/// `durability`, which has to be there.
+#[tactic(auto, unfolding(crate::specs::Words::durability_at))]
+pub fn durability_of(alloc: Global, at: Place, item: &Value) -> Result<Durability, ReadFault>
+    ensures { Gives result (spec.durability_at at (view item.now)) }
+{
+    let value = needed(alloc, at, item, "durability")?;
+    let text = text_of(alloc, at, value, "durability")?;
+    match durability_named(text) {
+        Some(word) => Ok(word),
+        None => Err(fault(alloc, at, UNKNOWN_WORD, "durability")),
+    }
+}
+
+/// `allowed_offers`, by default `static_only`.
+#[tactic(auto, unfolding(crate::specs::Words::allowed_offers_at))]
+pub fn allowed_offers_of(alloc: Global, at: Place, item: &Value) -> Result<bool, ReadFault>
+    ensures { Gives result (spec.allowed_offers_at at (view item.now)) }
+{
+    let Some(value) = item.get("allowed_offers") else {
+        return Ok(false);
+    };
+    let text = text_of(alloc, at, value, "allowed_offers")?;
+    match offers_named(text) {
+        Some(word) => Ok(word),
+        None => Err(fault(alloc, at, UNKNOWN_WORD, "allowed_offers")),
+    }
+}
+
+/// `dependency`, by default `strong`.
+#[tactic(auto, unfolding(crate::specs::Words::dependency_at))]
+pub fn dependency_of(alloc: Global, at: Place, item: &Value) -> Result<Dependency, ReadFault>
+    ensures { Gives result (spec.dependency_at at (view item.now)) }
+{
+    let Some(value) = item.get("dependency") else {
+        return Ok(Dependency::Strong);
+    };
+    let text = text_of(alloc, at, value, "dependency")?;
+    match dependency_named(text) {
+        Some(word) => Ok(word),
+        None => Err(fault(alloc, at, UNKNOWN_WORD, "dependency")),
+    }
+}
+
+/// `availability`, by default `required`.
+#[tactic(auto, unfolding(crate::specs::Words::availability_at))]
+pub fn availability_of(alloc: Global, at: Place, item: &Value) -> Result<Availability, ReadFault>
+    ensures { Gives result (spec.availability_at at (view item.now)) }
+{
+    let Some(value) = item.get("availability") else {
+        return Ok(Availability::Required);
+    };
+    let text = text_of(alloc, at, value, "availability")?;
+    match availability_named(text) {
+        Some(word) => Ok(word),
+        None => Err(fault(alloc, at, UNKNOWN_WORD, "availability")),
+    }
+}
+
+/// `to` of an expose, by default `parent`.
+#[tactic(auto, unfolding(crate::specs::Words::expose_to_at))]
+pub fn expose_to_of(alloc: Global, at: Place, item: &Value) -> Result<(), ReadFault>
+    ensures { Gives result (spec.expose_to_at at (view item.now)) }
+{
+    let Some(value) = item.get("to") else {
+        return Ok(());
+    };
+    let text = text_of(alloc, at, value, "to")?;
+    match expose_target_named(text) {
+        Some(word) => Ok(word),
+        None => Err(fault(alloc, at, UNKNOWN_WORD, "to")),
+    }
+}
+
+/// The child that a reference names, or what the listed word means.
+fn origin_from(
+    alloc: Global,
+    at: Place,
+    named: Option<Origin>,
+    text: &str,
+) -> Result<Origin, ReadFault>
+    ensures { Gives result (spec.origin_from at named (fields.behind_mark text.now)) }
+{
+    match behind_mark(text) {
+        Some(name) => {
+            let name = name_from(alloc, at, "from", name)?;
+            Ok(Origin::Child(ChildName { coll: None, name }))
+        }
+        None => match named {
+            Some(origin) => Ok(origin),
+            None => Err(fault(alloc, at, UNKNOWN_WORD, "from")),
+        },
+    }
+}
+
+/// The origin of a use that a value is.
+#[tactic(auto, unfolding(crate::specs::Words::use_from_in_at))]
+fn use_from_in(alloc: Global, at: Place, value: &Value) -> Result<Origin, ReadFault>
+    ensures { Gives result (spec.use_from_in_at at (view value.now)) }
+{
+    let text = text_of(alloc, at, value, "from")?;
+    origin_from(alloc, at, use_origin_named(text), text)
+}
+
+/// The origin of an offer that a value is.
+#[tactic(auto, unfolding(crate::specs::Words::offer_from_in_at))]
+fn offer_from_in(alloc: Global, at: Place, value: &Value) -> Result<Origin, ReadFault>
+    ensures { Gives result (spec.offer_from_in_at at (view value.now)) }
+{
+    let text = text_of(alloc, at, value, "from")?;
+    origin_from(alloc, at, offer_origin_named(text), text)
+}
+
+/// The origin of an expose that a value is.
+#[tactic(auto, unfolding(crate::specs::Words::expose_from_in_at))]
+fn expose_from_in(alloc: Global, at: Place, value: &Value) -> Result<Origin, ReadFault>
+    ensures { Gives result (spec.expose_from_in_at at (view value.now)) }
+{
+    let text = text_of(alloc, at, value, "from")?;
+    origin_from(alloc, at, expose_origin_named(text), text)
+}
+
+/// `from` of a use, by default `parent`.
+#[tactic(auto, unfolding(crate::specs::Words::use_from_at))]
+pub fn use_from_of(alloc: Global, at: Place, item: &Value) -> Result<Origin, ReadFault>
+    ensures { Gives result (spec.use_from_at at (view item.now)) }
+{
+    let Some(value) = item.get("from") else {
+        return Ok(Origin::Parent);
+    };
+    use_from_in(alloc, at, value)
+}
+
+/// `from` of an offer, which has to be there.
+#[tactic(auto, unfolding(crate::specs::Words::offer_from_at))]
+pub fn offer_from_of(alloc: Global, at: Place, item: &Value) -> Result<Origin, ReadFault>
+    ensures { Gives result (spec.offer_from_at at (view item.now)) }
+{
+    let value = needed(alloc, at, item, "from")?;
+    offer_from_in(alloc, at, value)
+}
+
+/// `from` of an expose, which has to be there.
+#[tactic(auto, unfolding(crate::specs::Words::expose_from_at))]
+pub fn expose_from_of(alloc: Global, at: Place, item: &Value) -> Result<Origin, ReadFault>
+    ensures { Gives result (spec.expose_from_at at (view item.now)) }
+{
+    let value = needed(alloc, at, item, "from")?;
+    expose_from_in(alloc, at, value)
+}

@@ -1,0 +1,24 @@
+use Rattle.std.proofs.Common.{◌≡◌, ◌++◌, ◌∷◌, [], true, None, Ok, is_some, sym, ap, subst, ◌∙◌, rules, inl}
+use Rattle.cm_repo.specs.Blocks.{blocks_of, block_at, FindsAlso}
+use Rattle.cm_repo.proofs.BlockLemmas.{is_some-block_at, none_from, blocks_of-insert, added-repeated, added-new, FindsAlso-push}
+use Rattle.cm_repo.proofs.repository.Repository.add.Goals as goal
+
+pub returns-then-contains_key-clause-refused : goal.returns-then-contains_key-clause-refused
+returns-then-contains_key-clause-refused c =
+    let there : is_some (block_at c.args.self.now c.in_ok-key.key) ≡ true =
+    is_some-block_at c.self.inside.blocks.entries _ _ c.contains_key.result c.self.view_is c.as_str.ensures c.contains_key.ensures ∙ c.if-contains_key.true in
+    inl (added-repeated _ _ _ _ c.in_ok-key.ensures there)
+
+pub returns : goal.returns
+returns c =
+    let key = c.in_ok-key.key in
+    let absent : block_at c.args.self.now key ≡ None =
+    none_from _ (is_some-block_at c.self.inside.blocks.entries _ _ c.contains_key.result c.self.view_is c.as_str.ensures c.contains_key.ensures ∙ c.if-contains_key.false) in
+    let grown : blocks_of c.insert.new.self.entries ≡ c.args.self.now ++ (key, c.args.bytes) ∷ [] =
+    blocks_of-insert c.self.inside.blocks c.insert.new.self c.into_string.result c.args.bytes key _ c.self.view_is c.into_string.ensures absent c.in_ok-insert.ensures.entries in
+    record {
+      ok = added-new _ _ _ _ c.in_ok-key.ensures absent ∙ ap Ok (sym grown);
+      found = subst (λ blocks. FindsAlso c.args.self.now blocks c.args.url.now c.args.bytes) (sym grown) (FindsAlso-push _ _ _ _ c.in_ok-key.ensures absent);
+      refused = search rules;
+      unchanged = search rules;
+    }

@@ -1,0 +1,43 @@
+-- A repository as the list of its blocks, each a key and the bytes under it.
+use Rattle.std.specs.Prelude.{◌≡◌, ◌≢◌, ℕ, List, [], ◌∷◌, ◌++◌, map, Option, Some, Result, Ok, Err, is_some, String, string_bytes, if◌then◌else◌}
+use Rattle.std.specs.Map.{lookup}
+use Rattle.std.specs.Result.{result_map_both}
+use Rattle.std.specs.Str.{bytes_eq}
+use Rattle.std.specs.declared.alloc.Global.{Global}
+use Rattle.cm_repo.specs.Answers.{◌>>=◌}
+use Rattle.cm_repo.specs.Urls.{key_of}
+use Rattle.cm_repo.specs.declared.fault.UrlFault.{UrlFault}
+use Rattle.cm_repo.specs.declared.fault.UrlFault.TheVariants as url
+use Rattle.cm_repo.specs.declared.fault.RepoFault.{RepoFault}
+use Rattle.cm_repo.specs.declared.fault.RepoFault.TheVariants.{BadUrl, NoFragment, Repeated, Memory}
+
+abbrev pub Blocks : Type 0
+Blocks = List (List ℕ × List ℕ)
+
+-- the blocks that the entries of a map stand for
+abbrev pub blocks_of : List (String Global × List ℕ) → Blocks
+blocks_of entries = map (λ entry. (string_bytes entry.0, entry.1)) entries
+
+-- the bytes under a key, if there are any
+abbrev pub block_at : Blocks → List ℕ → Option (List ℕ)
+block_at blocks key = lookup (bytes_eq key) blocks
+
+-- a fault of the URL, as the repository's
+abbrev pub repo_fault : UrlFault → RepoFault
+repo_fault url.BadUrl = BadUrl
+repo_fault url.NoFragment = NoFragment
+repo_fault url.Memory = Memory
+
+-- the block put last, where nothing stands under its key yet
+abbrev pub put : Blocks → List ℕ → List ℕ → Result Blocks RepoFault
+put blocks bytes key =
+    if is_some (block_at blocks key) then Err Repeated else Ok (blocks ++ (key, bytes) ∷ [])
+
+-- the blocks with one more, whose key is the text of its URL
+abbrev pub added : Blocks → List ℕ → List ℕ → Result Blocks RepoFault
+added blocks url bytes = result_map_both (λ key. key) repo_fault (key_of url) >>= put blocks bytes
+
+-- the bytes are found under the key of this URL, and under any other key what was found before
+pub record FindsAlso (old new : Blocks) (url bytes : List ℕ) : Type 0 where
+  pub found : (key : List ℕ) → key_of url ≡ Ok key → block_at new key ≡ Some bytes
+  pub others : (key : List ℕ) → key_of url ≢ Ok key → block_at new key ≡ block_at old key

@@ -1,0 +1,76 @@
+//! Manifests by URL.
+
+ghost use Rattle.std.specs.Prelude.{◌≡◌, [], Ok, OnOk, OnErr, IfErr};
+ghost use Rattle.std.specs.Option.{option_copied};
+ghost use Rattle.cm_repo.specs.Answers.{IsRefusal};
+ghost use Rattle.cm_repo.specs.Blocks.{added, block_at, FindsAlso};
+ghost use Rattle.cm_repo.specs.declared.fault.RepoFault.TheVariants.{Memory};
+
+use crate::RepoFault;
+use crate::urls::key;
+use cm_names::Bytes;
+use indexmap::IndexMap;
+use std::alloc::Global;
+use std::marker::Model;
+
+/// The bytes of manifests by the text of their URLs, in the order in which they came.
+///
+/// Contracts see it as the list of its blocks, each a key and its bytes.
+#[derive(Drop)]
+pub struct Repository {
+    alloc: Global,
+    blocks: IndexMap<String, Bytes>,
+}
+
+impl Model for Repository {
+    ghost use Rattle.cm_repo.specs.Blocks.{Blocks, blocks_of};
+
+    ghost Value = { Blocks };
+
+    ghost view = { λ r. blocks_of r.blocks.entries };
+}
+
+impl Repository {
+    /// The empty repository, which takes no memory.
+    pub fn new(alloc: Global) -> Repository
+        ensures { result ≡ [] }
+    {
+        Repository {
+            alloc,
+            blocks: IndexMap::new(alloc),
+        }
+    }
+
+    /// The bytes under a key: the text of an absolute URL, as [`absolute`](crate::absolute) gives
+    /// it. `None` where no block has that key.
+    pub fn find(&self, url: &str) -> Option<&Bytes>
+        ensures { option_copied result ≡ block_at self.now url.now }
+    {
+        self.blocks.get(url)
+    }
+
+    /// Puts a block last, under the text of its URL as the URL Standard writes it.
+    ///
+    /// A block that is refused is dropped, and the repository is as before. The faults are tried
+    /// in this order:
+    ///
+    /// - `BadUrl` where `url` isn't an absolute URL, or its text is longer than 4,096 bytes, as it
+    ///   may be where spaces were written `%20`;
+    /// - `NoFragment` where the URL has no fragment or an empty one;
+    /// - `Repeated` where a block has that key;
+    /// - `Memory`.
+    pub fn add(&mut self, url: &str, bytes: Bytes) -> Result<(), RepoFault>
+        ensures ok { OnOk result (added self.old url.now bytes ≡ Ok self.new) }
+        ensures found { OnOk result (FindsAlso self.old self.new url.now bytes) }
+        ensures refused { IfErr result (λ fault.
+            IsRefusal Memory fault (added self.old url.now bytes)) }
+        ensures unchanged { OnErr result (self.new ≡ self.old) }
+    {
+        let key = key(self.alloc, url)?;
+        if self.blocks.contains_key(key.as_str()) {
+            return Err(RepoFault::Repeated);
+        }
+        self.blocks.insert(key.into_string(), bytes)?;
+        Ok(())
+    }
+}

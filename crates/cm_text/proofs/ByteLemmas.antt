@@ -1,0 +1,64 @@
+-- The classes of bytes, of which each byte has one, and tests that hold together.
+use Rattle.std.proofs.Common.{◌≡◌, ℕ, Bool, true, false, not, ◌&&◌, ◌||◌, ◌==◌, refl, sym, arith, rules}
+use Rattle.cm_text.specs.Bytes.{is_mark, is_space, is_quote, is_word_byte}
+use Rattle.cm_text.specs.Pieces.{mark_byte, space_byte, quote_byte, word_byte, class}
+
+-- ---- bytes
+
+pub mark_class : (b : ℕ) → is_mark b ≡ true → class b ≡ mark_byte
+mark_class b h = rw h refl
+
+pub space_no_mark : (b : ℕ) → is_space b ≡ true → is_mark b ≡ false
+space_no_mark b h = grind (arith, rules)
+
+pub space_class : (b : ℕ) → is_space b ≡ true → class b ≡ space_byte
+space_class b h = rw (space_no_mark b h) (rw h refl)
+
+pub quote_no_mark : (b : ℕ) → is_quote b ≡ true → is_mark b ≡ false
+quote_no_mark b h = grind (arith, rules)
+
+pub quote_no_space : (b : ℕ) → is_quote b ≡ true → is_space b ≡ false
+quote_no_space b h = grind (arith, rules)
+
+pub quote_class : (b : ℕ) → is_quote b ≡ true → class b ≡ quote_byte
+quote_class b h = rw (quote_no_mark b h) (rw (quote_no_space b h) (rw h refl))
+
+pub word_no_mark : (b : ℕ) → is_word_byte b ≡ true → is_mark b ≡ false
+word_no_mark b h = grind (arith, rules)
+
+pub word_no_space : (b : ℕ) → is_word_byte b ≡ true → is_space b ≡ false
+word_no_space b h = grind (arith, rules)
+
+pub word_no_quote : (b : ℕ) → is_word_byte b ≡ true → is_quote b ≡ false
+word_no_quote b h = grind (arith, rules)
+
+pub word_class : (b : ℕ) → is_word_byte b ≡ true → class b ≡ word_byte
+word_class b h = rw (word_no_mark b h) (rw (word_no_space b h) (rw (word_no_quote b h) (rw h refl)))
+
+pub slash_no_quote : (q : ℕ) → is_quote q ≡ true → (92 == q) ≡ false
+slash_no_quote q h = grind (arith, rules)
+
+pub same : (q : ℕ) → (q == q) ≡ true
+same q = grind (arith, rules)
+
+-- ---- bools
+
+pub both_left : (a b : Bool) → (a && b) ≡ true → a ≡ true
+both_left true b h = refl
+both_left false b h = h
+
+pub both_right : (a b : Bool) → (a && b) ≡ true → b ≡ true
+both_right true b h = h
+both_right false b h = absurd (grind (arith, rules))
+
+pub not_true : (a : Bool) → not a ≡ true → a ≡ false
+not_true true h = sym h
+not_true false h = refl
+
+pub either_left : (a b : Bool) → (a || b) ≡ false → a ≡ false
+either_left true b h = h
+either_left false b h = refl
+
+pub either_right : (a b : Bool) → (a || b) ≡ false → b ≡ false
+either_right true b h = absurd (grind (arith, rules))
+either_right false b h = h

@@ -1,0 +1,69 @@
+-- What a writer has written, and the JSON of the whole text.
+use Rattle.std.proofs.Common.{◌≡◌, ℕ, List, [], ◌∷◌, ◌++◌, Bool, true, false, ◌&&◌, Option, Some, None, option_map, refl, sym, ap, ◌∙◌, arith, rules}
+use Rattle.std.specs.List.{list_all, flat_map, join_with_byte}
+use Rattle.std.proofs.lemmas.List.{append-nil, append_assoc}
+use Rattle.std.proofs.lemmas.Grind.{flat_map-append}
+use Rattle.cm_text.specs.Bytes.{is_quote}
+use Rattle.cm_text.specs.Token.{Token, quoted}
+use Rattle.cm_text.specs.Split.{is_char, is_token}
+use Rattle.cm_text.specs.Json.{in_quotes, token_json, is_mark_of, is_comma, is_colon, is_closing, is_needless, spelling, spellings, head_of, json_of_tokens}
+use Rattle.cm_text.specs.Scan.{seen, within}
+use Rattle.cm_text.specs.Spelling.{parted, is_pending}
+use Rattle.cm_text.specs.Writing.{json_behind, json_pending, parted_pending}
+use Rattle.cm_text.specs.declared.token.Token.{Token as CodeToken}
+use Rattle.cm_text.proofs.ByteLemmas.{both_left}
+use Rattle.cm_text.proofs.StringLemmas.{within_spells}
+
+-- ---- strings in double quotes
+
+double_quote : (q : ℕ) → is_quote q ≡ true → (q ≡ 39 → ⊥) → q ≡ 34
+double_quote q h other = grind (arith, rules)
+
+pub quoted_json : (q : ℕ) (bs : List ℕ) → is_token (quoted q (within false bs)) ≡ true → (q ≡ 39 → ⊥) → in_quotes bs ≡ token_json false (quoted q (within false bs))
+quoted_json q bs h other =
+    let double : q ≡ 34 = double_quote q (both_left (is_quote q) (list_all (is_char q) (within false bs)) h) other in
+    rw double (ap (λ xs. 34 ∷ (xs ++ 34 ∷ [])) (sym (within_spells false bs)))
+
+-- ---- spaces between spellings
+
+with_spaces : List (List ℕ) → List ℕ
+with_spaces ss = flat_map (λ s. 32 ∷ s) ss
+
+joined : (s : List ℕ) (ss : List (List ℕ)) → join_with_byte 32 (s ∷ ss) ≡ s ++ with_spaces ss
+unfolding with_spaces
+joined s [] = sym (append-nil s)
+joined s (r ∷ ss) = ap (λ xs. s ++ 32 ∷ xs) (joined r ss)
+
+spaced_by_need : (before : Token) (t : Token) (after : Option Token) (n : Bool) → is_needless (Some before) t after ≡ n → with_spaces (spelling (Some before) t after) ≡ parted (Some before) t after
+unfolding with_spaces
+spaced_by_need before t after true e = rw e refl
+spaced_by_need before t after false e = rw e (ap (λ xs. 32 ∷ xs) (append-nil (token_json (is_mark_of is_colon after) t)))
+
+behind_token : (before : Token) (ts : List Token) → with_spaces (spellings (Some before) ts) ≡ json_behind (Some before) ts
+unfolding with_spaces
+behind_token before [] = refl
+behind_token before (t ∷ ts) =
+    flat_map-append (λ s. 32 ∷ s) (spelling (Some before) t (head_of ts)) (spellings (Some t) ts)
+    ∙ ap (λ xs. xs ++ with_spaces (spellings (Some t) ts)) (spaced_by_need before t (head_of ts) (is_needless (Some before) t (head_of ts)) refl)
+    ∙ ap (λ xs. parted (Some before) t (head_of ts) ++ xs) (behind_token t ts)
+
+first_needed : (a b : Bool) → (a && b && false && true) ≡ false
+first_needed true true = refl
+first_needed true false = refl
+first_needed false true = refl
+first_needed false false = refl
+
+-- the JSON of a text's tokens is what is written behind nothing
+pub behind_nothing : (ts : List Token) → json_behind None ts ≡ json_of_tokens ts
+behind_nothing [] = refl
+behind_nothing (t ∷ ts) =
+    let needed : is_needless None t (head_of ts) ≡ false = first_needed (is_mark_of is_comma (Some t)) (is_mark_of is_closing (head_of ts)) in
+    rw needed (sym (joined (token_json (is_mark_of is_colon (head_of ts)) t) (spellings (Some t) ts) ∙ ap (λ xs. token_json (is_mark_of is_colon (head_of ts)) t ++ xs) (behind_token t ts)))
+
+-- ---- the next token
+
+pub pushed : (old new : List ℕ) (before pending : Option CodeToken) (t : Token) (ts : List Token) → is_pending before pending ≡ true → new ≡ old ++ parted_pending (option_map seen before) (option_map seen pending) (Some t) → new ++ json_pending (option_map seen pending) (Some t) ts ≡ old ++ json_pending (option_map seen before) (option_map seen pending) (t ∷ ts)
+pushed old new before (Some p) t ts h e =
+    ap (λ xs. xs ++ json_behind (Some (seen p)) (t ∷ ts)) e ∙ append_assoc old (parted (option_map seen before) (seen p) (Some t)) (json_behind (Some (seen p)) (t ∷ ts))
+pushed old new None None t ts h e = ap (λ xs. xs ++ json_behind None (t ∷ ts)) (e ∙ append-nil old)
+pushed old new (Some b) None t ts h e = absurd (grind (arith, rules))

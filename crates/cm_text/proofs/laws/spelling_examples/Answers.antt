@@ -1,0 +1,5 @@
+use Rattle.cm_text.proofs.Examples.{examples}
+use Rattle.cm_text.proofs.laws.spelling_examples.Goals as goal
+
+pub returns : goal.returns
+returns c = examples

@@ -1,0 +1,5 @@
+use Rattle.cm_text.proofs.PieceLemmas.{are_computed}
+use Rattle.cm_text.proofs.laws.tokens_are_computed.Goals as goal
+
+pub returns : goal.returns
+returns c = are_computed

@@ -1,0 +1,5 @@
+use Rattle.cm_text.proofs.PieceLemmas.{are_unique}
+use Rattle.cm_text.proofs.laws.tokens_are_unique.Goals as goal
+
+pub returns : goal.returns
+returns c = are_unique

@@ -1,0 +1,5 @@
+use Rattle.cm_text.proofs.CoverLemmas.{tokens_exclude_faults}
+use Rattle.cm_text.proofs.laws.tokens_exclude_faults.Goals as goal
+
+pub returns : goal.returns
+returns c = tokens_exclude_faults

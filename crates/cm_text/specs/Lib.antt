@@ -1,0 +1,10 @@
+pub mod Bytes
+pub mod Token
+pub mod Split
+pub mod Pieces
+pub mod Json
+pub mod Facts
+pub mod Examples
+pub mod Scan
+pub mod Spelling
+pub mod Writing

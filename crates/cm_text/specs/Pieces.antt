@@ -1,0 +1,110 @@
+-- The pieces of a text, computed.
+use Rattle.std.specs.Prelude.{ℕ, zero, suc, ◌+◌, ◌-◌, List, [], ◌∷◌, length, Bool, true, false, ◌==◌, if◌then◌else◌, Option, Some, None, option_map, Result, Ok, Err, take_while}
+use Rattle.cm_text.specs.Bytes.{is_mark, is_space, is_quote, is_word_byte, is_in_line, closes_comment}
+use Rattle.cm_text.specs.Token.{Char, plain, taken, Token, mark, quoted, word, Piece, token, space, line_comment, block_comment, piece_bytes, tokens_of}
+use Rattle.cm_text.specs.declared.fault.TextFault.{TextFault}
+use Rattle.cm_text.specs.declared.fault.TextFault.TheVariants.{BadToken, Unclosed}
+
+-- the bytes of a string up to its quote, behind a backslash or not
+unfoldable pub chars : ℕ → Bool → List ℕ → Option (List Char)
+chars q behind [] = None
+chars q true (b ∷ bs) = option_map (λ cs. taken b ∷ cs) (chars q false bs)
+chars q false (b ∷ bs) = elim (b == q) as (λ _. Option (List Char)) [
+  | true ↦ Some []
+  | false ↦ elim (b == 92) as (λ _. Option (List Char)) [
+    | true ↦ chars q true bs
+    | false ↦ option_map (λ cs. plain b ∷ cs) (chars q false bs)
+  ]
+]
+
+-- a comment's bytes up to the first star and slash
+unfoldable pub comment : List ℕ → Option (List ℕ)
+comment [] = None
+comment (b ∷ bs) = elim (closes_comment (b ∷ bs)) as (λ _. Option (List ℕ)) [
+  | true ↦ Some []
+  | false ↦ option_map (λ cs. b ∷ cs) (comment bs)
+]
+
+-- ---- the first piece
+
+-- what a text begins with: nothing that is a piece, a string or a comment that never ends, or a piece
+pub data First : Type 0 where
+  stray : First
+  unclosed : First
+  piece : Piece → First
+
+-- which kind of piece a byte begins
+pub data Class : Type 0 where
+  mark_byte : Class
+  space_byte : Class
+  quote_byte : Class
+  word_byte : Class
+  slash : Class
+  other : Class
+
+abbrev pub class : ℕ → Class
+class b =
+    if is_mark b then mark_byte else if is_space b then space_byte else if is_quote b then quote_byte else if is_word_byte b then word_byte else if b == 47 then slash else other
+
+-- a string by its quote and its characters, where it ends
+abbrev pub string_piece : ℕ → Option (List Char) → First
+string_piece q None = unclosed
+string_piece q (Some cs) = piece (token (quoted q cs))
+
+-- a comment by what stands before its first star and slash, where it ends
+abbrev pub block_piece : Option (List ℕ) → First
+block_piece None = unclosed
+block_piece (Some bs) = piece (block_comment bs)
+
+-- the comment that begins with a slash and these bytes
+abbrev pub comment_piece : List ℕ → First
+comment_piece [] = stray
+comment_piece (b ∷ bs) = elim (b == 47) as (λ _. First) [
+  | true ↦ piece (line_comment (take_while is_in_line bs))
+  | false ↦ elim (b == 42) as (λ _. First) [ true ↦ block_piece (comment bs) | false ↦ stray ]
+]
+
+-- the piece that a byte of this class begins, before the others
+abbrev pub first_of : Class → ℕ → List ℕ → First
+first_of mark_byte b bs = piece (token (mark b))
+first_of space_byte b bs = piece (space b)
+first_of quote_byte b bs = string_piece b (chars b false bs)
+first_of word_byte b bs = piece (token (word (b ∷ take_while is_word_byte bs)))
+first_of slash b bs = comment_piece bs
+first_of other b bs = stray
+
+-- the piece that a text begins with
+abbrev pub first_piece : ℕ → List ℕ → First
+first_piece b bs = first_of (class b) b bs
+
+-- ---- all pieces
+
+-- a piece before the others
+abbrev pub with_piece : Piece → Result (List Piece) TextFault → Result (List Piece) TextFault
+with_piece p (Ok ps) = Ok (p ∷ ps)
+with_piece p (Err e) = Err e
+
+-- a piece is read where it begins, and then its other bytes are passed over
+abbrev pub piece_then : ℕ → First → (ℕ → Result (List Piece) TextFault) → Result (List Piece) TextFault
+piece_then at stray more = Err (BadToken at)
+piece_then at unclosed more = Err (Unclosed at)
+piece_then at (piece p) more = with_piece p (more (length (piece_bytes p) - 1))
+
+-- the pieces behind so many bytes, of a text that stands at a place
+unfoldable pub pieces : ℕ → ℕ → List ℕ → Result (List Piece) TextFault
+pieces passed at [] = Ok []
+pieces zero at (b ∷ bs) = piece_then at (first_piece b bs) (λ n. pieces n (at + 1) bs)
+pieces (suc n) at (b ∷ bs) = pieces n (at + 1) bs
+
+-- the tokens among the pieces
+abbrev pub tokens_result : Result (List Piece) TextFault → Result (List Token) TextFault
+tokens_result (Ok ps) = Ok (tokens_of ps)
+tokens_result (Err e) = Err e
+
+-- the tokens of a text that stands at a place, or its first fault
+abbrev pub tokens_from : ℕ → List ℕ → Result (List Token) TextFault
+tokens_from at text = tokens_result (pieces 0 at text)
+
+-- the tokens of a text, or its first fault
+abbrev pub tokens : List ℕ → Result (List Token) TextFault
+tokens text = tokens_from 0 text

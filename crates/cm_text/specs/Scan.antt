@@ -1,0 +1,54 @@
+-- What the reader sees of a text's first piece.
+use Rattle.std.specs.Prelude.{ℕ, suc, List, [], ◌∷◌, length, Bool, true, false, ◌==◌, Option, Some, None, Result, Ok, Err}
+use Rattle.std.specs.Option.{option_map}
+use Rattle.cm_text.specs.Token.{Char, plain, taken, Token, mark, quoted, word, piece_bytes, piece_token}
+use Rattle.cm_text.specs.Pieces.{First, stray, unclosed, piece, first_piece}
+use Rattle.cm_text.specs.declared.token.Token.{Token as CodeToken}
+use Rattle.cm_text.specs.declared.token.Token.TheVariants.{Mark, Quoted, Word}
+use Rattle.cm_text.specs.declared.token.Piece.{Piece as CodePiece}
+use Rattle.cm_text.specs.declared.fault.TextFault.{TextFault}
+use Rattle.cm_text.specs.declared.fault.TextFault.TheVariants.{BadToken, Unclosed}
+
+-- where the closing quote stands, of bytes that stand behind a backslash or not
+abbrev pub close_place : ℕ → Bool → List ℕ → Option ℕ
+close_place q behind [] = None
+close_place q true (b ∷ bs) = option_map suc (close_place q false bs)
+close_place q false (b ∷ bs) = elim (b == q) as (λ _. Option ℕ) [
+  | true ↦ Some 0
+  | false ↦ option_map suc (close_place q (b == 92) bs)
+]
+
+-- the characters that bytes between quotes spell; a backslash at their end stands for itself
+abbrev pub within : Bool → List ℕ → List Char
+within false [] = []
+within true [] = plain 92 ∷ []
+within true (b ∷ bs) = taken b ∷ within false bs
+within false (b ∷ bs) = elim (b == 92) as (λ _. List Char) [
+  | true ↦ within true bs
+  | false ↦ plain b ∷ within false bs
+]
+
+-- the token that the code's token stands for
+abbrev pub seen : CodeToken → Token
+seen (Mark b) = mark b
+seen (Quoted q inside) = quoted q (within false inside.now)
+seen (Word bs) = word bs.now
+
+-- a piece's token and length, or the fault at its place
+abbrev pub outline : ℕ → First → Result (Option Token × ℕ) TextFault
+outline at stray = Err (BadToken at)
+outline at unclosed = Err (Unclosed at)
+outline at (piece p) = Ok (piece_token p, length (piece_bytes p))
+
+-- what a text begins with
+abbrev pub first_of_text : List ℕ → First
+first_of_text [] = stray
+first_of_text (b ∷ bs) = first_piece b bs
+
+-- what the code's piece, or its fault, says of the first piece
+abbrev pub seen_piece : CodePiece → Result (Option Token × ℕ) TextFault
+seen_piece p = Ok (option_map seen p.token, p.len)
+
+abbrev pub seen_result : Result CodePiece TextFault → Result (Option Token × ℕ) TextFault
+seen_result (Ok p) = seen_piece p
+seen_result (Err e) = Err e

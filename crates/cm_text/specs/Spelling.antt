@@ -1,0 +1,33 @@
+-- Spellings as the writer puts them down.
+use Rattle.std.specs.Prelude.{ℕ, List, [], ◌∷◌, ◌++◌, Bool, true, false, ◌==◌, if◌then◌else◌, Option, Some, None}
+use Rattle.std.specs.Char.{encode_utf8}
+use Rattle.std.specs.List.{list_all, flat_map}
+use Rattle.cm_text.specs.Token.{Token}
+use Rattle.cm_text.specs.Split.{is_char, is_token}
+use Rattle.cm_text.specs.Json.{char_json, is_needless, is_some_token, token_json, is_mark_of, is_colon}
+use Rattle.cm_text.specs.Scan.{within, seen}
+use Rattle.cm_text.specs.declared.token.Token.{Token as CodeToken}
+
+-- a character of a string in single quotes, behind a backslash or not, as it stands in double quotes
+abbrev pub char_text : Bool → ℕ → List ℕ
+char_text true c = if c == 39 then 39 ∷ [] else 92 ∷ encode_utf8 c
+char_text false c = if c == 34 then 92 ∷ 34 ∷ [] else encode_utf8 c
+
+-- what bytes between single quotes spell in double quotes, behind a backslash or not
+abbrev pub chars_json : Bool → List ℕ → List ℕ
+chars_json behind bs = flat_map char_json (within behind bs)
+
+-- no backslash at the end of bytes between single quotes stands alone
+abbrev pub are_chars : Bool → List ℕ → Bool
+are_chars behind bs = list_all (is_char 39) (within behind bs)
+
+-- a token's spelling between its neighbours, behind a space where a token stands before it
+abbrev pub parted : Option Token → Token → Option Token → List ℕ
+parted before t after =
+    if is_needless before t after then [] else (if is_some_token before then 32 ∷ [] else []) ++ token_json (is_mark_of is_colon after) t
+
+-- the last token read is a token; where there is none, none stands before it
+abbrev pub is_pending : Option CodeToken → Option CodeToken → Bool
+is_pending before (Some t) = is_token (seen t)
+is_pending None None = true
+is_pending (Some b) None = false

@@ -1,0 +1,10 @@
+mod ViewLists
+mod Histories
+mod Moments
+mod Tickets
+mod Records
+mod PassSteps
+mod Calls
+mod Closing
+mod LawProofs
+pub mod AllPasses

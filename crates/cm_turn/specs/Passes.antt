@@ -1,0 +1,92 @@
+-- What contracts see of a lock, of its passes and of a turn that is held.
+use Rattle.std.specs.Prelude.{◌≡◌, ℕ, zero, suc, ◌<◌, List, [], ◌∷◌, ◌++◌, All, length, Option, Some, IsSome, slice_get}
+use Rattle.atomic_table.specs.Seated.{TableId}
+use Rattle.cm_turn.specs.declared.view.View.{View}
+use Rattle.cm_turn.specs.declared.view.Known.{Known}
+use Rattle.cm_turn.specs.History.{StartsWith, entries_by}
+use Rattle.cm_turn.specs.Views.{spent_view, idle_view, holding_view}
+
+-- a pass: its lock, its frame, its caller's number, a beginning of the history, and the caller's entries in it
+pub record PassView (E F : Type 0) : Type 0 where
+  pub lock : TableId
+  pub frame : Option F
+  pub caller : ℕ
+  pub seen : List E
+  pub mine : List E
+
+-- a lock, and how many passes it has
+pub record LockView : Type 0 where
+  pub lock : TableId
+  pub passes : ℕ
+
+-- a turn that is held: the state, and the pass that entered, whose `seen` is the list that was found
+pub record HeldView (S E F : Type 0) : Type 0 where
+  pub state : S
+  pub pass : PassView E F
+
+-- the turn with another state
+abbrev pub with_state : {S E F : Type 0} → HeldView S E F → S → HeldView S E F
+with_state h s = record { state = s; pass = h.pass }
+
+module _ {E F : Type 0} where
+  -- a new pass has seen nothing
+  abbrev pub new_pass : TableId → F → ℕ → PassView E F
+  new_pass lock f c = record { lock = lock; frame = Some f; caller = c; seen = []; mine = [] }
+
+  -- the new passes of the callers below n, in order
+  abbrev pub new_passes : TableId → F → ℕ → List (PassView E F)
+  new_passes lock f zero = []
+  new_passes lock f (suc n) = new_passes lock f n ++ new_pass lock f n ∷ []
+
+  -- the pass, with this in place of what it had seen
+  abbrev pub seen_up_to : List E → PassView E F → PassView E F
+  seen_up_to seen p = record p { seen = seen }
+
+  -- a pass's entries are those of its caller in what it has seen
+  abbrev pub IsOwn : (E → ℕ) → PassView E F → Type 0
+  IsOwn by p = entries_by by p.caller p.seen ≡ p.mine
+
+  -- the second pass is of the first one's lock and caller
+  abbrev pub IsPassOf : PassView E F → PassView E F → Type 0
+  IsPassOf p q = (q.lock ≡ p.lock) × (q.caller ≡ p.caller)
+
+  -- one of the passes is the caller's
+  abbrev pub HasCaller : List (PassView E F) → ℕ → Type 0
+  HasCaller passes c = (k : ℕ) × (p : PassView E F) × (slice_get passes k ≡ Some p) × (p.caller ≡ c)
+
+  -- these are all passes of the lock, each once: as many as it has, all its own, and one of each caller
+  abbrev pub AreAll : LockView → List (PassView E F) → Type 0
+  AreAll l passes = All (λ p. p.lock ≡ l.lock) passes × (length passes ≡ l.passes) × ((c : ℕ) → c < l.passes → HasCaller passes c)
+
+-- the state bears a pass out: it has the pass's frame, its list begins with what the pass has seen, and the caller's entries in it are the pass's own
+abbrev pub IsKnown : {S E F : Type 0} → (S → List E) → (S → F) → (E → ℕ) → S → PassView E F → Type 0
+IsKnown story frame by s p = (p.frame ≡ Some (frame s)) × StartsWith (story s) p.seen × (entries_by by p.caller (story s) ≡ p.mine)
+
+-- How the values of this crate are seen.
+module _ {E F : Type 0} where
+  -- the view of a badge that is alone
+  abbrev pub view_in : List (View E F) → View E F
+  view_in [] = spent_view
+  view_in (v ∷ vs) = v
+
+  abbrev pub pass_of : TableId → ℕ → View E F → PassView E F
+  pass_of lock number v = record { lock = lock; frame = v.frame; caller = number; seen = v.seen; mine = v.mine }
+
+  abbrev pub known_as : PassView E F → Known E F
+  known_as p = record { frame = p.frame; caller = p.caller; seen = p.seen; mine = p.mine }
+
+  -- a pass at rest, with a frame
+  abbrev pub IsIdle : ℕ → View E F → Type 0
+  IsIdle c v = (v ≡ idle_view v.frame c v.seen v.mine) × IsSome v.frame
+
+  -- the views of a pass's badge
+  abbrev pub IsPass : ℕ → List (View E F) → Type 0
+  IsPass c views = (views ≡ view_in views ∷ []) × IsIdle c (view_in views)
+
+  -- a pass that has the turn, and has seen its caller's entries and no others of it
+  abbrev pub IsHolding : (E → ℕ) → ℕ → View E F → Type 0
+  IsHolding by c v = ((t : ℕ) × (v ≡ holding_view t v.frame c v.seen v.mine)) × (entries_by by c v.seen ≡ v.mine)
+
+-- a lock's table has two words and one slot
+abbrev pub IsLockTable : TableId → Type 0
+IsLockTable z = (z.words ≡ 2) × (z.slots ≡ 1)

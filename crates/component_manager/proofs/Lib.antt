@@ -1,0 +1,4 @@
+mod Cuts
+mod ReplyLemmas
+mod RunLemmas
+mod TextLemmas
