@@ -2,7 +2,7 @@
 //!
 //! A [`Decl`] is what a component manifest says, row by row. The definitions in `specs/` say
 //! which faults a declaration has and in what order they are reported, and which node of its
-//! realm graph depends on which; the validator and the graph are proved against them.
+//! realm graph depends on which. No code checks them yet.
 //!
 //! The rows are those of Fuchsia's component manifest reference (fuchsia.dev).
 #![tactic(auto)]

@@ -104,7 +104,7 @@ pub record AreRows {A : Type 0} (IsRow : A → Type 0) (rows : List A) : Type 0 
 
 -- ---- declarations
 
--- what reading can give
+-- the rows, words and limits that the tables of the manifest allow
 pub record IsReadable (d : Decl) : Type 0 where
   pub runner : ForSomeOf d.runner IsName
   pub children : AreRows IsChild d.children

@@ -364,7 +364,7 @@ fn value_of(alloc: Global, decl: &Decl) -> Result<Value, Memory>
 /// are there where the row has them, rights as the names of the single rights, and `to` of an
 /// expose is left out.
 ///
-/// A declaration that a manifest can have is read back by [`read_decl_text`](crate::read_decl_text).
+/// A readable declaration (`IsReadable`) is read back by [`read_decl_text`](crate::read_decl_text).
 /// `Err(Memory)` where memory runs out.
 #[tactic(auto, using(crate::proofs::PairLemmas::text_reads_back))]
 pub fn write_decl(alloc: Global, decl: &Decl) -> Result<Text, Memory>
