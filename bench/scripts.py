@@ -3,7 +3,7 @@
 
 Each script holds the logger's realm and as many further manifests, of about 16 KiB each, as fill it.
 The memory that is told is never less than that of this script, of which each run begins as a copy; the example alone shows it.
-Run it from anywhere: bench/scripts.py
+Run it from anywhere: bench/scripts.py [PROGRAM]
 """
 import os
 import subprocess
@@ -11,7 +11,7 @@ import sys
 import tempfile
 
 HERE = os.path.dirname(os.path.abspath(__file__))
-PROGRAM = os.path.join(HERE, "..", "component_manager")
+PROGRAM = sys.argv[1] if len(sys.argv) > 1 else os.path.join(HERE, "..", "component_manager")
 EXAMPLE = os.path.join(HERE, "..", "examples", "logger-route.txt")
 MIB = 1 << 20
 

@@ -14,9 +14,11 @@ use Rattle.cm_decl.specs.Clashes.{clash}
 abbrev pub passes_at : {A : Type 0} → (A → Bool) → List A → ℕ → Bool
 passes_at passes rows i = option_map_or passes (slice_get rows i) false
 
+-- from a child that isn't declared
 abbrev pub has_unknown_source : Decl → Give → Bool
 has_unknown_source d g = is_unknown (is_child d) g.from
 
+-- from self without such a capability, or a directory from framework
 abbrev pub has_undeclared_source : Decl → Give → Bool
 has_undeclared_source d g = is_undeclared d g.kind g.from g.source_name
 

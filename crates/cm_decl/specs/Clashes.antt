@@ -16,6 +16,7 @@ use Rattle.cm_decl.specs.Rules.{Rule, RepeatedName, RepeatedTarget, RepeatedPath
 abbrev pub Place : Type 0
 Place = Section × ℕ
 
+-- the place of the row of this section and index
 abbrev pub place : Section → ℕ → Place
 place section index = (section, index)
 
@@ -28,6 +29,7 @@ abbrev pub first_before : {A : Type 0} → Section → (A → A → Bool) → Li
 first_before section clashes rows i =
     option_and_then (λ row. first_row section (λ earlier. clashes earlier row) (take i rows)) (slice_get rows i)
 
+-- the first, or the second where the first isn't there
 abbrev pub or_else : {A : Type 0} → Option A → Option A → Option A
 or_else (Some x) other = Some x
 or_else None other = other
@@ -37,12 +39,15 @@ abbrev pub child_of_name : Decl → ℕ → Option Place
 child_of_name d i =
     option_and_then (λ k. first_row Children (λ c. bytes_eq c.name k.name) d.children) (slice_get d.collections i)
 
+-- children of one name
 abbrev pub same_child_name : Child → Child → Bool
 same_child_name a b = bytes_eq a.name b.name
 
+-- collections of one name
 abbrev pub same_collection_name : Collection → Collection → Bool
 same_collection_name a b = bytes_eq a.name b.name
 
+-- capabilities of one name, of whatever kinds
 abbrev pub same_capability_name : Capability → Capability → Bool
 same_capability_name a b = bytes_eq a.name b.name
 
@@ -54,6 +59,7 @@ same_target a b = bytes_eq a.to b.to && bytes_eq a.give.target_name b.give.targe
 abbrev pub same_expose : Give → Give → Bool
 same_expose a b = bytes_eq a.target_name b.target_name
 
+-- uses at one path
 abbrev pub same_path : Usage → Usage → Bool
 same_path a b = bytes_eq a.path b.path
 

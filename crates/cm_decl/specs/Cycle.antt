@@ -14,6 +14,7 @@ IsSupported edge set = (x : Node) → IsTrue (set x) → (y : Node) × IsTrue (s
 abbrev pub InCore : (Node → Node → Bool) → Node → Type 0
 InCore edge x = (set : Node → Bool) × IsTrue (set x) × IsSupported edge set
 
+-- P holds of the node, and of none that stands before it in the order of nodes
 abbrev pub IsLeast : (Node → Type 0) → Node → Type 0
 IsLeast P x = P x × ((y : Node) → P y → IsTrue (node_at_most x y))
 

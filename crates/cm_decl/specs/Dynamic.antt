@@ -1,6 +1,6 @@
 -- The faults of offers that are made to a child when it is created.
-use Rattle.std.specs.Prelude.{ℕ, ◌+◌, List, [], ◌∷◌, ◌++◌, Bool, false, ◌&&◌, ◌||◌, Option, Some, None, is_none, find, if◌then◌else◌}
-use Rattle.std.specs.List.{list_any}
+use Rattle.std.specs.Prelude.{ℕ, List, [], ◌∷◌, length, take, Bool, false, ◌&&◌, ◌||◌, Option, option_map, option_and_then, is_none, find, slice_get, if◌then◌else◌}
+use Rattle.std.specs.List.{list_any, filter_map, range_with_len}
 use Rattle.std.specs.Str.{bytes_eq}
 use Rattle.cm_names.specs.declared.child.ChildName.{ChildName}
 use Rattle.cm_decl.specs.declared.decl.Decl.{Decl}
@@ -33,15 +33,16 @@ give_rules = UnknownRef ∷ NotDeclared ∷ RepeatedTarget ∷ RequiredVoid ∷ 
 abbrev pub give_fault : Decl → (ChildName → Bool) → List ℕ → List Give → Give → Option Rule
 give_fault d dynamic coll before g = find (give_breaks d dynamic coll before g) give_rules
 
--- the first bad one of these offers, which stand behind the i offers before: its index and the number of its fault
-abbrev pub bad_give_from : Decl → (ChildName → Bool) → List ℕ → ℕ → List Give → List Give → Option (ℕ × ℕ)
-bad_give_from d dynamic coll i before [] = None
-bad_give_from d dynamic coll i before (g ∷ gs) =
-    elim (give_fault d dynamic coll before g) as (λ _. Option (ℕ × ℕ)) [
-      | Some rule ↦ Some (i, number_of rule)
-      | None ↦ bad_give_from d dynamic coll (i + 1) (before ++ g ∷ []) gs
-    ]
+-- the first rule that the i-th of these offers breaks
+abbrev pub give_fault_at : Decl → (ChildName → Bool) → List ℕ → List Give → ℕ → Option Rule
+give_fault_at d dynamic coll gives i =
+    option_and_then (λ g. give_fault d dynamic coll (take i gives) g) (slice_get gives i)
+
+-- its index and the number of its fault, where it is bad
+abbrev pub bad_give_at : Decl → (ChildName → Bool) → List ℕ → List Give → ℕ → Option (ℕ × ℕ)
+bad_give_at d dynamic coll gives i = option_map (λ rule. (i, number_of rule)) (give_fault_at d dynamic coll gives i)
 
 -- the first bad offer to a new child of a collection; dynamic tells which dynamic children are there and not doomed
 abbrev pub bad_give : Decl → (ChildName → Bool) → List ℕ → List Give → Option (ℕ × ℕ)
-bad_give d dynamic coll gives = bad_give_from d dynamic coll 0 [] gives
+bad_give d dynamic coll gives =
+    slice_get (filter_map (bad_give_at d dynamic coll gives) (range_with_len 0 (length gives))) 0

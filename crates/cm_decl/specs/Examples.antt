@@ -20,12 +20,15 @@ use Rattle.cm_decl.specs.Graph.{static_name}
 use Rattle.cm_decl.specs.Clashes.{Place}
 use Rattle.cm_decl.specs.Faults.{Fault}
 
+-- what declares nothing
 abbrev pub no_decl : Decl
 no_decl = record { runner = None; children = []; collections = []; capabilities = []; uses = []; offers = []; exposes = [] }
 
+-- a child, with `#` and its name for its URL
 abbrev pub child : List ℕ → Child
 child name = record { name = name; url = 35 ∷ name; eager = false }
 
+-- a protocol that keeps its name
 abbrev pub give : List ℕ → Origin → Dependency → Availability → Give
 give name from dependency availability = record {
   kind = Protocol;
@@ -38,21 +41,27 @@ give name from dependency availability = record {
   availability = availability;
 }
 
+-- from a declared child
 abbrev pub from_child : List ℕ → Origin
 from_child name = origin.Child (static_name name)
 
+-- an offer of a protocol, from one declared child to another
 abbrev pub offer : List ℕ → List ℕ → List ℕ → Dependency → Offer
 offer name from to dependency = record { to = to; give = give name (from_child from) dependency Required }
 
+-- the name `a`
 abbrev pub a : List ℕ
 a = 97 ∷ []
 
+-- the name `b`
 abbrev pub b : List ℕ
 b = 98 ∷ []
 
+-- the name `p`
 abbrev pub p : List ℕ
 p = 112 ∷ []
 
+-- the name `q`
 abbrev pub q : List ℕ
 q = 113 ∷ []
 
@@ -65,6 +74,7 @@ named_as_child = record no_decl {
   collections = record { name = b; durability = Transient; dynamic_offers = false } ∷ [];
 }
 
+-- a use of a protocol
 abbrev pub use_of : List ℕ → Origin → List ℕ → Usage
 use_of name from path = record {
   kind = Protocol;
@@ -83,7 +93,10 @@ used_of_nobody = record no_decl { children = child a ∷ []; uses = use_of p (fr
 
 -- what the component doesn't declare, offered to its child
 abbrev pub offered_undeclared : Decl
-offered_undeclared = record no_decl { children = child a ∷ []; offers = record { to = a; give = give p origin.Own Strong Required } ∷ [] }
+offered_undeclared = record no_decl {
+  children = child a ∷ [];
+  offers = record { to = a; give = give p origin.Own Strong Required } ∷ [];
+}
 
 -- a child that is offered what it exposes itself
 abbrev pub given_back : Decl
@@ -93,7 +106,9 @@ given_back = record no_decl { children = child a ∷ []; offers = offer p a a St
 abbrev pub exposed_twice : Decl
 exposed_twice = record no_decl {
   children = child a ∷ child b ∷ [];
-  exposes = give p (from_child a) Strong Required ∷ give q (from_child a) Strong Required ∷ give p (from_child b) Strong Required ∷ [];
+  exposes =
+      give p (from_child a) Strong Required ∷ give q (from_child a) Strong Required
+      ∷ give p (from_child b) Strong Required ∷ [];
 }
 
 -- a path that is used twice
@@ -103,7 +118,9 @@ used_twice = record no_decl { uses = use_of p origin.Parent (47 ∷ p) ∷ use_o
 -- the paths /a/b, /ab and /a
 abbrev pub one_inside : Decl
 one_inside = record no_decl {
-  uses = use_of p origin.Parent (47 ∷ 97 ∷ 47 ∷ 98 ∷ []) ∷ use_of q origin.Parent (47 ∷ 97 ∷ 98 ∷ []) ∷ use_of b origin.Parent (47 ∷ 97 ∷ []) ∷ [];
+  uses =
+      use_of p origin.Parent (47 ∷ 97 ∷ 47 ∷ 98 ∷ []) ∷ use_of q origin.Parent (47 ∷ 97 ∷ 98 ∷ [])
+      ∷ use_of b origin.Parent (47 ∷ 97 ∷ []) ∷ [];
 }
 
 -- what has to be there, exposed from void
@@ -123,6 +140,7 @@ row_fault number section i against = record { number = number; section = section
 
 -- ---- cycles
 
+-- the node of a declared child
 abbrev pub child_node : List ℕ → Node
 child_node name = node.Child (static_name name)
 

@@ -1,4 +1,4 @@
--- The faults of a declaration, and the first of them.
+-- The faults of a declaration, and the first of them. Their order is this project's own.
 use Rattle.std.specs.Prelude.{◌≡◌, ℕ, ◌<◌, List, [], Option, Some, None, IsTrue, ◌⊎◌}
 use Rattle.cm_decl.specs.declared.decl.Decl.{Decl}
 use Rattle.cm_decl.specs.declared.node.Node.{Node}

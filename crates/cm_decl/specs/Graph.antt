@@ -1,4 +1,6 @@
--- The realm graph of a declaration and of children that were created in its collections.
+-- The realm graph of a declaration and of children that were created in its collections. That a component stops before
+-- what it strongly depends on is the rule of Fuchsia's component lifecycle documentation (fuchsia.dev); the implied edges
+-- and the choice of one cycle are this project's own.
 use Rattle.std.specs.Prelude.{◌≡◌, ℕ, ◌<◌, List, [], ◌∷◌, ◌++◌, Bool, true, false, ◌&&◌, Option, Some, None, filter, map, flat_map, unwrap_or, slice_get, count_by, if◌then◌else◌, IsTrue, ◌⊎◌}
 use Rattle.std.specs.List.{list_any}
 use Rattle.std.specs.Str.{bytes_eq}
@@ -23,6 +25,7 @@ node_of origin.Own = Some Own
 node_of (origin.Child c) = Some (Child c)
 node_of _ = None
 
+-- whether it binds the order of stops
 abbrev pub is_strong : Dependency → Bool
 is_strong Strong = true
 is_strong Weak = false
@@ -39,6 +42,7 @@ offers_to d c = map (λ o. o.give) (filter (λ o. bytes_eq o.to (target_of c)) d
 abbrev pub child_sources : Decl → ChildName → List Give → List Origin
 child_sources d c gives = map (λ g. g.from) (filter (λ g. is_strong g.dependency) (offers_to d c ++ gives))
 
+-- whether the source is a child
 abbrev pub is_from_child : Origin → Bool
 is_from_child (origin.Child c) = true
 is_from_child _ = false
@@ -47,12 +51,15 @@ is_from_child _ = false
 abbrev pub own_sources : Decl → List Origin
 own_sources d = map (λ u. u.from) (filter (λ u. is_strong u.dependency && is_from_child u.from) d.uses)
 
+-- the name of a declared child, which is in no collection
 abbrev pub static_name : List ℕ → ChildName
 static_name name = record { coll = None; name = name }
 
+-- the node of a declared child
 abbrev pub static_node : DeclaredChild → Node
 static_node k = Child (static_name k.name)
 
+-- the node of a child that was created in a collection
 abbrev pub dynamic_node : DynChild → Node
 dynamic_node k = Child k.name
 
@@ -60,6 +67,7 @@ dynamic_node k = Child k.name
 abbrev pub nodes : Decl → List DynChild → List Node
 nodes d dynamic = Own ∷ map static_node d.children ++ map dynamic_node dynamic
 
+-- whether it is one of them
 abbrev pub is_node : Decl → List DynChild → Node → Bool
 is_node d dynamic x = list_any (λ y. same_node y x) (nodes d dynamic)
 
@@ -72,6 +80,7 @@ abbrev pub sources_of : Decl → List DynChild → Node → List Origin
 sources_of d dynamic Own = own_sources d
 sources_of d dynamic (Child c) = child_sources d c (gives_of dynamic c)
 
+-- whether the source is this node
 abbrev pub is_from_node : Node → Origin → Bool
 is_from_node y from = option_eq same_node (node_of from) (Some y)
 
@@ -80,6 +89,7 @@ abbrev pub strong_edge : Decl → List DynChild → Node → Node → Bool
 strong_edge d dynamic x y =
     list_any (is_from_node y) (sources_of d dynamic x) && is_node d dynamic x && is_node d dynamic y
 
+-- the same as a relation
 abbrev pub StrongOn : Decl → List DynChild → Node → Node → Type 0
 StrongOn d dynamic x y = IsTrue (strong_edge d dynamic x y)
 
@@ -100,7 +110,8 @@ pub record IsOrder (r : Realm Node) (order : List Node) : Type 0 where
 -- what the child is given, or, by an implied edge, the component itself
 abbrev pub WouldDirectly : Decl → List DynChild → List ℕ → List Give → Node → Type 0
 WouldDirectly d dynamic coll gives y =
-    IsTrue (list_any (is_from_node y) (child_sources d (record { coll = Some coll; name = [] }) gives) && is_node d dynamic y) ⊎ (y ≡ Own)
+    IsTrue (list_any (is_from_node y) (child_sources d (record { coll = Some coll; name = [] }) gives)
+    && is_node d dynamic y) ⊎ (y ≡ Own)
 
 -- a further child of a collection, on which no node depends, would depend on this node: directly, or through one that it
 -- would depend on directly

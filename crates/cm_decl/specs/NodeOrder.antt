@@ -19,6 +19,7 @@ abbrev pub coll_length : Option (List ℕ) → ℕ
 coll_length None = 0
 coll_length (Some coll) = length coll + 1
 
+-- the same of a node
 abbrev pub node_coll_length : Node → ℕ
 node_coll_length Own = 0
 node_coll_length (Child name) = coll_length name.coll
@@ -32,6 +33,7 @@ abbrev pub node_cmp : Node → Node → Ordering
 node_cmp x y =
     ordering_then (nat_cmp (rank x) (rank y)) (ordering_then (text_cmp x y) (nat_cmp (node_coll_length x) (node_coll_length y)))
 
+-- whether the first is the second or stands before it
 abbrev pub node_at_most : Node → Node → Bool
 node_at_most x y = is_le (node_cmp x y)
 

@@ -14,5 +14,6 @@ Reaches {N} On x y = (between : List N) × Way On x between y
 abbrev pub HasCycle : {N : Type 0} → (N → N → Type 0) → Type 0
 HasCycle {N} On = (x : N) × Reaches On x x
 
+-- no node does
 abbrev pub NoCycle : {N : Type 0} → (N → N → Type 0) → Type 0
 NoCycle On = HasCycle On → ⊥

@@ -1,4 +1,5 @@
--- The rules that the rows of a declaration have to keep, and the tests that they are made of.
+-- The rules that the rows of a declaration have to keep, and the tests that they are made of. The rules are those of
+-- Fuchsia's component manifest reference (fuchsia.dev); their numbers are this project's own.
 use Rattle.std.specs.Prelude.{ℕ, List, [], ◌∷◌, ◌++◌, Bool, false, not, ◌&&◌, ◌||◌, is_none, nat_eq}
 use Rattle.std.specs.List.{list_any, starts_with}
 use Rattle.std.specs.Str.{bytes_eq}
@@ -42,6 +43,7 @@ rules = RepeatedName ∷ UnknownRef ∷ NotDeclared ∷ TargetIsSource ∷ Repea
 abbrev pub is_child : Decl → ChildName → Bool
 is_child d c = is_none c.coll && list_any (λ k. bytes_eq k.name c.name) d.children
 
+-- whether a collection of this name is declared
 abbrev pub is_collection : Decl → List ℕ → Bool
 is_collection d name = list_any (λ k. bytes_eq k.name name) d.collections
 
@@ -49,6 +51,7 @@ is_collection d name = list_any (λ k. bytes_eq k.name name) d.collections
 abbrev pub is_target : Decl → List ℕ → Bool
 is_target d name = list_any (λ k. bytes_eq k.name name) d.children || is_collection d name
 
+-- whether a capability of this kind and name is declared
 abbrev pub is_capability : Decl → Kind → List ℕ → Bool
 is_capability d kind name = list_any (λ c. same_kind c.kind kind && bytes_eq c.name name) d.capabilities
 
@@ -72,6 +75,7 @@ is_given_back _ to = false
 abbrev pub is_required_void : Give → Bool
 is_required_void g = elim g.from as (λ _. Bool) [ Void ↦ not (allows_void g.availability) | _ ↦ false ]
 
--- whether the first path goes on behind the second one with a slash, so that the parts of the second are a proper prefix of its own
+-- whether the first path goes on behind the second one with a slash, so that the parts of the second are a proper prefix
+-- of its own
 abbrev pub is_inside : List ℕ → List ℕ → Bool
 is_inside path outer = starts_with nat_eq path (outer ++ 47 ∷ [])

@@ -11,10 +11,12 @@ use Rattle.cm_decl.specs.Reach.{NoCycle}
 use Rattle.cm_decl.specs.Cycle.{IsPickedCycle}
 use Rattle.cm_decl.specs.Faults.{Fault, IsFirst, IsFaultless}
 
+-- whether the source is void
 abbrev pub is_void : Origin → Bool
 is_void Void = true
 is_void _ = false
 
+-- whether the source is the parent
 abbrev pub is_parent : Origin → Bool
 is_parent Parent = true
 is_parent _ = false

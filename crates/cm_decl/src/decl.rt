@@ -7,6 +7,9 @@ use cm_names::{List, Name, Plain};
 ///
 /// Each list stands in the order of the manifest, with one row for each name and, among the
 /// offers, for each name and target: for the first name all targets, then for the next.
+///
+/// This is the component declaration of Fuchsia's component framework documentation
+/// (fuchsia.dev), with the sections that this project serves.
 #[derive(Debug, Drop, Clone, PartialEq, Eq)]
 pub struct Decl {
     /// The runner of the component's program, if it has a program.

@@ -29,32 +29,41 @@ pub fn faults_once()
 
 /// A graph has at most one picked cycle, and where it has one, it has a cycle.
 pub fn picks_once()
-    ensures once { (edge : OneNode → OneNode → Bool) (c d : Seq OneNode) → IsPickedCycle edge c → IsPickedCycle edge d → c ≡ d }
-    ensures cycle { (edge : OneNode → OneNode → Bool) (c : Seq OneNode) → IsPickedCycle edge c → HasCycle (λ x y. edge x y ≡ true) }
+    ensures once { (edge : OneNode → OneNode → Bool) (c d : Seq OneNode)
+        → IsPickedCycle edge c → IsPickedCycle edge d → c ≡ d }
+    ensures cycle { (edge : OneNode → OneNode → Bool) (c : Seq OneNode)
+        → IsPickedCycle edge c → HasCycle (λ x y. edge x y ≡ true) }
 {}
 
 /// A realm graph that has an order has no cycle.
 pub fn orders_no_cycle()
-    ensures { (d : Declaration) (dynamic : Seq Dynamic) (order : Seq OneNode) → IsOrder (realm d dynamic) order → NoCycle (Directly (realm d dynamic)) }
+    ensures { (d : Declaration) (dynamic : Seq Dynamic) (order : Seq OneNode)
+        → IsOrder (realm d dynamic) order → NoCycle (Directly (realm d dynamic)) }
 {}
 
 /// One declaration for each fault that a row can have: an undeclared name, a clash with an
 /// earlier row and so on. Where two faults stand, the first is the declaration's.
 pub fn has_each_fault()
-    ensures repeated_name { IsFaultOf named_as_child (row_fault 50 section.Collections 0 (Some (place section.Children 1))) }
+    ensures repeated_name { IsFaultOf named_as_child
+        (row_fault 50 section.Collections 0 (Some (place section.Children 1))) }
     ensures unknown_ref { IsFaultOf used_of_nobody (row_fault 51 section.Uses 0 None) }
     ensures not_declared { IsFaultOf offered_undeclared (row_fault 52 section.Offers 0 None) }
     ensures target_is_source { IsFaultOf given_back (row_fault 53 section.Offers 0 None) }
-    ensures repeated_target { IsFaultOf exposed_twice (row_fault 54 section.Exposes 2 (Some (place section.Exposes 0))) }
-    ensures repeated_path { IsFaultOf used_twice (row_fault 55 section.Uses 1 (Some (place section.Uses 0))) }
-    ensures path_inside { IsFaultOf one_inside (row_fault 56 section.Uses 2 (Some (place section.Uses 0))) }
+    ensures repeated_target { IsFaultOf exposed_twice
+        (row_fault 54 section.Exposes 2 (Some (place section.Exposes 0))) }
+    ensures repeated_path { IsFaultOf used_twice
+        (row_fault 55 section.Uses 1 (Some (place section.Uses 0))) }
+    ensures path_inside { IsFaultOf one_inside
+        (row_fault 56 section.Uses 2 (Some (place section.Uses 0))) }
     ensures required_void { IsFaultOf exposed_from_void (row_fault 57 section.Exposes 1 None) }
-    ensures first_of_two { IsFaultOf twice_named (row_fault 50 section.Children 2 (Some (place section.Children 0))) }
+    ensures first_of_two { IsFaultOf twice_named
+        (row_fault 50 section.Children 2 (Some (place section.Children 0))) }
 {}
 
 /// Two children with strong offers of each other's: 58 with the cycle from the least node on.
 pub fn goes_two_ways()
-    ensures { IsFaultOf (two_ways dependency.Strong) (cycle_fault (child_node a ∷ child_node b ∷ child_node a ∷ [])) }
+    ensures { IsFaultOf (two_ways dependency.Strong)
+        (cycle_fault (child_node a ∷ child_node b ∷ child_node a ∷ [])) }
 {}
 
 /// With a weak offer back the declaration is valid.
@@ -66,10 +75,19 @@ pub fn goes_one_way()
 /// source 52, a target name that stands already 54, and what has to be there from void 57. A
 /// child of a collection that is there may be a source.
 pub fn finds_bad_gives()
-    ensures unknown { bad_give given_back (λ c. false) b (give p (from_child b) dependency.Strong availability.Required ∷ []) ≡ Some (0, 51) }
-    ensures undeclared { bad_give given_back (λ c. false) b (give q origin.Parent dependency.Strong availability.Required ∷ give p origin.Own dependency.Strong availability.Required ∷ []) ≡ Some (1, 52) }
-    ensures repeated { bad_give given_back (λ c. false) b (give q origin.Parent dependency.Strong availability.Required ∷ give q origin.Parent dependency.Strong availability.Required ∷ []) ≡ Some (1, 54) }
-    ensures offered { bad_give given_back (λ c. false) a (give p origin.Parent dependency.Strong availability.Required ∷ []) ≡ Some (0, 54) }
-    ensures required { bad_give given_back (λ c. false) b (give q origin.Void dependency.Strong availability.Required ∷ []) ≡ Some (0, 57) }
-    ensures there { bad_give given_back (λ c. true) b (give q (origin.Child (record { coll = Some b; name = a })) dependency.Strong availability.Required ∷ []) ≡ None }
+    ensures unknown { bad_give given_back (λ c. false) b
+        (give p (from_child b) dependency.Strong availability.Required ∷ []) ≡ Some (0, 51) }
+    ensures undeclared { bad_give given_back (λ c. false) b
+        (give q origin.Parent dependency.Strong availability.Required
+        ∷ give p origin.Own dependency.Strong availability.Required ∷ []) ≡ Some (1, 52) }
+    ensures repeated { bad_give given_back (λ c. false) b
+        (give q origin.Parent dependency.Strong availability.Required
+        ∷ give q origin.Parent dependency.Strong availability.Required ∷ []) ≡ Some (1, 54) }
+    ensures offered { bad_give given_back (λ c. false) a
+        (give p origin.Parent dependency.Strong availability.Required ∷ []) ≡ Some (0, 54) }
+    ensures required { bad_give given_back (λ c. false) b
+        (give q origin.Void dependency.Strong availability.Required ∷ []) ≡ Some (0, 57) }
+    ensures there { bad_give given_back (λ c. true) b
+        (give q (origin.Child (record { coll = Some b; name = a })) dependency.Strong
+        availability.Required ∷ []) ≡ None }
 {}

@@ -2,7 +2,7 @@
 //!
 //! A [`Decl`] is what a component manifest says, row by row. The definitions in `specs/` say
 //! which faults a declaration has and in what order they are reported, and which node of its
-//! realm graph depends on which. No code checks them yet.
+//! realm graph depends on which. Code that decides them is no part of this crate.
 //!
 //! The rows are those of Fuchsia's component manifest reference (fuchsia.dev).
 #![tactic(auto)]

@@ -32,6 +32,9 @@ impl Plain for DynChild {
 ///
 /// It is written `self`, or as the child's name is: `name` or `collection:name`. Nodes are
 /// ordered with `Own` first, then the children by how they are written, byte by byte.
+///
+/// That a component stops before what it strongly depends on is the rule of Fuchsia's component
+/// lifecycle documentation (fuchsia.dev). How nodes are written and ordered is this project's own.
 #[derive(Debug, Drop, Clone)]
 pub enum Node {
     /// The component itself.

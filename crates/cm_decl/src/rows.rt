@@ -76,7 +76,7 @@ impl Plain for Capability {
     ghost exact = { Prim.search rules };
 }
 
-/// A capability that the component uses: a row of `use`. It is never from `void`.
+/// A capability that the component uses: a row of `use`. A valid declaration has none from `void`.
 #[derive(Debug, Drop, Clone, PartialEq, Eq)]
 pub struct Usage {
     /// What is used.
@@ -91,7 +91,7 @@ pub struct Usage {
     pub rights: Option<Rights>,
     /// The part of the directory that is used, if it isn't the whole.
     pub subdir: Option<SubDir>,
-    /// Whether the component stops before its source.
+    /// Whether the component stops before its source: with `Strong` it does.
     pub dependency: Dependency,
     /// How much the component needs it.
     pub availability: Availability,
@@ -111,7 +111,7 @@ pub struct Give {
     pub kind: Kind,
     /// The name that the capability has at its source.
     pub source_name: Name,
-    /// Where it comes from. An expose is never from `parent`.
+    /// Where it comes from. A valid declaration has no expose from `parent`.
     pub from: Origin,
     /// The name that the capability has at its target.
     pub target_name: Name,
@@ -119,7 +119,8 @@ pub struct Give {
     pub rights: Option<Rights>,
     /// The part of the directory that is given, if it isn't the whole.
     pub subdir: Option<SubDir>,
-    /// Whether the target stops before the source. An expose has `Strong`.
+    /// Whether the target stops before the source: with `Strong` it does. An expose that was read
+    /// from a manifest has `Strong`.
     pub dependency: Dependency,
     /// How surely it is given.
     pub availability: Availability,

@@ -13,6 +13,15 @@ fn child(alloc: Global, coll: &str, name: &str) -> Result<Node, Fail> {
     Ok(Node::Child(ChildName { coll, name }))
 }
 
+/// The nodes, each with a space behind it.
+fn written(alloc: Global, nodes: &[Node]) -> Result<Text, Fail> {
+    let mut text = Text::new(alloc);
+    for node in nodes {
+        text.push(format_args!("{node} "))?;
+    }
+    Ok(text)
+}
+
 #[test]
 fn orders_nodes_as_written(rt: HostRuntime) -> Result<(), Fail> {
     let alloc = rt.alloc();
@@ -32,11 +41,8 @@ fn orders_nodes_as_written(rt: HostRuntime) -> Result<(), Fail> {
     }
     nodes.push(Node::Own)?;
     nodes.sort()?;
-    let mut written = Text::new(alloc);
-    for node in nodes.as_slice() {
-        written.push(format_args!("{node} "))?;
-    }
-    assert_eq!(rt; written.as_str(), "self a a-b a9 a:b a:z aa b b:b ");
+    let text = written(alloc, nodes.as_slice())?;
+    assert_eq!(rt; text.as_str(), "self a a-b a9 a:b a:z aa b b:b ");
     Ok(())
 }
 

@@ -1,2 +1,4 @@
+pub mod Counts
+pub mod InMemory
 pub mod Lines
 pub mod Outside

@@ -1,6 +1,7 @@
 -- What the calls on the outside say: how the bytes moved, and that a failure is counted.
-use Rattle.std.specs.Prelude.{ℕ, ◌+◌, ◌-◌, ◌^◌, ◌<◌, ◌≤◌, min, List, length, take, Option}
+use Rattle.std.specs.Prelude.{◌≡◌, ℕ, ◌<◌, ◌≤◌, Bool, true, false, List, length, take, Option}
 use Rattle.std.specs.Io.KnownBytes.{Appends, Consumes, IsAtEnd, Keeps}
+use Rattle.cm_io.specs.Counts.{one_more}
 use Rattle.cm_io.specs.declared.source.Got.{Got}
 use Rattle.cm_io.specs.declared.source.Got.TheVariants as got
 use Rattle.cm_io.specs.declared.sink.Took.{Took}
@@ -10,7 +11,7 @@ use Rattle.cm_io.specs.declared.output.Put.TheVariants as put
 
 -- a count of faults rose; one that stands at its end, 2^64 - 1, stays there, and this counts as rising
 abbrev pub Rose : ℕ → ℕ → Type 0
-Rose before now = min (before + 1) (2 ^ 64 - 1) ≤ now
+Rose before now = one_more before ≤ now
 
 -- what a read does to the bytes that are left, where those are known
 abbrev pub Reads : Option (List ℕ) → Option (List ℕ) → List ℕ → Got → Type 0
@@ -23,26 +24,42 @@ abbrev pub Writes : Option (List ℕ) → Option (List ℕ) → List ℕ → Too
 Writes old new bytes (took.Bytes n) = (0 < n) × (n ≤ length bytes) × Appends old new (take n bytes)
 Writes old new bytes took.Failed = Keeps old new
 
--- a read failed only where the count rose
+-- whether a read failed
+abbrev pub read_failed : Got → Bool
+read_failed got.Failed = true
+read_failed got.End = false
+read_failed (got.Bytes n) = false
+
+-- whether a write failed
+abbrev pub write_failed : Took → Bool
+write_failed took.Failed = true
+write_failed (took.Bytes n) = false
+
+-- a fact about the number of bytes that a write took; a write that failed meets none
+abbrev pub TookAnd : Took → (ℕ → Type 0) → Type 0
+TookAnd (took.Bytes n) P = P n
+TookAnd took.Failed P = ⊥
+
+-- the count rose by one at a read that failed, and stayed at every other
 abbrev pub ReadCause : ℕ → ℕ → Got → Type 0
-ReadCause before now got.Failed = (before ≤ now) × Rose before now
-ReadCause before now (got.Bytes n) = before ≤ now
-ReadCause before now got.End = before ≤ now
+ReadCause before now got.Failed = (before ≤ now) × (now ≡ one_more before)
+ReadCause before now (got.Bytes n) = now ≡ before
+ReadCause before now got.End = now ≡ before
 
--- a write failed only where the count rose
+-- the count rose by one at a write that failed, and stayed at every other
 abbrev pub WriteCause : ℕ → ℕ → Took → Type 0
-WriteCause before now took.Failed = (before ≤ now) × Rose before now
-WriteCause before now (took.Bytes n) = before ≤ now
+WriteCause before now took.Failed = (before ≤ now) × (now ≡ one_more before)
+WriteCause before now (took.Bytes n) = now ≡ before
 
--- all of the bytes were written, or as many as the fault tells, and then the count rose
+-- all of the bytes were written, or as many as the fault tells, which aren't all
 abbrev pub PutsAll : Option (List ℕ) → Option (List ℕ) → List ℕ → Put → Type 0
 PutsAll old new bytes put.Done = Appends old new bytes
-PutsAll old new bytes (put.WriteFault n) = (n ≤ length bytes) × Appends old new (take n bytes)
+PutsAll old new bytes (put.WriteFault n) = (n < length bytes) × Appends old new (take n bytes)
 
--- a fault is told only where the count rose
+-- the count rose by one at a fault, and else stayed
 abbrev pub PutCause : ℕ → ℕ → Put → Type 0
-PutCause before now put.Done = before ≤ now
-PutCause before now (put.WriteFault n) = (before ≤ now) × Rose before now
+PutCause before now put.Done = now ≡ before
+PutCause before now (put.WriteFault n) = (before ≤ now) × (now ≡ one_more before)
 
 -- known bytes lost some bytes at their front
 abbrev pub LosesFront : Option (List ℕ) → Option (List ℕ) → Type 0

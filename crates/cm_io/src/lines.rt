@@ -4,7 +4,7 @@ ghost use Rattle.cm_io.specs.Lines.{Fills, Grows, TakesLine, TakesPart, Tells};
 ghost use Rattle.cm_io.specs.Outside.{ReadCause, Rose};
 ghost use Rattle.std.specs.Io.KnownBytes.{Consumes, prepend_known};
 ghost use Rattle.std.specs.List.{position};
-ghost use Rattle.std.specs.Prelude.{◌≡◌, ◌==◌, ◌<◌, ◌≤◌, ◌++◌, ℕ, List as Seq, [], length, IfOk, OnOk};
+ghost use Rattle.std.specs.Prelude.{◌≡◌, ◌≢◌, ◌==◌, ◌<◌, ◌≤◌, ◌++◌, ℕ, List as Seq, [], length, IfOk, OnOk};
 
 use crate::input::make_piece;
 use crate::{Got, Source};
@@ -59,7 +59,7 @@ impl Model for LineReader {
 }
 
 impl LineReader {
-    /// A reader that holds nothing.
+    /// A reader that holds nothing. It takes 65,536 bytes; `Memory` where memory ran out.
     pub fn new(alloc: Global) -> Result<LineReader, Memory>
         ensures { IfOk result (λ reader. reader ≡ []) }
     {
@@ -76,13 +76,17 @@ impl LineReader {
     ///
     /// It is `TooLong` exactly where the next line has more than 65,536 bytes, and the next call goes on behind that
     /// line. It is `End` exactly where no byte is left. `ReadFault` comes only where the source's count of faults rose
-    /// in this call, and no line end is among the bytes taken so far; `Memory` only where memory ran out. After these
-    /// two a part of a line is lost, so make no further call.
+    /// in this call, and no line end is among the bytes taken so far, and never from a quiet source; `Memory` only
+    /// where memory ran out. After these two a part of a line is lost, so make no further call.
     pub fn next<R: Threads + Wait + Sync, S: Source>(&mut self, rt: &R, source: &mut S) -> Next
-        ensures told { (given : Seq ℕ) × Consumes (S.left source.old) (S.left source.new) given × Tells (self.old ++ given) self.new (S.left source.new) result }
-        ensures lines { TakesLine (prepend_known self.old (S.left source.old)) (prepend_known self.new (S.left source.new)) result }
+        ensures told { (given : Seq ℕ) × Consumes (S.left source.old) (S.left source.new) given
+            × Tells (self.old ++ given) self.new (S.left source.new) result }
+        ensures lines { TakesLine (prepend_known self.old (S.left source.old))
+            (prepend_known self.new (S.left source.new)) result }
         ensures later { S.faults source.old ≤ S.faults source.new }
         ensures fault { result ≡ Next.ReadFault → Rose (S.faults source.old) (S.faults source.new) }
+        ensures quiet { S.quiet source.old → S.quiet source.new × (S.faults source.new ≡ S.faults source.old) }
+        ensures unfailing { S.quiet source.old → result ≢ Next.ReadFault }
     {
         let mut line = Vec::new(self.alloc);
         'parts: for _ in rt.forever() {
@@ -105,6 +109,7 @@ impl LineReader {
         requires { self.old ≡ [] }
         ensures bytes { Fills (S.left source.old) (S.left source.new) self.new result }
         ensures cause { ReadCause (S.faults source.old) (S.faults source.new) result }
+        ensures quiet { S.quiet source.old → S.quiet source.new × (result ≢ Got.Failed) }
     {
         let got = source.read(rt, self.piece.as_mut_slice());
         if let Got::Bytes(count) = got {

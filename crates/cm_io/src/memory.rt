@@ -1,11 +1,14 @@
 //! Sources and sinks in memory, which move bytes in pieces and fail where it is planned.
 
-ghost use Rattle.cm_io.specs.Outside.{ReadCause, Reads, Rose, WriteCause, Writes};
-ghost use Rattle.std.specs.Prelude.{IsTrue, ◌≡◌, ◌↔◌, ◌<◌, Some, [], ◌≤◌, ◌+◌, ◌-◌, ◌^◌, length, min, Contains};
+ghost use Rattle.cm_io.specs.Counts.{count_after, one_more};
+ghost use Rattle.cm_io.specs.InMemory.{after_call, most_of, sure_room, unused};
+ghost use Rattle.cm_io.specs.Outside.{ReadCause, Reads, TookAnd, WriteCause, Writes, read_failed, write_failed};
+ghost use Rattle.std.specs.Prelude.{IsTrue, ◌≡◌, ◌≢◌, ◌↔◌, ◌⊎◌, ◌<◌, ℕ, Some, [], ◌≤◌, ◌+◌, ◌-◌, ◌^◌, length, min, max, Contains, IfOk};
 
 use crate::{Got, Sink, Source, Took};
-use cm_names::{Bytes, List};
+use cm_names::{Bytes, List, Memory};
 use std::alloc::Global;
+use std::marker::Model;
 use std::sync::Wait;
 use std::thread::Threads;
 
@@ -21,19 +24,12 @@ pub struct Plan {
 impl Plan {
     /// No call fails, and each moves all that it can.
     pub fn quiet(alloc: Global) -> Plan
-        ensures { result.failing ≡ [] }
+        ensures { result ≡ record { piece = 2 ^ 64 - 1; failing = [] } }
     {
         Plan {
             piece: usize::MAX,
             failing: List::new(alloc),
         }
-    }
-
-    /// The most bytes that one call moves.
-    fn most(&self) -> usize
-        ensures { 0 < result }
-    {
-        self.piece.max(1)
     }
 }
 
@@ -46,39 +42,46 @@ fn is_among(calls: &[u64], call: u64) -> bool
 /// A plan at work: how many calls were made, and how many faults were counted.
 #[derive(Drop)]
 struct Planned {
-    plan: Plan,
+    piece: usize,
+    failing: List<u64>,
     calls: u64,
     faults: u64,
 }
 
 impl Planned {
     fn new(plan: Plan) -> Planned
-        ensures { result ≡ record { plan = plan; calls = 0; faults = 0 } }
+        ensures { result ≡ record { piece = plan.piece; failing = plan.failing; calls = 0; faults = 0 } }
     {
+        let Plan { piece, failing } = plan;
         Planned {
-            plan,
+            piece,
+            failing,
             calls: 0,
             faults: 0,
         }
     }
 
+    /// The most bytes that one call moves.
+    fn most(&self) -> usize
+        ensures { result ≡ max self.now.piece 1 }
+    {
+        self.piece.max(1)
+    }
+
     fn count_fault(&mut self)
         ensures later { self.old.faults ≤ self.new.faults }
-        ensures rose { Rose self.old.faults self.new.faults }
-        ensures rest { self.new ≡ record self.old { faults = self.new.faults } }
+        ensures count { self.new ≡ record self.old { faults = one_more self.old.faults } }
     {
         self.faults = self.faults.saturating_add(1);
     }
 
-    /// Whether the call that now begins fails; if so, it is counted.
+    /// Counts the call that now begins. Tells whether it fails; if so, the fault is counted.
     fn fails(&mut self) -> bool
-        ensures planned { IsTrue result ↔ Contains self.old.plan.failing self.old.calls }
+        ensures planned { IsTrue result ↔ Contains self.old.failing self.old.calls }
         ensures later { self.old.faults ≤ self.new.faults }
-        ensures rose { IsTrue result → Rose self.old.faults self.new.faults }
-        ensures calls { self.new.calls ≡ min (self.old.calls + 1) (2 ^ 64 - 1) }
-        ensures plan { self.new.plan ≡ self.old.plan }
+        ensures call { self.new ≡ record self.old { calls = one_more self.old.calls; faults = count_after result self.old.faults } }
     {
-        let fails = is_among(self.plan.failing.as_slice(), self.calls);
+        let fails = is_among(self.failing.as_slice(), self.calls);
         self.calls = self.calls.saturating_add(1);
         if fails {
             self.count_fault();
@@ -88,20 +91,38 @@ impl Planned {
 }
 
 /// A source that gives the bytes of a list.
+///
+/// Contracts see the bytes that are left, and the plan at work.
 #[derive(Drop)]
 pub struct MemorySource {
     bytes: Vec<u8>,
     given: usize,
     planned: Planned,
-    ghost within: { given ≤ length bytes.items },
+}
+
+impl Model for MemorySource {
+    ghost use Rattle.std.specs.Prelude.{◌≤◌, drop, length};
+    ghost use Rattle.cm_io.specs.InMemory.{SourceInMemory};
+
+    ghost Value = { SourceInMemory };
+
+    ghost view = { λ s. record {
+      left = drop s.given s.bytes.items;
+      plan = record {
+        piece = s.planned.piece;
+        failing = s.planned.failing;
+        calls = s.planned.calls;
+        faults = s.planned.faults;
+      };
+    } };
+
+    ghost invariant = { λ s. s.given ≤ length s.bytes.items };
 }
 
 impl MemorySource {
     /// A source of these bytes, which has not been read yet.
     pub fn new(bytes: Bytes, plan: Plan) -> MemorySource
-        ensures left { ⟦<MemorySource as Source>⟧.left result ≡ Some bytes }
-        ensures faults { ⟦<MemorySource as Source>⟧.faults result ≡ 0 }
-        ensures planned { result.planned ≡ record { plan = plan; calls = 0; faults = 0 } }
+        ensures { result ≡ record { left = bytes; plan = unused plan.piece plan.failing } }
     {
         MemorySource {
             bytes: bytes.into_vec(),
@@ -112,23 +133,29 @@ impl MemorySource {
 }
 
 impl Source for MemorySource {
-    ghost use Rattle.std.specs.Prelude.{Some, drop};
+    ghost use Rattle.std.specs.Prelude.{◌≡◌, Some, []};
 
-    ghost left = { λ s. Some (drop s.given s.bytes.items) };
+    ghost left = { λ s. Some s.left };
 
-    ghost faults = { λ s. s.planned.faults };
+    ghost faults = { λ s. s.plan.faults };
+
+    ghost quiet = { λ s. s.plan.failing ≡ [] };
 
     fn read<R: Threads + Wait + Sync>(&mut self, _rt: &R, into: &mut [u8]) -> Got
         requires { 0 < length into.old }
-        ensures bytes { Reads (⟦<MemorySource as Source>⟧.left self.old) (⟦<MemorySource as Source>⟧.left self.new) into.new result }
-        ensures cause { ReadCause self.old.planned.faults self.new.planned.faults result }
-        ensures planned { (result ≡ Got.Failed) ↔ Contains self.old.planned.plan.failing self.old.planned.calls }
+        ensures bytes { Reads (Some self.old.left) (Some self.new.left) into.new result }
+        ensures cause { ReadCause self.old.plan.faults self.new.plan.faults result }
+        ensures quiet { self.old.plan.failing ≡ [] → (self.new.plan.failing ≡ []) × (result ≢ Got.Failed) }
+        ensures failed { (result ≡ Got.Failed) ↔ Contains self.old.plan.failing self.old.plan.calls }
+        ensures call { self.new.plan ≡ after_call (read_failed result) self.old.plan }
+        ensures piece { (n : ℕ) → result ≡ Got.Bytes n →
+            n ≡ min (min (length self.old.left) (length into.old)) (most_of self.old.plan) }
     {
         if self.planned.fails() {
             return Got::Failed;
         }
         let left = &self.bytes[self.given..];
-        let count = left.len().min(into.len()).min(self.planned.plan.most());
+        let count = left.len().min(into.len()).min(self.planned.most());
         if count == 0 {
             return Got::End;
         }
@@ -139,18 +166,36 @@ impl Source for MemorySource {
 }
 
 /// A sink that keeps the bytes in a list. A write for which no memory is found fails.
+///
+/// Contracts see the bytes that were written, for how many bytes in all it holds memory, and the plan at work.
 #[derive(Drop)]
 pub struct MemorySink {
     bytes: Vec<u8>,
     planned: Planned,
 }
 
+impl Model for MemorySink {
+    ghost use Rattle.std.specs.Prelude.{vec_capacity};
+    ghost use Rattle.cm_io.specs.InMemory.{SinkInMemory};
+
+    ghost Value = { SinkInMemory };
+
+    ghost view = { λ s. record {
+      written = s.bytes.items;
+      capacity = vec_capacity s.bytes;
+      plan = record {
+        piece = s.planned.piece;
+        failing = s.planned.failing;
+        calls = s.planned.calls;
+        faults = s.planned.faults;
+      };
+    } };
+}
+
 impl MemorySink {
-    /// A sink that holds nothing yet.
+    /// A sink that holds nothing yet. It takes memory as bytes are written.
     pub fn new(alloc: Global, plan: Plan) -> MemorySink
-        ensures written { ⟦<MemorySink as Sink>⟧.written result ≡ Some [] }
-        ensures faults { ⟦<MemorySink as Sink>⟧.faults result ≡ 0 }
-        ensures planned { result.planned ≡ record { plan = plan; calls = 0; faults = 0 } }
+        ensures { result ≡ record { written = []; capacity = 0; plan = unused plan.piece plan.failing } }
     {
         MemorySink {
             bytes: Vec::new(alloc),
@@ -158,9 +203,22 @@ impl MemorySink {
         }
     }
 
+    /// A sink that holds nothing yet, with memory for `capacity` bytes: a write that fits into it fails only where
+    /// that is planned. `Memory` where memory ran out.
+    pub fn with_capacity(alloc: Global, capacity: usize, plan: Plan) -> Result<MemorySink, Memory>
+        ensures { IfOk result (λ sink. sink ≡
+            record { written = []; capacity = capacity; plan = unused plan.piece plan.failing }) }
+    {
+        let bytes = Vec::with_capacity(alloc, capacity)?;
+        Ok(MemorySink {
+            bytes,
+            planned: Planned::new(plan),
+        })
+    }
+
     /// What was written.
     pub fn bytes(&self) -> &[u8]
-        ensures { ⟦<MemorySink as Sink>⟧.written self.now ≡ Some result.now }
+        ensures { result.now ≡ self.now.written }
     {
         self.bytes.as_slice()
     }
@@ -168,21 +226,30 @@ impl MemorySink {
 
 impl Sink for MemorySink {
     ghost use Rattle.std.specs.Prelude.{Some};
+    ghost use Rattle.cm_io.specs.InMemory.{sure_room};
 
-    ghost written = { λ s. Some s.bytes.items };
+    ghost written = { λ s. Some s.written };
 
-    ghost faults = { λ s. s.planned.faults };
+    ghost faults = { λ s. s.plan.faults };
+
+    ghost room = { sure_room };
 
     fn write<R: Threads + Wait + Sync>(&mut self, _rt: &R, bytes: &[u8]) -> Took
         requires { 0 < length bytes.now }
-        ensures bytes { Writes (⟦<MemorySink as Sink>⟧.written self.old) (⟦<MemorySink as Sink>⟧.written self.new) bytes.now result }
-        ensures cause { WriteCause self.old.planned.faults self.new.planned.faults result }
-        ensures planned { Contains self.old.planned.plan.failing self.old.planned.calls → result ≡ Took.Failed }
+        ensures bytes { Writes (Some self.old.written) (Some self.new.written) bytes.now result }
+        ensures cause { WriteCause self.old.plan.faults self.new.plan.faults result }
+        ensures room { length bytes.now ≤ sure_room self.old → TookAnd result (λ n. sure_room self.old ≤ n + sure_room self.new) }
+        ensures planned { Contains self.old.plan.failing self.old.plan.calls → result ≡ Took.Failed }
+        ensures memory { result ≡ Took.Failed → Contains self.old.plan.failing self.old.plan.calls
+            ⊎ (self.old.capacity < length self.old.written + min (length bytes.now) (most_of self.old.plan)) }
+        ensures call { self.new.plan ≡ after_call (write_failed result) self.old.plan }
+        ensures piece { (n : ℕ) → result ≡ Took.Bytes n → n ≡ min (length bytes.now) (most_of self.old.plan) }
+        ensures capacity { self.old.capacity ≤ self.new.capacity }
     {
         if self.planned.fails() {
             return Took::Failed;
         }
-        let count = bytes.len().min(self.planned.plan.most());
+        let count = bytes.len().min(self.planned.most());
         match self.bytes.extend_from_slice(&bytes[..count]) {
             Ok(()) => Took::Bytes(count),
             Err(_) => {

@@ -1,5 +1,6 @@
 //! Writing the whole of a text.
 
+ghost use Rattle.std.specs.Prelude.{◌≡◌, ◌≤◌, ◌+◌, length};
 ghost use Rattle.cm_io.specs.Outside.{PutCause, PutsAll};
 
 use crate::{Sink, Took};
@@ -11,14 +12,18 @@ use std::thread::Threads;
 pub enum Put {
     /// All of it was written.
     Done,
-    /// The sink failed after so many bytes; its count of faults rose.
+    /// The sink failed after so many bytes, fewer than all; its count of faults rose.
     WriteFault(u64),
 }
 
 /// Writes all of the bytes, piece by piece, until the sink fails. It takes no memory.
+///
+/// `WriteFault` comes only where the sink failed in this call, and never where there is sure to be room for the bytes.
 pub fn put_all<R: Threads + Wait + Sync, K: Sink>(rt: &R, sink: &mut K, bytes: &[u8]) -> Put
     ensures bytes { PutsAll (K.written sink.old) (K.written sink.new) bytes.now result }
     ensures cause { PutCause (K.faults sink.old) (K.faults sink.new) result }
+    ensures room { length bytes.now ≤ K.room sink.old → K.room sink.old ≤ length bytes.now + K.room sink.new }
+    ensures unfailing { length bytes.now ≤ K.room sink.old → result ≡ Put.Done }
 {
     let mut done = 0;
     'pieces: while done < bytes.len() {

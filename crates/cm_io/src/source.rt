@@ -1,6 +1,6 @@
 //! Where bytes come from.
 
-ghost use Rattle.std.specs.Prelude.{◌<◌, length};
+ghost use Rattle.std.specs.Prelude.{◌≢◌, ◌<◌, length};
 ghost use Rattle.cm_io.specs.Outside.{ReadCause, Reads};
 
 use std::sync::Wait;
@@ -27,9 +27,16 @@ pub trait Source: Drop {
     /// How often it failed.
     ghost faults: { Self → ℕ };
 
+    /// It never fails.
+    ghost quiet: { Self → Type 0 };
+
     /// Reads the next bytes, as many as come at once and fit.
+    ///
+    /// `End` comes only where nothing is left, and `Failed` only where the source failed: then its count of faults
+    /// rises by one, and no byte is lost. A quiet source never answers `Failed`, and stays quiet.
     fn read<R: Threads + Wait + Sync>(&mut self, rt: &R, into: &mut [u8]) -> Got
         requires { 0 < length into.old }
         ensures bytes { Reads (left self.old) (left self.new) into.new result }
-        ensures cause { ReadCause (faults self.old) (faults self.new) result };
+        ensures cause { ReadCause (faults self.old) (faults self.new) result }
+        ensures quiet { quiet self.old → quiet self.new × (result ≢ Got.Failed) };
 }

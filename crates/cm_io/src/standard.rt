@@ -1,13 +1,43 @@
 //! Readers and writers of the standard library as sources and sinks.
 
+ghost use Rattle.std.specs.Io.{ReadsAtMost, WritesAtMost};
+ghost use Rattle.std.specs.Io.KnownBytes.{ReadConsumes, WriteAppends};
 ghost use Rattle.std.specs.Prelude.{◌≡◌};
 
 use crate::{Got, Sink, Source, Took};
-use std::io::{Read, Write};
+use std::io::{ErrorKind, Read, Result, Write};
 use std::sync::Wait;
 use std::thread::Threads;
 
-/// A reader whose faults are counted.
+/// Reads once, and again where a signal cut the call short.
+fn read_through<T: Read + Drop>(inner: &mut T, into: &mut [u8]) -> Result<usize>
+    ensures bound { ReadsAtMost result into.new }
+    ensures bytes { ReadConsumes (T.remaining inner.old) (T.remaining inner.new) result into.new }
+{
+    for _ in 0..u64::MAX {
+        match inner.read(into) {
+            Err(error) if error.kind() == ErrorKind::Interrupted => {}
+            result => return result,
+        }
+    }
+    inner.read(into)
+}
+
+/// Writes once, and again where a signal cut the call short.
+fn write_through<T: Write + Drop>(inner: &mut T, bytes: &[u8]) -> Result<usize>
+    ensures bound { WritesAtMost result bytes.now }
+    ensures bytes { WriteAppends (T.contents inner.old) (T.contents inner.new) result bytes.now }
+{
+    for _ in 0..u64::MAX {
+        match inner.write(bytes) {
+            Err(error) if error.kind() == ErrorKind::Interrupted => {}
+            result => return result,
+        }
+    }
+    inner.write(bytes)
+}
+
+/// A reader whose faults are counted. A call that a signal cut short is made again, and counts as no fault.
 #[derive(Drop)]
 pub struct Reading<T> {
     inner: T,
@@ -29,8 +59,10 @@ impl<T: Read + Drop> Source for Reading<T> {
 
     ghost faults = { λ s. s.faults };
 
+    ghost quiet = { λ _. ⊥ };
+
     fn read<R: Threads + Wait + Sync>(&mut self, _rt: &R, into: &mut [u8]) -> Got {
-        match self.inner.read(into) {
+        match read_through(&mut self.inner, into) {
             Ok(0) => Got::End,
             Ok(count) => Got::Bytes(count),
             Err(_) => {
@@ -41,7 +73,8 @@ impl<T: Read + Drop> Source for Reading<T> {
     }
 }
 
-/// A writer whose faults are counted. Taking nothing counts as a fault.
+/// A writer whose faults are counted. Taking nothing counts as a fault; a call that a signal cut short is made again,
+/// and counts as none.
 #[derive(Drop)]
 pub struct Writing<T> {
     inner: T,
@@ -63,8 +96,10 @@ impl<T: Write + Drop> Sink for Writing<T> {
 
     ghost faults = { λ s. s.faults };
 
+    ghost room = { λ _. 0 };
+
     fn write<R: Threads + Wait + Sync>(&mut self, _rt: &R, bytes: &[u8]) -> Took {
-        match self.inner.write(bytes) {
+        match write_through(&mut self.inner, bytes) {
             Ok(count) if count > 0 => Took::Bytes(count),
             _ => {
                 self.faults = self.faults.saturating_add(1);

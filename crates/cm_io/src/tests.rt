@@ -40,6 +40,8 @@ fn puts_in_pieces(rt: HostRuntime) -> Result<(), Fail> {
         );
         assert_eq!(rt; sink.bytes(), written, "by {piece}");
     }
+    let mut roomy = MemorySink::with_capacity(rt.alloc(), 16, planned(rt.alloc(), 5, &[])?)?;
+    assert_eq!(rt; put_all(&rt, &mut roomy, b"sixteen bytes..."), Put::Done);
     Ok(())
 }
 

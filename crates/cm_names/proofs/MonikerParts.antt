@@ -11,7 +11,8 @@ use Rattle.std.proofs.lemmas.Str.Pattern.{IsSplitOnceResult, split_parts, split_
 use Rattle.cm_names.specs.declared.child.ChildName.{ChildName}
 use Rattle.cm_names.specs.Name.{IsName, begins_name, continues_name, name_fault}
 use Rattle.cm_names.specs.Child.{child_text, in_collection}
-use Rattle.cm_names.specs.Moniker.{IsChild, IsChildText, text_of_parts, IsMonikerTextOf, IsMonikerText, parts_of, behind_slash, ReadsOneWay, WritesItsText}
+use Rattle.cm_names.specs.Moniker.{IsChild, IsChildText, text_of_parts, IsMonikerTextOf, IsMonikerText, behind_slash, ReadsOneWay, WritesItsText}
+use Rattle.cm_names.specs.Path.{parts_of}
 use Rattle.cm_names.proofs.MonikerGrammar.{slashed, joined_is, AreChildren, are_children, not_at, begins_continues}
 
 -- ---- names

@@ -7,7 +7,7 @@ use Rattle.std.proofs.lemmas.List.{length-take-le, length-drop}
 use Rattle.std.proofs.lemmas.List.Quantifiers.{position-Some}
 use Rattle.std.proofs.lemmas.List.Sums.{position_or_len_is}
 use Rattle.std.proofs.lemmas.List.Splits.{slice_split_first, slice_split_none}
-use Rattle.cm_names.specs.Path.{is_slash, is_dots, is_part, is_part_byte, is_relative, is_path, is_subdir, parts_of, part_fault, placed, parts_fault, path_fault, subdir_fault, service_path}
+use Rattle.cm_names.specs.Path.{is_slash, is_dots, is_part, is_part_byte, is_relative, is_path, is_subdir, parts_of, part_fault, parts_with_places, parts_fault, path_fault, subdir_fault, service_path}
 use Rattle.cm_names.proofs.NameLemmas.{none_fails}
 use Rattle.cm_names.specs.Name.{IsName, begins_name, continues_name}
 use Rattle.cm_names.specs.declared.path.PathFault.{PathFault}
@@ -42,7 +42,7 @@ more_parts : (place : ℕ) (xs : List ℕ) (i : ℕ) (fault : Option PathFault) 
 more_parts place xs i fault e f =
     let at : parts_of xs ≡ take i xs ∷ parts_of (drop (i + 1) xs) = parts_at xs i e in
     let n : length (take i xs) ≡ i = part_length xs i e in
-    ap (λ ps. first_of (placed place ps)) at ∙ first_of_more place (take i xs) (placed (place + length (take i xs) + 1) (parts_of (drop (i + 1) xs))) fault f ∙ ap (λ m. option_or fault (first_of (placed (place + m + 1) (parts_of (drop (i + 1) xs))))) n
+    ap (λ ps. first_of (parts_with_places place ps)) at ∙ first_of_more place (take i xs) (parts_with_places (place + length (take i xs) + 1) (parts_of (drop (i + 1) xs))) fault f ∙ ap (λ m. option_or fault (first_of (parts_with_places (place + m + 1) (parts_of (drop (i + 1) xs))))) n
 
 -- a part with a fault ends the search
 pub faulty_part : (place : ℕ) (xs : List ℕ) (i : ℕ) (e : PathFault) → position is_slash xs ≡ Some i → Some e ≡ part_fault place (take i xs) → parts_fault place xs ≡ Some e
@@ -62,7 +62,7 @@ or_none (Some e) = refl
 
 -- a text without a slash is one part
 pub last_part : (place : ℕ) (xs : List ℕ) → All (λ c. is_slash c ≡ false) xs → parts_fault place xs ≡ part_fault place xs
-last_part place xs h = ap (λ ps. first_of (placed place ps)) (slice_split_none is_slash xs h) ∙ first_of_more place xs [] (part_fault place xs) refl ∙ or_none (part_fault place xs)
+last_part place xs h = ap (λ ps. first_of (parts_with_places place ps)) (slice_split_none is_slash xs h) ∙ first_of_more place xs [] (part_fault place xs) refl ∙ or_none (part_fault place xs)
 
 -- ---- a text without a fault
 
@@ -92,10 +92,10 @@ faultless_part : (place : ℕ) (part : List ℕ) → is_none (part_fault place p
 faultless_part place part =
     if_some (length part == 0) (EmptyPart place) (cond (is_dots part) (Some (DotPart place)) (bytes_fault place part)) ∙ ap (λ b. not (length part == 0) && b) (if_some (is_dots part) (DotPart place) (bytes_fault place part) ∙ ap (λ b. not (is_dots part) && b) (faultless_bytes place part)) ∙ and_assoc (not (length part == 0)) (not (is_dots part)) (list_all is_part_byte part)
 
-faultless_parts : (place : ℕ) (parts : List (List ℕ)) → is_none (first_of (placed place parts)) ≡ list_all is_part parts
+faultless_parts : (place : ℕ) (parts : List (List ℕ)) → is_none (first_of (parts_with_places place parts)) ≡ list_all is_part parts
 faultless_parts place [] = refl
 faultless_parts place (part ∷ parts) =
-    let more : List (ℕ × List ℕ) = placed (place + length part + 1) parts in
+    let more : List (ℕ × List ℕ) = parts_with_places (place + length part + 1) parts in
     ap is_none (first_of_more place part more (part_fault place part) refl) ∙ none_or (part_fault place part) (first_of more) ∙ ap (λ b. b && is_none (first_of more)) (faultless_part place part) ∙ ap (λ b. is_part part && b) (faultless_parts (place + length part + 1) parts)
 
 short : (n : ℕ) → not (nat_lt 4096 n) ≡ nat_le n 4096

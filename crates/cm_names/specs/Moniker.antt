@@ -1,6 +1,6 @@
 -- How monikers are written.
 use Rattle.std.specs.Prelude.{◌≡◌, ◌⊎◌, ℕ, ◌<◌, ◌≤◌, List, [], ◌∷◌, ◌++◌, length, codes, map, ◌==◌, if◌then◌else◌, IfSome, All}
-use Rattle.std.specs.List.{join_with_byte, slice_split}
+use Rattle.std.specs.List.{join_with_byte}
 use Rattle.cm_names.specs.declared.child.ChildName.{ChildName}
 use Rattle.cm_names.specs.declared.moniker.Moniker.{Moniker}
 use Rattle.cm_names.specs.declared.moniker.MonikerFault.{MonikerFault}
@@ -43,11 +43,7 @@ IsMonikerFault t (BadMoniker n) =
     (length t ≤ 4096) × (IsMonikerText t → ⊥) × IsLongestFront IsMonikerText t n
 IsMonikerFault t Memory = ⊥
 
--- ---- how the parts are found again
-
--- the pieces between the slashes
-abbrev pub parts_of : List ℕ → List (List ℕ)
-parts_of t = slice_split (λ b. b == 47) t
+-- ---- how the parts are found again, as the pieces between the slashes
 
 -- the text without a slash in front
 abbrev pub behind_slash : List ℕ → List ℕ

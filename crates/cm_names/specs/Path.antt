@@ -7,6 +7,7 @@ use Rattle.cm_names.specs.declared.path.PathFault.TheVariants.{Empty, TooLong, B
 
 -- ---- the grammar
 
+-- the byte between two parts
 abbrev pub is_slash : ℕ → Bool
 is_slash b = b == 47
 
@@ -49,13 +50,13 @@ part_fault place part =
     else option_map (λ i. BadByte (place + i)) (position (λ b. not (is_part_byte b)) part)
 
 -- the parts, each with the place of its first byte
-abbrev pub placed : ℕ → List (List ℕ) → List (ℕ × List ℕ)
-placed place [] = []
-placed place (part ∷ parts) = (place, part) ∷ placed (place + length part + 1) parts
+abbrev pub parts_with_places : ℕ → List (List ℕ) → List (ℕ × List ℕ)
+parts_with_places place [] = []
+parts_with_places place (part ∷ parts) = (place, part) ∷ parts_with_places (place + length part + 1) parts
 
 -- the first fault of the parts of a text that begins at this place
 abbrev pub parts_fault : ℕ → List ℕ → Option PathFault
-parts_fault place t = slice_get (filter_map (λ p. part_fault p.0 p.1) (placed place (parts_of t))) 0
+parts_fault place t = slice_get (filter_map (λ p. part_fault p.0 p.1) (parts_with_places place (parts_of t))) 0
 
 -- the first fault of a text that is to be a path
 abbrev pub path_fault : List ℕ → Option PathFault
@@ -80,12 +81,12 @@ abbrev pub service_path : List ℕ → List ℕ
 service_path name = codes "/svc/" ++ name
 
 -- a subdirectory behind a slash
-abbrev pub slashed : List ℕ → List ℕ
-slashed subdir = codes "/" ++ subdir
+abbrev pub slash_and_text : List ℕ → List ℕ
+slash_and_text subdir = codes "/" ++ subdir
 
 -- the path, and each subdirectory behind a slash
-abbrev pub joined : List ℕ → List (List ℕ) → List ℕ
-joined path subdirs = path ++ flat_map slashed subdirs
+abbrev pub joined_text : List ℕ → List (List ℕ) → List ℕ
+joined_text path subdirs = path ++ flat_map slash_and_text subdirs
 
 -- the first path begins with the second one and a slash
 abbrev pub IsInside : List ℕ → List ℕ → Type 0

@@ -23,12 +23,16 @@ set_of_bits n = record {
   write_bytes = has_bit n 8;
 }
 
+-- 1 for true
 abbrev pub bit_of : Bool → ℕ
 bit_of b = if b then 1 else 0
 
+-- the number of which the bits are those of the set
 abbrev pub bits_of_set : RightSet → ℕ
 bits_of_set r =
-    bit_of r.connect + 2 * (bit_of r.enumerate + 2 * (bit_of r.execute + 2 * (bit_of r.get_attributes + 2 * (bit_of r.modify_directory + 2 * (bit_of r.read_bytes + 2 * (bit_of r.traverse + 2 * (bit_of r.update_attributes + 2 * bit_of r.write_bytes)))))))
+    bit_of r.connect + 2 * (bit_of r.enumerate + 2 * (bit_of r.execute + 2 * (bit_of r.get_attributes
+    + 2 * (bit_of r.modify_directory + 2 * (bit_of r.read_bytes + 2 * (bit_of r.traverse
+    + 2 * (bit_of r.update_attributes + 2 * bit_of r.write_bytes)))))))
 
 -- nine bits come back from their set: all 512 cases are computed
 pub bits_back : (n : ℕ) → n < 512 → bits_of_set (set_of_bits n) ≡ n

@@ -2,6 +2,7 @@
 use Rattle.std.specs.Prelude.{◌≡◌, ◌≢◌, ℕ, min, List, [], ◌∷◌, ◌++◌, length, codes, map, filter, Bool, true, false, not, ◌||◌, if◌then◌else◌, Option, Some, None, option_map, Result, Ok, Err}
 use Rattle.std.specs.List.{list_all, list_any, join_with_byte}
 use Rattle.std.specs.Str.{bytes_eq}
+use Rattle.std.specs.Option.{option_map_or}
 use Rattle.cm_names.specs.declared.rights.Right.{Right}
 use Rattle.cm_names.specs.declared.rights.Right.TheVariants.{Connect, Enumerate, Execute, GetAttributes, ModifyDirectory, ReadBytes, Traverse, UpdateAttributes, WriteBytes}
 use Rattle.cm_names.specs.declared.rights.RightsFault.{RightsFault}
@@ -19,9 +20,19 @@ pub record RightSet : Type 0 where
   pub update_attributes : Bool
   pub write_bytes : Bool
 
+-- the set of no right
 abbrev pub no_rights : RightSet
-no_rights =
-    record { connect = false; enumerate = false; execute = false; get_attributes = false; modify_directory = false; read_bytes = false; traverse = false; update_attributes = false; write_bytes = false }
+no_rights = record {
+  connect = false;
+  enumerate = false;
+  execute = false;
+  get_attributes = false;
+  modify_directory = false;
+  read_bytes = false;
+  traverse = false;
+  update_attributes = false;
+  write_bytes = false;
+}
 
 -- what is in either
 abbrev pub union : RightSet → RightSet → RightSet
@@ -37,6 +48,7 @@ union a b = record {
   write_bytes = a.write_bytes || b.write_bytes;
 }
 
+-- where the first holds, the second does
 abbrev pub implies : Bool → Bool → Bool
 implies a b = not a || b
 
@@ -139,6 +151,7 @@ rights_of_word t =
 abbrev pub index_of : ℕ → ℕ
 index_of n = min n 4294967295
 
+-- the rights beside those of the other words, where these have no fault
 abbrev pub with_rights : RightSet → Result RightSet RightsFault → Result RightSet RightsFault
 with_rights r (Ok others) = Ok (union r others)
 with_rights r (Err e) = Err e
@@ -160,10 +173,14 @@ unfoldable pub rights_of : List (List ℕ) → Result RightSet RightsFault
 rights_of [] = Err Empty
 rights_of (word ∷ rest) = rights_behind [] (word ∷ rest)
 
+-- whether the word stands for a set that has the right
+abbrev pub word_has : Right → List ℕ → Bool
+word_has right word = option_map_or (λ r. has r right) (rights_of_word word) false
+
 -- the set, where the words have no fault
-abbrev pub accepted : Result RightSet RightsFault → Option RightSet
-accepted (Ok r) = Some r
-accepted (Err e) = None
+abbrev pub rights_if_faultless : Result RightSet RightsFault → Option RightSet
+rights_if_faultless (Ok r) = Some r
+rights_if_faultless (Err e) = None
 
 -- the names of the rights that are in the set, in their order
 abbrev pub words_of : RightSet → List (List ℕ)

@@ -5,11 +5,11 @@ ghost use Rattle.cm_names.specs.Fronts.{IsLongestFront};
 ghost use Rattle.cm_names.specs.Moniker.{IsMonikerText};
 ghost use Rattle.cm_names.specs.MonikerPlaces.{next, may_end, begin_name};
 
-use crate::moniker::MAX_BYTES;
+use crate::limits::{MAX_NAME_BYTES, MAX_PATH_BYTES};
 use crate::name::{begins, continues};
 
-/// The number of bytes that a name may have.
-const MAX_NAME_BYTES: u32 = 255;
+/// The number of bytes that a name may have, as places count them.
+const MAX_COUNT: u32 = MAX_NAME_BYTES as u32;
 
 /// Where the text of a moniker stands behind some of its bytes.
 #[derive(Debug, Clone, Copy, PartialEq, Eq)]
@@ -49,7 +49,7 @@ impl MonikerPlace {
                     Some(MonikerPlace::Colon)
                 } else if byte == b'/' {
                     Some(MonikerPlace::Part)
-                } else if continues(byte) && n < MAX_NAME_BYTES {
+                } else if continues(byte) && n < MAX_COUNT {
                     Some(MonikerPlace::First(n + 1))
                 } else {
                     None
@@ -65,7 +65,7 @@ impl MonikerPlace {
             MonikerPlace::Second(n) => {
                 if byte == b'/' {
                     Some(MonikerPlace::Part)
-                } else if continues(byte) && n < MAX_NAME_BYTES {
+                } else if continues(byte) && n < MAX_COUNT {
                     Some(MonikerPlace::Second(n + 1))
                 } else {
                     None
@@ -110,7 +110,7 @@ pub fn bad_place(bytes: &[u8]) -> Option<usize>
     for (i, byte) in bytes.iter().enumerate() {
         match place.next(*byte) {
             Some(next) => {
-                if i + 1 == MAX_BYTES && !next.may_end() {
+                if i + 1 == MAX_PATH_BYTES && !next.may_end() {
                     return Some(i);
                 }
                 place = next;

@@ -82,7 +82,8 @@ impl<T> List<T> {
 }
 
 impl List<u8> {
-    /// Puts a copy of the bytes behind these. `Err` where memory runs out.
+    /// Puts a copy of the bytes behind these. `Err(Memory)` comes where memory runs out; then the
+    /// list is as before.
     pub fn extend_from_slice(&mut self, bytes: &[u8]) -> Result<(), Memory>
         ensures ok { OnOk result (self.new ≡ self.old ++ bytes.now) }
         ensures err { OnErr result (self.new ≡ self.old) }
@@ -93,7 +94,8 @@ impl List<u8> {
 }
 
 impl<T: Drop> List<T> {
-    /// Puts one item at the end. At an `Err` the list is as before, and the item is dropped.
+    /// Puts one item at the end. `Err(Memory)` comes where memory runs out; then the list is as
+    /// before, and the item is dropped.
     pub fn push(&mut self, item: T) -> Result<(), Memory>
         ensures ok { OnOk result (self.new ≡ self.old ++ item ∷ []) }
         ensures err { OnErr result (self.new ≡ self.old) }
@@ -102,8 +104,8 @@ impl<T: Drop> List<T> {
         Ok(())
     }
 
-    /// Puts all items of `others` at the end, in their order. At an `Err` the list is as before,
-    /// and `others` is dropped.
+    /// Puts all items of `others` at the end, in their order. `Err(Memory)` comes where memory
+    /// runs out; then the list is as before, and `others` is dropped.
     pub fn append(&mut self, mut others: List<T>) -> Result<(), Memory>
         ensures ok { OnOk result (self.new ≡ self.old ++ others) }
         ensures err { OnErr result (self.new ≡ self.old) }

@@ -3,20 +3,19 @@
 ghost use Rattle.std.specs.Prelude.{◌≡◌, ◌≢◌, ◌↔◌, ◌≤◌, [], ◌∷◌, ◌++◌, length, codes, map, All, IsTrue, IfOk, IfErr, MatchOption, OnOk};
 ghost use Rattle.cm_names.specs.Name.{IsName};
 ghost use Rattle.cm_names.specs.Child.{child_text};
-ghost use Rattle.cm_names.specs.Moniker.{moniker_text, IsChild, IsChildText, IsMonikerFault, IsMonikerText, IsMonikerTextOf, parts_of, behind_slash, ReadsOneWay, WritesItsText, BeginsWith};
+ghost use Rattle.cm_names.specs.Moniker.{moniker_text, IsChild, IsChildText, IsMonikerFault, IsMonikerText, IsMonikerTextOf, behind_slash, ReadsOneWay, WritesItsText, BeginsWith};
+ghost use Rattle.cm_names.specs.Path.{parts_of};
 
 use crate::grammar::bad_place;
-use crate::{ChildName, List, Memory, Name, NameFault, Plain, Text};
+use crate::{ChildName, List, MAX_PATH_BYTES, Memory, Name, NameFault, Plain, Text};
 use std::alloc::Global;
 use thiserror::Error;
-
-/// The number of bytes that the text of a moniker may have where it is read.
-pub const MAX_BYTES: usize = 4096;
 
 /// Where an instance stands: the names of the children that lead to it, from the root down. The
 /// root has no name.
 ///
-/// This is the moniker of Fuchsia's component framework documentation (fuchsia.dev).
+/// This is the moniker of Fuchsia's component framework documentation (fuchsia.dev). The limit of
+/// 4,096 bytes where it is read is this project's own, and so is that a slash may stand in front.
 #[derive(Debug, Drop, Clone, PartialEq, Eq)]
 pub struct Moniker {
     /// The children's names, that of the root's child first.
@@ -66,7 +65,7 @@ impl Moniker {
         ensures fault { IfErr result (λ e. e ≢ MonikerFault.Memory → IsMonikerFault text.now e) }
         ensures none { IfErr result (λ e. e ≢ MonikerFault.Memory → IsMonikerText text.now → ⊥) }
     {
-        if text.len() > MAX_BYTES {
+        if text.len() > MAX_PATH_BYTES {
             return Err(MonikerFault::TooLong);
         }
         if let Some(place) = bad_place(text.as_bytes()) {
@@ -77,7 +76,7 @@ impl Moniker {
     }
 
     /// The text of the moniker: `.` for the root, else the children's names joined by `/`. It may
-    /// have more than 4,096 bytes.
+    /// have more than 4,096 bytes. `Err(Memory)` comes where memory runs out.
     pub fn write(&self, alloc: Global) -> Result<Text, Memory>
         ensures text { IfOk result (λ text. text ≡ moniker_text self.now) }
         ensures grammar { IfOk result (λ text. IsMonikerTextOf text self.now) }
@@ -104,11 +103,12 @@ impl Moniker {
         }
     }
 
-    /// The moniker of this instance's child of that name.
-    pub fn child(&self, name: ChildName) -> Result<Moniker, Memory>
+    /// The moniker of this instance's child of that name. `Err(Memory)` comes where memory runs
+    /// out.
+    pub fn child(&self, alloc: Global, name: ChildName) -> Result<Moniker, Memory>
         ensures { IfOk result (λ child. child.parts ≡ self.now.parts ++ name ∷ []) }
     {
-        let mut parts = self.parts.clone()?;
+        let mut parts = List::from_vec(self.parts.as_slice().to_vec(alloc)?);
         parts.push(name)?;
         Ok(Moniker { parts })
     }
@@ -146,8 +146,8 @@ fn read_name(alloc: Global, text: &str) -> Result<Name, Memory>
 /// A child's name is cut at its colon, if it has one.
 fn cut_at_colon(part: &str) -> Option<(&str, &str)>
     requires { IsChildText part.now }
-    ensures { MatchOption result (IsName part.now)
-        (λ cut. IsName cut.0.now × IsName cut.1.now × (part.now ≡ cut.0.now ++ (codes ":" ++ cut.1.now))) }
+    ensures { MatchOption result (IsName part.now) (λ cut. IsName cut.0.now × IsName cut.1.now
+        × (part.now ≡ cut.0.now ++ (codes ":" ++ cut.1.now))) }
 {
     part.split_once(':')
 }
@@ -313,7 +313,7 @@ mod tests {
         let Some(name) = item.parts.get(1) else {
             return Ok(());
         };
-        assert_eq!(rt; core.child(name.clone().map_err(|_| Memory)?)?, item);
+        assert_eq!(rt; core.child(alloc, name.clone().map_err(|_| Memory)?)?, item);
         Ok(())
     }
 }

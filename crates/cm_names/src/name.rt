@@ -3,7 +3,7 @@
 ghost use Rattle.std.specs.Prelude.{ℕ, List, ◌↔◌, ◌≡◌, ◌≢◌, Some, None, ◌<◌, ◌≤◌, not, position, IsTrue, IfOk, IfErr, IfSome, IfNone, All, length};
 ghost use Rattle.cm_names.specs.Name.{begins_name, continues_name, first_bad, IsName, name_fault};
 
-use crate::{Memory, Plain, Text};
+use crate::{MAX_NAME_BYTES, Memory, Plain, Text};
 use std::alloc::{AllocError, Global};
 use std::convert::AsStr;
 use std::fmt;
@@ -41,7 +41,8 @@ impl From<Memory> for NameFault {
 /// A name: 1 to 255 bytes, each an ASCII letter, a digit, `_`, `-` or `.`, of which the first is
 /// a letter, a digit or `_`. Contracts see it as its bytes.
 ///
-/// This is the name of Fuchsia's component manifest reference (fuchsia.dev). The limit of 255 bytes is that of its short names.
+/// This is the name of Fuchsia's component manifest reference (fuchsia.dev). The limit of 255 bytes
+/// is that of its short names; that it holds for names of every kind is this project's own choice.
 /// Names are ordered by their bytes.
 #[derive(Debug, Drop, PartialEq, Eq, PartialOrd, Ord)]
 pub struct Name {
@@ -121,7 +122,7 @@ impl Name {
         if text.is_empty() {
             return Err(NameFault::Empty);
         }
-        if text.len() > 255 {
+        if text.len() > MAX_NAME_BYTES {
             return Err(NameFault::TooLong);
         }
         if let Some(place) = bad_place(text.as_bytes()) {

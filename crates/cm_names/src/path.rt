@@ -5,7 +5,7 @@ ghost use Rattle.std.specs.List.{flat_map};
 ghost use Rattle.std.specs.Str.{bytes_eq};
 ghost use Rattle.cm_names.specs.Path as spec;
 
-use crate::{Memory, Name, Plain, Text};
+use crate::{MAX_PATH_BYTES, Memory, Name, Plain, Text};
 use std::alloc::{AllocError, Global};
 use std::convert::AsStr;
 use std::fmt;
@@ -131,7 +131,7 @@ fn path_fault(text: &[u8]) -> Option<PathFault>
     match text {
         [] => Some(PathFault::Empty),
         [first, rest @ ..] => {
-            if text.len() > 4096 {
+            if text.len() > MAX_PATH_BYTES {
                 Some(PathFault::TooLong)
             } else if *first == b'/' {
                 parts_fault(1, rest)
@@ -148,7 +148,7 @@ fn subdir_fault(text: &[u8]) -> Option<PathFault>
     match text {
         [] => Some(PathFault::Empty),
         [first, ..] => {
-            if text.len() > 4096 {
+            if text.len() > MAX_PATH_BYTES {
                 Some(PathFault::TooLong)
             } else if *first == b'/' {
                 Some(PathFault::NotRelative)
@@ -163,8 +163,8 @@ fn subdir_fault(text: &[u8]) -> Option<PathFault>
 /// part has one or more bytes from 0x21 to 0x7E other than `/`, and is not `.` or `..`. Contracts
 /// see it as its bytes.
 ///
-/// This is the path of Fuchsia's component manifest reference (fuchsia.dev). The limit of 4,096 bytes and the range of bytes are this
-/// project's own. Paths are ordered by their bytes.
+/// This is the path of Fuchsia's component manifest reference (fuchsia.dev). The limit of 4,096
+/// bytes and the range of bytes are this project's own. Paths are ordered by their bytes.
 #[derive(Debug, Drop, PartialEq, Eq, PartialOrd, Ord)]
 pub struct CapPath {
     text: Text,
@@ -189,13 +189,15 @@ impl CapPath {
     /// - `Empty` where it has no byte;
     /// - `TooLong` where it has more than 4,096 bytes;
     /// - `NotAbsolute` where it doesn't begin with `/`;
-    /// - the one at the least place of `BadByte`, `EmptyPart` and `DotPart`; a bad byte stands at itself, a part at its first byte;
+    /// - the one at the least place of `BadByte`, `EmptyPart` and `DotPart`; a bad byte stands at
+    ///   itself, a part at its first byte;
     /// - `Memory` where memory runs out.
     #[tactic(auto, using(crate::proofs::PathLemmas::faultless_path))]
     pub fn read(alloc: Global, text: &str) -> Result<CapPath, PathFault>
         ensures same { IfOk result (λ path. path ≡ text.now) }
         ensures ok { IfOk result (λ _. spec.path_fault text.now ≡ None) }
-        ensures fault { IfErr result (λ e. e ≢ PathFault.Memory → spec.path_fault text.now ≡ Some e) }
+        ensures fault { IfErr result (λ e. e ≢ PathFault.Memory
+            → spec.path_fault text.now ≡ Some e) }
     {
         if let Some(fault) = path_fault(text.as_bytes()) {
             return Err(fault);
@@ -204,7 +206,8 @@ impl CapPath {
         Ok(CapPath { text })
     }
 
-    /// The path that a protocol of this name has by default: `/svc/` and the name.
+    /// The path that a protocol of this name has by default: `/svc/` and the name. `Err(Memory)`
+    /// comes where memory runs out.
     #[tactic(auto, using(crate::proofs::PathLemmas::service_is_path))]
     pub fn service(alloc: Global, name: &Name) -> Result<CapPath, Memory>
         ensures { IfOk result (λ path. path ≡ spec.service_path name.now) }
@@ -223,9 +226,9 @@ impl CapPath {
     }
 
     /// The path's text, followed by `/` and each subdirectory in their order. The text may have
-    /// more than 4,096 bytes.
+    /// more than 4,096 bytes. `Err(Memory)` comes where memory runs out.
     pub fn join(&self, alloc: Global, subdirs: &[SubDir]) -> Result<Text, Memory>
-        ensures { IfOk result (λ text. text ≡ spec.joined self.now subdirs.now) }
+        ensures { IfOk result (λ text. text ≡ spec.joined_text self.now subdirs.now) }
     {
         let mut text = Text::from_str(alloc, self.as_str())?;
         push_slashed(&mut text, subdirs)?;
@@ -246,7 +249,7 @@ impl CapPath {
 
 /// Puts each subdirectory behind a slash at the text's end.
 fn push_slashed(text: &mut Text, subdirs: &[SubDir]) -> Result<(), Memory>
-    ensures { OnOk result (text.new ≡ text.old ++ flat_map spec.slashed subdirs.now) }
+    ensures { OnOk result (text.new ≡ text.old ++ flat_map spec.slash_and_text subdirs.now) }
 {
     for subdir in subdirs {
         text.push_str("/")?;
@@ -291,7 +294,8 @@ impl AsStr for CapPath {
 /// A subdirectory: one or more parts of a path that are joined by `/`, in at most 4,096 bytes.
 /// Contracts see it as its bytes.
 ///
-/// This is `subdir` of Fuchsia's component manifest reference (fuchsia.dev).
+/// This is `subdir` of Fuchsia's component manifest reference (fuchsia.dev). The limit of 4,096
+/// bytes and the range of bytes are this project's own. Subdirectories are ordered by their bytes.
 #[derive(Debug, Drop, PartialEq, Eq, PartialOrd, Ord)]
 pub struct SubDir {
     text: Text,
@@ -311,12 +315,20 @@ impl Model for SubDir {
 }
 
 impl SubDir {
-    /// The subdirectory with the bytes of `text`, or the first fault of the text.
+    /// The subdirectory with the bytes of `text`, or the first fault of the text, in this order:
+    ///
+    /// - `Empty` where it has no byte;
+    /// - `TooLong` where it has more than 4,096 bytes;
+    /// - `NotRelative` where it begins with `/`;
+    /// - the one at the least place of `BadByte`, `EmptyPart` and `DotPart`; a bad byte stands at
+    ///   itself, a part at its first byte;
+    /// - `Memory` where memory runs out.
     #[tactic(auto, using(crate::proofs::PathLemmas::faultless_subdir))]
     pub fn read(alloc: Global, text: &str) -> Result<SubDir, PathFault>
         ensures same { IfOk result (λ subdir. subdir ≡ text.now) }
         ensures ok { IfOk result (λ _. spec.subdir_fault text.now ≡ None) }
-        ensures fault { IfErr result (λ e. e ≢ PathFault.Memory → spec.subdir_fault text.now ≡ Some e) }
+        ensures fault { IfErr result (λ e. e ≢ PathFault.Memory
+            → spec.subdir_fault text.now ≡ Some e) }
     {
         if let Some(fault) = subdir_fault(text.as_bytes()) {
             return Err(fault);

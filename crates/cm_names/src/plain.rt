@@ -2,9 +2,8 @@
 
 /// A type whose clone is the value itself, as contracts see it.
 ///
-/// A type of plain fields derives `Clone` and then states this law by
-/// `impl Plain for T { ghost use Rattle.std.proofs.Common.{rules}; ghost exact = { Prim.search rules }; }`.
-/// Lists of it can then be cloned.
+/// A type of plain fields derives `Clone` and then states this law, with `ghost exact = {
+/// Prim.search rules }`, as [`crate::ChildName`] does. Lists of it can then be cloned.
 pub trait Plain: Clone {
     ghost use Rattle.std.specs.Prelude.{◌≡◌};
 

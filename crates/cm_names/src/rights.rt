@@ -16,6 +16,7 @@
 ghost use Rattle.std.specs.Prelude.{◌≡◌, ◌<◌, ◌^◌, ◌↔◌, length, IsTrue, IfOk};
 ghost use Rattle.std.specs.List.{list_any, join_with_byte};
 ghost use Rattle.std.specs.Str.{bytes_eq};
+ghost use Rattle.cm_names.specs.declared.rights.Right.{Right as OneRight};
 ghost use Rattle.cm_names.specs.Rights as spec;
 
 use crate::{List, Memory, Plain, Text};
@@ -288,14 +289,17 @@ impl Rights {
             .union(Rights::only(Right::Traverse))
     }
 
-    /// The union of the words' rights. It takes no memory.
+    /// The union of the words' rights: a right is in it exactly where one of the words stands for
+    /// a set that has it. It takes no memory.
     ///
     /// `Err(Empty)` comes where there is no word. Else the first word that has a fault gives it:
     /// `UnknownRight` where it stands for no right, and `RepeatedRight` where it equals an earlier
     /// word. An index above `u32::MAX` is given as `u32::MAX`.
     #[tactic(auto, unfolding(crate::specs::Rights::rights_of))]
     pub fn read_words(words: &[Text]) -> Result<Rights, RightsFault>
-        ensures { result ≡ spec.rights_of words.now }
+        ensures read { result ≡ spec.rights_of words.now }
+        ensures union { IfOk result (λ rights. (right : OneRight)
+            → spec.has rights right ≡ list_any (spec.word_has right) words.now) }
     {
         if words.is_empty() {
             return Err(RightsFault::Empty);
@@ -315,7 +319,7 @@ impl Rights {
 
     /// The union of the words' rights, or `None` where [`Rights::read_words`] finds a fault.
     pub fn of_words(words: &[Text]) -> Option<Rights>
-        ensures { result ≡ spec.accepted (spec.rights_of words.now) }
+        ensures { result ≡ spec.rights_if_faultless (spec.rights_of words.now) }
     {
         match Rights::read_words(words) {
             Ok(rights) => Some(rights),
@@ -323,7 +327,8 @@ impl Rights {
         }
     }
 
-    /// The names of the rights that are in the set, in their order.
+    /// The names of the rights that are in the set, in their order. `Err(Memory)` comes where
+    /// memory runs out.
     pub fn words(self, alloc: Global) -> Result<List<Text>, Memory>
         ensures { IfOk result (λ words. words ≡ spec.words_of self) }
     {
@@ -337,6 +342,7 @@ impl Rights {
     }
 
     /// The names of the rights that are in the set, in their order and joined by `,`.
+    /// `Err(Memory)` comes where memory runs out.
     pub fn text(self, alloc: Global) -> Result<Text, Memory>
         ensures { IfOk result (λ text. text ≡ spec.text_of self) }
     {

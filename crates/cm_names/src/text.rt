@@ -36,7 +36,7 @@ impl Text {
         }
     }
 
-    /// A text of the same bytes as `text`.
+    /// A text of the same bytes as `text`. `Err(Memory)` comes where memory runs out.
     pub fn from_str(alloc: Global, text: &str) -> Result<Text, Memory>
         ensures { IfOk result (λ made. made ≡ text.now) }
     {
@@ -80,7 +80,8 @@ impl Text {
         self.text.is_empty()
     }
 
-    /// Puts `text` at the end. At an `Err` the text is as before.
+    /// Puts `text` at the end. `Err(Memory)` comes where memory runs out; then the text is as
+    /// before.
     pub fn push_str(&mut self, text: &str) -> Result<(), Memory>
         ensures ok { OnOk result (self.new ≡ self.old ++ text.now) }
         ensures err { OnErr result (self.new ≡ self.old) }
@@ -90,7 +91,7 @@ impl Text {
     }
 
     /// Puts what `{}` writes of `value` at the end, as of `format_args!("{name} {number}")`.
-    /// `Err` where memory runs out.
+    /// `Err(Memory)` comes where memory runs out; then the text is as before.
     pub fn push<D: fmt::Display + Drop>(&mut self, value: D) -> Result<(), Memory>
         ensures ok { OnOk result (AppendsText self.old self.new (D.output value)) }
         ensures err { OnErr result (self.new ≡ self.old) }

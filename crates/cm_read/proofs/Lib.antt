@@ -10,3 +10,7 @@ pub mod RowsBack
 pub mod DeclBack
 pub mod PairLemmas
 pub mod TextBack
+pub mod ReadLemmas
+pub mod FieldsRead
+pub mod RowsRead
+pub mod DeclRead

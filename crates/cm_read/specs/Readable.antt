@@ -15,6 +15,7 @@ use Rattle.cm_decl.specs.declared.rows.Usage.{Usage}
 use Rattle.cm_decl.specs.declared.rows.Give.{Give}
 use Rattle.cm_decl.specs.declared.rows.Offer.{Offer}
 use Rattle.cm_decl.specs.declared.decl.Decl.{Decl}
+use Rattle.cm_decl.specs.Valid.{is_well_formed}
 use Rattle.cm_read.specs.Numbers.{max_rows}
 use Rattle.cm_read.specs.Fields.{is_url}
 use Rattle.cm_read.specs.Manifest.{decl_of_json}
@@ -117,3 +118,16 @@ pub record IsReadable (d : Decl) : Type 0 where
 -- the text of a readable declaration is read as that declaration
 abbrev pub TextsAreReadBack : Type 0
 TextsAreReadBack = (d : Decl) → IsReadable d → decl_of_json (decl_text d) ≡ Ok d
+
+-- what is read is readable
+abbrev pub WhatIsReadIsReadable : Type 0
+WhatIsReadIsReadable = (text : List ℕ) (d : Decl) → decl_of_json text ≡ Ok d → IsReadable d
+
+-- so it is read back from its own text
+abbrev pub WhatIsReadIsReadBack : Type 0
+WhatIsReadIsReadBack =
+    (text : List ℕ) (d : Decl) → decl_of_json text ≡ Ok d → decl_of_json (decl_text d) ≡ Ok d
+
+-- and it has no use from void and no expose from the parent
+abbrev pub ReadableIsWellFormed : Type 0
+ReadableIsWellFormed = (d : Decl) → IsReadable d → IsTrue (is_well_formed d)

@@ -14,7 +14,9 @@ use std::fmt;
 /// Where an item stands: its section, and its index there, counted from 0.
 #[derive(Clone, Copy, Debug, PartialEq, Eq)]
 pub struct Place {
+    /// The section.
     pub section: Section,
+    /// The index, which stands still at 4,294,967,295.
     pub index: u32,
 }
 
@@ -22,6 +24,10 @@ pub struct Place {
 ///
 /// It is written `invalid NUMBER SECTION INDEX`, followed by a space and the field where it isn't
 /// empty, or `out of memory`.
+///
+/// The sections, the fields, their words and defaults are those of Fuchsia's component manifest
+/// reference (fuchsia.dev). The numbers, the order in which faults are looked for, and the limits
+/// on bytes, nesting and rows are this project's own.
 ///
 /// The whole manifest is tried first. These faults have the section `manifest`, the index 0 and,
 /// but for 33, an empty field.
@@ -33,18 +39,22 @@ pub struct Place {
 /// - 33: a section is unknown. The field is the least unknown name in byte order.
 ///
 /// Then the sections come in the order `program`, `children`, `collections`, `capabilities`, `use`,
-/// `offer`, `expose`. Faults of a section have the index 0 and an empty field.
+/// `offer`, `expose`. These faults have the index 0 and an empty field.
 ///
 /// - 35: `program` is no object, or another section no list.
 /// - 43, after the faults of its items: the section gives more than 16,384 rows.
 ///
+/// The field `runner` of `program` may have 34, 35 and 36, with the index 0.
+///
 /// The items of a section come in their order. The index is that of the item. In an item:
 ///
 /// - 35 with an empty field: the item is no object.
-/// - 40 with an empty field: not exactly one of `protocol` and `directory` is there.
+/// - 40 with an empty field, in `capabilities`, `use`, `offer` and `expose` alone: not exactly one
+///   of `protocol` and `directory` is there.
 /// - 33: a field is unknown for the item's kind. The field is the least unknown name in byte order.
 ///
-/// Then its fields come in the order of the manifest's tables. In a field:
+/// Then its fields come in the order in which [`read_decl`](crate::read_decl) lists them. In a
+/// field:
 ///
 /// - 34: it is missing and has no default.
 /// - 35: it has the wrong type, or is an empty list of names or references.

@@ -323,7 +323,8 @@ pub fn object_of<'a>(
     at: Place,
     item: &'a Value,
 ) -> Result<&'a Map<String, Value>, ReadFault>
-    ensures { GivesBy (λ m. members_view m.now.entries) result (spec.object_at at (view item.now)) }
+    ensures { GivesBy (λ m. members_view m.now.entries) result
+        (spec.object_at at (view item.now)) }
 {
     match item.as_object() {
         Some(members) => Ok(members),

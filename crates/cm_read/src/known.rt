@@ -3,7 +3,8 @@
 ghost use Rattle.std.specs.Prelude.{◌≡◌};
 ghost use Rattle.serde_json.specs.View.{members_view};
 ghost use Rattle.cm_decl.specs.declared.kind.Kind.TheVariants as kind;
-ghost use Rattle.cm_read.specs.Items.{child_fields, collection_fields, capability_fields, use_fields};
+ghost use Rattle.cm_read.specs.Items.{child_fields, collection_fields, capability_fields};
+ghost use Rattle.cm_read.specs.Items.{use_fields};
 ghost use Rattle.cm_read.specs.Items.{offer_fields, expose_fields};
 ghost use Rattle.cm_read.specs.Manifest as manifest;
 ghost use Rattle.cm_read.specs.Fields.{known_at};
@@ -15,12 +16,14 @@ use cm_decl::Kind;
 use serde_json::{Map, Value};
 use std::alloc::Global;
 
+/// An item of `children` has known fields alone.
 pub fn child_known(alloc: Global, at: Place, members: &Map<String, Value>) -> Result<(), ReadFault>
     ensures { Gives result (known_at at child_fields (members_view members.now.entries)) }
 {
     check_known(alloc, at, members, ["name", "url", "startup"].as_slice())
 }
 
+/// An item of `collections` has known fields alone.
 pub fn collection_known(
     alloc: Global,
     at: Place,
@@ -36,6 +39,7 @@ pub fn collection_known(
     )
 }
 
+/// A protocol of `capabilities` has known fields alone.
 fn protocol_capability_known(
     alloc: Global,
     at: Place,
@@ -47,6 +51,7 @@ fn protocol_capability_known(
     check_known(alloc, at, members, ["protocol", "path"].as_slice())
 }
 
+/// A directory of `capabilities` has known fields alone.
 fn directory_capability_known(
     alloc: Global,
     at: Place,
@@ -63,6 +68,7 @@ fn directory_capability_known(
     )
 }
 
+/// A protocol of `use` has known fields alone.
 fn protocol_use_known(
     alloc: Global,
     at: Place,
@@ -79,6 +85,7 @@ fn protocol_use_known(
     )
 }
 
+/// A directory of `use` has known fields alone.
 fn directory_use_known(
     alloc: Global,
     at: Place,
@@ -104,6 +111,7 @@ fn directory_use_known(
     )
 }
 
+/// A protocol of `offer` has known fields alone.
 fn protocol_offer_known(
     alloc: Global,
     at: Place,
@@ -120,6 +128,7 @@ fn protocol_offer_known(
     )
 }
 
+/// A directory of `offer` has known fields alone.
 fn directory_offer_known(
     alloc: Global,
     at: Place,
@@ -146,6 +155,7 @@ fn directory_offer_known(
     )
 }
 
+/// A protocol of `expose` has known fields alone.
 fn protocol_expose_known(
     alloc: Global,
     at: Place,
@@ -162,6 +172,7 @@ fn protocol_expose_known(
     )
 }
 
+/// A directory of `expose` has known fields alone.
 fn directory_expose_known(
     alloc: Global,
     at: Place,
@@ -187,6 +198,7 @@ fn directory_expose_known(
     )
 }
 
+/// A manifest has known sections alone.
 pub fn section_known(
     alloc: Global,
     at: Place,
@@ -212,6 +224,7 @@ pub fn section_known(
     )
 }
 
+/// An item of `capabilities` has fields alone that its kind knows.
 pub fn capability_known(
     alloc: Global,
     at: Place,
@@ -227,6 +240,7 @@ pub fn capability_known(
     }
 }
 
+/// An item of `use` has fields alone that its kind knows.
 pub fn use_known(
     alloc: Global,
     at: Place,
@@ -242,6 +256,7 @@ pub fn use_known(
     }
 }
 
+/// An item of `offer` has fields alone that its kind knows.
 pub fn offer_known(
     alloc: Global,
     at: Place,
@@ -257,6 +272,7 @@ pub fn offer_known(
     }
 }
 
+/// An item of `expose` has fields alone that its kind knows.
 pub fn expose_known(
     alloc: Global,
     at: Place,

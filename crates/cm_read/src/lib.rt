@@ -14,6 +14,7 @@ mod fault;
 mod fields;
 mod items;
 mod known;
+pub mod laws;
 mod manifest;
 mod number;
 mod rows;
@@ -23,7 +24,7 @@ mod writing;
 
 pub use fault::ReadFault;
 pub use manifest::{read_decl, read_decl_text};
-pub use writing::{texts_are_read_back, write_decl};
+pub use writing::write_decl;
 
 #[cfg(test)]
 mod tests;

@@ -1,9 +1,11 @@
 //! Whole manifests.
 
-ghost use Rattle.std.specs.Prelude.{◌<◌, ◌^◌, length, IfOk};
+ghost use Rattle.std.specs.Prelude.{◌<◌, ◌^◌, length, IfOk, IsTrue};
 ghost use Rattle.serde_json.specs.View.{view};
 ghost use Rattle.cm_text.specs.Json.{json_of};
+ghost use Rattle.cm_decl.specs.Valid.{is_well_formed};
 ghost use Rattle.cm_read.specs.Manifest as spec;
+ghost use Rattle.cm_read.specs.Readable.{IsReadable};
 ghost use Rattle.cm_read.specs.Reading.{Gives, GivesBy};
 
 use crate::fault::{ReadFault, start, whole};
@@ -86,11 +88,18 @@ fn decl_of(alloc: Global, value: &Value) -> Result<Decl, ReadFault>
 
 /// The declaration of a manifest in plain JSON, or its first fault. Faults 41 and 30 don't come.
 ///
-/// The fields, their defaults and the words are those of Fuchsia's component manifest reference
-/// (fuchsia.dev). Of a repeated key the last value counts. [`ReadFault`] says when each fault
-/// comes; `Err(Memory)` where memory runs out.
+/// The fields are those that [`read_decl`] lists. Of a repeated key the last value counts. What is
+/// read is readable: it is read back from the text that [`write_decl`](crate::write_decl) gives of
+/// it, has no use from `void` and no expose from the parent.
+///
+/// # Errors
+///
+/// [`ReadFault`] says when each fault comes; `Err(Memory)` where memory runs out.
+#[tactic(auto, using(crate::proofs::DeclRead::is_of_data))]
 pub fn read_decl_text(alloc: Global, text: &str) -> Result<Decl, ReadFault>
-    ensures { Gives result (spec.decl_of_json text.now) }
+    ensures decl { Gives result (spec.decl_of_json text.now) }
+    ensures readable { IfOk result IsReadable }
+    ensures formed { IfOk result (λ d. IsTrue (is_well_formed d)) }
 {
     match Value::from_str(alloc, text) {
         Ok(value) => decl_of(alloc, &value),
@@ -104,7 +113,7 @@ pub fn read_decl_text(alloc: Global, text: &str) -> Result<Decl, ReadFault>
 }
 
 /// The text that bytes are.
-#[tactic(auto, using(crate::proofs::TextLemmas::utf8_test, crate::proofs::TextLemmas::utf8_test_false))]
+#[tactic(auto, using(crate::proofs::TextLemmas::utf8_test, crate::proofs::TextLemmas::utf8_test_false,))]
 fn text_of(alloc: Global, bytes: &[u8]) -> Result<&str, ReadFault>
     ensures text { GivesBy (λ s. s.now) result (spec.text_of bytes.now) }
     ensures short { IfOk result (λ s. length s.now < 2 ^ 32) }
@@ -134,10 +143,44 @@ fn json_text(alloc: Global, text: &str) -> Result<Text, ReadFault>
 ///
 /// The fields, their defaults and the words are those of Fuchsia's component manifest reference
 /// (fuchsia.dev), and the spelling is that of its manifest files: comments, trailing commas, single
-/// quotes and keys without quotes. Of a repeated key the last value counts. [`ReadFault`] says when
-/// each fault comes; `Err(Memory)` where memory runs out.
+/// quotes and keys without quotes. Of a repeated key the last value counts. What is read is
+/// readable, as [`read_decl_text`] says.
+///
+/// # Fields
+///
+/// A field that has no default here has to be there, unless it is said that it may be missing.
+/// Every other field or section is a fault.
+///
+/// - `program`: `runner` (a name). Its other members are read over.
+/// - `children`: `name`; `url` (1 to 4,096 bytes of printing ASCII without spaces); `startup`
+///   (`lazy` or `eager`, by default `lazy`).
+/// - `collections`: `name`; `durability` (`transient` or `single_run`); `allowed_offers`
+///   (`static_only` or `static_and_dynamic`, by default `static_only`).
+/// - `capabilities`, a protocol: `protocol` (a name or a list of names); `path` (by default `/svc/`
+///   and the name; not beside several names).
+/// - `capabilities`, a directory: `directory` (a name); `path`; `rights` (a list of words).
+/// - `use`, a protocol: `protocol` (a name or a list of names); `from` (`parent`, `self`,
+///   `framework` or `#name`, by default `parent`); `path` (as in `capabilities`); `dependency`
+///   (`strong` or `weak`, by default `strong`); `availability` (`required` or `optional`, by
+///   default `required`).
+/// - `use`, a directory: `directory` (a name); `from`; `path`; `rights`; `subdir` (may be missing);
+///   `dependency`; `availability`. The path and the rights have no default.
+/// - `offer`: `protocol` or `directory` (a name or a list of names); `from` (`parent`, `self`,
+///   `framework`, `void` or `#name`); `to` (`#name` or a list of these); `as` (a name, by default
+///   the name itself; not beside several names); for a directory `rights` and `subdir` (each may be
+///   missing); `dependency`; `availability`.
+/// - `expose`: `protocol` or `directory` (a name or a list of names); `from` (`self`, `framework`,
+///   `void` or `#name`); `to` (`parent`, which is the default); `as`; for a directory `rights` and
+///   `subdir`; `availability`.
+/// - `facets`: anything.
+///
+/// # Errors
+///
+/// [`ReadFault`] says when each fault comes; `Err(Memory)` where memory runs out.
 pub fn read_decl(alloc: Global, bytes: &[u8]) -> Result<Decl, ReadFault>
-    ensures { Gives result (spec.decl_of_bytes bytes.now) }
+    ensures decl { Gives result (spec.decl_of_bytes bytes.now) }
+    ensures readable { IfOk result IsReadable }
+    ensures formed { IfOk result (λ d. IsTrue (is_well_formed d)) }
 {
     let text = text_of(alloc, bytes)?;
     let json = json_text(alloc, text)?;

@@ -79,7 +79,8 @@ pub fn protocol_usages(
     names: &[Name],
 ) -> Result<List<Usage>, Memory>
     ensures { IfOk result
-        (λ rows. rows ≡ map (spec.protocol_usage from.now path.now dependency availability) names.now) }
+        (λ rows. rows
+        ≡ map (spec.protocol_usage from.now path.now dependency availability) names.now) }
 {
     let mut rows = List::new(alloc);
     for name in names {

@@ -48,7 +48,8 @@ pub fn section_of<T: Item>(
     section: Section,
     value: Option<&Value>,
 ) -> Result<List<T>, ReadFault>
-    ensures { Gives result (section_at T.reads section (option_map (λ v. view v.now) value.entry)) }
+    ensures { Gives result
+        (section_at T.reads section (option_map (λ v. view v.now) value.entry)) }
 {
     let Some(value) = value else {
         return Ok(List::new(alloc));

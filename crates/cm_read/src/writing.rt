@@ -5,7 +5,7 @@ ghost use Rattle.serde_json.specs.Data.{string};
 ghost use Rattle.serde_json.specs.View.{view};
 ghost use Rattle.cm_names.specs.Availability as names;
 ghost use Rattle.cm_read.specs.Manifest.{decl_of_json};
-ghost use Rattle.cm_read.specs.Readable.{IsReadable, TextsAreReadBack};
+ghost use Rattle.cm_read.specs.Readable.{IsReadable};
 ghost use Rattle.cm_read.specs.Writing as spec;
 ghost use Rattle.cm_read.specs.Writing.{Puts};
 
@@ -21,6 +21,7 @@ trait Row {
 
     ghost writes: { Self → Data };
 
+    /// The value that this is written as.
     fn write(&self, alloc: Global) -> Result<Value, Memory>
         ensures { IfOk result (λ v. view v ≡ writes self.now) };
 }
@@ -46,12 +47,14 @@ impl Row for Text {
     }
 }
 
+/// The word of `startup`.
 fn startup_word(eager: bool) -> &'static str
     ensures { result.now ≡ spec.startup_word eager }
 {
     if eager { "eager" } else { "lazy" }
 }
 
+/// The word of `allowed_offers`.
 fn offers_word(dynamic_offers: bool) -> &'static str
     ensures { result.now ≡ spec.offers_word dynamic_offers }
 {
@@ -62,6 +65,7 @@ fn offers_word(dynamic_offers: bool) -> &'static str
     }
 }
 
+/// The word of `durability`.
 fn durability_word(durability: Durability) -> &'static str
     ensures { result.now ≡ spec.durability_word durability }
 {
@@ -71,6 +75,7 @@ fn durability_word(durability: Durability) -> &'static str
     }
 }
 
+/// The word of `dependency`.
 fn dependency_word(dependency: Dependency) -> &'static str
     ensures { result.now ≡ names.dependency_word dependency }
 {
@@ -80,6 +85,7 @@ fn dependency_word(dependency: Dependency) -> &'static str
     }
 }
 
+/// The word of `availability`.
 fn availability_word(availability: Availability) -> &'static str
     ensures { result.now ≡ names.availability_word availability }
 {
@@ -122,7 +128,8 @@ fn put_text(
     key: &str,
     text: &str,
 ) -> Result<(), AllocError>
-    ensures { OnOk result (Puts members.old.entries members.new.entries ((key.now, string text.now) ∷ [])) }
+    ensures { OnOk result
+        (Puts members.old.entries members.new.entries ((key.now, string text.now) ∷ [])) }
 {
     let value = Value::try_from_str(alloc, text)?;
     serde_json::put(members, alloc, key, value)
@@ -136,7 +143,8 @@ fn put_list<T: Row>(
     rows: &[T],
 ) -> Result<(), Memory>
     ensures { OnOk result
-        (Puts members.old.entries members.new.entries ((key.now, spec.list_of T.writes rows.now) ∷ [])) }
+        (Puts members.old.entries members.new.entries
+        ((key.now, spec.list_of T.writes rows.now) ∷ [])) }
 {
     let value = list_of(alloc, rows)?;
     Ok(serde_json::put(members, alloc, key, value)?)
@@ -148,7 +156,8 @@ fn put_rights(
     members: &mut Map<String, Value>,
     rights: Option<Rights>,
 ) -> Result<(), Memory>
-    ensures { OnOk result (Puts members.old.entries members.new.entries (spec.rights_pair rights)) }
+    ensures { OnOk result
+        (Puts members.old.entries members.new.entries (spec.rights_pair rights)) }
 {
     match rights {
         Some(rights) => {
@@ -165,7 +174,8 @@ fn put_subdir(
     members: &mut Map<String, Value>,
     subdir: &Option<SubDir>,
 ) -> Result<(), Memory>
-    ensures { OnOk result (Puts members.old.entries members.new.entries (spec.subdir_pair subdir.now)) }
+    ensures { OnOk result
+        (Puts members.old.entries members.new.entries (spec.subdir_pair subdir.now)) }
 {
     match subdir {
         Some(subdir) => Ok(put_text(alloc, members, "subdir", subdir.as_str())?),
@@ -182,7 +192,8 @@ fn put_limits(
     subdir: &Option<SubDir>,
 ) -> Result<(), Memory>
     ensures { OnOk result
-        (Puts members.old.entries members.new.entries (spec.rights_pair rights ++ spec.subdir_pair subdir.now)) }
+        (Puts members.old.entries members.new.entries
+        (spec.rights_pair rights ++ spec.subdir_pair subdir.now)) }
 {
     put_rights(alloc, members, rights)?;
     put_subdir(alloc, members, subdir)
@@ -262,7 +273,8 @@ impl Row for Usage {
 
 /// Puts what a row of `offer` and one of `expose` have in common among the members.
 fn put_give(alloc: Global, members: &mut Map<String, Value>, give: &Give) -> Result<(), Memory>
-    ensures { OnOk result (Puts members.old.entries members.new.entries (spec.give_pairs give.now)) }
+    ensures { OnOk result
+        (Puts members.old.entries members.new.entries (spec.give_pairs give.now)) }
 {
     let from = origin_text(alloc, &give.from)?;
     put_text(
@@ -320,7 +332,8 @@ fn put_program(
     members: &mut Map<String, Value>,
     runner: &Option<Name>,
 ) -> Result<(), Memory>
-    ensures { OnOk result (Puts members.old.entries members.new.entries (spec.program_pair runner.now)) }
+    ensures { OnOk result
+        (Puts members.old.entries members.new.entries (spec.program_pair runner.now)) }
 {
     match runner {
         Some(runner) => {
@@ -361,8 +374,10 @@ fn value_of(alloc: Global, decl: &Decl) -> Result<Value, Memory>
 ///
 /// All sections that list rows are there, and `program` where there is a runner. Each row is an
 /// item with one name, one target and every field of its kind, `as` included. `rights` and `subdir`
-/// are there where the row has them, rights as the names of the single rights, and `to` of an
-/// expose is left out.
+/// are there where the row has them, rights as the names of the single rights in the order
+/// `connect`, `enumerate`, `execute`, `get_attributes`, `modify_directory`, `read_bytes`,
+/// `traverse`, `update_attributes`, `write_bytes`. `to` of an expose is left out. The shape of the
+/// text is this project's own.
 ///
 /// A readable declaration (`IsReadable`) is read back by [`read_decl_text`](crate::read_decl_text).
 /// `Err(Memory)` where memory runs out.
@@ -375,9 +390,3 @@ pub fn write_decl(alloc: Global, decl: &Decl) -> Result<Text, Memory>
     let value = value_of(alloc, decl)?;
     Ok(Text::from_string(value.to_string(alloc)?))
 }
-
-/// Law: the text of a declaration that a manifest can have is read as that declaration.
-#[tactic(auto, using(crate::proofs::TextBack::texts_are_read_back_lem))]
-pub fn texts_are_read_back()
-    ensures { TextsAreReadBack }
-{}

@@ -10,7 +10,7 @@ use Rattle.cm_text.specs.Facts.{FaultsAreComputed}
 use Rattle.cm_text.specs.declared.fault.TextFault.{TextFault}
 use Rattle.cm_text.specs.declared.fault.TextFault.TheVariants.{BadToken, Unclosed, Memory as OutOfMemory}
 use Rattle.cm_text.proofs.ByteLemmas.{quote_class, both_left, both_right, not_true, either_left, either_right}
-use Rattle.cm_text.proofs.PieceLemmas.{with_pieces, first_ones}
+use Rattle.cm_text.proofs.PieceLemmas.{with_pieces, first_ones, same_option}
 
 -- ---- faults
 
@@ -50,7 +50,7 @@ chars_quote q b bs e = rw (chars, e) refl
 
 pub chars_slash : (q b : ℕ) (bs : List ℕ) → (b == q) ≡ false → (b == 92) ≡ true → chars q false (b ∷ bs) ≡ chars q true bs
 unfolding chars
-chars_slash q b bs e f = rw (chars, e) (rw f refl)
+chars_slash q b bs e f = rw (chars, e) (rw f (same_option (chars q true bs)))
 
 pub chars_plain : (q b : ℕ) (bs : List ℕ) → (b == q) ≡ false → (b == 92) ≡ false → chars q false (b ∷ bs) ≡ option_map (λ cs. plain b ∷ cs) (chars q false bs)
 unfolding chars

@@ -7,9 +7,9 @@ use Rattle.cm_text.specs.Bytes.{is_quote}
 use Rattle.cm_text.specs.Token.{Token, quoted}
 use Rattle.cm_text.specs.Split.{is_char, is_token}
 use Rattle.cm_text.specs.Json.{in_quotes, token_json, is_mark_of, is_comma, is_colon, is_closing, is_needless, spelling, spellings, head_of, json_of_tokens}
-use Rattle.cm_text.specs.Scan.{seen, within}
-use Rattle.cm_text.specs.Spelling.{parted, is_pending}
-use Rattle.cm_text.specs.Writing.{json_behind, json_pending, parted_pending}
+use Rattle.cm_text.specs.Scan.{token_of, within}
+use Rattle.cm_text.specs.Spelling.{spelling_behind_space, is_pending}
+use Rattle.cm_text.specs.Writing.{json_behind, json_pending, pending_spelling}
 use Rattle.cm_text.specs.declared.token.Token.{Token as CodeToken}
 use Rattle.cm_text.proofs.ByteLemmas.{both_left}
 use Rattle.cm_text.proofs.StringLemmas.{within_spells}
@@ -34,7 +34,7 @@ unfolding with_spaces
 joined s [] = sym (append-nil s)
 joined s (r ∷ ss) = ap (λ xs. s ++ 32 ∷ xs) (joined r ss)
 
-spaced_by_need : (before : Token) (t : Token) (after : Option Token) (n : Bool) → is_needless (Some before) t after ≡ n → with_spaces (spelling (Some before) t after) ≡ parted (Some before) t after
+spaced_by_need : (before : Token) (t : Token) (after : Option Token) (n : Bool) → is_needless (Some before) t after ≡ n → with_spaces (spelling (Some before) t after) ≡ spelling_behind_space (Some before) t after
 unfolding with_spaces
 spaced_by_need before t after true e = rw e refl
 spaced_by_need before t after false e = rw e (ap (λ xs. 32 ∷ xs) (append-nil (token_json (is_mark_of is_colon after) t)))
@@ -45,7 +45,7 @@ behind_token before [] = refl
 behind_token before (t ∷ ts) =
     flat_map-append (λ s. 32 ∷ s) (spelling (Some before) t (head_of ts)) (spellings (Some t) ts)
     ∙ ap (λ xs. xs ++ with_spaces (spellings (Some t) ts)) (spaced_by_need before t (head_of ts) (is_needless (Some before) t (head_of ts)) refl)
-    ∙ ap (λ xs. parted (Some before) t (head_of ts) ++ xs) (behind_token t ts)
+    ∙ ap (λ xs. spelling_behind_space (Some before) t (head_of ts) ++ xs) (behind_token t ts)
 
 first_needed : (a b : Bool) → (a && b && false && true) ≡ false
 first_needed true true = refl
@@ -62,8 +62,8 @@ behind_nothing (t ∷ ts) =
 
 -- ---- the next token
 
-pub pushed : (old new : List ℕ) (before pending : Option CodeToken) (t : Token) (ts : List Token) → is_pending before pending ≡ true → new ≡ old ++ parted_pending (option_map seen before) (option_map seen pending) (Some t) → new ++ json_pending (option_map seen pending) (Some t) ts ≡ old ++ json_pending (option_map seen before) (option_map seen pending) (t ∷ ts)
+pub pushed : (old new : List ℕ) (before pending : Option CodeToken) (t : Token) (ts : List Token) → is_pending before pending ≡ true → new ≡ old ++ pending_spelling (option_map token_of before) (option_map token_of pending) (Some t) → new ++ json_pending (option_map token_of pending) (Some t) ts ≡ old ++ json_pending (option_map token_of before) (option_map token_of pending) (t ∷ ts)
 pushed old new before (Some p) t ts h e =
-    ap (λ xs. xs ++ json_behind (Some (seen p)) (t ∷ ts)) e ∙ append_assoc old (parted (option_map seen before) (seen p) (Some t)) (json_behind (Some (seen p)) (t ∷ ts))
+    ap (λ xs. xs ++ json_behind (Some (token_of p)) (t ∷ ts)) e ∙ append_assoc old (spelling_behind_space (option_map token_of before) (token_of p) (Some t)) (json_behind (Some (token_of p)) (t ∷ ts))
 pushed old new None None t ts h e = ap (λ xs. xs ++ json_behind None (t ∷ ts)) (e ∙ append-nil old)
 pushed old new (Some b) None t ts h e = absurd (grind (arith, rules))

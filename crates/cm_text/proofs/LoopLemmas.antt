@@ -9,7 +9,7 @@ use Rattle.cm_text.specs.Split.{is_token, is_piece, IsFaultOf}
 use Rattle.cm_text.specs.Pieces.{First, stray, unclosed, piece, first_piece, piece_then, with_piece, pieces, tokens_result, tokens_from, tokens}
 use Rattle.cm_text.specs.Json.{json_of, json_result, json_of_tokens}
 use Rattle.cm_text.specs.Facts.{IsJsonOf}
-use Rattle.cm_text.specs.Scan.{outline, first_of_text, seen}
+use Rattle.cm_text.specs.Scan.{outline, first_of_text, token_of}
 use Rattle.cm_text.specs.declared.token.Token.{Token as CodeToken}
 use Rattle.cm_text.specs.Writing.{json_then, json_left}
 use Rattle.cm_text.specs.declared.writer.JsonWriter.{JsonWriter}
@@ -108,8 +108,8 @@ next_place text rest t at n v there u h =
     let long = found_long rest t at n h in
     (omega arith, cut.0)
 
-abbrev pub token_of : Option CodeToken → Option Token
-token_of o = option_map seen o
+abbrev pub some_token_of : Option CodeToken → Option Token
+some_token_of o = option_map token_of o
 
 -- what a writer makes of the tokens that are left, with and without the next one
 Takes : JsonWriter → JsonWriter → Option Token → Type 0
@@ -130,15 +130,15 @@ next_json w v text rest whole t at n takes bytes h before =
     ∙ ap (λ ys. json_left w (tokens_from at ys)) bytes
     ∙ before
 
-pub next_token : (w v : JsonWriter) (text rest : List ℕ) (whole : Result (List ℕ) TextFault) (o : Option CodeToken) (t : CodeToken) (at n : ℕ) → o ≡ Some t → ((ts : List Token) → json_then v ts ≡ json_then w (seen t ∷ ts)) → rest ≡ drop at text → found (token_of o) n ≡ outline at (first_of_text rest) → json_left w (tokens_from at (drop at text)) ≡ whole → json_left v (tokens_from (at + n) (drop (at + n) text)) ≡ whole
+pub next_token : (w v : JsonWriter) (text rest : List ℕ) (whole : Result (List ℕ) TextFault) (o : Option CodeToken) (t : CodeToken) (at n : ℕ) → o ≡ Some t → ((ts : List Token) → json_then v ts ≡ json_then w (token_of t ∷ ts)) → rest ≡ drop at text → found (some_token_of o) n ≡ outline at (first_of_text rest) → json_left w (tokens_from at (drop at text)) ≡ whole → json_left v (tokens_from (at + n) (drop (at + n) text)) ≡ whole
 unfolding Takes
 next_token w v text rest whole o t at n is takes bytes h before =
-    next_json w v text rest whole (Some (seen t)) at n (takes_token w v (seen t) takes) bytes (ap (λ x. found (token_of x) n) (sym is) ∙ h) before
+    next_json w v text rest whole (Some (token_of t)) at n (takes_token w v (token_of t) takes) bytes (ap (λ x. found (some_token_of x) n) (sym is) ∙ h) before
 
-pub next_gap : (w : JsonWriter) (text rest : List ℕ) (whole : Result (List ℕ) TextFault) (o : Option CodeToken) (at n : ℕ) → o ≡ None → rest ≡ drop at text → found (token_of o) n ≡ outline at (first_of_text rest) → json_left w (tokens_from at (drop at text)) ≡ whole → json_left w (tokens_from (at + n) (drop (at + n) text)) ≡ whole
+pub next_gap : (w : JsonWriter) (text rest : List ℕ) (whole : Result (List ℕ) TextFault) (o : Option CodeToken) (at n : ℕ) → o ≡ None → rest ≡ drop at text → found (some_token_of o) n ≡ outline at (first_of_text rest) → json_left w (tokens_from at (drop at text)) ≡ whole → json_left w (tokens_from (at + n) (drop (at + n) text)) ≡ whole
 unfolding Takes with_token
 next_gap w text rest whole o at n is bytes h before =
-    next_json w w text rest whole None at n (λ r. refl) bytes (ap (λ x. found (token_of x) n) (sym is) ∙ h) before
+    next_json w w text rest whole None at n (λ r. refl) bytes (ap (λ x. found (some_token_of x) n) (sym is) ∙ h) before
 
 -- ---- the beginning and the ends
 

@@ -1,5 +1,5 @@
 -- The pieces of a text are the ones that are computed.
-use Rattle.std.proofs.Common.{◌≡◌, ℕ, ◌+◌, ◌-◌, List, [], ◌∷◌, ◌++◌, length, Bool, true, false, not, ◌&&◌, ◌==◌, Some, option_map, Result, Ok, Err, refl, sym, ap, ◌∙◌, arith, rules, take_while, one-add}
+use Rattle.std.proofs.Common.{◌≡◌, ℕ, ◌+◌, ◌-◌, List, [], ◌∷◌, ◌++◌, length, Bool, true, false, not, ◌&&◌, ◌==◌, Option, Some, None, option_map, Result, Ok, Err, refl, sym, ap, ◌∙◌, arith, rules, take_while, one-add}
 use Rattle.std.specs.List.{list_all, flat_map}
 use Rattle.std.proofs.lemmas.List.{append_assoc, length-append}
 use Rattle.cm_text.specs.Bytes.{is_quote, is_word_byte, is_in_line, begins_with, closes_comment}
@@ -24,6 +24,11 @@ pub run_of : (p : ℕ → Bool) (bs rest : List ℕ) → list_all p bs ≡ true 
 run_of p [] rest h e = run_ends p rest e
 run_of p (b ∷ bs) rest h e = run_more p b (bs ++ rest) (both_left (p b) (list_all p bs) h) ∙ ap (λ xs. b ∷ xs) (run_of p bs rest (both_right (p b) (list_all p bs) h) e)
 
+-- no byte is put in front
+pub same_option : (o : Option (List Char)) → option_map (λ cs. [] ++ cs) o ≡ o
+same_option None = refl
+same_option (Some cs) = refl
+
 pub chars_of : (q : ℕ) (cs : List Char) (rest : List ℕ) → is_quote q ≡ true → list_all (is_char q) cs ≡ true → chars q false (flat_map char_bytes cs ++ q ∷ rest) ≡ Some cs
 unfolding chars
 chars_of q [] rest quote h = rw (chars, same q) refl
@@ -33,7 +38,7 @@ chars_of q (plain b ∷ cs) rest quote h =
     let no_slash : (b == 92) ≡ false = not_true (b == 92) (both_right (not (b == q)) (not (b == 92)) here) in
     rw (chars, no_quote) (rw no_slash (ap (option_map (λ xs. plain b ∷ xs)) (chars_of q cs rest quote (both_right (not (b == q) && not (b == 92)) (list_all (is_char q) cs) h))))
 chars_of q (taken b ∷ cs) rest quote h =
-    rw (chars, slash_no_quote q quote) (ap (option_map (λ xs. taken b ∷ xs)) (chars_of q cs rest quote h))
+    rw (chars, slash_no_quote q quote) (same_option (chars q true (b ∷ (flat_map char_bytes cs ++ q ∷ rest))) ∙ ap (option_map (λ xs. taken b ∷ xs)) (chars_of q cs rest quote h))
 
 pub begins_same : (p : ℕ → Bool) (bs : List ℕ) (c : ℕ) (xs ys : List ℕ) → begins_with p (bs ++ c ∷ xs) ≡ begins_with p (bs ++ c ∷ ys)
 begins_same p [] c xs ys = refl

@@ -1,29 +1,26 @@
 -- The pieces of a text, computed.
-use Rattle.std.specs.Prelude.{ℕ, zero, suc, ◌+◌, ◌-◌, List, [], ◌∷◌, length, Bool, true, false, ◌==◌, if◌then◌else◌, Option, Some, None, option_map, Result, Ok, Err, take_while}
+use Rattle.std.specs.Prelude.{ℕ, zero, suc, ◌+◌, ◌-◌, List, [], ◌∷◌, ◌++◌, length, Bool, true, false, ◌==◌, if◌then◌else◌, Option, Some, None, option_map, Result, Ok, Err, take_while}
 use Rattle.cm_text.specs.Bytes.{is_mark, is_space, is_quote, is_word_byte, is_in_line, closes_comment}
 use Rattle.cm_text.specs.Token.{Char, plain, taken, Token, mark, quoted, word, Piece, token, space, line_comment, block_comment, piece_bytes, tokens_of}
 use Rattle.cm_text.specs.declared.fault.TextFault.{TextFault}
 use Rattle.cm_text.specs.declared.fault.TextFault.TheVariants.{BadToken, Unclosed}
 
+-- a byte that stands for itself: any but a backslash, which belongs to the byte behind it
+abbrev pub plain_byte : ℕ → List Char
+plain_byte b = if b == 92 then [] else plain b ∷ []
+
 -- the bytes of a string up to its quote, behind a backslash or not
 unfoldable pub chars : ℕ → Bool → List ℕ → Option (List Char)
 chars q behind [] = None
 chars q true (b ∷ bs) = option_map (λ cs. taken b ∷ cs) (chars q false bs)
-chars q false (b ∷ bs) = elim (b == q) as (λ _. Option (List Char)) [
-  | true ↦ Some []
-  | false ↦ elim (b == 92) as (λ _. Option (List Char)) [
-    | true ↦ chars q true bs
-    | false ↦ option_map (λ cs. plain b ∷ cs) (chars q false bs)
-  ]
-]
+chars q false (b ∷ bs) =
+    if b == q then Some [] else option_map (λ cs. plain_byte b ++ cs) (chars q (b == 92) bs)
 
 -- a comment's bytes up to the first star and slash
 unfoldable pub comment : List ℕ → Option (List ℕ)
 comment [] = None
-comment (b ∷ bs) = elim (closes_comment (b ∷ bs)) as (λ _. Option (List ℕ)) [
-  | true ↦ Some []
-  | false ↦ option_map (λ cs. b ∷ cs) (comment bs)
-]
+comment (b ∷ bs) =
+    if closes_comment (b ∷ bs) then Some [] else option_map (λ cs. b ∷ cs) (comment bs)
 
 -- ---- the first piece
 
@@ -44,7 +41,12 @@ pub data Class : Type 0 where
 
 abbrev pub class : ℕ → Class
 class b =
-    if is_mark b then mark_byte else if is_space b then space_byte else if is_quote b then quote_byte else if is_word_byte b then word_byte else if b == 47 then slash else other
+    if is_mark b then mark_byte
+    else if is_space b then space_byte
+    else if is_quote b then quote_byte
+    else if is_word_byte b then word_byte
+    else if b == 47 then slash
+    else other
 
 -- a string by its quote and its characters, where it ends
 abbrev pub string_piece : ℕ → Option (List Char) → First
@@ -59,10 +61,10 @@ block_piece (Some bs) = piece (block_comment bs)
 -- the comment that begins with a slash and these bytes
 abbrev pub comment_piece : List ℕ → First
 comment_piece [] = stray
-comment_piece (b ∷ bs) = elim (b == 47) as (λ _. First) [
-  | true ↦ piece (line_comment (take_while is_in_line bs))
-  | false ↦ elim (b == 42) as (λ _. First) [ true ↦ block_piece (comment bs) | false ↦ stray ]
-]
+comment_piece (b ∷ bs) =
+    if b == 47 then piece (line_comment (take_while is_in_line bs))
+    else if b == 42 then block_piece (comment bs)
+    else stray
 
 -- the piece that a byte of this class begins, before the others
 abbrev pub first_of : Class → ℕ → List ℕ → First

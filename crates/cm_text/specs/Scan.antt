@@ -1,8 +1,8 @@
 -- What the reader sees of a text's first piece.
-use Rattle.std.specs.Prelude.{ℕ, suc, List, [], ◌∷◌, length, Bool, true, false, ◌==◌, Option, Some, None, Result, Ok, Err}
+use Rattle.std.specs.Prelude.{ℕ, suc, List, [], ◌∷◌, ◌++◌, length, Bool, true, false, ◌==◌, if◌then◌else◌, Option, Some, None, Result, Ok, Err}
 use Rattle.std.specs.Option.{option_map}
 use Rattle.cm_text.specs.Token.{Char, plain, taken, Token, mark, quoted, word, piece_bytes, piece_token}
-use Rattle.cm_text.specs.Pieces.{First, stray, unclosed, piece, first_piece}
+use Rattle.cm_text.specs.Pieces.{plain_byte, First, stray, unclosed, piece, first_piece}
 use Rattle.cm_text.specs.declared.token.Token.{Token as CodeToken}
 use Rattle.cm_text.specs.declared.token.Token.TheVariants.{Mark, Quoted, Word}
 use Rattle.cm_text.specs.declared.token.Piece.{Piece as CodePiece}
@@ -13,26 +13,21 @@ use Rattle.cm_text.specs.declared.fault.TextFault.TheVariants.{BadToken, Unclose
 abbrev pub close_place : ℕ → Bool → List ℕ → Option ℕ
 close_place q behind [] = None
 close_place q true (b ∷ bs) = option_map suc (close_place q false bs)
-close_place q false (b ∷ bs) = elim (b == q) as (λ _. Option ℕ) [
-  | true ↦ Some 0
-  | false ↦ option_map suc (close_place q (b == 92) bs)
-]
+close_place q false (b ∷ bs) =
+    if b == q then Some 0 else option_map suc (close_place q (b == 92) bs)
 
 -- the characters that bytes between quotes spell; a backslash at their end stands for itself
 abbrev pub within : Bool → List ℕ → List Char
 within false [] = []
 within true [] = plain 92 ∷ []
 within true (b ∷ bs) = taken b ∷ within false bs
-within false (b ∷ bs) = elim (b == 92) as (λ _. List Char) [
-  | true ↦ within true bs
-  | false ↦ plain b ∷ within false bs
-]
+within false (b ∷ bs) = plain_byte b ++ within (b == 92) bs
 
 -- the token that the code's token stands for
-abbrev pub seen : CodeToken → Token
-seen (Mark b) = mark b
-seen (Quoted q inside) = quoted q (within false inside.now)
-seen (Word bs) = word bs.now
+abbrev pub token_of : CodeToken → Token
+token_of (Mark b) = mark b
+token_of (Quoted q inside) = quoted q (within false inside.now)
+token_of (Word bs) = word bs.now
 
 -- a piece's token and length, or the fault at its place
 abbrev pub outline : ℕ → First → Result (Option Token × ℕ) TextFault
@@ -46,9 +41,9 @@ first_of_text [] = stray
 first_of_text (b ∷ bs) = first_piece b bs
 
 -- what the code's piece, or its fault, says of the first piece
-abbrev pub seen_piece : CodePiece → Result (Option Token × ℕ) TextFault
-seen_piece p = Ok (option_map seen p.token, p.len)
+abbrev pub piece_outline : CodePiece → Result (Option Token × ℕ) TextFault
+piece_outline p = Ok (option_map token_of p.token, p.len)
 
-abbrev pub seen_result : Result CodePiece TextFault → Result (Option Token × ℕ) TextFault
-seen_result (Ok p) = seen_piece p
-seen_result (Err e) = Err e
+abbrev pub result_outline : Result CodePiece TextFault → Result (Option Token × ℕ) TextFault
+result_outline (Ok p) = piece_outline p
+result_outline (Err e) = Err e

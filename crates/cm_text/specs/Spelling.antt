@@ -5,7 +5,7 @@ use Rattle.std.specs.List.{list_all, flat_map}
 use Rattle.cm_text.specs.Token.{Token}
 use Rattle.cm_text.specs.Split.{is_char, is_token}
 use Rattle.cm_text.specs.Json.{char_json, is_needless, is_some_token, token_json, is_mark_of, is_colon}
-use Rattle.cm_text.specs.Scan.{within, seen}
+use Rattle.cm_text.specs.Scan.{within, token_of}
 use Rattle.cm_text.specs.declared.token.Token.{Token as CodeToken}
 
 -- a character of a string in single quotes, behind a backslash or not, as it stands in double quotes
@@ -22,12 +22,12 @@ abbrev pub are_chars : Bool → List ℕ → Bool
 are_chars behind bs = list_all (is_char 39) (within behind bs)
 
 -- a token's spelling between its neighbours, behind a space where a token stands before it
-abbrev pub parted : Option Token → Token → Option Token → List ℕ
-parted before t after =
+abbrev pub spelling_behind_space : Option Token → Token → Option Token → List ℕ
+spelling_behind_space before t after =
     if is_needless before t after then [] else (if is_some_token before then 32 ∷ [] else []) ++ token_json (is_mark_of is_colon after) t
 
 -- the last token read is a token; where there is none, none stands before it
 abbrev pub is_pending : Option CodeToken → Option CodeToken → Bool
-is_pending before (Some t) = is_token (seen t)
+is_pending before (Some t) = is_token (token_of t)
 is_pending None None = true
 is_pending (Some b) None = false

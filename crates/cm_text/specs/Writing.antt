@@ -2,15 +2,15 @@
 use Rattle.std.specs.Prelude.{◌≡◌, List, [], ◌∷◌, ◌++◌, ℕ, Option, Some, None, option_map, string_bytes, Result, Ok, Err}
 use Rattle.cm_text.specs.Token.{Token}
 use Rattle.cm_text.specs.Json.{head_of}
-use Rattle.cm_text.specs.Scan.{seen}
-use Rattle.cm_text.specs.Spelling.{parted}
+use Rattle.cm_text.specs.Scan.{token_of}
+use Rattle.cm_text.specs.Spelling.{spelling_behind_space}
 use Rattle.cm_text.specs.declared.fault.TextFault.{TextFault}
 use Rattle.cm_text.specs.declared.writer.JsonWriter.{JsonWriter}
 
 -- the JSON of tokens behind a token
 abbrev pub json_behind : Option Token → List Token → List ℕ
 json_behind before [] = []
-json_behind before (t ∷ ts) = parted before t (head_of ts) ++ json_behind (Some t) ts
+json_behind before (t ∷ ts) = spelling_behind_space before t (head_of ts) ++ json_behind (Some t) ts
 
 -- the JSON of tokens behind a token and one that is not yet written
 abbrev pub json_pending : Option Token → Option Token → List Token → List ℕ
@@ -19,7 +19,7 @@ json_pending before (Some t) ts = json_behind before (t ∷ ts)
 
 -- the whole JSON, where these tokens follow
 abbrev pub json_then : JsonWriter → List Token → List ℕ
-json_then w ts = string_bytes w.json ++ json_pending (option_map seen w.before) (option_map seen w.pending) ts
+json_then w ts = string_bytes w.json ++ json_pending (option_map token_of w.before) (option_map token_of w.pending) ts
 
 -- the whole JSON, where these tokens follow or this fault does
 abbrev pub json_left : JsonWriter → Result (List Token) TextFault → Result (List ℕ) TextFault
@@ -27,12 +27,12 @@ json_left w (Ok ts) = Ok (json_then w ts)
 json_left w (Err e) = Err e
 
 -- the spelling of a token that is not yet written
-abbrev pub parted_pending : Option Token → Option Token → Option Token → List ℕ
-parted_pending before None after = []
-parted_pending before (Some t) after = parted before t after
+abbrev pub pending_spelling : Option Token → Option Token → Option Token → List ℕ
+pending_spelling before None after = []
+pending_spelling before (Some t) after = spelling_behind_space before t after
 
 -- the pending token is written, before the token that follows it, and nothing else changes
 pub record IsWritten (old new : JsonWriter) (after : Option Token) : Type 0 where
   pub before : new.before ≡ old.before
   pub pending : new.pending ≡ old.pending
-  pub json : string_bytes new.json ≡ string_bytes old.json ++ parted_pending (option_map seen old.before) (option_map seen old.pending) after
+  pub json : string_bytes new.json ≡ string_bytes old.json ++ pending_spelling (option_map token_of old.before) (option_map token_of old.pending) after

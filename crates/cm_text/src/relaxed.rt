@@ -15,8 +15,7 @@ use std::alloc::Global;
 /// The JSON text of a text in the relaxed spelling: its tokens' JSON spellings, parted by one
 /// space, as the crate's page says. A text with no tokens gives the empty text.
 ///
-/// The text has fewer than 2^32 bytes, since faults say their places as a `u32`. Time and memory
-/// are linear in its length.
+/// The text has fewer than 2^32 bytes, since faults say their places as a `u32`.
 ///
 /// # Errors
 ///

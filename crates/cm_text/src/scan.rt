@@ -4,7 +4,7 @@ ghost use Rattle.std.specs.Prelude.{◌≡◌, ◌<◌, ◌==◌, false, Some, N
 ghost use Rattle.std.specs.Option.{option_map};
 ghost use Rattle.cm_text.specs.Bytes as spec;
 ghost use Rattle.cm_text.specs.Pieces.{comment};
-ghost use Rattle.cm_text.specs.Scan.{close_place, outline, first_of_text, seen_piece, seen_result};
+ghost use Rattle.cm_text.specs.Scan.{close_place, outline, first_of_text, piece_outline, result_outline};
 
 use crate::TextFault;
 use crate::bytes::{is_mark, is_quote, is_space, is_word_byte};
@@ -66,7 +66,7 @@ fn string_len(quote: u8, bytes: &[u8]) -> Option<usize>
 /// no `*/`.
 fn comment_piece(text: &str, place: u32) -> Result<Piece<'_>, TextFault>
     requires { IsTrue (spec.begins_with (λ b. b == 47) text.now) }
-    ensures { seen_result result ≡ outline place (first_of_text text.now) }
+    ensures { result_outline result ≡ outline place (first_of_text text.now) }
 {
     match text.as_bytes() {
         [_, b'/', behind @ ..] => Ok(Piece {
@@ -87,7 +87,7 @@ fn comment_piece(text: &str, place: u32) -> Result<Piece<'_>, TextFault>
 /// The string that a quote begins, or `Unclosed` at `place` where it never ends.
 fn string_piece(text: &str, place: u32) -> Result<Piece<'_>, TextFault>
     requires { IsTrue (spec.begins_with spec.is_quote text.now) }
-    ensures { seen_result result ≡ outline place (first_of_text text.now) }
+    ensures { result_outline result ≡ outline place (first_of_text text.now) }
 {
     let bytes = text.as_bytes();
     let quote = bytes[0];
@@ -106,7 +106,7 @@ fn string_piece(text: &str, place: u32) -> Result<Piece<'_>, TextFault>
 /// The word that a text begins with.
 fn word_piece(text: &str) -> Piece<'_>
     requires { IsTrue (spec.begins_with spec.is_word_byte text.now) }
-    ensures { seen_piece result ≡ outline 0 (first_of_text text.now) }
+    ensures { piece_outline result ≡ outline 0 (first_of_text text.now) }
 {
     let len = word_len(text.as_bytes());
     Piece {
@@ -118,7 +118,7 @@ fn word_piece(text: &str) -> Piece<'_>
 /// The piece that a text begins with, or its fault at `place`.
 pub(crate) fn first_piece(text: &str, place: u32) -> Result<Piece<'_>, TextFault>
     requires { 0 < length text.now }
-    ensures { seen_result result ≡ outline place (first_of_text text.now) }
+    ensures { result_outline result ≡ outline place (first_of_text text.now) }
 {
     let first = text.as_bytes()[0];
     if is_mark(first) {

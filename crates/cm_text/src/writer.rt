@@ -2,12 +2,12 @@
 
 ghost use Rattle.std.specs.Prelude.{◌≡◌, ◌++◌, ◌∷◌, ℕ, List, [], false, Some, None, option_map, IsTrue, IfOk, OnOk, string_bytes};
 ghost use Rattle.std.specs.List.{list_all};
-ghost use Rattle.cm_text.specs.Token.{quoted, Token as SeenToken};
+ghost use Rattle.cm_text.specs.Token.{quoted, Token as SpecToken};
 ghost use Rattle.cm_text.specs.Split.{is_token};
 ghost use Rattle.cm_text.specs.Json as spec;
 ghost use Rattle.cm_text.specs.Bytes as bytes_spec;
-ghost use Rattle.cm_text.specs.Scan.{seen, within};
-ghost use Rattle.cm_text.specs.Spelling.{are_chars, char_text, chars_json, is_pending, parted};
+ghost use Rattle.cm_text.specs.Scan.{token_of, within};
+ghost use Rattle.cm_text.specs.Spelling.{are_chars, char_text, chars_json, is_pending, spelling_behind_space};
 
 use crate::bytes::{begins_key, continues_key};
 use crate::token::Token;
@@ -40,7 +40,7 @@ fn is_bare_key(word: &str) -> bool
 
 /// Whether a comma is left out: before `}` or `]`, behind a token other than `{`, `[` and `,`.
 fn is_needless(before: Option<Token<'_>>, token: Token<'_>, after: Option<Token<'_>>) -> bool
-    ensures { result ≡ spec.is_needless (option_map seen before.entry) (seen token.entry) (option_map seen after.entry) }
+    ensures { result ≡ spec.is_needless (option_map token_of before.entry) (token_of token.entry) (option_map token_of after.entry) }
 {
     let is_comma = matches!(token, Token::Mark(b','));
     let closes = matches!(after, Some(Token::Mark(b'}' | b']')));
@@ -50,7 +50,7 @@ fn is_needless(before: Option<Token<'_>>, token: Token<'_>, after: Option<Token<
 
 /// Whether a token is a colon.
 fn is_colon(token: Option<Token<'_>>) -> bool
-    ensures { result ≡ spec.is_mark_of spec.is_colon (option_map seen token.entry) }
+    ensures { result ≡ spec.is_mark_of spec.is_colon (option_map token_of token.entry) }
 {
     matches!(token, Some(Token::Mark(b':')))
 }
@@ -108,8 +108,8 @@ fn write_quoted(json: &mut String, quote: u8, inside: &str) -> Result<(), AllocE
 
 /// Writes a token's JSON.
 fn write_token(json: &mut String, token: Token<'_>, before_colon: bool) -> Result<(), AllocError>
-    requires { IsTrue (is_token (seen token)) }
-    ensures { OnOk result (string_bytes json.new ≡ string_bytes json.old ++ spec.token_json before_colon (seen token.entry)) }
+    requires { IsTrue (is_token (token_of token)) }
+    ensures { OnOk result (string_bytes json.new ≡ string_bytes json.old ++ spec.token_json before_colon (token_of token.entry)) }
 {
     match token {
         Token::Mark(mark) => json.push(char::from(mark)),
@@ -126,8 +126,8 @@ fn write_between(
     token: Token<'_>,
     after: Option<Token<'_>>,
 ) -> Result<(), AllocError>
-    requires { IsTrue (is_token (seen token)) }
-    ensures { OnOk result (string_bytes json.new ≡ string_bytes json.old ++ parted (option_map seen before.entry) (seen token.entry) (option_map seen after.entry)) }
+    requires { IsTrue (is_token (token_of token)) }
+    ensures { OnOk result (string_bytes json.new ≡ string_bytes json.old ++ spelling_behind_space (option_map token_of before.entry) (token_of token.entry) (option_map token_of after.entry)) }
 {
     if is_needless(before, token, after) {
         return Ok(());
@@ -153,7 +153,7 @@ impl<'a> JsonWriter<'a> {
 
     /// A writer that has written nothing.
     pub fn new(alloc: Global) -> JsonWriter<'a>
-        ensures { (ts : List SeenToken) → json_then result ts ≡ spec.json_of_tokens ts }
+        ensures { (ts : List SpecToken) → json_then result ts ≡ spec.json_of_tokens ts }
     {
         JsonWriter {
             json: String::new(alloc),
@@ -164,7 +164,7 @@ impl<'a> JsonWriter<'a> {
 
     /// Writes the pending token, whose neighbour is now known.
     fn write_pending(&mut self, after: Option<Token<'a>>) -> Result<(), AllocError>
-        ensures { OnOk result (IsWritten self.old self.new (option_map seen after.entry)) }
+        ensures { OnOk result (IsWritten self.old self.new (option_map token_of after.entry)) }
     {
         match self.pending {
             Some(token) => write_between(&mut self.json, self.before, token, after),
@@ -174,8 +174,8 @@ impl<'a> JsonWriter<'a> {
 
     /// Takes the next token.
     pub fn push(&mut self, token: Token<'a>) -> Result<(), AllocError>
-        requires { IsTrue (is_token (seen token)) }
-        ensures { OnOk result ((ts : List SeenToken) → json_then self.new ts ≡ json_then self.old (seen token.entry ∷ ts)) }
+        requires { IsTrue (is_token (token_of token)) }
+        ensures { OnOk result ((ts : List SpecToken) → json_then self.new ts ≡ json_then self.old (token_of token.entry ∷ ts)) }
     {
         self.write_pending(Some(token))?;
         self.before = self.pending;

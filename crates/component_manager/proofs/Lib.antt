@@ -1,4 +1,6 @@
+mod CheckLemmas
 mod Cuts
 mod ReplyLemmas
 mod RunLemmas
 mod TextLemmas
+mod WordLemmas

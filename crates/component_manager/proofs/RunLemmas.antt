@@ -1,25 +1,12 @@
--- What the top call needs of its words and of the bytes that it read.
-use Rattle.std.proofs.Common.{◌≡◌, ◌⊎◌, inl, inr, ℕ, ◌+◌, ◌<◌, ◌≤◌, List, [], ◌∷◌, ◌++◌, length, take, Bool, true, false, Option, Some, None, refl, sym, ap, subst, ◌∙◌, arith, rules, length-append, nat_lt, ◌==◌, codes}
+-- What the bytes that were read say of all that was left.
+use Rattle.std.proofs.Common.{◌≡◌, ◌⊎◌, inl, inr, ℕ, ◌+◌, ◌<◌, ◌≤◌, List, [], ◌∷◌, ◌++◌, length, take, Bool, true, false, Option, Some, None, refl, sym, ap, subst, ◌∙◌, arith, rules, length-append, nat_lt}
 use Rattle.std.proofs.lemmas.List.{append-nil, take-append-le}
 use Rattle.std.specs.Io.KnownBytes.{Consumes, IsAtEnd}
 use Rattle.component_manager.specs.Reading.{Read, ◌>>=◌}
-use Rattle.component_manager.specs.Run.{OfKnown}
 use Rattle.component_manager.specs.Script.{script_limit, script_of, too_large}
 use Rattle.component_manager.specs.Stock.{served_of, served_script}
+use Rattle.component_manager.specs.Written.{OfKnown}
 use Rattle.component_manager.specs.declared.stock.Served.{Served}
-
--- ---- words
-
-not_empty : (w : List ℕ) (ws : List (List ℕ)) → (length (w ∷ ws) == 0) ≡ false
-not_empty w ws = grind (arith, rules)
-
-pub one_word : (w : List ℕ) (rest : List (List ℕ)) (alone : Bool) → w ≡ codes "run" → alone ≡ (length rest == 0) → (alone ≡ true → w ∷ rest ≡ codes "run" ∷ []) × (w ∷ rest ≡ codes "run" ∷ [] → alone ≡ true)
-one_word w [] alone e h = (λ _. ap (λ x. x ∷ []) e, λ _. h)
-one_word w (v ∷ vs) alone e h =
-    let no : alone ≡ false = h ∙ not_empty v vs in
-    (λ yes. absurd (cc), λ same. absurd (cc))
-
--- ---- bytes
 
 lt_true : (a b : ℕ) → a < b → nat_lt a b ≡ true
 lt_true a b h = grind (arith, rules)

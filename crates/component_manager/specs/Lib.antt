@@ -1,3 +1,5 @@
+pub mod Calls
+pub mod Checks
 pub mod Form
 pub mod Reading
 pub mod Replies
@@ -5,3 +7,4 @@ pub mod Run
 pub mod Script
 pub mod Stock
 pub mod Words
+pub mod Written

@@ -1,15 +1,20 @@
-//! A component manager: it reads a script of component manifests and answers where capabilities are routed.
+//! A component manager: it answers the commands of a script of component manifests, and says
+//! whether a manifest is valid.
 //!
 //! [`run::run`] is the top call; `main` makes the standard streams for it.
 #![tactic(auto)]
 
 mod answers;
+mod call;
+mod check;
 mod fault;
 mod form;
+mod ran;
 mod realm;
 mod refusal;
 mod run;
 mod script;
+mod scripts;
 mod stock;
 #[cfg(test)]
 mod tests;
@@ -36,7 +41,7 @@ fn main(rt: HostRuntime) -> ExitCode {
         Ok(words) => words,
         Err(_) => List::new(rt.alloc()),
     };
-    let mut script = Reading::new(rt.stdin());
+    let mut input = Reading::new(rt.stdin());
     let output = rt.stdout();
     let error = rt.stderr();
     let mut out = Writing::new(io::writer(&output));
@@ -45,7 +50,7 @@ fn main(rt: HostRuntime) -> ExitCode {
         &rt,
         rt.alloc(),
         words.as_slice(),
-        &mut script,
+        &mut input,
         &mut out,
         &mut err,
     );

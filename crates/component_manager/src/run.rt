@@ -1,194 +1,83 @@
 //! The top call.
 
-ghost use Rattle.std.specs.Prelude.{◌≡◌, ◌≢◌, ◌⊎◌, ◌↔◌, [], ◌∷◌, codes, Ok, IsTrue, IfOk, IfErr};
-ghost use Rattle.std.specs.Io.KnownBytes.{Appends};
+ghost use Rattle.std.specs.Prelude.{◌≡◌, ◌⊎◌, Err};
+ghost use Rattle.std.specs.Io.KnownBytes.{Appends, Keeps};
 ghost use Rattle.cm_io.specs.Outside.{Rose};
-ghost use Rattle.component_manager.specs.Replies.{IsTextOf};
-ghost use Rattle.component_manager.specs.Run.{Answers, AppendsFront, IsAnswered, IsFaulty, IsRefusal, IsRefused, IsStatus, OfKnown, Stops};
-ghost use Rattle.component_manager.specs.Stock.{served_of};
-ghost use Rattle.component_manager.specs.Words as spec;
+ghost use Rattle.component_manager.specs.Calls.{words_of};
+ghost use Rattle.component_manager.specs.Checks.{IsChecked, IsTold};
+ghost use Rattle.component_manager.specs.Run.{AsksCheck, AsksRun, IsAnswered, IsCheckStatus, IsFaulty, IsRefusal, IsRefused, IsScriptStatus};
+ghost use Rattle.component_manager.specs.Written.{AppendsFront, OfKnown};
 
-use crate::answers::replies;
-use crate::fault::{Fault, Problem};
-use crate::realm::Realm;
-use crate::script::SCRIPT_LIMIT;
-use crate::stock::{Served, serve};
-use cm_io::{Put, Sink, Source, SourceFault, put_all, read_up_to};
-use cm_names::{Memory, Text};
+use crate::call::{Call, WordsFault, read_words};
+use crate::check::run_check;
+use crate::ran::{Ran, tell, want_of_memory};
+use crate::scripts::run_script;
+use cm_io::{Sink, Source};
+use cm_names::Text;
 use std::alloc::Global;
 use std::sync::Wait;
 use std::thread::Threads;
 
-/// What a run came to.
-#[derive(Debug, Drop)]
-pub struct Ran {
-    /// The status that the program ends with.
-    ///
-    /// - 0: the input was read to its end, and everything was written.
-    /// - 2: the words aren't `run`.
-    /// - 3: the source failed; nothing was written on `out`.
-    /// - 4: `out` failed; a front of the text was written.
-    /// - 6: memory ran out; nothing was written on `out`.
-    /// - 7: the script is refused; nothing was written on `out`.
-    pub status: u8,
-}
-
-/// Why a script isn't served.
-#[derive(Drop)]
-enum Stop {
-    ReadFault,
-    Bad { line: u64, problem: Problem },
-    Memory,
-}
-
-fn is_run(words: &[Text]) -> bool
-    ensures { IsTrue result ↔ (words.now ≡ codes "run" ∷ []) }
-{
-    match words.split_first() {
-        Some((word, rest)) => word.as_str() == "run" && rest.is_empty(),
-        None => false,
-    }
-}
-
-/// Reads the script that the source has left.
-fn read_served<R: Threads + Wait + Sync, S: Source>(
-    rt: &R,
-    alloc: Global,
-    source: &mut S,
-) -> Result<Served, Stop>
-    ensures good { IfOk result (λ served. OfKnown (λ bytes. served_of bytes ≡ Ok served) (S.left source.old)) }
-    ensures bad { IfErr result (λ stop. Stops stop (S.left source.old)) }
-    ensures fault { IfErr result (λ stop. stop ≡ Stop.ReadFault → Rose (S.faults source.old) (S.faults source.new)) }
-{
-    let bytes = match read_up_to(rt, alloc, source, SCRIPT_LIMIT) {
-        Ok(bytes) => bytes,
-        Err(SourceFault::Failed) => return Err(Stop::ReadFault),
-        Err(SourceFault::Memory) => return Err(Stop::Memory),
-    };
-    match serve(alloc, bytes.as_slice()) {
-        Ok(served) => Ok(served),
-        Err(Fault::Bad { line, problem }) => Err(Stop::Bad { line, problem }),
-        Err(Fault::Memory) => Err(Stop::Memory),
-    }
-}
-
-/// Writes a line on the error stream, as far as it goes.
-fn tell<R: Threads + Wait + Sync, E: Sink>(rt: &R, err: &mut E, line: &[u8])
-    ensures { AppendsFront (E.written err.old) (E.written err.new) line.now }
-{
-    match put_all(rt, err, line) {
-        Put::Done => {}
-        Put::WriteFault(_) => {}
-    }
-}
-
-fn want_of_memory<R: Threads + Wait + Sync, E: Sink>(rt: &R, err: &mut E) -> Ran
-    ensures { result.status ≡ 6 }
-{
-    tell(rt, err, b"want of memory\n");
-    Ran { status: 6 }
-}
-
-fn fault_line(alloc: Global, line: u64, problem: Problem) -> Result<Text, Memory>
-    ensures { IfOk result (λ text. text ≡ spec.fault_line line problem) }
-{
-    let mut text = Text::new(alloc);
-    text.push(format_args!("line {line}: {problem}\n"))?;
-    Ok(text)
-}
-
-/// Says why the script is refused.
-fn refuse<R: Threads + Wait + Sync, E: Sink>(
-    rt: &R,
-    alloc: Global,
-    err: &mut E,
-    line: u64,
-    problem: Problem,
-) -> Ran
-    ensures refused { result.status ≡ 7 → AppendsFront (E.written err.old) (E.written err.new) (spec.fault_line line problem) }
-    ensures others { (result.status ≡ 7) ⊎ (result.status ≡ 6) }
-{
-    match fault_line(alloc, line, problem) {
-        Ok(text) => {
-            tell(rt, err, text.as_str().as_bytes());
-            Ran { status: 7 }
-        }
-        Err(Memory) => want_of_memory(rt, err),
-    }
-}
-
-/// The replies to the commands.
-fn text_of(alloc: Global, served: Served) -> Result<Text, Memory>
-    ensures { IfOk result (IsTextOf served.questions) }
-{
-    let Served {
-        repository,
-        root,
-        questions,
-    } = served;
-    let mut realm = Realm::new(alloc, repository, root)?;
-    replies(alloc, &mut realm, questions.as_slice())
-}
-
-/// Answers the commands.
-fn answer<R: Threads + Wait + Sync, K: Sink, E: Sink>(
-    rt: &R,
-    alloc: Global,
-    served: Served,
-    out: &mut K,
-    err: &mut E,
-) -> Ran
-    ensures all { result.status ≡ 0 → Answers served.questions (Appends (K.written out.old) (K.written out.new)) }
-    ensures front { result.status ≡ 4 → Answers served.questions (AppendsFront (K.written out.old) (K.written out.new)) }
-    ensures cause { result.status ≡ 4 → Rose (K.faults out.old) (K.faults out.new) }
-    ensures others { (result.status ≡ 0) ⊎ ((result.status ≡ 4) ⊎ (result.status ≡ 6)) }
-{
-    match text_of(alloc, served) {
-        Ok(text) => match put_all(rt, out, text.as_str().as_bytes()) {
-            Put::Done => Ran { status: 0 },
-            Put::WriteFault(_) => Ran { status: 4 },
-        },
-        Err(Memory) => want_of_memory(rt, err),
-    }
-}
-
 /// Runs the program with these words, on this input, with these outputs.
+///
+/// The words `run [--journal] [--repo DIR]` ask for the replies to the commands of the script that
+/// the input is, and the word `check` for the verdict on the manifest that the input is. The words,
+/// the statuses and the lines on `err` are this project's own choice; [`Ran`] lists the statuses.
 pub fn run<R: Threads + Wait + Sync, S: Source, K: Sink, E: Sink>(
     rt: &R,
     alloc: Global,
     words: &[Text],
-    script: &mut S,
+    input: &mut S,
     out: &mut K,
     err: &mut E,
 ) -> Ran
-    // 2 comes exactly for other words than `run`.
-    ensures usage { (result.status ≡ 2) ↔ (words.now ≢ codes "run" ∷ []) }
+    // 2 comes only where the words ask for nothing, and there it comes unless memory ran out.
+    ensures usage { result.status ≡ 2 → words_of words.now ≡ Err WordsFault.Usage }
+    ensures unusable { words_of words.now ≡ Err WordsFault.Usage → (result.status ≡ 2) ⊎
+        (result.status ≡ 6) }
 
     // 3 comes only where the source failed in this run, and 4 only where `out` did.
-    ensures read { result.status ≡ 3 → Rose (S.faults script.old) (S.faults script.new) }
+    ensures read { result.status ≡ 3 → Rose (S.faults input.old) (S.faults input.new) }
     ensures write { result.status ≡ 4 → Rose (K.faults out.old) (K.faults out.new) }
+    ensures silent { (result.status ≡ 2) ⊎ ((result.status ≡ 3) ⊎ (result.status ≡ 6)) →
+        Keeps (K.written out.old) (K.written out.new) }
 
-    // 7 comes exactly for a script that is refused, unless the source failed or memory ran out.
-    ensures refused { result.status ≡ 7 → OfKnown (λ bytes. IsRefused bytes (K.written out.old) (K.written out.new) (E.written err.old) (E.written err.new)) (S.left script.old) }
-    ensures faulty { words.now ≡ codes "run" ∷ [] → OfKnown (λ bytes. IsFaulty bytes → IsRefusal result.status) (S.left script.old) }
+    // For `run`: 7 comes only for a script that is refused, and what isn't served gets it unless
+    // the source failed or memory ran out.
+    ensures refused { AsksRun words.now → result.status ≡ 7 →
+        OfKnown (IsRefused (K.written out.old) (K.written out.new) (E.written err.old)
+        (E.written err.new)) (S.left input.old) }
+    ensures faulty { AsksRun words.now → OfKnown (λ bytes. IsFaulty bytes →
+        IsRefusal result.status) (S.left input.old) }
 
     // At 0 the replies to all commands were written, and at 4 a front of them.
-    ensures all { result.status ≡ 0 → OfKnown (IsAnswered (Appends (K.written out.old) (K.written out.new))) (S.left script.old) }
-    ensures front { result.status ≡ 4 → OfKnown (IsAnswered (AppendsFront (K.written out.old) (K.written out.new))) (S.left script.old) }
+    ensures all { AsksRun words.now → result.status ≡ 0 →
+        OfKnown (IsAnswered (Appends (K.written out.old) (K.written out.new)))
+        (S.left input.old) }
+    ensures front { AsksRun words.now → result.status ≡ 4 →
+        OfKnown (IsAnswered (AppendsFront (K.written out.old) (K.written out.new)))
+        (S.left input.old) }
+    ensures script { AsksRun words.now → IsScriptStatus result.status }
 
-    ensures others { IsStatus result.status }
+    // For `check`: 0 and `valid`, or 1 and the first fault; and at 4 a front of that line.
+    ensures valid { AsksCheck words.now → result.status ≡ 0 →
+        OfKnown (IsChecked (Appends (K.written out.old) (K.written out.new)) 0)
+        (S.left input.old) }
+    ensures invalid { AsksCheck words.now → result.status ≡ 1 →
+        OfKnown (IsChecked (Appends (K.written out.old) (K.written out.new)) 1)
+        (S.left input.old) }
+    ensures told { AsksCheck words.now → result.status ≡ 4 →
+        OfKnown (IsTold (AppendsFront (K.written out.old) (K.written out.new)))
+        (S.left input.old) }
+    ensures check { AsksCheck words.now → IsCheckStatus result.status }
 {
-    if !is_run(words) {
-        tell(rt, err, b"usage: run, check, serve, audit, generate\n");
-        return Ran { status: 2 };
-    }
-    match read_served(rt, alloc, script) {
-        Ok(served) => answer(rt, alloc, served, out, err),
-        Err(Stop::ReadFault) => {
-            tell(rt, err, b"read fault\n");
-            Ran { status: 3 }
+    match read_words(alloc, words) {
+        Ok(Call::Run(_)) => run_script(rt, alloc, input, out, err),
+        Ok(Call::Check) => run_check(rt, alloc, input, out, err),
+        Err(WordsFault::Usage) => {
+            tell(rt, err, b"usage: run, check, serve, audit, generate\n");
+            Ran { status: 2 }
         }
-        Err(Stop::Bad { line, problem }) => refuse(rt, alloc, err, line, problem),
-        Err(Stop::Memory) => want_of_memory(rt, err),
+        Err(WordsFault::Memory) => want_of_memory(rt, err),
     }
 }

@@ -4,7 +4,9 @@ use crate::run::run;
 use cm_io::{MemorySink, MemorySource, Plan};
 use cm_names::{List, Text};
 use std::alloc::{AllocError, Global};
+use std::sync::Wait;
 use std::test::Fail;
+use std::thread::Threads;
 
 const ROOT: &str =
     "manifest fuchsia-pkg://t/a#meta/root.cm\n{\"children\":[{\"name\":\"logger\",\"url\":\"#meta/logger.cm\"},{\"name\":\"client\",\"url\":\"#meta/client.cm\"}],\"offer\":[{\"protocol\":\"fuchsia.logger.LogSink\",\"from\":\"#logger\",\"to\":\"#client\"}]}\n%%\n";
@@ -24,29 +26,370 @@ const CLIENT: &str =
 const ASK: &str =
     "root fuchsia-pkg://t/a#meta/root.cm\n0 route client /svc/fuchsia.logger.LogSink\n";
 
-/// What a run must come to.
-#[derive(Drop)]
+/// The words, the input in parts, and what must come of them.
+#[derive(Clone, Copy)]
 struct Case {
-    script: &'static [&'static str],
+    words: &'static [&'static str],
+    input: &'static [&'static str],
     status: u8,
     out: &'static str,
     err: &'static str,
 }
 
-fn joined(alloc: Global, parts: &[&str]) -> Result<List<u8>, AllocError> {
+const USAGE: &str = "usage: run, check, serve, audit, generate\n";
+
+const REPLY: &str =
+    "0 route /svc/fuchsia.logger.LogSink at logger incarnation 1 through use client, offer ., expose logger, capability logger\n";
+
+const CASES: [Case; 26] = [
+    Case {
+        words: &["run"],
+        input: &[ROOT, LOGGER, CLIENT, ASK],
+        status: 0,
+        out: REPLY,
+        err: "",
+    },
+    Case {
+        words: &["run"],
+        input: &[ROOT_WITHOUT_OFFER, LOGGER, CLIENT, ASK],
+        status: 0,
+        out: "0 refused 87 no-offer at offer .\n",
+        err: "",
+    },
+    Case {
+        words: &["run"],
+        input: &[ROOT, LOGGER_WITHOUT_EXPOSE, CLIENT, ASK],
+        status: 0,
+        out: "0 refused 87 no-expose at expose logger\n",
+        err: "",
+    },
+    Case {
+        words: &["run"],
+        input: &[ROOT, CLIENT, ASK],
+        status: 0,
+        out: "0 refused 83 cannot-resolve action 3 absent\n",
+        err: "",
+    },
+    Case {
+        words: &["run"],
+        input: &[
+            ROOT,
+            LOGGER,
+            CLIENT,
+            ASK,
+            "# twice\n\n0 route client /svc/x\n0 route x/y /svc/p\n",
+        ],
+        status: 0,
+        out: "0 route /svc/fuchsia.logger.LogSink at logger incarnation 1 through use client, offer ., expose logger, capability logger\n0 refused 86 no-such-use\n0 refused 80 not-found in .\n",
+        err: "",
+    },
+    Case {
+        words: &["run"],
+        input: &[],
+        status: 7,
+        out: "",
+        err: "line 1: 72 no-root\n",
+    },
+    Case {
+        words: &["run"],
+        input: &[ROOT, LOGGER],
+        status: 7,
+        out: "",
+        err: "line 7: 72 no-root\n",
+    },
+    Case {
+        words: &["run"],
+        input: &["0 route client /svc/p"],
+        status: 7,
+        out: "",
+        err: "line 1: 72 no-root\n",
+    },
+    Case {
+        words: &["run"],
+        input: &[
+            ROOT,
+            "manifest fuchsia-pkg://t/a#meta/logger.cm\n{\"program\":",
+        ],
+        status: 7,
+        out: "",
+        err: "line 4: 73 unclosed-manifest\n",
+    },
+    Case {
+        words: &["run"],
+        input: &[ROOT, ASK, "0 route client /svc/p\u{1}\n"],
+        status: 7,
+        out: "",
+        err: "line 6: 79 later-form\n",
+    },
+    Case {
+        words: &["run"],
+        input: &[ROOT, ASK, "0 start client\n"],
+        status: 7,
+        out: "",
+        err: "line 6: 79 later-form\n",
+    },
+    Case {
+        words: &["run"],
+        input: &[
+            ROOT,
+            "manifest fuchsia-pkg://t/a#meta/b.cm\n{\"collections\":[{\"name\":\"c\",\"durability\":\"transient\"}]}\n%%\n",
+            ASK,
+        ],
+        status: 7,
+        out: "",
+        err: "line 4: 79 later-form\n",
+    },
+    Case {
+        words: &["run"],
+        input: &[ROOT, "manifest fuchsia-pkg://t/a\n{}\n%%\n", ASK],
+        status: 7,
+        out: "",
+        err: "line 4: 77 bad-manifest-url\n",
+    },
+    Case {
+        words: &["run"],
+        input: &[ROOT, ROOT, ASK],
+        status: 7,
+        out: "",
+        err: "line 4: 78 repeated-manifest\n",
+    },
+    Case {
+        words: &[],
+        input: &[],
+        status: 2,
+        out: "",
+        err: USAGE,
+    },
+    Case {
+        words: &["serve"],
+        input: &[],
+        status: 2,
+        out: "",
+        err: USAGE,
+    },
+    Case {
+        words: &["run", "x"],
+        input: &[],
+        status: 2,
+        out: "",
+        err: USAGE,
+    },
+    Case {
+        words: &["run", "--help"],
+        input: &[],
+        status: 2,
+        out: "",
+        err: USAGE,
+    },
+    Case {
+        words: &["check", "--repo", "d"],
+        input: &[],
+        status: 2,
+        out: "",
+        err: USAGE,
+    },
+    Case {
+        words: &["run", "--repo", "d", "--journal"],
+        input: &[],
+        status: 7,
+        out: "",
+        err: "line 1: 72 no-root\n",
+    },
+    Case {
+        words: &["check"],
+        input: &["{children:[{name:'a',url:'#meta/a.cm'},],/* one */}"],
+        status: 0,
+        out: "valid\n",
+        err: "",
+    },
+    Case {
+        words: &["check"],
+        input: &["{children:["],
+        status: 1,
+        out: "invalid 31 manifest 0\n",
+        err: "",
+    },
+    Case {
+        words: &["check"],
+        input: &["{children:[{name:'a',url:'#meta/a.cm',colour:'red'}]}"],
+        status: 1,
+        out: "invalid 33 children 0 colour\n",
+        err: "",
+    },
+    Case {
+        words: &["check"],
+        input: &["{children:[{name:'a',url:'#a'}],offer:[{protocol:'p',from:'#a',to:'#a'}]}"],
+        status: 1,
+        out: "invalid 53 offer 0\n",
+        err: "",
+    },
+    Case {
+        words: &["check"],
+        input: &[
+            "{children:[{name:'a',url:'#a'},{name:'b',url:'#b'}],offer:[{protocol:'p',from:'#a',to:'#b'},{protocol:'q',from:'#b',to:'#a'}]}",
+        ],
+        status: 1,
+        out: "invalid 58 graph 0 a b a\n",
+        err: "",
+    },
+    Case {
+        words: &["check"],
+        input: &[
+            "{children:[{name:'a',url:'#a'},{name:'b',url:'#b'}],offer:[{protocol:'p',from:'#a',to:'#b'},{protocol:'q',from:'#b',to:'#a',dependency:'weak'}]}",
+        ],
+        status: 0,
+        out: "valid\n",
+        err: "",
+    },
+];
+
+/// How the outside moves the bytes and where it fails, and what must come of it.
+#[derive(Clone, Copy)]
+struct Outside {
+    piece: usize,
+    source: Option<u64>,
+    sink: Option<u64>,
+    status: u8,
+    out: &'static str,
+    err: &'static str,
+}
+
+const OUTSIDES: [Outside; 5] = [
+    Outside {
+        piece: 1,
+        source: None,
+        sink: None,
+        status: 0,
+        out: REPLY,
+        err: "",
+    },
+    Outside {
+        piece: 100,
+        source: Some(0),
+        sink: None,
+        status: 3,
+        out: "",
+        err: "read fault\n",
+    },
+    Outside {
+        piece: 100,
+        source: Some(3),
+        sink: None,
+        status: 3,
+        out: "",
+        err: "read fault\n",
+    },
+    Outside {
+        piece: 7,
+        source: None,
+        sink: Some(0),
+        status: 4,
+        out: "",
+        err: "",
+    },
+    Outside {
+        piece: 7,
+        source: None,
+        sink: Some(1),
+        status: 4,
+        out: "0 route",
+        err: "",
+    },
+];
+
+/// A manifest of a front, a byte so many times, and a back, and what must be said of it.
+#[derive(Clone, Copy)]
+struct Large {
+    front: &'static str,
+    byte: u8,
+    count: usize,
+    back: &'static str,
+    status: u8,
+    out: &'static str,
+}
+
+const LARGE: [Large; 6] = [
+    Large {
+        front: "{children:[{name:'",
+        byte: b'n',
+        count: 255,
+        back: "',url:'#a'}]}",
+        status: 0,
+        out: "valid\n",
+    },
+    Large {
+        front: "{children:[{name:'",
+        byte: b'n',
+        count: 256,
+        back: "',url:'#a'}]}",
+        status: 1,
+        out: "invalid 36 children 0 name\n",
+    },
+    Large {
+        front: "{facets:",
+        byte: b'[',
+        count: 200,
+        back: "",
+        status: 1,
+        out: "invalid 31 manifest 0\n",
+    },
+    Large {
+        front: "",
+        byte: b'[',
+        count: 1_048_576,
+        back: "",
+        status: 1,
+        out: "invalid 31 manifest 0\n",
+    },
+    Large {
+        front: "{}",
+        byte: b' ',
+        count: 1_048_575,
+        back: "",
+        status: 1,
+        out: "invalid 41 manifest 0\n",
+    },
+    Large {
+        front: "",
+        byte: 255,
+        count: 1,
+        back: "",
+        status: 1,
+        out: "invalid 30 manifest 0\n",
+    },
+];
+
+/// What came of a run.
+#[derive(Drop)]
+struct Came {
+    status: u8,
+    out: MemorySink,
+    err: MemorySink,
+}
+
+fn joined(alloc: Global, parts: &[&str]) -> Result<Vec<u8>, AllocError> {
     let mut bytes = Vec::new(alloc);
     for part in parts {
         bytes.extend_from_slice(part.as_bytes())?;
     }
-    Ok(List::from_vec(bytes))
+    Ok(bytes)
 }
 
-fn words(alloc: Global, words: &[&str]) -> Result<List<Text>, AllocError> {
-    let mut all = Vec::new(alloc);
+fn texts(alloc: Global, words: &[&str]) -> Result<Vec<Text>, AllocError> {
+    let mut texts = Vec::new(alloc);
     for word in words {
-        all.push(Text::from_string(String::from_str(alloc, word)?))?;
+        texts.push(Text::from_string(String::from_str(alloc, word)?))?;
     }
-    Ok(List::from_vec(all))
+    Ok(texts)
+}
+
+fn filled(alloc: Global, large: Large) -> Result<Vec<u8>, AllocError> {
+    let mut bytes = joined(alloc, &[large.front])?;
+    for _ in 0..large.count {
+        bytes.push(large.byte)?;
+    }
+    bytes.extend_from_slice(large.back.as_bytes())?;
+    Ok(bytes)
 }
 
 /// A plan that moves so many bytes at once and fails at this call, if at any.
@@ -61,227 +404,63 @@ fn plan(alloc: Global, piece: usize, failing: Option<u64>) -> Result<Plan, Alloc
     })
 }
 
-const REPLY: &str =
-    "0 route /svc/fuchsia.logger.LogSink at logger incarnation 1 through use client, offer ., expose logger, capability logger\n";
-
-#[test]
-fn scripts_are_answered_or_refused(rt: HostRuntime) -> Result<(), Fail> {
-    let alloc = rt.alloc();
-    let words = words(alloc, &["run"])?;
-    let cases = [
-        Case {
-            script: &[ROOT, LOGGER, CLIENT, ASK],
-            status: 0,
-            out: REPLY,
-            err: "",
-        },
-        Case {
-            script: &[ROOT_WITHOUT_OFFER, LOGGER, CLIENT, ASK],
-            status: 0,
-            out: "0 refused 87 no-offer at offer .\n",
-            err: "",
-        },
-        Case {
-            script: &[ROOT, LOGGER_WITHOUT_EXPOSE, CLIENT, ASK],
-            status: 0,
-            out: "0 refused 87 no-expose at expose logger\n",
-            err: "",
-        },
-        Case {
-            script: &[ROOT, CLIENT, ASK],
-            status: 0,
-            out: "0 refused 83 cannot-resolve action 3 absent\n",
-            err: "",
-        },
-        Case {
-            script: &[
-                ROOT,
-                LOGGER,
-                CLIENT,
-                ASK,
-                "# twice\n\n0 route client /svc/x\n0 route x/y /svc/p\n",
-            ],
-            status: 0,
-            out: "0 route /svc/fuchsia.logger.LogSink at logger incarnation 1 through use client, offer ., expose logger, capability logger\n0 refused 86 no-such-use\n0 refused 80 not-found in .\n",
-            err: "",
-        },
-        Case {
-            script: &[],
-            status: 7,
-            out: "",
-            err: "line 1: 72 no-root\n",
-        },
-        Case {
-            script: &[ROOT, LOGGER],
-            status: 7,
-            out: "",
-            err: "line 7: 72 no-root\n",
-        },
-        Case {
-            script: &["0 route client /svc/p"],
-            status: 7,
-            out: "",
-            err: "line 1: 72 no-root\n",
-        },
-        Case {
-            script: &[
-                ROOT,
-                "manifest fuchsia-pkg://t/a#meta/logger.cm\n{\"program\":",
-            ],
-            status: 7,
-            out: "",
-            err: "line 4: 73 unclosed-manifest\n",
-        },
-        Case {
-            script: &[ROOT, ASK, "0 route client /svc/p\u{1}\n"],
-            status: 7,
-            out: "",
-            err: "line 6: 79 later-form\n",
-        },
-        Case {
-            script: &[ROOT, ASK, "0 start client\n"],
-            status: 7,
-            out: "",
-            err: "line 6: 79 later-form\n",
-        },
-        Case {
-            script: &[
-                ROOT,
-                "manifest fuchsia-pkg://t/a#meta/b.cm\n{\"collections\":[{\"name\":\"c\",\"durability\":\"transient\"}]}\n%%\n",
-                ASK,
-            ],
-            status: 7,
-            out: "",
-            err: "line 4: 79 later-form\n",
-        },
-        Case {
-            script: &[ROOT, "manifest fuchsia-pkg://t/a\n{}\n%%\n", ASK],
-            status: 7,
-            out: "",
-            err: "line 4: 77 bad-manifest-url\n",
-        },
-        Case {
-            script: &[ROOT, ROOT, ASK],
-            status: 7,
-            out: "",
-            err: "line 4: 78 repeated-manifest\n",
-        },
-    ];
-    for case in cases.as_slice() {
-        let mut script = MemorySource::new(joined(alloc, case.script)?, Plan::quiet(alloc));
-        let mut out = MemorySink::new(alloc, Plan::quiet(alloc));
-        let mut err = MemorySink::new(alloc, Plan::quiet(alloc));
-        let ran = run(
-            &rt,
-            alloc,
-            words.as_slice(),
-            &mut script,
-            &mut out,
-            &mut err,
-        );
-        assert_eq!(rt; ran.status, case.status);
-        assert!(rt; out.bytes() == case.out.as_bytes());
-        assert!(rt; err.bytes() == case.err.as_bytes());
-    }
-    Ok(())
+fn come<R: Threads + Wait + Sync>(
+    rt: &R,
+    alloc: Global,
+    words: &[&str],
+    mut input: MemorySource,
+    mut out: MemorySink,
+) -> Result<Came, AllocError> {
+    let words = texts(alloc, words)?;
+    let mut err = MemorySink::new(alloc, Plan::quiet(alloc));
+    let ran = run(rt, alloc, words.as_slice(), &mut input, &mut out, &mut err);
+    Ok(Came {
+        status: ran.status,
+        out,
+        err,
+    })
 }
 
-/// Pieces, a call of the source that fails, a call of the output that fails, and what comes of it.
-#[derive(Drop)]
-struct Outside {
-    piece: usize,
-    source: Option<u64>,
-    sink: Option<u64>,
-    status: u8,
-    out: &'static str,
-    err: &'static str,
+#[test]
+fn words_and_inputs_are_answered(rt: HostRuntime) -> Result<(), Fail> {
+    let alloc = rt.alloc();
+    for case in CASES {
+        let bytes = List::from_vec(joined(alloc, case.input)?);
+        let input = MemorySource::new(bytes, Plan::quiet(alloc));
+        let out = MemorySink::new(alloc, Plan::quiet(alloc));
+        let came = come(&rt, alloc, case.words, input, out)?;
+        assert_eq!(rt; came.status, case.status);
+        assert!(rt; came.out.bytes() == case.out.as_bytes());
+        assert!(rt; came.err.bytes() == case.err.as_bytes());
+    }
+    Ok(())
 }
 
 #[test]
 fn the_outside_may_fail(rt: HostRuntime) -> Result<(), Fail> {
     let alloc = rt.alloc();
-    let words = words(alloc, &["run"])?;
-    let cases = [
-        Outside {
-            piece: 1,
-            source: None,
-            sink: None,
-            status: 0,
-            out: REPLY,
-            err: "",
-        },
-        Outside {
-            piece: 100,
-            source: Some(0),
-            sink: None,
-            status: 3,
-            out: "",
-            err: "read fault\n",
-        },
-        Outside {
-            piece: 100,
-            source: Some(3),
-            sink: None,
-            status: 3,
-            out: "",
-            err: "read fault\n",
-        },
-        Outside {
-            piece: 7,
-            source: None,
-            sink: Some(0),
-            status: 4,
-            out: "",
-            err: "",
-        },
-        Outside {
-            piece: 7,
-            source: None,
-            sink: Some(1),
-            status: 4,
-            out: "0 route",
-            err: "",
-        },
-    ];
-    for case in cases.as_slice() {
-        let bytes = joined(alloc, &[ROOT, LOGGER, CLIENT, ASK])?;
-        let mut script = MemorySource::new(bytes, plan(alloc, case.piece, case.source)?);
-        let mut out = MemorySink::new(alloc, plan(alloc, case.piece, case.sink)?);
-        let mut err = MemorySink::new(alloc, Plan::quiet(alloc));
-        let ran = run(
-            &rt,
-            alloc,
-            words.as_slice(),
-            &mut script,
-            &mut out,
-            &mut err,
-        );
-        assert_eq!(rt; ran.status, case.status);
-        assert!(rt; out.bytes() == case.out.as_bytes());
-        assert!(rt; err.bytes() == case.err.as_bytes());
+    for case in OUTSIDES {
+        let bytes = List::from_vec(joined(alloc, &[ROOT, LOGGER, CLIENT, ASK])?);
+        let input = MemorySource::new(bytes, plan(alloc, case.piece, case.source)?);
+        let out = MemorySink::new(alloc, plan(alloc, case.piece, case.sink)?);
+        let came = come(&rt, alloc, &["run"], input, out)?;
+        assert_eq!(rt; came.status, case.status);
+        assert!(rt; came.out.bytes() == case.out.as_bytes());
+        assert!(rt; came.err.bytes() == case.err.as_bytes());
     }
     Ok(())
 }
 
 #[test]
-fn other_words_are_a_usage_fault(rt: HostRuntime) -> Result<(), Fail> {
+fn large_manifests_are_checked(rt: HostRuntime) -> Result<(), Fail> {
     let alloc = rt.alloc();
-    for given in [&[] as &[&str], &["check"], &["run", "x"]] {
-        let words = words(alloc, given)?;
-        let mut script = MemorySource::new(List::new(alloc), Plan::quiet(alloc));
-        let mut out = MemorySink::new(alloc, Plan::quiet(alloc));
-        let mut err = MemorySink::new(alloc, Plan::quiet(alloc));
-        let ran = run(
-            &rt,
-            alloc,
-            words.as_slice(),
-            &mut script,
-            &mut out,
-            &mut err,
-        );
-        assert_eq!(rt; ran.status, 2);
-        assert!(rt; out.bytes() == b"".as_slice());
-        assert!(rt; err.bytes() == b"usage: run, check, serve, audit, generate\n".as_slice());
+    for case in LARGE {
+        let bytes = List::from_vec(filled(alloc, case)?);
+        let input = MemorySource::new(bytes, Plan::quiet(alloc));
+        let out = MemorySink::new(alloc, Plan::quiet(alloc));
+        let came = come(&rt, alloc, &["check"], input, out)?;
+        assert_eq!(rt; came.status, case.status);
+        assert!(rt; came.out.bytes() == case.out.as_bytes());
     }
     Ok(())
 }

@@ -9,6 +9,7 @@ pieces-preserved g c =
     let bytes = rw rest at c.in-Bytes.ensures.bytes in
     record {
       bound = omega (arith, bytes.1, length-drop c.pieces.done c.args.bytes.now);
-      later = omega (arith, c.in-Bytes.ensures.cause);
+      count = omega (arith, c.in-Bytes.ensures.cause, c.pieces.invariant.count);
+      room = λ fits. omega (arith, fits, c.pieces.invariant.room fits, c.in-Bytes.ensures.room (omega (arith, fits, c.pieces.invariant.room fits, length-drop c.pieces.done c.args.bytes.now)));
       written = Appends-take _ _ _ c.args.bytes.now c.pieces.done c.in-Bytes.count c.pieces.invariant.written bytes.2;
     }

@@ -3,7 +3,7 @@ use Rattle.cm_names.specs.MonikerPlaces.{may_end}
 use Rattle.cm_names.proofs.Fronts.{not_whole}
 use Rattle.cm_names.proofs.MonikerFronts.{stuck, full, further, unended, not_ended, ended}
 use Rattle.cm_names.proofs.grammar.bad_place.Goals as goal
-use Rattle.cm_names.proofs.grammar.bad_place.Goals.{else-i-eq-MAX_BYTES-via-then-i-eq-MAX_BYTES+else-not-may_end, else-i-eq-MAX_BYTES-via-else-i-eq-MAX_BYTES}
+use Rattle.cm_names.proofs.grammar.bad_place.Goals.{else-i-eq-MAX_PATH_BYTES-via-then-i-eq-MAX_PATH_BYTES+else-not-may_end, else-i-eq-MAX_PATH_BYTES-via-else-i-eq-MAX_PATH_BYTES}
 
 pub returns-then-not-may_end-clause-front : goal.returns-then-not-may_end-clause-front
 returns-then-not-may_end-clause-front c =
@@ -23,9 +23,9 @@ returns-in-None-clause-not_whole c =
 
 pub loop-i-preserved : goal.loop-i-preserved
 loop-i-preserved c =
-    let room : may_end c.in-Some.next ≡ false → c.loop-i.i + 1 < 4096 = elim c.else-i-eq-MAX_BYTES.branch [
-      | else-i-eq-MAX_BYTES-via-then-i-eq-MAX_BYTES+else-not-may_end w ↦ λ open_end. absurd (true≢false (search rules))
-      | else-i-eq-MAX_BYTES-via-else-i-eq-MAX_BYTES w ↦ λ open_end. omega (arith, w.if-i-eq-MAX_BYTES.false)
+    let room : may_end c.in-Some.next ≡ false → c.loop-i.i + 1 < 4096 = elim c.else-i-eq-MAX_PATH_BYTES.branch [
+      | else-i-eq-MAX_PATH_BYTES-via-then-i-eq-MAX_PATH_BYTES+else-not-may_end w ↦ λ open_end. absurd (true≢false (search rules))
+      | else-i-eq-MAX_PATH_BYTES-via-else-i-eq-MAX_PATH_BYTES w ↦ λ open_end. omega (arith, w.if-i-eq-MAX_PATH_BYTES.false)
     ] in
     further c.args.bytes.now c.loop-i.i c.loop-i.place c.in-Some.next (omega arith) c.loop-i.invariant (sym c.in-Some.ensures) room
 

@@ -1,6 +1,7 @@
 use Rattle.std.proofs.Common.{◌≡◌, length, take, map, All}
 use Rattle.cm_names.specs.Child.{child_text}
-use Rattle.cm_names.specs.Moniker.{IsChild, parts_of}
+use Rattle.cm_names.specs.Moniker.{IsChild}
+use Rattle.cm_names.specs.Path.{parts_of}
 use Rattle.cm_names.proofs.moniker.read_parts.Given as goal
 
 -- the names so far are those of the pieces so far

@@ -21,7 +21,8 @@ parts-preserved g c = record {
   passed =
       passed-filled _ _ _ _ c.parts.self _ _ _ c.parts.invariant.passed (rw c.in-Ok-false.field-0-test at c.in-Ok-false.ensures).0
       (rw c.in-Ok-false.field-0-test at c.in-Ok-false.ensures).2 c.in-Bytes.ensures.bytes;
-  later = omega (arith, c.in-Bytes.ensures.cause);
+  count = omega (arith, c.in-Bytes.ensures.cause, c.parts.invariant.count);
+  quiet = λ q. (c.in-Bytes.ensures.quiet (c.parts.invariant.quiet q)).0;
 }
 
 -- all that was held is the last line, and the source is at its end

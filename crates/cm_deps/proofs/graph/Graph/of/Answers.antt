@@ -1,0 +1,72 @@
+use Rattle.std.proofs.Common.{◌≡◌, ◌<◌, List, [], ◌∷◌, ◌++◌, length, sym, ◌∙◌, ap, subst, get_or}
+use Rattle.std.specs.Prelude.{map}
+use Rattle.cm_decl.specs.declared.node.Node.{Node}
+use Rattle.cm_deps.specs.declared.order.Shape.TheVariants.{Ordered, Ring}
+use Rattle.cm_deps.specs.Edges.{holds, IsBelow}
+use Rattle.cm_deps.specs.Implied.{IsOrdered}
+use Rattle.cm_deps.specs.Nodes.{at}
+use Rattle.cm_deps.specs.Shapes.{IsShape, IsLeftRing}
+use Rattle.cm_deps.specs.Closure.{IsClosure}
+use Rattle.cm_deps.proofs.Outcomes.{realm_below, realm_some, order_inside, order_made, order_reached, ring_inside, ring_some, cycle_made, ring_reached}
+use Rattle.cm_deps.proofs.graph.Graph.of.Goals as goal
+
+pub arrange-requires-clause-below : goal.arrange-requires-clause-below
+arrange-requires-clause-below c =
+    let r = c.in_ok-nodes.field-0 in
+    subst (λ l. IsBelow l (length l)) (sym c.as_slice.ensures.value) (realm_below c.args.decl.now c.args.dynamic.now r.nodes.items r.after.items c.in_ok-nodes.ensures.nodes c.in_ok-nodes.ensures.edges)
+
+pub arrange-requires-clause-some : goal.arrange-requires-clause-some
+arrange-requires-clause-some c =
+    let r = c.in_ok-nodes.field-0 in
+    subst (λ l. 0 < length l) (sym c.as_slice.ensures.value) (realm_some c.args.decl.now c.args.dynamic.now r.nodes.items r.after.items c.in_ok-nodes.ensures.nodes c.in_ok-nodes.ensures.edges)
+
+pub nodes_at-requires : goal.nodes_at-requires
+nodes_at-requires c =
+    let r = c.in_ok-nodes.field-0 in
+    let is : IsOrdered r.after.items c.in-Ordered.full.items c.in-Ordered.order.items = subst (IsShape r.after.items) c.in-Ordered.is (subst (λ l. IsShape l c.in_ok-full.field-0) c.as_slice.ensures.value c.in_ok-full.ensures) in
+    λ i held. subst (λ (l : List Node). i < length l) (sym c.as_slice-in-Ordered.ensures.value)
+    (order_inside c.args.decl.now c.args.dynamic.now r.nodes.items r.after.items c.in-Ordered.full.items c.in-Ordered.order.items c.in_ok-nodes.ensures.edges is i (ap (λ l. holds l i) (sym c.as_slice-in-Ordered-2.ensures.value) ∙ held))
+
+pub returns-in-Ordered : goal.returns-in-Ordered
+returns-in-Ordered c =
+    let r = c.in_ok-nodes.field-0 in
+    let is : IsOrdered r.after.items c.in-Ordered.full.items c.in-Ordered.order.items = subst (IsShape r.after.items) c.in-Ordered.is (subst (λ l. IsShape l c.in_ok-full.field-0) c.as_slice.ensures.value c.in_ok-full.ensures) in
+    let list : c.in_ok-order-in-Ordered.order ≡ map (at r.nodes.items) c.in-Ordered.order.items =
+    c.in_ok-order-in-Ordered.ensures ∙ ap (λ l. map (at l) c.as_slice-in-Ordered-2.result.now) c.as_slice-in-Ordered.ensures.value ∙ ap (map (at r.nodes.items)) c.as_slice-in-Ordered-2.ensures.value in
+    let whole : IsClosure c.in-Ordered.full.items (length c.in-Ordered.full.items) c.in_ok-reached-in-Ordered.reached.items =
+    subst (λ l. IsClosure l (length l) c.in_ok-reached-in-Ordered.reached.items) c.as_slice-in-Ordered-3.ensures.value c.in_ok-reached-in-Ordered.ensures in
+    record {
+      nodes = c.in_ok-nodes.ensures.nodes;
+      offered = c.in_ok-nodes.ensures.offered;
+      reached = order_reached c.args.decl.now c.args.dynamic.now r.nodes.items r.after.items c.in-Ordered.full.items c.in_ok-reached-in-Ordered.reached.items c.in-Ordered.order.items c.in_ok-nodes.ensures.nodes c.in_ok-nodes.ensures.edges is whole;
+      outcome = order_made c.args.decl.now c.args.dynamic.now r.nodes.items r.after.items c.in-Ordered.full.items c.in-Ordered.order.items c.in_ok-order-in-Ordered.order c.in_ok-nodes.ensures.nodes c.in_ok-nodes.ensures.edges is list;
+    }
+
+pub cycle_at-requires-clause-inside : goal.cycle_at-requires-clause-inside
+cycle_at-requires-clause-inside c =
+    let r = c.in_ok-nodes.field-0 in
+    let is : IsLeftRing r.after.items c.in-Ring.ring.items = subst (IsShape r.after.items) c.in-Ring.is (subst (λ l. IsShape l c.in_ok-full.field-0) c.as_slice.ensures.value c.in_ok-full.ensures) in
+    λ i held. subst (λ (l : List Node). i < length l) (sym c.as_slice-in-Ring.ensures.value)
+    (ring_inside c.args.decl.now c.args.dynamic.now r.nodes.items r.after.items c.in-Ring.ring.items c.in_ok-nodes.ensures.nodes c.in_ok-nodes.ensures.edges is i (ap (λ l. holds l i) (sym c.as_slice-in-Ring-2.ensures.value) ∙ held))
+
+pub cycle_at-requires-clause-some : goal.cycle_at-requires-clause-some
+cycle_at-requires-clause-some c =
+    let r = c.in_ok-nodes.field-0 in
+    let is : IsLeftRing r.after.items c.in-Ring.ring.items = subst (IsShape r.after.items) c.in-Ring.is (subst (λ l. IsShape l c.in_ok-full.field-0) c.as_slice.ensures.value c.in_ok-full.ensures) in
+    subst (λ l. 0 < length l) (sym c.as_slice-in-Ring-2.ensures.value) (ring_some r.after.items c.in-Ring.ring.items is)
+
+pub returns : goal.returns
+returns c =
+    let r = c.in_ok-nodes.field-0 in
+    let is : IsLeftRing r.after.items c.in-Ring.ring.items = subst (IsShape r.after.items) c.in-Ring.is (subst (λ l. IsShape l c.in_ok-full.field-0) c.as_slice.ensures.value c.in_ok-full.ensures) in
+    let list : c.in_ok-cycle-in-Ring.cycle ≡ map (at r.nodes.items) c.in-Ring.ring.items ++ at r.nodes.items (get_or c.in-Ring.ring.items 0 0) ∷ [] =
+    c.in_ok-cycle-in-Ring.ensures ∙ ap (λ l. map (at l) c.as_slice-in-Ring-2.result.now ++ at l (get_or c.as_slice-in-Ring-2.result.now 0 0) ∷ []) c.as_slice-in-Ring.ensures.value ∙
+    ap (λ l. map (at r.nodes.items) l ++ at r.nodes.items (get_or l 0 0) ∷ []) c.as_slice-in-Ring-2.ensures.value in
+    let whole : IsClosure r.after.items (length r.after.items) c.in_ok-reached-in-Ring.reached.items =
+    subst (λ l. IsClosure l (length l) c.in_ok-reached-in-Ring.reached.items) c.as_slice-in-Ring-3.ensures.value c.in_ok-reached-in-Ring.ensures in
+    record {
+      nodes = c.in_ok-nodes.ensures.nodes;
+      offered = c.in_ok-nodes.ensures.offered;
+      reached = ring_reached c.args.decl.now c.args.dynamic.now r.nodes.items r.after.items c.in_ok-reached-in-Ring.reached.items c.in-Ring.ring.items c.in_ok-nodes.ensures.nodes c.in_ok-nodes.ensures.edges is whole;
+      outcome = cycle_made c.args.decl.now c.args.dynamic.now r.nodes.items r.after.items c.in-Ring.ring.items c.in_ok-cycle-in-Ring.cycle c.in_ok-nodes.ensures.nodes c.in_ok-nodes.ensures.edges is list;
+    }

@@ -1,0 +1,12 @@
+pub mod Edges
+pub mod Ring
+pub mod Implied
+pub mod Shapes
+pub mod Closure
+pub mod Nodes
+pub mod Sources
+pub mod Outcome
+pub mod Numbered
+pub mod Graph
+pub mod Leads
+pub mod Laws

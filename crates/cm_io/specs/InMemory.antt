@@ -1,0 +1,43 @@
+-- Sources and sinks in memory, as contracts see them.
+use Rattle.std.specs.Prelude.{ℕ, ◌-◌, max, Bool, List, [], ◌∷◌, length}
+use Rattle.cm_io.specs.Counts.{one_more, count_after}
+
+-- a plan at work: the number of calls that were made, and of those that failed
+pub record PlanAtWork : Type 0 where
+  -- the most bytes that one call moves; 0 counts as 1
+  pub piece : ℕ
+  -- the numbers of the calls that fail
+  pub failing : List ℕ
+  pub calls : ℕ
+  pub faults : ℕ
+
+-- the most bytes that one call moves
+abbrev pub most_of : PlanAtWork → ℕ
+most_of plan = max plan.piece 1
+
+-- a plan by which no call was made yet
+abbrev pub unused : ℕ → List ℕ → PlanAtWork
+unused piece failing = record { piece = piece; failing = failing; calls = 0; faults = 0 }
+
+-- the plan after one more call, which failed or not
+abbrev pub after_call : Bool → PlanAtWork → PlanAtWork
+after_call failed plan = record plan { calls = one_more plan.calls; faults = count_after failed plan.faults }
+
+-- a source: the bytes that are left
+pub record SourceInMemory : Type 0 where
+  pub left : List ℕ
+  pub plan : PlanAtWork
+
+-- a sink: the bytes that were written, and for how many bytes in all it holds memory
+pub record SinkInMemory : Type 0 where
+  pub written : List ℕ
+  pub capacity : ℕ
+  pub plan : PlanAtWork
+
+abbrev pub if_quiet : List ℕ → ℕ → ℕ
+if_quiet [] room = room
+if_quiet (call ∷ failing) room = 0
+
+-- how many more bytes a sink is sure to take: those that fit into its memory, where no call is planned to fail
+abbrev pub sure_room : SinkInMemory → ℕ
+sure_room sink = if_quiet sink.plan.failing (sink.capacity - length sink.written)

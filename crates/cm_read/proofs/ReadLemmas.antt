@@ -1,0 +1,103 @@
+-- What is read has a property: the steps that all readers have in common.
+use Rattle.std.proofs.Common.{◌≡◌, ℕ, suc, List, [], ◌∷◌, length, Bool, true, false, nat_lt, if◌then◌else◌, Option, Some, None, Ok, Err, refl, arith}
+use Rattle.std.specs.Prelude.{IfOk, IfSome, All, map}
+use Rattle.std.specs.List.{flat_map}
+use Rattle.std.proofs.lemmas.List.Elements.{All-nil, All-cons, All-append}
+use Rattle.serde_json.specs.Data.{Data}
+use Rattle.cm_read.specs.declared.fault.Place.{Place}
+use Rattle.cm_read.specs.declared.fault.ReadFault.{ReadFault}
+use Rattle.cm_read.specs.Numbers.{not_with_many}
+use Rattle.cm_read.specs.Reading.{Read, ◌>>=◌, bad}
+use Rattle.cm_read.specs.Fields.{or_default, if_there, unless_fault, each}
+use Rattle.cm_read.specs.Items.{alone}
+use Rattle.cm_read.specs.Readable.{ForSomeOf}
+
+-- ---- what is read
+
+-- what is read, if there is no fault, has the property
+pub record Reads {A : Type 0} (P : A → Type 0) (r : Read A) : Type 0 where
+  pub value : IfOk r P
+
+pub fails : {A : Type 0} {P : A → Type 0} (e : ReadFault) → Reads P (Err e)
+fails e = record { value = tt }
+
+pub gives : {A : Type 0} {P : A → Type 0} {x : A} → P x → Reads P (Ok x)
+gives h = record { value = h }
+
+-- nothing is said of the value
+pub any : {A : Type 0} (r : Read A) → Reads (λ (x : A). Unit {0}) r
+any (Ok x) = record { value = tt }
+any (Err e) = record { value = tt }
+
+-- the value is the one that is read
+pub exact : {A : Type 0} (r : Read A) → Reads (λ (x : A). r ≡ Ok x) r
+exact (Ok x) = record { value = refl }
+exact (Err e) = record { value = tt }
+
+-- reading goes on with a value that has the property
+pub next : {A B : Type 0} {P : A → Type 0} {Q : B → Type 0} {r : Read A} {f : A → Read B} → Reads P r → ((x : A) → P x → Reads Q (f x)) → Reads Q (r >>= f)
+next {A} {B} {P} {Q} {r} {f} g h = by r g.value
+  where
+    by : (s : Read A) → IfOk s P → Reads Q (s >>= f)
+    by (Ok x) p = h x p
+    by (Err e) p = fails e
+
+pub tested : {A : Type 0} {P : A → Type 0} (b : Bool) (x : A) (e : ReadFault) → (b ≡ true → P x) → Reads P (if b then Ok x else Err e)
+tested true x e h = gives (h refl)
+tested false x e h = fails e
+
+-- ---- fields
+
+pub defaulted : {A : Type 0} {P : A → Type 0} (o : Option Data) (default : A) (read : Data → Read A) → P default → ((d : Data) → Reads P (read d)) → Reads P (or_default o default read)
+defaulted None default read h f = gives h
+defaulted (Some d) default read h f = f d
+
+given_is : {A : Type 0} {P : A → Type 0} (x : A) → P x → Reads (λ o. ForSomeOf o P) (Ok (Some x))
+given_is x p = gives p
+
+pub given : {A : Type 0} {P : A → Type 0} (o : Option Data) (read : Data → Read A) → ((d : Data) → Reads P (read d)) → Reads (λ x. ForSomeOf x P) (if_there o read)
+given None read f = gives tt
+given {A} {P} (Some d) read f = next (f d) (λ x p. given_is {A = A} {P = P} x p)
+
+pub unless : {A F : Type 0} {P : A → Type 0} (o : Option F) (e : ReadFault) (x : A) → (o ≡ None → P x) → Reads P (unless_fault o e x)
+unless None e x h = gives (h refl)
+unless (Some f) e x h = fails e
+
+pub alone_reads : {A : Type 0} {P : A → Type 0} (at : Place) (key : List ℕ) (names : List (List ℕ)) (x : A) → P x → Reads P (alone at key names x)
+alone_reads {A} {P} at key names x p = by (nat_lt 1 (length names))
+  where
+    by : (b : Bool) → Reads P (if b then Err (bad at not_with_many key) else Ok x)
+    by true = fails (bad at not_with_many key)
+    by false = gives p
+
+-- ---- what a word means
+
+-- the value, if there is one, has the property
+pub record Means {A : Type 0} (P : A → Type 0) (o : Option A) : Type 0 where
+  pub value : IfSome o P
+
+pub means : {A : Type 0} {P : A → Type 0} (b : Bool) (x : A) {o : Option A} → P x → Means P o → Means P (if b then Some x else o)
+means true x p h = record { value = p }
+means false x p h = h
+
+pub means_nothing : {A : Type 0} {P : A → Type 0} → Means P None
+means_nothing = record { value = tt }
+
+-- ---- rows
+
+pub one_row : {A : Type 0} (P : A → Type 0) (x : A) → P x → All P (x ∷ [])
+one_row P x p = All-cons P x [] p (All-nil P)
+
+pub all_mapped : {A B : Type 0} (P : A → Type 0) (Q : B → Type 0) (f : A → B) (xs : List A) → ((x : A) → P x → Q (f x)) → All P xs → All Q (map f xs)
+all_mapped P Q f [] h ps = All-nil Q
+all_mapped P Q f (x ∷ xs) h ps =
+    All-cons Q (f x) (map f xs) (h x (ps 0 x (omega arith))) (all_mapped P Q f xs h (λ k d lt. ps (suc k) d (omega arith)))
+
+pub all_in_turn : {A B : Type 0} (P : A → Type 0) (Q : B → Type 0) (f : A → List B) (xs : List A) → ((x : A) → P x → All Q (f x)) → All P xs → All Q (flat_map f xs)
+all_in_turn P Q f [] h ps = All-nil Q
+all_in_turn P Q f (x ∷ xs) h ps =
+    All-append Q (f x) (flat_map f xs) (h x (ps 0 x (omega arith))) (all_in_turn P Q f xs h (λ k d lt. ps (suc k) d (omega arith)))
+
+pub each_reads : {A : Type 0} (P : A → Type 0) (read : List ℕ → Read A) (ts : List (List ℕ)) → ((t : List ℕ) → Reads P (read t)) → Reads (All P) (each read ts)
+each_reads P read [] h = gives (All-nil P)
+each_reads P read (t ∷ ts) h = next (h t) (λ x p. next (each_reads P read ts h) (λ xs ps. gives (All-cons P x xs p ps)))

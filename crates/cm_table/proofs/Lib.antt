@@ -1,0 +1,11 @@
+pub mod Edits
+pub mod Numbers
+pub mod Rows
+pub mod Orderly
+pub mod Changes
+pub mod Siblings
+pub mod Growth
+pub mod Taking
+pub mod Adding
+pub mod Drops
+pub mod Leaves

@@ -1,0 +1,42 @@
+-- Rows that get their numbers.
+use Rattle.std.proofs.Common.{◌≡◌, ℕ, suc, ◌+◌, ◌<◌, List, [], ◌∷◌, ◌++◌, map, length, refl, sym, ap, ◌∙◌, arith, append_assoc, get_or, set, take, drop}
+use Rattle.std.proofs.lemmas.List.{length-take, get_or_at, set_at, drop_more, take_more}
+use Rattle.cm_decl.specs.declared.rows.Child.{Child}
+use Rattle.cm_world.specs.declared.row.Row.{Row}
+use Rattle.cm_world.specs.End.{child_row, child_rows}
+use Rattle.cm_table.specs.Numbering.{placed, numbered}
+
+pub numbered-children : (parent first : ℕ) (ks : List Child) → numbered parent first (map (child_row 0 0) ks) ≡ child_rows parent first ks
+numbered-children parent first [] = refl
+numbered-children parent first (k ∷ ks) = ap (λ rs. child_row parent first k ∷ rs) (numbered-children parent (first + 1) ks)
+
+pub length-child_rows : (parent first : ℕ) (ks : List Child) → length (child_rows parent first ks) ≡ length ks
+length-child_rows parent first [] = refl
+length-child_rows parent first (k ∷ ks) = ap suc (length-child_rows parent (first + 1) ks)
+
+numbered-push : (parent first : ℕ) (rs : List Row) (r : Row) → numbered parent first (rs ++ r ∷ []) ≡ numbered parent first rs ++ placed parent (first + length rs) r ∷ []
+numbered-push parent first [] r = let e : first + 0 ≡ first = omega arith in rw e refl
+numbered-push parent first (x ∷ rs) r =
+    let e : first + 1 + length rs ≡ first + suc (length rs) = omega arith in
+    ap (λ zs. placed parent first x ∷ zs) (numbered-push parent (first + 1) rs r ∙ ap (λ n. numbered parent (first + 1) rs ++ placed parent n r ∷ []) e)
+
+length-numbered : (parent first : ℕ) (rs : List Row) → length (numbered parent first rs) ≡ length rs
+length-numbered parent first [] = refl
+length-numbered parent first (r ∷ rs) = ap suc (length-numbered parent (first + 1) rs)
+
+numbered_more : (parent first : ℕ) (xs : List Row) (i : ℕ) (d : Row) → i < length xs → numbered parent first (take (i + 1) xs) ≡ numbered parent first (take i xs) ++ placed parent (first + i) (get_or xs i d) ∷ []
+numbered_more parent first xs i d lt =
+    let long : first + length (take i xs) ≡ first + i = omega (arith, length-take i xs) in
+    ap (numbered parent first) (take_more xs i d lt)
+    ∙ numbered-push parent first (take i xs) (get_or xs i d)
+    ∙ ap (λ n. numbered parent first (take i xs) ++ placed parent n (get_or xs i d) ∷ []) long
+
+-- a loop that numbers each row
+pub numbered_over_more : (parent first : ℕ) (xs ys : List Row) (i : ℕ) (x : Row) → i < length xs → ys ≡ numbered parent first (take i xs) ++ drop i xs → x ≡ get_or ys i x → set ys i (placed parent (first + i) x) ≡ numbered parent first (take (i + 1) xs) ++ drop (i + 1) xs
+numbered_over_more parent first xs ys i x lt h is =
+    let front : List Row = numbered parent first (take i xs) in
+    let long : length front ≡ i = length-numbered parent first (take i xs) ∙ omega (arith, length-take i xs) in
+    let parts : ys ≡ front ++ get_or xs i x ∷ drop (i + 1) xs = h ∙ ap (λ l. front ++ l) (drop_more xs i x lt) in
+    let read : x ≡ get_or xs i x = is ∙ ap (λ l. get_or l i x) parts ∙ get_or_at front _ _ x i long in
+    ap (λ l. set l i (placed parent (first + i) x)) parts ∙ set_at front _ _ (placed parent (first + i) x) i long ∙ sym (append_assoc front (placed parent (first + i) x ∷ []) _)
+    ∙ ap (λ l. l ++ drop (i + 1) xs) (ap (λ y. front ++ placed parent (first + i) y ∷ []) read ∙ sym (numbered_more parent first xs i x lt))

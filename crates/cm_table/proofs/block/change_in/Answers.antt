@@ -1,0 +1,16 @@
+use Rattle.std.proofs.Common.{◌≡◌, ◌==◌, ◌∙◌, ap, subst}
+use Rattle.std.specs.List.{position}
+use Rattle.cm_world.specs.Edits.{edit_first}
+use Rattle.cm_table.specs.Blocks.{flat, has_row}
+use Rattle.cm_table.specs.Change.{change_row}
+use Rattle.cm_table.proofs.Edits.{flat-written, flat-unwritten}
+use Rattle.cm_table.proofs.block.change_in.Goals as goal
+
+pub returns-in-None-clause-rows : goal.returns-in-None-clause-rows
+returns-in-None-clause-rows c =
+    subst (λ ys. flat ys ≡ edit_first (λ r. r.inc == c.args.inc) (change_row c.args.change) (flat ys)) c.as_slice.ensures.value
+    (flat-unwritten (λ r. r.inc == c.args.inc) (change_row c.args.change) _ _ c.block_place.ensures.none c.in-None.is)
+
+pub returns-in-Some-clause-rows : goal.returns-in-Some-clause-rows
+returns-in-Some-clause-rows c =
+    flat-written (λ r. r.inc == c.args.inc) (change_row c.args.change) _ _ _ _ _ (c.block_place.ensures.place ∙ ap (position (has_row c.args.inc)) c.as_slice.ensures.value) c.in-Some.is c.index_mut-block.ensures.value c.change.ensures

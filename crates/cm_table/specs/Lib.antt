@@ -1,0 +1,10 @@
+pub mod Tree
+pub mod Ready
+pub mod Blocks
+pub mod Kept
+pub mod Numbering
+pub mod Preparing
+pub mod Change
+pub mod Reading
+pub mod Refusal
+pub mod Leaf

@@ -1,0 +1,20 @@
+-- Tests of single rows, and of builtins.
+use Rattle.std.specs.Prelude.{ℕ, List, Bool, not, ◌&&◌, Option}
+use Rattle.std.specs.Str.{bytes_eq}
+use Rattle.cm_names.specs.declared.child.ChildName.{ChildName}
+use Rattle.cm_decl.specs.declared.kind.Kind.{Kind}
+use Rattle.cm_decl.specs.Same.{same_kind}
+use Rattle.cm_world.specs.declared.row.Row.{Row}
+use Rattle.cm_world.specs.declared.frame.Builtin.{Builtin}
+use Rattle.cm_world.specs.Rows.{has_parent, has_name, is_behind}
+
+-- the child of that name that isn't doomed
+abbrev pub is_there : ℕ → ChildName → Row → Bool
+is_there p c r = has_parent p r && has_name c r && not r.doomed
+
+-- a child that was made after the given one
+abbrev pub follows : ℕ → Option ℕ → Row → Bool
+follows p after r = has_parent p r && is_behind after r.inc
+
+abbrev pub is_builtin : Kind → List ℕ → Builtin → Bool
+is_builtin kind name b = same_kind b.kind kind && bytes_eq b.name name

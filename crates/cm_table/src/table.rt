@@ -1,0 +1,442 @@
+//! Tables.
+
+ghost use Rattle.std.specs.Prelude.{◌≡◌, ◌+◌, ◌-◌, ◌≤◌, ◌<◌, ◌∷◌, ◌++◌, ◌↔◌, [], ℕ, length, true, false, IfOk, IfErr, IfSome, IfNone, OnOk, OnErr, IsTrue, option_map, option_and_then};
+ghost use Rattle.std.specs.Option.{option_copied};
+ghost use Rattle.std.specs.Vec.{vec_capacity};
+ghost use Rattle.cm_world.specs.Rows.{row_of, is_live, is_resolved, decl_of, child_of};
+ghost use Rattle.cm_world.specs.World.{root_row, new_row};
+ghost use Rattle.cm_world.specs.End.{set_on, set_pending, set_closing, set_doomed, set_shut, end_row, rows_by, outcome_by};
+ghost use Rattle.cm_world.specs.After.{others_than};
+ghost use Rattle.cm_table.specs.Tree.{fit, first_tree};
+ghost use Rattle.cm_table.specs.Change.{change_row, IsSafe, resolved, next_by, with_changed, with_row};
+ghost use Rattle.cm_table.specs.Leaf.{IsLeaf, HaveSameOthers};
+ghost use Rattle.cm_table.specs.Refusal.{RefusesRow};
+
+use crate::block::{Block, change_in, next_in, remove_in, row_in};
+use crate::change::Change;
+use crate::prepared::{Parts, Prepared};
+use cm_decl::Give;
+use cm_names::{ChildName, List, Memory, Text};
+use cm_world::{ActKind, Builtin, Finish, Outcome, Row};
+use std::alloc::Global;
+use std::marker::Model;
+
+/// Why a row isn't added.
+#[derive(Debug, Clone, Copy, PartialEq, Eq)]
+pub enum TableFault {
+    /// One row more is above the limit, or would need an incarnation above 2^64 - 2.
+    Full,
+    /// Memory ran out.
+    Memory,
+}
+
+/// What became of a resolve, for its entry in the history.
+#[derive(Debug, Drop)]
+pub struct Settled {
+    /// The end as it was brought.
+    pub finish: Finish,
+    /// `Resolved`, or `Full` where the children don't fit.
+    pub outcome: Outcome,
+}
+
+/// The rows of a realm tree, with what stands above the root.
+///
+/// Contracts see it as the list of its rows by rising incarnations, the incarnation that the
+/// next new row gets, the builtins, the limit of rows, and the number of resolves that memory
+/// is kept for. The rows are always those of an orderly world: each but the root has a parent
+/// that lives and is resolved, no two children of one parent that aren't being destroyed have
+/// one name, and each declaration is valid.
+#[derive(Drop)]
+pub struct Table {
+    pub(crate) blocks: Vec<Block>,
+    pub(crate) builtins: List<Builtin>,
+    count: u32,
+    next_inc: u64,
+    limit: u32,
+    spare: u32,
+}
+
+impl Model for Table {
+    ghost use Rattle.cm_table.specs.Tree.{Tree};
+
+    ghost Value = { Tree };
+
+    ghost use Rattle.cm_table.specs.Kept.{tree_of, IsKept};
+
+    ghost view = { tree_of };
+
+    ghost invariant = { IsKept };
+}
+
+impl Table {
+    /// The table of one row, the root, which has incarnation 0 and isn't resolved. At most
+    /// `limit` instances may live at once. `Err` where memory runs out.
+    pub fn new(
+        alloc: Global,
+        url: Text,
+        builtins: List<Builtin>,
+        limit: u32,
+    ) -> Result<Table, Memory>
+        ensures { IfOk result (λ made. made ≡ first_tree url builtins limit) }
+    {
+        let mut blocks = Vec::new(alloc);
+        blocks.push(block_of(alloc, root(alloc, url))?)?;
+        Ok(Table {
+            blocks,
+            builtins,
+            count: 1,
+            next_inc: 1,
+            limit,
+            spare: 0,
+        })
+    }
+
+    /// The URL of the instance as it was declared, or as it was created with; `None` where the
+    /// instance doesn't live.
+    pub fn url(&self, inc: u64) -> Option<&Text>
+        ensures { option_copied result ≡ option_map (λ r. r.url) (row_of self.now.rows inc) }
+    {
+        match self.row(inc) {
+            None => None,
+            Some(row) => Some(&row.url),
+        }
+    }
+
+    /// The absolute URL of the instance; `None` where the instance doesn't live or isn't resolved.
+    pub fn absolute(&self, inc: u64) -> Option<&Text>
+        ensures { let row = row_of self.now.rows inc in
+            option_copied result ≡ option_and_then (λ r. r.absolute) row }
+    {
+        match self.row(inc) {
+            None => None,
+            Some(row) => row.absolute.as_ref(),
+        }
+    }
+
+    /// How many more rows fit: together with those that live they are at most the limit, and
+    /// none of them needs an incarnation above 2^64 - 2.
+    pub fn free(&self) -> u32
+        ensures { (n : ℕ) → 0 < n → IsTrue (fit self.now n) ↔ (n ≤ result) }
+    {
+        let below_limit = self.limit.saturating_sub(self.count);
+        let numbers = u64::MAX - self.next_inc;
+        match u32::try_from(numbers) {
+            Err(_) => below_limit,
+            Ok(few) => below_limit.min(few),
+        }
+    }
+
+    /// Whether `more` rows fit.
+    pub fn fits(&self, more: usize) -> bool
+        ensures { result ≡ fit self.now more }
+    {
+        self.count <= self.limit
+            && more as u64 <= (self.limit - self.count) as u64
+            && more as u64 <= u64::MAX - self.next_inc
+    }
+
+    /// The number of resolves that memory is kept for.
+    pub fn spare(&self) -> u32
+        ensures { result ≡ self.now.spare }
+    {
+        self.spare
+    }
+
+    /// Keeps memory for at least `resolves` resolves. `Err` where memory runs out: then nothing
+    /// is changed.
+    pub fn reserve(&mut self, resolves: u32) -> Result<(), Memory>
+        ensures ok { OnOk result (resolves ≤ self.new.spare) }
+        ensures later { self.old.spare ≤ self.new.spare }
+        ensures same { self.new ≡ record self.old { spare = self.new.spare } }
+        ensures err { OnErr result (self.new ≡ self.old) }
+    {
+        if resolves > self.spare {
+            self.blocks.reserve(resolves as usize)?;
+            self.spare = resolves;
+        }
+        Ok(())
+    }
+
+    /// Ends the resolve of an instance by a declaration: the instance gets its absolute URL and
+    /// its declaration, its action is no longer pending, and its children get the next
+    /// incarnations, in the order of the declaration. `Ok` is the end for the history. It takes
+    /// no memory.
+    ///
+    /// `Err` hands the declaration back, exactly where the children don't fit. Then nothing is
+    /// changed.
+    pub fn resolve(&mut self, inc: u64, prepared: Prepared) -> Result<Finish, Prepared>
+        requires lives { IsTrue (is_live self.old.rows inc) }
+        requires unresolved { decl_of self.old.rows inc ≡ None }
+        requires spare { 0 < self.old.spare }
+        ensures ok { OnOk result (self.new ≡ resolved inc prepared self.old) }
+        ensures finish { IfOk result (λ e. e ≡ Finish.Resolved prepared.absolute prepared.decl) }
+        ensures fits { OnOk result (fit self.old (length prepared.decl.children) ≡ true) }
+        ensures err { OnErr result (self.new ≡ self.old) }
+        ensures back { IfErr result (λ given. given ≡ prepared) }
+        ensures full { OnErr result (fit self.old (length prepared.decl.children) ≡ false) }
+    {
+        if !self.fits(prepared.count()) {
+            return Err(prepared);
+        }
+        Ok(self.take(inc, prepared))
+    }
+
+    /// Takes a declaration over whose children fit.
+    fn take(&mut self, inc: u64, prepared: Prepared) -> Finish
+        requires lives { IsTrue (is_live self.old.rows inc) }
+        requires unresolved { decl_of self.old.rows inc ≡ None }
+        requires spare { 0 < self.old.spare }
+        requires fits { fit self.old (length prepared.decl.children) ≡ true }
+        ensures rows { self.new ≡ resolved inc prepared self.old }
+        ensures finish { result ≡ Finish.Resolved prepared.absolute prepared.decl }
+    {
+        let count = prepared.count();
+        let parts = prepared.into_parts(inc, self.next_inc);
+        let Parts {
+            finish,
+            absolute,
+            decl,
+            children,
+        } = parts;
+        change_in(&mut self.blocks, inc, Change::Resolve(absolute, decl));
+        self.blocks.push_reserved(Block::of(children));
+        self.count += count as u32;
+        self.next_inc += count as u64;
+        self.spare -= 1;
+        finish
+    }
+
+    /// Ends the resolve of an instance by a declaration: as `resolve` does where the children
+    /// fit, and else with the outcome `Full`, by which the action is no longer pending and
+    /// nothing else is changed. It takes no memory.
+    pub fn settle(&mut self, inc: u64, prepared: Prepared) -> Settled
+        requires lives { IsTrue (is_live self.old.rows inc) }
+        requires unresolved { decl_of self.old.rows inc ≡ None }
+        requires spare { 0 < self.old.spare }
+        ensures finish { result.finish ≡ Finish.Resolved prepared.absolute prepared.decl }
+        ensures outcome { let old = self.old in
+            result.outcome ≡ outcome_by old.limit old.rows old.next_inc result.finish }
+        ensures rows { let old = self.old in
+            self.new.rows ≡ rows_by inc old.next_inc result.finish result.outcome old.rows }
+        ensures next { self.new.next_inc ≡ next_by self.old.next_inc result.finish result.outcome }
+        ensures spare { self.old.spare ≤ self.new.spare + 1 }
+        ensures builtins { self.new.builtins ≡ self.old.builtins }
+        ensures limit { self.new.limit ≡ self.old.limit }
+    {
+        match self.resolve(inc, prepared) {
+            Ok(finish) => Settled {
+                finish,
+                outcome: Outcome::Resolved,
+            },
+            Err(prepared) => {
+                self.end(inc, Outcome::Full);
+                Settled {
+                    finish: prepared.into_finish(),
+                    outcome: Outcome::Full,
+                }
+            }
+        }
+    }
+
+    /// Ends the action of an instance, if it lives, without a declaration: it is no longer
+    /// pending, and the program runs after `Started` and doesn't after `Stopped` and `Killed`.
+    pub fn end(&mut self, inc: u64, outcome: Outcome)
+        ensures { self.new ≡ with_changed inc (end_row outcome) self.old }
+    {
+        self.change(inc, Change::End(outcome));
+    }
+
+    /// Puts down whether the program of an instance runs, if it lives.
+    pub fn set_on(&mut self, inc: u64, on: bool)
+        ensures { self.new ≡ with_changed inc (set_on on) self.old }
+    {
+        self.change(inc, Change::On(on));
+    }
+
+    /// Puts down which action is pending at an instance, if it lives.
+    pub fn set_pending(&mut self, inc: u64, pending: Option<(ActKind, u64)>)
+        ensures { self.new ≡ with_changed inc (set_pending pending) self.old }
+    {
+        self.change(inc, Change::Pending(pending));
+    }
+
+    /// Marks an instance to be shut down, if it lives.
+    pub fn set_closing(&mut self, inc: u64)
+        ensures { self.new ≡ with_changed inc set_closing self.old }
+    {
+        self.change(inc, Change::Closing);
+    }
+
+    /// Marks an instance to be destroyed, if it lives. It is marked to be shut down with that.
+    pub fn set_doomed(&mut self, inc: u64)
+        ensures { self.new ≡ with_changed inc set_doomed self.old }
+    {
+        self.change(inc, Change::Doomed);
+    }
+
+    /// Puts down that an instance is shut down, if it lives.
+    pub fn set_shut(&mut self, inc: u64)
+        ensures { self.new ≡ with_changed inc set_shut self.old }
+    {
+        self.change(inc, Change::Shut);
+    }
+
+    /// Changes one row.
+    fn change(&mut self, inc: u64, change: Change)
+        requires { IsSafe change }
+        ensures { self.new ≡ with_changed inc (change_row change) self.old }
+    {
+        change_in(&mut self.blocks, inc, change);
+    }
+
+    /// Adds a child with the next incarnation, and answers that. At an `Err` nothing is changed:
+    ///
+    /// - `Full` exactly where one row more doesn't fit;
+    /// - `Memory` where memory runs out.
+    pub fn add(
+        &mut self,
+        alloc: Global,
+        parent: u64,
+        name: ChildName,
+        url: Text,
+        gives: List<Give>,
+    ) -> Result<u64, TableFault>
+        requires resolved { IsTrue (is_resolved self.old.rows parent) }
+        requires unused { child_of self.old.rows parent name ≡ None }
+        ensures inc { IfOk result (λ inc. inc ≡ self.old.next_inc) }
+        ensures ok { let row = new_row self.old.next_inc (Some parent) (Some name) url gives in
+            OnOk result (self.new ≡ with_row row self.old) }
+        ensures fits { OnOk result (fit self.old 1 ≡ true) }
+        ensures err { OnErr result (self.new ≡ self.old) }
+        ensures refused { IfErr result (RefusesRow self.old) }
+    {
+        if !self.fits(1) {
+            return Err(TableFault::Full);
+        }
+        let inc = self.next_inc;
+        let row = child_row(inc, parent, name, url, gives);
+        let Ok(block) = room_for(alloc, &mut self.blocks, self.spare, row) else {
+            return Err(TableFault::Memory);
+        };
+        self.blocks.push_reserved(block);
+        self.count += 1;
+        self.next_inc += 1;
+        Ok(inc)
+    }
+
+    /// Removes an instance and all instances below it; nothing where it doesn't live.
+    pub fn remove_below(&mut self, inc: u64)
+        ensures { self.new ≡ record self.old { rows = others_than self.old.rows inc } }
+    {
+        while self.prune(inc) {}
+    }
+
+    /// Removes an instance without children at or below the given one, if that one lives, and
+    /// answers whether it does.
+    fn prune(&mut self, top: u64) -> bool
+        ensures others { IsTrue result → HaveSameOthers top self.new.rows self.old.rows }
+        ensures fewer { IsTrue result → length self.new.rows < length self.old.rows }
+        ensures none { result ≡ false → others_than self.old.rows top ≡ self.new.rows }
+        ensures same { self.new ≡ record self.old { rows = self.new.rows } }
+    {
+        match self.leaf_below(top) {
+            None => false,
+            Some(leaf) => {
+                remove_in(&mut self.blocks, leaf);
+                self.count -= 1;
+                true
+            }
+        }
+    }
+
+    /// An instance without children at or below the given one; `None` where that one doesn't
+    /// live.
+    fn leaf_below(&self, top: u64) -> Option<u64>
+        ensures none { IfNone result (row_of self.now.rows top ≡ None) }
+        ensures leaf { IfSome result (IsLeaf self.now.rows top) }
+    {
+        let blocks = self.blocks.as_slice();
+        row_in(blocks, top)?;
+        Some(self.walk_down(top))
+    }
+
+    /// The instance without children that first children lead to from the given one.
+    fn walk_down(&self, top: u64) -> u64
+        requires { IsTrue (is_live self.now.rows top) }
+        ensures { IsLeaf self.now.rows top result }
+    {
+        let blocks = self.blocks.as_slice();
+        let mut leaf = top;
+        while let Some(child) = next_in(blocks, leaf, None) {
+            leaf = child.inc;
+        }
+        leaf
+    }
+
+    /// The row of that incarnation.
+    pub(crate) fn row(&self, inc: u64) -> Option<&Row>
+        ensures { option_copied result ≡ row_of self.now.rows inc }
+    {
+        row_in(self.blocks.as_slice(), inc)
+    }
+}
+
+/// The block of one row.
+fn block_of(alloc: Global, row: Row) -> Result<Block, Memory>
+    ensures { IfOk result (λ made. made ≡ row ∷ []) }
+{
+    let mut rows = Vec::new(alloc);
+    rows.push(row)?;
+    Ok(Block::of(rows))
+}
+
+/// The block of one row, with room for one block more than the spare ones.
+fn room_for(alloc: Global, blocks: &mut Vec<Block>, spare: u32, row: Row) -> Result<Block, Memory>
+    ensures made { IfOk result (λ made. made ≡ row ∷ []) }
+    ensures same { blocks.new.items ≡ blocks.old.items }
+    ensures room { OnOk result (length blocks.new.items + spare + 1 ≤ vec_capacity blocks.new) }
+    ensures later { vec_capacity blocks.old ≤ vec_capacity blocks.new }
+{
+    blocks.reserve(spare as usize + 1)?;
+    block_of(alloc, row)
+}
+
+/// The row of a new child, which isn't resolved.
+fn child_row(inc: u64, parent: u64, name: ChildName, url: Text, gives: List<Give>) -> Row
+    ensures { result ≡ new_row inc (Some parent) (Some name) url gives }
+{
+    Row {
+        inc,
+        parent: Some(parent),
+        name: Some(name),
+        url,
+        absolute: None,
+        decl: None,
+        on: false,
+        pending: None,
+        closing: false,
+        doomed: false,
+        shut: false,
+        gives,
+    }
+}
+
+/// The row of a root that isn't resolved.
+fn root(alloc: Global, url: Text) -> Row
+    ensures { result ≡ root_row url }
+{
+    Row {
+        inc: 0,
+        parent: None,
+        name: None,
+        url,
+        absolute: None,
+        decl: None,
+        on: false,
+        pending: None,
+        closing: false,
+        doomed: false,
+        shut: false,
+        gives: List::new(alloc),
+    }
+}

@@ -1,0 +1,83 @@
+//! What deciders read of a table.
+
+ghost use Rattle.std.specs.Prelude.{◌≡◌};
+ghost use Rattle.cm_table.specs.Tree.{Tree};
+ghost use Rattle.cm_world.specs.Rows as told;
+
+use crate::block::{child_in, next_in, row_in};
+use crate::reading::is_that;
+use crate::table::Table;
+use cm_decl::{Decl, Give, Kind};
+use cm_names::{ChildName, List, Name};
+use cm_world::{Builtin, Facts, Row, View};
+
+impl View for Table {
+    ghost rows = { λ (t : Tree). t.rows };
+
+    ghost next_inc = { λ (t : Tree). t.next_inc };
+
+    ghost builtins = { λ (t : Tree). t.builtins };
+
+    fn facts(&self, inc: u64) -> Option<Facts> {
+        match row_in(self.blocks.as_slice(), inc) {
+            None => None,
+            Some(row) => Some(facts_of(row)),
+        }
+    }
+
+    fn name(&self, inc: u64) -> Option<&ChildName> {
+        match self.row(inc) {
+            None => None,
+            Some(row) => row.name.as_ref(),
+        }
+    }
+
+    fn decl(&self, inc: u64) -> Option<&Decl> {
+        match row_in(self.blocks.as_slice(), inc) {
+            None => None,
+            Some(row) => row.decl.as_ref(),
+        }
+    }
+
+    fn gives(&self, inc: u64) -> Option<&List<Give>> {
+        match self.row(inc) {
+            None => None,
+            Some(row) => Some(&row.gives),
+        }
+    }
+
+    fn child(&self, parent: u64, name: &ChildName) -> Option<u64> {
+        match child_in(self.blocks.as_slice(), parent, name) {
+            None => None,
+            Some(row) => Some(row.inc),
+        }
+    }
+
+    fn next_child(&self, parent: u64, after: Option<u64>) -> Option<u64> {
+        match next_in(self.blocks.as_slice(), parent, after) {
+            None => None,
+            Some(row) => Some(row.inc),
+        }
+    }
+
+    fn builtin(&self, kind: Kind, name: &Name) -> Option<&Builtin> {
+        self.builtins
+            .as_slice()
+            .iter()
+            .find(|builtin| is_that(builtin, kind, name))
+    }
+}
+
+/// What a decider is told of a row.
+fn facts_of(row: &Row) -> Facts
+    ensures { result ≡ told.facts_of row.now }
+{
+    Facts {
+        parent: row.parent,
+        on: row.on,
+        pending: row.pending,
+        closing: row.closing,
+        doomed: row.doomed,
+        shut: row.shut,
+    }
+}

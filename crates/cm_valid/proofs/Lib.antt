@@ -1,0 +1,6 @@
+pub mod NearLemmas
+pub mod NameLemmas
+pub mod ClashLemmas
+pub mod RowLemmas
+pub mod PassLemmas
+pub mod Judging

@@ -1,0 +1,121 @@
+use Rattle.std.proofs.Common.{◌≡◌, ℕ, zero, suc, ◌+◌, ◌<◌, List, [], ◌∷◌, length, take, get_or, Bool, true, false, ◌||◌, cond, true≢false, Option, Some, None, refl, sym, ◌∙◌, ap, subst, bytes_eq}
+use Rattle.std.specs.Prelude.{slice_get, position, option_map, option_and_then, is_some, find}
+use Rattle.std.specs.List.{list_any, position_from}
+use Rattle.std.proofs.lemmas.Iterator.Adapters.{position_from-zero}
+use Rattle.std.specs.Option.{option_map_or}
+use Rattle.std.proofs.lemmas.Option.{slice_get_read}
+use Rattle.cm_decl.specs.declared.decl.Decl.{Decl}
+use Rattle.cm_decl.specs.declared.rows.Child.{Child}
+use Rattle.cm_decl.specs.declared.rows.Collection.{Collection}
+use Rattle.cm_decl.specs.declared.section.Section.{Section}
+use Rattle.cm_decl.specs.declared.section.Section.TheVariants.{Children, Collections}
+use Rattle.cm_decl.specs.Rules.{Rule, RepeatedName, rules, number_of}
+use Rattle.cm_decl.specs.Clashes.{Place, place, clash, or_else, first_row, first_before, same_collection_name}
+use Rattle.cm_decl.specs.Breaks.{breaks, passes_at}
+use Rattle.cm_decl.specs.Faults.{IsFirstIn}
+use Rattle.cm_decl.proofs.Computed.{fault_by}
+use Rattle.cm_decl.proofs.FirstFaults.{first_at_row}
+use Rattle.cm_valid.specs.declared.found.Found.{Found}
+use Rattle.cm_valid.specs.Lookup.{is_child_name}
+use Rattle.cm_valid.specs.Near.{near, StandApart}
+use Rattle.cm_valid.specs.Parts.{At, Finds, fault_of}
+use Rattle.cm_valid.proofs.ClashLemmas.{none_before}
+
+-- ---- rows that are read
+
+-- a row that was read stands there
+pub row_at : {A : Type 0} (rows all : List A) (i : ℕ) (row : A) → rows ≡ all → i < length all → row ≡ get_or rows i row → slice_get all i ≡ Some row
+row_at {A} rows all i row same within is =
+    slice_get_read all (length all) i row refl within (subst (λ (l : List A). row ≡ get_or l i row) same is)
+
+-- what a row passes
+pub passes : {A : Type 0} (test : A → Bool) (rows : List A) (i : ℕ) (row : A) (v : Bool) → slice_get rows i ≡ Some row → test row ≡ v → passes_at test rows i ≡ v
+passes {A} test rows i row v at e = ap (λ (o : Option A). option_map_or test o false) at ∙ e
+
+-- ---- the first earlier row that a row clashes with
+
+pub clash_of : {A : Type 0} (s : Section) (clashes : A → A → Bool) (rows : List A) (i : ℕ) (row : A) (o : Option ℕ) → slice_get rows i ≡ Some row → position (λ e. clashes e row) (take i rows) ≡ o → first_before s clashes rows i ≡ option_map (place s) o
+clash_of {A} s clashes rows i row o at e =
+    ap (λ (r : Option A). option_and_then (λ x. first_row s (λ earlier. clashes earlier x) (take i rows)) r) at ∙ ap (option_map (place s)) e
+
+-- a row that stands apart clashes with no earlier one
+pub clash_apart : {A : Type 0} (s : Section) (key : A → List ℕ) (clashes : A → A → Bool) → ((a b : A) → clashes a b ≡ true → near (key a) (key b) ≡ true) → (rows : List A) (n i : ℕ) → StandApart key rows n → i < n → first_before s clashes rows i ≡ None
+clash_apart {A} s key clashes close rows n i apart bound = by (slice_get rows i) refl
+  where
+    by : (o : Option A) → slice_get rows i ≡ o → first_before s clashes rows i ≡ None
+    by None e = ap (λ (r : Option A). option_and_then (λ x. first_row s (λ earlier. clashes earlier x) (take i rows)) r) e
+    by (Some row) e = clash_of s clashes rows i row None e (none_before key clashes close rows n i row apart bound e)
+
+-- ---- the rule that a row breaks first
+
+-- what was found, without and with the row that it clashes with
+abbrev pub found_at : Section → ℕ → Rule → Option Place → Found
+found_at s i rule against = record { number = number_of rule; section = s; index = i; against = against }
+
+-- none of these rules passes the test
+abbrev pub NonePasses : (Rule → Bool) → List Rule → Type 0
+NonePasses test [] = Unit {0}
+NonePasses test (rule ∷ others) = (test rule ≡ false) × NonePasses test others
+
+find_behind : (test : Rule → Bool) (some : List Rule) (k : ℕ) (rule : Rule) → slice_get some k ≡ Some rule → NonePasses test (take k some) → test rule ≡ true → find test some ≡ Some rule
+find_behind test [] zero rule at fails passes = absurd (true≢false (sym (ap is_some at)))
+find_behind test [] (suc k) rule at fails passes = absurd (true≢false (sym (ap is_some at)))
+find_behind test (x ∷ some) zero rule at fails passes =
+    let same : x ≡ rule = cc in
+    ap (λ v. cond v (Some x) (find test some)) (ap test same ∙ passes) ∙ ap Some same
+find_behind test (x ∷ some) (suc k) rule at fails passes =
+    ap (λ v. cond v (Some x) (find test some)) fails.0 ∙ find_behind test some k rule at fails.1 passes
+
+find_none : (test : Rule → Bool) (some : List Rule) → NonePasses test some → find test some ≡ None
+find_none test [] fails = refl
+find_none test (x ∷ some) fails = ap (λ v. cond v (Some x) (find test some)) fails.0 ∙ find_none test some fails.1
+
+-- a row that breaks the k-th rule and none before it
+pub finds : (d : Decl) (s : Section) (i k : ℕ) (rule : Rule) (against : Option Place) → slice_get rules k ≡ Some rule → NonePasses (λ q. breaks d q s i) (take k rules) → breaks d rule s i ≡ true → clash d rule s i ≡ against → Finds d (At s i) (Some (found_at s i rule against))
+finds d s i k rule against at fails broken e =
+    subst (λ (a : Option Place). IsFirstIn d (At s i) (Some (fault_of (found_at s i rule a)))) e
+    (subst (λ (o : Option Rule). IsFirstIn d (At s i) (option_map (fault_by d s i) o)) (find_behind (λ q. breaks d q s i) rules k rule at fails broken) (first_at_row d s i))
+
+-- a row that breaks none
+pub finds_none : (d : Decl) (s : Section) (i : ℕ) → NonePasses (λ q. breaks d q s i) rules → Finds d (At s i) None
+finds_none d s i fails =
+    subst (λ (o : Option Rule). IsFirstIn d (At s i) (option_map (fault_by d s i) o)) (find_none (λ q. breaks d q s i) rules fails) (first_at_row d s i)
+
+-- ---- collections
+
+some_from : {A : Type 0} (test : A → Bool) (i : ℕ) (rows : List A) → is_some (position_from test i rows) ≡ list_any test rows
+some_from {A} test i [] = refl
+some_from {A} test i (x ∷ rows) = by (test x) (some_from test (i + 1) rows)
+  where
+    by : (v : Bool) → is_some (position_from test (i + 1) rows) ≡ list_any test rows → is_some (cond v (Some i) (position_from test (i + 1) rows)) ≡ (v || list_any test rows)
+    by true later = refl
+    by false later = later
+
+-- a list has a first row that passes exactly where some row passes
+pub position_any : {A : Type 0} (test : A → Bool) (rows : List A) → is_some (position test rows) ≡ list_any test rows
+position_any {A} test rows = ap is_some (position_from-zero test rows) ∙ some_from test 0 rows
+
+none_there : {A : Type 0} (o : Option A) → is_some o ≡ false → o ≡ None
+none_there None e = refl
+none_there (Some x) e = absurd (true≢false e)
+
+-- no child has a name that none of them has
+pub no_child : (d : Decl) (name : List ℕ) → is_child_name d name ≡ false → position (λ k. bytes_eq k.name name) d.children ≡ None
+no_child d name e = none_there _ (position_any (λ (k : Child). bytes_eq k.name name) d.children ∙ e)
+
+-- some child has a name that one of them has
+pub some_child : (d : Decl) (name : List ℕ) → is_child_name d name ≡ true → position (λ k. bytes_eq k.name name) d.children ≡ None → ⊥
+some_child d name e none =
+    true≢false (sym e ∙ sym (position_any (λ (k : Child). bytes_eq k.name name) d.children) ∙ ap is_some none)
+
+-- a collection clashes with the first child of its name
+pub clash_child : (d : Decl) (i : ℕ) (row : Collection) (k : ℕ) → slice_get d.collections i ≡ Some row → position (λ c. bytes_eq c.name row.name) d.children ≡ Some k → clash d RepeatedName Collections i ≡ Some (place Children k)
+clash_child d i row k at e =
+    ap (λ (o : Option Place). or_else o (first_before Collections same_collection_name d.collections i))
+    (ap (λ (o : Option Collection). option_and_then (λ x. first_row Children (λ c. bytes_eq c.name x.name) d.children) o) at ∙ ap (option_map (place Children)) e)
+
+-- where no child has its name, it clashes with earlier collections alone
+pub clash_collection : (d : Decl) (i : ℕ) (row : Collection) (o : Option Place) → slice_get d.collections i ≡ Some row → position (λ c. bytes_eq c.name row.name) d.children ≡ None → first_before Collections same_collection_name d.collections i ≡ o → clash d RepeatedName Collections i ≡ o
+clash_collection d i row o at e f =
+    ap (λ (p : Option Place). or_else p (first_before Collections same_collection_name d.collections i))
+    (ap (λ (p : Option Collection). option_and_then (λ x. first_row Children (λ c. bytes_eq c.name x.name) d.children) p) at ∙ ap (option_map (place Children)) e) ∙ f

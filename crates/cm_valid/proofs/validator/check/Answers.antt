@@ -1,0 +1,34 @@
+use Rattle.std.proofs.Common.{◌≡◌, [], None, Some, Option, refl, subst, inl, inr}
+use Rattle.cm_decl.specs.Valid.{cycle_fault}
+use Rattle.cm_deps.specs.Outcome.{IsOutcome}
+use Rattle.cm_deps.specs.declared.outcome.Order.{Order}
+use Rattle.cm_deps.specs.declared.outcome.Order.TheVariants.{Ordered, Cycle}
+use Rattle.cm_deps.proofs.Outcomes.{ordered_acyclic}
+use Rattle.cm_valid.specs.declared.found.Found.{Found}
+use Rattle.cm_valid.specs.Parts.{Anywhere, Finds, fault_of}
+use Rattle.cm_valid.proofs.PassLemmas.{is_first, is_faultless}
+use Rattle.cm_valid.proofs.validator.check.Goals as goal
+
+pub returns-in-Some-clause-fault : goal.returns-in-Some-clause-fault
+returns-in-Some-clause-fault c =
+    let d = c.args.decl.now in
+    let found = c.in-Some.found in
+    let finds : Finds d Anywhere (Some found) = subst (λ (o : Option Found). Finds d Anywhere o) c.in-Some.is c.in_ok-found.ensures in
+    λ ran. (fault_of found, inl (is_first d found finds), c.report.ensures)
+
+pub returns-in-Ordered-clause-valid : goal.returns-in-Ordered-clause-valid
+returns-in-Ordered-clause-valid c =
+    let d = c.args.decl.now in
+    let missing : c.in_ok-found.field-0 ≡ None = cc in
+    let none : Finds d Anywhere None = subst (λ (o : Option Found). Finds d Anywhere o) missing c.in_ok-found.ensures in
+    let outcome : IsOutcome d [] (Ordered c.in-Ordered.field-0) = subst (λ (o : Order). IsOutcome d [] o) c.in-Ordered.is c.in_ok-order_of.ensures in
+    record { well_formed = c.requires.well_formed; faultless = is_faultless d none; acyclic = ordered_acyclic d [] c.in-Ordered.field-0 outcome }
+
+pub returns-clause-fault : goal.returns-clause-fault
+returns-clause-fault c =
+    let d = c.args.decl.now in
+    let cycle = c.in-Cycle.cycle in
+    let missing : c.in_ok-found.field-0 ≡ None = cc in
+    let none : Finds d Anywhere None = subst (λ (o : Option Found). Finds d Anywhere o) missing c.in_ok-found.ensures in
+    let outcome : IsOutcome d [] (Cycle cycle) = subst (λ (o : Order). IsOutcome d [] o) c.in-Cycle.is c.in_ok-order_of.ensures in
+    λ ran. (cycle_fault cycle, inr (record { faultless = is_faultless d none; picked = outcome; whole = refl }), refl)

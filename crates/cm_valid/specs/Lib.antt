@@ -1,0 +1,7 @@
+pub mod Near
+pub mod Lookup
+pub mod Keys
+pub mod Parts
+pub mod Reports
+pub mod Texts
+pub mod Laws

@@ -1,0 +1,62 @@
+-- The first fault in a part of a declaration, as it is found.
+use Rattle.std.specs.Prelude.{◌≡◌, ℕ, ◌<◌, [], length, Option, option_map}
+use Rattle.cm_decl.specs.declared.decl.Decl.{Decl}
+use Rattle.cm_decl.specs.declared.rows.Child.{Child}
+use Rattle.cm_decl.specs.declared.rows.Collection.{Collection}
+use Rattle.cm_decl.specs.declared.rows.Capability.{Capability}
+use Rattle.cm_decl.specs.declared.rows.Give.{Give}
+use Rattle.cm_decl.specs.declared.section.Section.{Section}
+use Rattle.cm_decl.specs.declared.section.Section.TheVariants.{Children, Collections, Capabilities, Uses, Offers, Exposes}
+use Rattle.cm_decl.specs.Faults.{Fault, IsFirstIn, section_rank}
+use Rattle.cm_valid.specs.Keys.{usage_key, offer_key}
+use Rattle.cm_valid.specs.Near.{StandApart}
+use Rattle.cm_valid.specs.declared.found.Found.{Found}
+
+-- the fault that was found
+abbrev pub fault_of : Found → Fault
+fault_of found =
+    record { number = found.number; section = found.section; index = found.index; against = found.against; cycle = [] }
+
+-- what was found is the first fault of those in a part of the declaration, or there is none in this part
+abbrev pub Finds : Decl → (Fault → Type 0) → Option Found → Type 0
+Finds d In found = IsFirstIn d In (option_map fault_of found)
+
+-- at a row
+abbrev pub At : Section → ℕ → Fault → Type 0
+At section i f = (f.section ≡ section) × (f.index ≡ i)
+
+-- at the first n rows of a section
+abbrev pub Below : Section → ℕ → Fault → Type 0
+Below section n f = (f.section ≡ section) × (f.index < n)
+
+-- in a section
+abbrev pub In : Section → Fault → Type 0
+In section f = f.section ≡ section
+
+-- in the sections before the k-th
+abbrev pub Before : ℕ → Fault → Type 0
+Before k f = section_rank f.section < k
+
+-- anywhere
+abbrev pub Anywhere : Fault → Type 0
+Anywhere f = Unit {0}
+
+-- how many rows a section has
+abbrev pub rows_of : Decl → Section → ℕ
+rows_of d Children = length d.children
+rows_of d Collections = length d.collections
+rows_of d Capabilities = length d.capabilities
+rows_of d Uses = length d.uses
+rows_of d Offers = length d.offers
+rows_of d Exposes = length d.exposes
+rows_of d section = 0
+
+-- of the first n rows of a section no two may clash
+abbrev pub ApartIn : Decl → Section → ℕ → Type 0
+ApartIn d Children n = StandApart (λ (k : Child). k.name) d.children n
+ApartIn d Collections n = StandApart (λ (k : Collection). k.name) d.collections n
+ApartIn d Capabilities n = StandApart (λ (c : Capability). c.name) d.capabilities n
+ApartIn d Uses n = StandApart usage_key d.uses n
+ApartIn d Offers n = StandApart offer_key d.offers n
+ApartIn d Exposes n = StandApart (λ (g : Give). g.target_name) d.exposes n
+ApartIn d section n = Unit {0}

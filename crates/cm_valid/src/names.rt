@@ -1,0 +1,106 @@
+//! Sets of names.
+
+ghost use Rattle.std.specs.Prelude.{◌≡◌, ◌||◌, ◌&&◌, ℕ, List, [], IfOk, OnOk};
+ghost use Rattle.std.specs.List.{list_any};
+ghost use Rattle.std.specs.Str.{bytes_eq};
+ghost use Rattle.cm_decl.specs.Same as spec;
+ghost use Rattle.cm_valid.specs.Lookup.{has};
+
+use cm_decl::{Capability, Child, Collection, Kind};
+use cm_names::Memory;
+use std::alloc::Global;
+use std::collections::BTreeSet;
+use std::marker::Model;
+
+/// A set of names, which contracts see as the list of them.
+#[derive(Drop)]
+pub(crate) struct Names<'a> {
+    set: BTreeSet<&'a str>,
+}
+
+impl<'a> Model for Names<'a> {
+    ghost use Rattle.std.specs.Prelude.{ℕ, List, map};
+
+    ghost Value = { List (List ℕ) };
+
+    ghost view = { λ a. map (λ k. k.now) a.set.keys };
+}
+
+impl<'a> Names<'a> {
+    /// The set of no name.
+    pub(crate) fn new(alloc: Global) -> Names<'a>
+        ensures { result ≡ [] }
+    {
+        Names {
+            set: BTreeSet::new(alloc),
+        }
+    }
+
+    /// Puts a name into the set. `Err` where memory runs out.
+    pub(crate) fn insert(&mut self, name: &'a str) -> Result<(), Memory>
+        ensures { OnOk result ((other : List ℕ) →
+            has self.new other ≡ (bytes_eq other name.now || has self.old other)) }
+    {
+        self.set.insert(name)?;
+        Ok(())
+    }
+
+    /// Whether the name is in the set.
+    pub(crate) fn contains(&self, name: &'a str) -> bool
+        ensures { result ≡ has self.now name.now }
+    {
+        self.set.contains(&name)
+    }
+}
+
+/// The names of the children.
+pub(crate) fn child_names(alloc: Global, children: &[Child]) -> Result<Names<'_>, Memory>
+    ensures { IfOk result (λ names. (name : List ℕ) →
+        has names name ≡ list_any (λ k. bytes_eq k.name name) children.now) }
+{
+    let mut names = Names::new(alloc);
+    for child in children {
+        names.insert(child.name.as_str())?;
+    }
+    Ok(names)
+}
+
+/// The names of the collections.
+pub(crate) fn collection_names(
+    alloc: Global,
+    collections: &[Collection],
+) -> Result<Names<'_>, Memory>
+    ensures { IfOk result (λ names. (name : List ℕ) →
+        has names name ≡ list_any (λ k. bytes_eq k.name name) collections.now) }
+{
+    let mut names = Names::new(alloc);
+    for collection in collections {
+        names.insert(collection.name.as_str())?;
+    }
+    Ok(names)
+}
+
+/// The names of the capabilities of one kind.
+pub(crate) fn capability_names(
+    alloc: Global,
+    kind: Kind,
+    capabilities: &[Capability],
+) -> Result<Names<'_>, Memory>
+    ensures { IfOk result (λ names. (name : List ℕ) → has names name ≡
+        list_any (λ c. spec.same_kind c.kind kind && bytes_eq c.name name) capabilities.now) }
+{
+    let mut names = Names::new(alloc);
+    for capability in capabilities {
+        if same_kind(capability.kind, kind) {
+            names.insert(capability.name.as_str())?;
+        }
+    }
+    Ok(names)
+}
+
+/// Whether the kinds are the same.
+pub(crate) fn same_kind(a: Kind, b: Kind) -> bool
+    ensures { result ≡ spec.same_kind a b }
+{
+    a == b
+}

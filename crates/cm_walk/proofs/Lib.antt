@@ -1,0 +1,5 @@
+pub mod Monikers
+pub mod NoUse
+pub mod Sources
+pub mod Steps
+pub mod Trails

@@ -1,0 +1,80 @@
+-- Where a walk says that there is no such use.
+use Rattle.std.proofs.Common.{◌≡◌, ◌↔◌, ℕ, List, [], ◌∷◌, ◌++◌, Bool, true, false, true≢false, if◌then◌else◌, Option, Some, None, refl, sym, ◌∙◌, ap, subst}
+use Rattle.cm_names.specs.declared.availability.Availability.{Availability}
+use Rattle.cm_names.specs.Availability.{fits}
+use Rattle.cm_names.specs.Rights.{RightSet, contains}
+use Rattle.cm_decl.specs.declared.rows.Give.{Give}
+use Rattle.cm_decl.specs.declared.rows.Usage.{Usage}
+use Rattle.cm_decl.specs.Clashes.{or_else}
+use Rattle.cm_world.specs.declared.row.Row.{Row}
+use Rattle.cm_world.specs.declared.frame.Builtin.{Builtin}
+use Rattle.cm_world.specs.declared.route.Hop.{Hop}
+use Rattle.cm_world.specs.declared.route.Why.{Why}
+use Rattle.cm_world.specs.declared.route.Start.TheVariants.{UseAt, ExposeAt}
+use Rattle.cm_world.specs.declared.route.Walked.{Walked}
+use Rattle.cm_world.specs.declared.route.Walked.TheVariants.{Failed, NoSuchUse}
+use Rattle.cm_world.specs.Stations.{Station, use_station, expose_station}
+use Rattle.cm_world.specs.Next.{Next, To, Ends, Needs, FromVoid, NoChild, Misses, next_of}
+use Rattle.cm_world.specs.Route.{Named, First, NoUse, NoneExposed, IsDecided, IsWalkedFrom, trial_by, said_by, weak_availability, weak_rights, unless_fitting, unless_within, is_offer_or_expose, stated_before, asked_rights}
+use Rattle.cm_world.proofs.Finding.{none_some}
+use Rattle.cm_walk.specs.Laws.{SaysNoUse}
+
+-- whether an answer is that there is no such use
+abbrev says : Option Walked → Bool
+says (Some NoSuchUse) = true
+says _ = false
+
+or_other : (a b : Option Walked) → says a ≡ false → says b ≡ false → says (or_else a b) ≡ false
+or_other None b x y = y
+or_other (Some v) b x y = x
+
+if_other : (t : Bool) (o : Option Walked) → says o ≡ false → says (if t then o else None) ≡ false
+if_other true o x = x
+if_other false o x = refl
+
+unless_other : (t : Bool) (hop : Hop) (why : Why) → says (if t then None else Some (Failed hop why)) ≡ false
+unless_other true hop why = refl
+unless_other false hop why = refl
+
+fitting_other : (hop : Hop) (a b : Option Availability) → says (unless_fitting hop a b) ≡ false
+fitting_other hop (Some asked) (Some given) = unless_other (fits asked given) hop _
+fitting_other hop (Some asked) None = refl
+fitting_other hop None b = refl
+
+within_other : (hop : Hop) (a b : Option RightSet) → says (unless_within hop a b) ≡ false
+within_other hop (Some asked) (Some stated) = unless_other (contains stated asked) hop _
+within_other hop (Some asked) None = refl
+within_other hop None b = refl
+
+-- nothing that is decided at a station says so
+weak_other : (front : List Station) (s : Station) (o : Option Walked) → says o ≡ false → says (or_else (weak_availability front s) (or_else (weak_rights front s) o)) ≡ false
+weak_other front s o x =
+    or_other (weak_availability front s) (or_else (weak_rights front s) o) (if_other (is_offer_or_expose s.hop.step) _ (fitting_other s.hop (stated_before front) s.hop.availability))
+    (or_other (weak_rights front s) o (within_other s.hop (asked_rights (front ++ s ∷ [])) s.hop.rights) x)
+
+trial_other : (front : List Station) (s : Station) (n : Next) → says (trial_by front s n) ≡ false
+trial_other front s NoChild = refl
+trial_other front s (To t) = weak_other front s (said_by front s (To t)) refl
+trial_other front s Ends = weak_other front s (said_by front s Ends) refl
+trial_other front s (Needs j) = weak_other front s (said_by front s (Needs j)) refl
+trial_other front s FromVoid = weak_other front s (said_by front s FromVoid) refl
+trial_other front s (Misses hop why) = weak_other front s (said_by front s (Misses hop why)) refl
+
+never_decided : (rows : List Row) (builtins : List Builtin) (front : List Station) (s : Station) (rest : List Station) → IsDecided rows builtins front s rest NoSuchUse → ⊥
+never_decided rows builtins front s [] decided =
+    true≢false (sym (ap says decided) ∙ trial_other front s (next_of rows builtins s))
+never_decided rows builtins front s (t ∷ ts) decided = never_decided rows builtins (front ++ s ∷ []) t ts decided.1
+
+use_by : (rows : List Row) (builtins : List Builtin) (i : ℕ) (v : Walked) (o : Option Usage) → IsWalkedFrom rows builtins (elim o as (λ _. Named) [ None ↦ NoUse | Some u ↦ First (use_station rows i u) ]) v → (v ≡ NoSuchUse) ↔ (o ≡ None)
+use_by rows builtins i v None walked = (λ e. refl, λ e. walked)
+use_by rows builtins i v (Some u) walked =
+    (λ e. absurd (never_decided rows builtins [] (use_station rows i u) walked.rest (subst (λ z. IsDecided rows builtins [] (use_station rows i u) walked.rest z) e walked.decided)), λ e. absurd (none_some u (sym e)))
+
+expose_by : (rows : List Row) (builtins : List Builtin) (i : ℕ) (missing : Hop) (v : Walked) (o : Option Give) → IsWalkedFrom rows builtins (elim o as (λ _. Named) [ None ↦ NoneExposed missing | Some g ↦ First (expose_station rows i g) ]) v → (v ≡ NoSuchUse) ↔ ⊥
+expose_by rows builtins i missing v None walked = (λ e. true≢false (ap (λ z. says (Some z)) (sym e ∙ walked)), λ e. absurd e)
+expose_by rows builtins i missing v (Some g) walked =
+    (λ e. never_decided rows builtins [] (expose_station rows i g) walked.rest (subst (λ z. IsDecided rows builtins [] (expose_station rows i g) walked.rest z) e walked.decided), λ e. absurd e)
+
+pub says_no_use : SaysNoUse
+says_no_use rows builtins (UseAt i path) v walked = use_by rows builtins i v _ walked
+says_no_use rows builtins (ExposeAt i name) v walked = expose_by rows builtins i _ v _ walked

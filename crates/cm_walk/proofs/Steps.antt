@@ -1,0 +1,122 @@
+-- One station of a walk, and the whole of it.
+use Rattle.std.proofs.Common.{◌≡◌, ℕ, ◌<◌, List, [], ◌∷◌, ◌++◌, Bool, true, false, true≢false, Option, Some, None, Result, Ok, Err, IfOk, option_map, refl, sym, ◌∙◌, ap, subst}
+use Rattle.cm_decl.specs.Clashes.{or_else}
+use Rattle.cm_world.specs.declared.row.Row.{Row}
+use Rattle.cm_world.specs.declared.frame.Builtin.{Builtin}
+use Rattle.cm_world.specs.declared.route.Hop.{Hop}
+use Rattle.cm_world.specs.declared.route.Why.{Why}
+use Rattle.cm_world.specs.declared.route.Why.TheVariants.{NoInstance}
+use Rattle.cm_world.specs.declared.route.Walked.{Walked}
+use Rattle.cm_world.specs.declared.route.Walked.TheVariants.{Failed}
+use Rattle.cm_world.specs.Stations as world
+use Rattle.cm_world.specs.Next.{Next, To, Ends, Needs, FromVoid, NoChild, Misses, next_of}
+use Rattle.cm_world.specs.Route.{IsChain, IsDecided, IsVerdict, trial, trial_by, said_by, weak_availability, weak_rights}
+use Rattle.cm_world.specs.Sound.{IsOrderly}
+use Rattle.cm_world.specs.Ending.{steps_left, KeepsDown}
+use Rattle.cm_world.proofs.Walks.{steps_fall}
+use Rattle.cm_walk.specs.declared.station.Station.{Station}
+use Rattle.cm_walk.specs.declared.trail.Trail.{Trail}
+use Rattle.cm_walk.specs.declared.walking.Step.{Step}
+use Rattle.cm_walk.specs.declared.walking.Step.TheVariants.{On, Done}
+use Rattle.cm_walk.specs.Walking.{as_station, is_no_child, IsBehind, Leads, Steps}
+
+-- ---- what is decided at a station
+
+-- a child that isn't there comes before all else
+pub at_no_child : (rows : List Row) (builtins : List Builtin) (front : List world.Station) (s : world.Station) (n : Next) → n ≡ next_of rows builtins s → is_no_child n ≡ true → trial rows builtins front s ≡ Some (Failed s.hop NoInstance)
+at_no_child rows builtins front s n next none = ap (trial_by front s) (sym next) ∙ by_next n none where
+  by_next : (m : Next) → is_no_child m ≡ true → trial_by front s m ≡ Some (Failed s.hop NoInstance)
+  by_next NoChild e = refl
+  by_next (To t) e = absurd (true≢false (sym e))
+  by_next Ends e = absurd (true≢false (sym e))
+  by_next (Needs j) e = absurd (true≢false (sym e))
+  by_next FromVoid e = absurd (true≢false (sym e))
+  by_next (Misses hop why) e = absurd (true≢false (sym e))
+
+grouped : (a b c : Option Walked) → or_else a (or_else b c) ≡ or_else (or_else a b) c
+grouped None b c = refl
+grouped (Some v) b c = refl
+
+-- else what is too weak comes before what the next says
+other_trial : (front : List world.Station) (s : world.Station) (n : Next) → is_no_child n ≡ false → trial_by front s n ≡ or_else (or_else (weak_availability front s) (weak_rights front s)) (said_by front s n)
+other_trial front s NoChild e = absurd (true≢false e)
+other_trial front s (To t) e = grouped (weak_availability front s) (weak_rights front s) _
+other_trial front s Ends e = grouped (weak_availability front s) (weak_rights front s) _
+other_trial front s (Needs j) e = grouped (weak_availability front s) (weak_rights front s) _
+other_trial front s FromVoid e = grouped (weak_availability front s) (weak_rights front s) _
+other_trial front s (Misses hop why) e = grouped (weak_availability front s) (weak_rights front s) _
+
+trial_is : (rows : List Row) (builtins : List Builtin) (front : List world.Station) (s : world.Station) (n : Next) (weak : Option Walked) → n ≡ next_of rows builtins s → is_no_child n ≡ false → weak ≡ or_else (weak_availability front s) (weak_rights front s) → trial rows builtins front s ≡ or_else weak (said_by front s n)
+trial_is rows builtins front s n weak next some is =
+    ap (trial_by front s) (sym next) ∙ other_trial front s n some ∙ ap (λ o. or_else o (said_by front s n)) (sym is)
+
+-- a hop that is too weak
+pub at_weak : (rows : List Row) (builtins : List Builtin) (front : List world.Station) (s : world.Station) (n : Next) (why : Why) → n ≡ next_of rows builtins s → is_no_child n ≡ false → Some (Failed s.hop why) ≡ or_else (weak_availability front s) (weak_rights front s) → trial rows builtins front s ≡ Some (Failed s.hop why)
+at_weak rows builtins front s n why next some is = trial_is rows builtins front s n (Some (Failed s.hop why)) next some is
+
+-- a hop that does
+pub at_fitting : (rows : List Row) (builtins : List Builtin) (front : List world.Station) (s : world.Station) (n : Next) (step : Step) → n ≡ next_of rows builtins s → is_no_child n ≡ false → None ≡ or_else (weak_availability front s) (weak_rights front s) → Leads front s n step → Steps rows builtins front s step
+at_fitting rows builtins front s n (On t u) next some is leads = (trial_is rows builtins front s n None next some is ∙ ap (said_by front s) leads.0, sym next ∙ leads.0, leads.1)
+at_fitting rows builtins front s n (Done v) next some is leads = trial_is rows builtins front s n None next some is ∙ leads
+
+-- ---- the whole walk
+
+-- a verdict on the stations from one on, behind a front
+pub record IsEnd (rows : List Row) (builtins : List Builtin) (front : List world.Station) (s : world.Station) (v : Walked) : Type 0 where
+  pub rest : List world.Station
+  pub chain : IsChain rows builtins s rest
+  pub decided : IsDecided rows builtins front s rest v
+
+-- where the walk is: behind it stands a front, and what is decided from here on is the verdict of the whole
+pub record IsOnWay (rows : List Row) (builtins : List Builtin) (first : world.Station) (t : Trail) (here : Station) : Type 0 where
+  pub front : List world.Station
+  pub behind : IsBehind front (as_station here) t
+  pub down : KeepsDown (as_station here)
+  pub whole : (v : Walked) → IsEnd rows builtins front (as_station here) v → IsVerdict rows builtins first v
+
+-- it begins at its first station
+pub begins_way : (rows : List Row) (builtins : List Builtin) (t : Trail) (here : Station) → IsBehind [] (as_station here) t → KeepsDown (as_station here) → IsOnWay rows builtins (as_station here) t here
+begins_way rows builtins t here behind down = record {
+  front = [];
+  behind = behind;
+  down = down;
+  whole = λ v end. record { rest = end.rest; chain = end.chain; decided = end.decided };
+}
+
+-- what a step from here comes to
+abbrev pub StepsTo : List Row → List Builtin → Trail → Station → Step → Type 0
+StepsTo rows builtins t here step =
+    (front : List world.Station) → IsBehind front (as_station here) t → Steps rows builtins front (as_station here) step
+
+on_from : (rows : List Row) (builtins : List Builtin) (first : world.Station) (t u : Trail) (here there : Station) (step : Step) → (way : IsOnWay rows builtins first t here) → step ≡ On u there → StepsTo rows builtins t here step → Steps rows builtins way.front (as_station here) (On u there)
+on_from rows builtins first t u here there step way on made =
+    subst (λ z. Steps rows builtins way.front (as_station here) z) on (made way.front way.behind)
+
+-- it goes on to the next station
+pub goes_way : (rows : List Row) (next : ℕ) (builtins : List Builtin) (first : world.Station) (t u : Trail) (here there : Station) (step : Step) → IsOrderly rows next → IsOnWay rows builtins first t here → step ≡ On u there → StepsTo rows builtins t here step → IsOnWay rows builtins first u there
+goes_way rows next builtins first t u here there step orderly way is made =
+    let on : Steps rows builtins way.front (as_station here) (On u there) = on_from rows builtins first t u here there step way is made in
+    record {
+      front = way.front ++ as_station here ∷ [];
+      behind = on.2;
+      down = (steps_fall rows next builtins (as_station here) (as_station there) orderly way.down on.1).1;
+      whole = λ v end. way.whole v (record { rest = as_station there ∷ end.rest; chain = (on.1, end.chain); decided = (on.0, end.decided) });
+    }
+
+-- from where fewer steps are left
+pub falls_way : (rows : List Row) (next : ℕ) (builtins : List Builtin) (first : world.Station) (t u : Trail) (here there : Station) (step : Step) → IsOrderly rows next → IsOnWay rows builtins first t here → step ≡ On u there → StepsTo rows builtins t here step → steps_left next (as_station there) < steps_left next (as_station here)
+falls_way rows next builtins first t u here there step orderly way is made =
+    let on : Steps rows builtins way.front (as_station here) (On u there) = on_from rows builtins first t u here there step way is made in
+    (steps_fall rows next builtins (as_station here) (as_station there) orderly way.down on.1).0
+
+-- and ends where something is decided
+pub ends_way : (rows : List Row) (builtins : List Builtin) (first : world.Station) (t : Trail) (here : Station) (v : Walked) (step : Step) → IsOnWay rows builtins first t here → step ≡ Done v → StepsTo rows builtins t here step → IsVerdict rows builtins first v
+ends_way rows builtins first t here v step way is made =
+    let done : Steps rows builtins way.front (as_station here) (Done v) = subst (λ z. Steps rows builtins way.front (as_station here) z) is (made way.front way.behind) in
+    way.whole v (record { rest = []; chain = tt; decided = done })
+
+-- ---- answers that may be want of memory
+
+pub if_ok : {A E : Type 0} (P Q : A → Type 0) (r : Result A E) → ((x : A) → P x → Q x) → IfOk r P → IfOk r Q
+if_ok P Q (Ok x) more it = more x it
+if_ok P Q (Err e) more it = it

@@ -1,0 +1,8 @@
+use Rattle.std.proofs.Common.{◌≡◌, subst, IfOk}
+use Rattle.cm_walk.specs.Walking.{as_next}
+use Rattle.cm_walk.proofs.Sources.{above_root}
+use Rattle.cm_walk.proofs.next.above.Goals as goal
+
+pub returns-in-None : goal.returns-in-None
+returns-in-None g c =
+    subst (λ n. IfOk c.builtin.result (λ found. as_next found ≡ n)) (above_root (g.V.View.rows c.args.view.now) (g.V.View.builtins c.args.view.now) c.args.kind c.args.name.now c.args.inc c.in-Some.facts c.in-Some.ensures.facts c.in-None.is) c.builtin.ensures

@@ -1,0 +1,20 @@
+use Rattle.std.proofs.Common.{refl}
+use Rattle.cm_walk.specs.Walking.{as_station}
+use Rattle.cm_walk.proofs.Steps.{begins_way, goes_way, falls_way, ends_way}
+use Rattle.cm_walk.proofs.walking.follow.Goals as goal
+
+pub walk-init : goal.walk-init
+walk-init g c =
+    begins_way (g.V.View.rows c.args.view.now) (g.V.View.builtins c.args.view.now) c.new-trail.result c.args.first (c.new-trail.ensures (as_station c.args.first) refl) c.requires.down
+
+pub walk-smaller : goal.walk-smaller
+walk-smaller g c =
+    falls_way (g.V.View.rows c.args.view.now) (g.V.View.next_inc c.args.view.now) (g.V.View.builtins c.args.view.now) (as_station c.args.first) c.walk.trail c.in-On.behind c.walk.here c.in-On.next c.in_ok-behind.field-0 c.requires.orderly c.walk.invariant c.in-On.is c.in_ok-behind.ensures
+
+pub walk-preserved : goal.walk-preserved
+walk-preserved g c =
+    goes_way (g.V.View.rows c.args.view.now) (g.V.View.next_inc c.args.view.now) (g.V.View.builtins c.args.view.now) (as_station c.args.first) c.walk.trail c.in-On.behind c.walk.here c.in-On.next c.in_ok-behind.field-0 c.requires.orderly c.walk.invariant c.in-On.is c.in_ok-behind.ensures
+
+pub returns-in-Done : goal.returns-in-Done
+returns-in-Done g c =
+    ends_way (g.V.View.rows c.args.view.now) (g.V.View.builtins c.args.view.now) (as_station c.args.first) c.walk.trail c.walk.here c.in-Done.walked c.in_ok-behind.field-0 c.walk.invariant c.in-Done.is c.in_ok-behind.ensures

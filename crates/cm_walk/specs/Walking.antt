@@ -1,0 +1,109 @@
+-- How far a walk has come.
+use Rattle.std.specs.Prelude.{◌≡◌, ℕ, List, [], ◌∷◌, ◌++◌, Bool, true, false, Option, Some, None, map, filter_map}
+use Rattle.cm_names.specs.Path.{joined_text}
+use Rattle.cm_decl.specs.declared.origin.Origin.{Origin}
+use Rattle.cm_world.specs.declared.row.Row.{Row}
+use Rattle.cm_world.specs.declared.frame.Builtin.{Builtin}
+use Rattle.cm_world.specs.declared.route.StepKind.{StepKind}
+use Rattle.cm_world.specs.declared.route.StepKind.TheVariants.{FrameworkHop}
+use Rattle.cm_world.specs.Stations as world
+use Rattle.cm_world.specs.Next as spec
+use Rattle.cm_world.specs.Route.{Named, First, NoUse, NoneExposed, trial, said_by, stated_before, asked_rights, is_use}
+use Rattle.cm_walk.specs.declared.station.Station.{Station}
+use Rattle.cm_walk.specs.declared.station.Source.{Source}
+use Rattle.cm_walk.specs.declared.station.Source.TheVariants.{Row as FromRow, End}
+use Rattle.cm_walk.specs.declared.next.Next.{Next}
+use Rattle.cm_walk.specs.declared.next.Next.TheVariants.{To, Ends, Needs, FromVoid, NoChild, Misses}
+use Rattle.cm_walk.specs.declared.trail.Trail.{Trail}
+use Rattle.cm_walk.specs.declared.walking.Step.{Step}
+use Rattle.cm_walk.specs.declared.walking.Step.TheVariants.{On, Done}
+use Rattle.cm_walk.specs.declared.walking.Begun.{Begun}
+use Rattle.cm_walk.specs.declared.walking.Begun.TheVariants as begun
+
+-- ---- what the code's values stand for
+
+-- where the row of a station says that the capability comes from; an end has no such row
+abbrev pub origin_of : Source → Option Origin
+origin_of (FromRow from name subdir) = Some from
+origin_of (End path) = None
+
+-- the name there
+abbrev pub name_of : Source → List ℕ
+name_of (FromRow from name subdir) = name
+name_of (End path) = []
+
+-- the subdirectory that the row of a station states
+abbrev pub subdir_of : Source → Option (List ℕ)
+subdir_of (FromRow from name subdir) = subdir
+subdir_of (End path) = None
+
+-- the path that an end provides
+abbrev pub end_of : Source → List ℕ
+end_of (FromRow from name subdir) = []
+end_of (End path) = path
+
+-- the station with its hop and source
+abbrev pub as_station : Station → world.Station
+as_station s = record {
+  hop = s.hop;
+  source = origin_of s.source;
+  source_name = name_of s.source;
+  subdir = subdir_of s.source;
+  path = end_of s.source;
+}
+
+-- what comes behind a station
+abbrev pub as_next : Next → spec.Next
+as_next (To s) = spec.To (as_station s)
+as_next (Ends path) = spec.Ends
+as_next (Needs i) = spec.Needs i
+as_next FromVoid = spec.FromVoid
+as_next NoChild = spec.NoChild
+as_next (Misses hop why) = spec.Misses hop why
+
+-- the path of an end is that of its station
+abbrev pub EndsAt : world.Station → Next → Type 0
+EndsAt s (Ends path) = path ≡ s.path
+EndsAt s _ = Unit {0}
+
+-- what a start names
+abbrev pub as_named : Begun → Named
+as_named (begun.At s) = First (as_station s)
+as_named begun.NoUse = NoUse
+as_named (begun.NoneExposed hop) = NoneExposed hop
+
+-- whether it is a child that isn't there
+abbrev pub is_no_child : spec.Next → Bool
+is_no_child spec.NoChild = true
+is_no_child _ = false
+
+-- ---- how far a walk has come
+
+-- whether the first of these stations is a use
+abbrev pub begins_with_use : List world.Station → Bool
+begins_with_use [] = false
+begins_with_use (s ∷ ss) = is_use s.hop.step
+
+-- the trail keeps of the stations of the front what s, which is tried now, and those ahead of it are judged by
+pub record IsBehind (front : List world.Station) (s : world.Station) (t : Trail) : Type 0 where
+  pub hops : t.hops ≡ map (λ x. x.hop) front
+  pub subdirs : t.subdirs ≡ filter_map (λ x. x.subdir) front
+  pub availability : t.availability ≡ stated_before front
+  pub from_use : t.from_use ≡ begins_with_use (front ++ s ∷ [])
+  pub asked : t.asked ≡ asked_rights (front ++ s ∷ [])
+
+-- what is said by the next of a station: to go on to another, or an answer
+abbrev pub Leads : List world.Station → world.Station → spec.Next → Step → Type 0
+Leads front s next (On t u) = (next ≡ spec.To (as_station u)) × IsBehind (front ++ s ∷ []) (as_station u) t
+Leads front s next (Done v) = said_by front s next ≡ Some v
+
+-- what is decided at a station: nothing, and the walk goes on to the next one, or an answer
+abbrev pub Steps : List Row → List Builtin → List world.Station → world.Station → Step → Type 0
+Steps rows builtins front s (On t u) =
+    (trial rows builtins front s ≡ None) × (spec.next_of rows builtins s ≡ spec.To (as_station u))
+    × IsBehind (front ++ s ∷ []) (as_station u) t
+Steps rows builtins front s (Done v) = trial rows builtins front s ≡ Some v
+
+-- where a capability stands at its provider, with the subdirectories from there on
+abbrev pub path_at : StepKind → List ℕ → List (List ℕ) → List ℕ
+path_at step path subdirs = elim step as (λ _. List ℕ) [ FrameworkHop ↦ path | _ ↦ joined_text path subdirs ]

@@ -1,0 +1,77 @@
+//! Hops, and where the instances that they name stand.
+
+ghost use Rattle.std.specs.Prelude.{◌≡◌, ◌++◌, IfOk, OnOk, option_and_then, option_to_list};
+ghost use Rattle.std.specs.Option.{option_copied};
+ghost use Rattle.cm_world.specs.Rows.{row_of, moniker_of};
+ghost use Rattle.cm_world.specs.Sound.{IsOrderly};
+ghost use Rattle.cm_world.specs.Stations as spec;
+
+use cm_decl::Kind;
+use cm_names::{ChildName, List, Memory, Moniker, Name};
+use cm_world::{Hop, StepKind, View};
+use std::alloc::Global;
+
+/// Where the instance stands: the names from the root down to it. Where it doesn't live, that of
+/// the root.
+pub(crate) fn moniker<V: View>(alloc: Global, view: &V, inc: u64) -> Result<Moniker, Memory>
+    ensures { IfOk result (λ made. made ≡ moniker_of (V.rows view.now) inc) }
+{
+    let mut names = Vec::new(alloc);
+    let mut at = Some(inc);
+    'up: while let Some(here) = at {
+        push_name(&mut names, view.name(here))?;
+        at = parent(view, here);
+    }
+    names.reverse();
+    Ok(Moniker {
+        parts: List::from_vec(names),
+    })
+}
+
+/// Puts a copy of the name at the end, if there is one.
+fn push_name(names: &mut Vec<ChildName>, name: Option<&ChildName>) -> Result<(), Memory>
+    ensures { OnOk result (names.new.items
+        ≡ names.old.items ++ option_to_list (option_copied name.entry)) }
+{
+    if let Some(name) = name {
+        names.push(name.clone()?)?;
+    }
+    Ok(())
+}
+
+/// The parent of the instance, or `None` where it is the root or doesn't live.
+fn parent<V: View>(view: &V, inc: u64) -> Option<u64>
+    ensures parent { result ≡ option_and_then (λ r. r.parent) (row_of (V.rows view.now) inc) }
+    ensures orderly { IsOrderly (V.rows view.now) (V.next_inc view.now) }
+{
+    match view.facts(inc) {
+        Some(facts) => facts.parent,
+        None => None,
+    }
+}
+
+/// A hop at the instance that no row of a declaration states: it states no rights and no
+/// availability, and counts as strong.
+pub(crate) fn bare_hop<V: View>(
+    alloc: Global,
+    view: &V,
+    step: StepKind,
+    inc: u64,
+    kind: Kind,
+    name: &Name,
+) -> Result<Hop, Memory>
+    ensures { IfOk result (λ hop. hop ≡ spec.bare_hop (V.rows view.now) step inc kind name.now) }
+{
+    let moniker = moniker(alloc, view, inc)?;
+    let name = name.clone()?;
+    Ok(Hop {
+        step,
+        inc,
+        moniker,
+        kind,
+        name,
+        rights: None,
+        availability: None,
+        strong: true,
+    })
+}

@@ -1,0 +1,11 @@
+//! Laws of walks.
+//!
+//! These functions do nothing: what each of them promises is a fact about the definitions that
+//! the contract of [`walk`](crate::walk) cites, which its proof shows.
+
+ghost use Rattle.cm_walk.specs.Laws as laws;
+
+/// A walk says that there is no such use exactly where no use of the instance has the path.
+pub fn says_no_use()
+    ensures { laws.SaysNoUse }
+{}

@@ -1,0 +1,23 @@
+//! Walks along the routes of a realm tree.
+//!
+//! A walk begins at a use or at an expose of an instance and goes from hop to hop to the
+//! provider: up over the offers of parents, then down over the exposes of children. It judges
+//! each hop once, on the way.
+//!
+//! The rules are those of "Capability routing", "Capability availability" and "Directory
+//! capabilities" of Fuchsia's component framework (fuchsia.dev); `cm_world` has them as
+//! definitions. That one rule is tried before another at the same hop is this project's own
+//! choice.
+#![tactic(auto)]
+
+pub(crate) mod find;
+pub(crate) mod hop;
+pub mod laws;
+pub(crate) mod next;
+pub(crate) mod station;
+#[cfg(test)]
+mod tests;
+pub(crate) mod trail;
+pub mod walking;
+
+pub use walking::walk;

@@ -1,0 +1,204 @@
+//! What a walk keeps of the hops behind it, and how it judges the next one.
+
+ghost use Rattle.std.specs.Prelude.{◌≡◌, ◌++◌, ◌∷◌, [], List as Seq, IfOk, OnOk, None, reverse};
+ghost use Rattle.std.specs.Prelude.{option_map, option_to_list, if◌then◌else◌};
+ghost use Rattle.cm_decl.specs.Clashes.{or_else};
+ghost use Rattle.cm_world.specs.declared.route.Hop.{Hop as OneHop};
+ghost use Rattle.cm_world.specs.declared.route.Walked.TheVariants as walked;
+ghost use Rattle.cm_world.specs.Route as spec;
+ghost use Rattle.cm_world.specs.Stations.{Station as Place};
+ghost use Rattle.cm_walk.specs.Walking.{as_station, subdir_of, path_at as whole_path, IsBehind};
+
+use crate::station::{Source, Station};
+use cm_names::{Availability, CapPath, List, Memory, Rights, SubDir, Text};
+use cm_world::{Hop, Provider, Route, StepKind, Why};
+use std::alloc::Global;
+
+/// What is kept of the stations behind the one that is tried.
+#[derive(Debug, Drop)]
+pub(crate) struct Trail {
+    /// Their hops, from the start on.
+    hops: List<Hop>,
+    /// The subdirectories that they state, in the same order.
+    subdirs: List<SubDir>,
+    /// The availability that the last of them states.
+    availability: Option<Availability>,
+    /// Whether the route begins at a use: then only that use asks for rights.
+    from_use: bool,
+    /// The rights that are asked, those that the tried station states counted.
+    asked: Option<Rights>,
+}
+
+impl Trail {
+    /// The trail before the first station, which has this hop.
+    pub(crate) fn new(alloc: Global, first: &Hop) -> Trail
+        ensures { (s : Place) → s.hop ≡ first.now → IsBehind [] s result }
+    {
+        Trail {
+            hops: List::new(alloc),
+            subdirs: List::new(alloc),
+            availability: None,
+            from_use: first.step == StepKind::UseHop,
+            asked: first.rights,
+        }
+    }
+
+    /// Why the hop is too weak, if it is: in its availability, else in its rights.
+    pub(crate) fn too_weak(&self, hop: &Hop) -> Option<Why>
+        ensures { (front : Seq Place) (s : Place) → s.hop ≡ hop.now → IsBehind front s self.now
+            → option_map (walked.Failed hop.now) result ≡ or_else (spec.weak_availability front s)
+            (spec.weak_rights front s) }
+    {
+        match self.too_unsure(hop) {
+            Some(why) => Some(why),
+            None => self.too_narrow(hop),
+        }
+    }
+
+    /// Whether the hop before asks for more availability than this offer or expose states.
+    fn too_unsure(&self, hop: &Hop) -> Option<Why>
+        ensures { option_map (walked.Failed hop.now) result ≡
+            (if spec.is_offer_or_expose hop.now.step
+            then spec.unless_fitting hop.now self.now.availability hop.now.availability else None) }
+    {
+        match hop.step {
+            StepKind::OfferHop | StepKind::ExposeHop => unfitting(
+                self.availability,
+                hop.availability,
+            ),
+            _ => None,
+        }
+    }
+
+    /// Whether more rights are asked than the hop states.
+    fn too_narrow(&self, hop: &Hop) -> Option<Why>
+        ensures { option_map (walked.Failed hop.now) result
+            ≡ spec.unless_within hop.now self.now.asked hop.now.rights }
+    {
+        match (self.asked, hop.rights) {
+            (Some(asked), Some(stated)) => {
+                if stated.contains(asked) {
+                    None
+                } else {
+                    Some(Why::RightsTooWeak(asked, stated))
+                }
+            }
+            _ => None,
+        }
+    }
+
+    /// The trail with this station at its end, before the next one, which has this hop.
+    pub(crate) fn with(self, here: Station, next: &Hop) -> Result<Trail, Memory>
+        ensures { IfOk result (λ made. (front : Seq Place) (t : Place)
+            → IsBehind front (as_station here) self → t.hop ≡ next.now
+            → IsBehind (front ++ as_station here ∷ []) t made) }
+    {
+        let mut trail = self;
+        trail.asked = asked_then(trail.from_use, trail.asked, next.rights);
+        trail.availability = here.hop.availability;
+        trail.hops.push(here.hop)?;
+        push_subdir(&mut trail.subdirs, into_subdir(here.source))?;
+        Ok(trail)
+    }
+
+    /// The route that ends at this hop, where the capability is provided at this path.
+    pub(crate) fn into_route(self, alloc: Global, hop: Hop, path: &CapPath) -> Result<Route, Memory>
+        ensures { IfOk result (λ made. (front : Seq Place) (s : Place) → IsBehind front s self
+            → s.hop
+            ≡ hop → s.path ≡ path.now → made ≡ spec.route_of front s) }
+    {
+        let rights = self.asked;
+        let provider = provider(&hop)?;
+        let path = path_at(alloc, hop.step, path, self.subdirs)?;
+        let mut hops = self.hops;
+        hops.push(hop)?;
+        Ok(Route {
+            hops,
+            path,
+            rights,
+            provider,
+        })
+    }
+}
+
+/// Why what is given isn't enough for what is asked, if it isn't.
+fn unfitting(asked: Option<Availability>, given: Option<Availability>) -> Option<Why>
+    ensures { (hop : OneHop) → option_map (walked.Failed hop) result
+        ≡ spec.unless_fitting hop asked given }
+{
+    match (asked, given) {
+        (Some(asked), Some(given)) => {
+            if Availability::fits(asked, given) {
+                None
+            } else {
+                Some(Why::AvailabilityTooWeak(asked, given))
+            }
+        }
+        _ => None,
+    }
+}
+
+/// The rights that are asked, once the next station states these.
+fn asked_then(from_use: bool, asked: Option<Rights>, stated: Option<Rights>) -> Option<Rights>
+    ensures { result ≡ (if from_use then asked else or_else asked stated) }
+{
+    if from_use {
+        return asked;
+    }
+    match asked {
+        Some(rights) => Some(rights),
+        None => stated,
+    }
+}
+
+/// The subdirectory that the station's row states.
+fn into_subdir(source: Source) -> Option<SubDir>
+    ensures { result ≡ subdir_of source }
+{
+    match source {
+        Source::Row(_from, _name, subdir) => subdir,
+        Source::End(_path) => None,
+    }
+}
+
+/// Puts the subdirectory at the end, if there is one.
+fn push_subdir(subdirs: &mut List<SubDir>, subdir: Option<SubDir>) -> Result<(), Memory>
+    ensures { OnOk result (subdirs.new ≡ subdirs.old ++ option_to_list subdir) }
+{
+    if let Some(subdir) = subdir {
+        subdirs.push(subdir)?;
+    }
+    Ok(())
+}
+
+/// Who provides the capability at an end.
+fn provider(hop: &Hop) -> Result<Provider, Memory>
+    ensures { IfOk result (λ made. made ≡ spec.provider_of hop.now) }
+{
+    match hop.step {
+        StepKind::CapabilityHop => {
+            let moniker = hop.moniker.clone()?;
+            Ok(Provider::Instance(hop.inc, moniker))
+        }
+        StepKind::BuiltinHop => Ok(Provider::Builtin),
+        _ => Ok(Provider::Framework),
+    }
+}
+
+/// Where the capability stands at its provider: the end's path with the subdirectories behind it,
+/// the last one first. What the framework provides has its path alone.
+fn path_at(
+    alloc: Global,
+    end: StepKind,
+    path: &CapPath,
+    subdirs: List<SubDir>,
+) -> Result<Text, Memory>
+    ensures { IfOk result (λ text. text ≡ whole_path end path.now (reverse subdirs)) }
+{
+    if end == StepKind::FrameworkHop {
+        return Text::from_str(alloc, path.as_str());
+    }
+    let mut subdirs = subdirs.into_vec();
+    subdirs.reverse();
+    path.join(alloc, subdirs.as_slice())
+}

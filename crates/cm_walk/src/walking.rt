@@ -1,0 +1,179 @@
+//! The walk from hop to hop.
+
+ghost use Rattle.std.specs.Prelude.{◌≡◌, List as Seq, IfOk};
+ghost use Rattle.cm_world.specs.Route as spec;
+ghost use Rattle.cm_world.specs.Stations.{Station as Place};
+ghost use Rattle.cm_world.specs.Sound.{IsOrderly};
+ghost use Rattle.cm_world.specs.Ending.{KeepsDown};
+ghost use Rattle.cm_walk.specs.Walking.{as_station, as_next, as_named};
+ghost use Rattle.cm_walk.specs.Walking.{EndsAt, IsBehind, Leads, Steps};
+
+use crate::find;
+use crate::hop::bare_hop;
+use crate::next::{Next, next_of};
+use crate::station::{Station, expose_station, use_station};
+use crate::trail::Trail;
+use cm_decl::Kind;
+use cm_names::{CapPath, Memory, Name};
+use cm_world::{Hop, Start, StepKind, View, Walked, Why};
+use std::alloc::Global;
+
+/// What one step of a walk comes to.
+#[derive(Debug, Drop)]
+pub(crate) enum Step {
+    /// Nothing is decided at the station, and the walk goes on to this one.
+    On(Trail, Station),
+    /// This is decided.
+    Done(Walked),
+}
+
+/// What a start names.
+#[derive(Debug, Drop)]
+pub(crate) enum Begun {
+    /// A use or an expose.
+    At(Station),
+    /// A use that isn't there.
+    NoUse,
+    /// An expose that isn't there: the hop that is missing.
+    NoneExposed(Hop),
+}
+
+/// Walks from the start along the route of the capability, to the first hop at which something is
+/// decided.
+///
+/// At each hop these are tried in order: the child that it names isn't there (`NoInstance`); it is
+/// an offer or an expose whose availability isn't enough for what the hop before states
+/// (`AvailabilityTooWeak`); it states rights that the asked ones aren't within (`RightsTooWeak`);
+/// then what comes next: a row without a declaration (`Need`), the void (`Void`), a hop that is
+/// missing (`NoOffer`, `NoExpose`, `NoBuiltin`, at the missing hop), or the provider (`Given`). The
+/// rights that are asked are those of the use, or, from an expose, the first that a hop states.
+///
+/// `NoSuchUse` comes exactly where no use of the instance has the path, and `Failed` with
+/// `NoExpose` where a start at an expose finds none. Of an instance that doesn't live or isn't
+/// resolved the answer is one of these two. `Err` comes where memory runs out, and there alone.
+///
+/// The rules are those of "Capability routing" and "Capability availability" (fuchsia.dev); their
+/// order at one hop is this project's own choice.
+pub fn walk<V: View>(alloc: Global, view: &V, start: Start) -> Result<Walked, Memory>
+    ensures { IfOk result (λ walked. spec.IsWalked (V.rows view.now)
+        (V.builtins view.now) start walked) }
+{
+    match begin(alloc, view, &start)? {
+        Begun::At(station) => follow(alloc, view, station),
+        Begun::NoUse => Ok(Walked::NoSuchUse),
+        Begun::NoneExposed(hop) => Ok(Walked::Failed(hop, Why::NoExpose)),
+    }
+}
+
+/// What the start names.
+fn begin<V: View>(alloc: Global, view: &V, start: &Start) -> Result<Begun, Memory>
+    ensures named { IfOk result (λ begun. as_named begun
+        ≡ spec.named_by (V.rows view.now) start.now) }
+    ensures orderly { IsOrderly (V.rows view.now) (V.next_inc view.now) }
+{
+    match start {
+        Start::UseAt(inc, path) => begin_use(alloc, view, *inc, path),
+        Start::ExposeAt(inc, name) => begin_expose(alloc, view, *inc, name),
+    }
+}
+
+/// The use of that path.
+fn begin_use<V: View>(alloc: Global, view: &V, inc: u64, path: &CapPath) -> Result<Begun, Memory>
+    ensures named { IfOk result (λ begun. as_named begun
+        ≡ spec.named_by (V.rows view.now) (Start.UseAt inc path.now)) }
+    ensures orderly { IsOrderly (V.rows view.now) (V.next_inc view.now) }
+{
+    let Some(decl) = view.decl(inc) else {
+        return Ok(Begun::NoUse);
+    };
+    match find::usage(decl, path) {
+        Some(usage) => {
+            let station = use_station(alloc, view, inc, usage)?;
+            Ok(Begun::At(station))
+        }
+        None => Ok(Begun::NoUse),
+    }
+}
+
+/// The expose of that name. A missing one has the kind of a protocol.
+fn begin_expose<V: View>(alloc: Global, view: &V, inc: u64, name: &Name) -> Result<Begun, Memory>
+    ensures named { IfOk result (λ begun. as_named begun
+        ≡ spec.named_by (V.rows view.now) (Start.ExposeAt inc name.now)) }
+    ensures orderly { IsOrderly (V.rows view.now) (V.next_inc view.now) }
+{
+    let found = match view.decl(inc) {
+        Some(decl) => find::expose(decl, name),
+        None => None,
+    };
+    match found {
+        Some(give) => {
+            let station = expose_station(alloc, view, inc, give)?;
+            Ok(Begun::At(station))
+        }
+        None => {
+            let hop = bare_hop(alloc, view, StepKind::ExposeHop, inc, Kind::Protocol, name)?;
+            Ok(Begun::NoneExposed(hop))
+        }
+    }
+}
+
+/// Walks from the station to what is decided.
+fn follow<V: View>(alloc: Global, view: &V, first: Station) -> Result<Walked, Memory>
+    requires orderly { IsOrderly (V.rows view.now) (V.next_inc view.now) }
+    requires down { KeepsDown (as_station first) }
+    ensures { IfOk result (λ walked. spec.IsVerdict (V.rows view.now) (V.builtins view.now)
+        (as_station first) walked) }
+{
+    let mut trail = Trail::new(alloc, &first.hop);
+    let mut here = first;
+    'walk: loop {
+        match try_station(alloc, view, trail, here)? {
+            Step::On(behind, next) => {
+                trail = behind;
+                here = next;
+            }
+            Step::Done(walked) => return Ok(walked),
+        }
+    }
+}
+
+/// Tries the station behind this trail, and goes on to the next one where nothing is decided.
+fn try_station<V: View>(
+    alloc: Global,
+    view: &V,
+    trail: Trail,
+    here: Station,
+) -> Result<Step, Memory>
+    ensures { IfOk result (λ step. (front : Seq Place) → IsBehind front (as_station here) trail
+        → Steps (V.rows view.now) (V.builtins view.now) front (as_station here) step) }
+{
+    let next = next_of(alloc, view, &here)?;
+    if next.is_no_child() {
+        return Ok(Step::Done(Walked::Failed(here.hop, Why::NoInstance)));
+    }
+    match trail.too_weak(&here.hop) {
+        Some(why) => Ok(Step::Done(Walked::Failed(here.hop, why))),
+        None => go(alloc, trail, here, next),
+    }
+}
+
+/// Does what the next of the station says by itself.
+fn go(alloc: Global, trail: Trail, here: Station, next: Next) -> Result<Step, Memory>
+    ensures { IfOk result (λ step. (front : Seq Place) → IsBehind front (as_station here) trail
+        → EndsAt (as_station here) next → Leads front (as_station here) (as_next next) step) }
+{
+    match next {
+        Next::To(station) => {
+            let trail = trail.with(here, &station.hop)?;
+            Ok(Step::On(trail, station))
+        }
+        Next::Ends(path) => {
+            let route = trail.into_route(alloc, here.hop, &path)?;
+            Ok(Step::Done(Walked::Given(route)))
+        }
+        Next::Needs(inc) => Ok(Step::Done(Walked::Need(inc))),
+        Next::FromVoid => Ok(Step::Done(Walked::Void(here.hop))),
+        Next::NoChild => Ok(Step::Done(Walked::Failed(here.hop, Why::NoInstance))),
+        Next::Misses(hop, why) => Ok(Step::Done(Walked::Failed(hop, why))),
+    }
+}

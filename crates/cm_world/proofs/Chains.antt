@@ -1,0 +1,79 @@
+-- Walks along routes, station by station.
+use Rattle.std.proofs.Common.{◌≡◌, List, [], ◌∷◌, ◌++◌, Bool, true, false, Option, Some, None, sym, ◌∙◌, ap, subst, true≢false, append-nil, append_assoc}
+use Rattle.cm_world.specs.declared.row.Row.{Row}
+use Rattle.cm_world.specs.declared.frame.Builtin.{Builtin}
+use Rattle.cm_world.specs.declared.route.Walked.{Walked}
+use Rattle.cm_world.specs.Stations.{Station}
+use Rattle.cm_world.specs.Next.{Next, To, next_of}
+use Rattle.cm_world.specs.Route.{Named, First, NoUse, NoneExposed, named_by, IsChain, IsDecided, IsWalkedFrom, trial, last_of}
+use Rattle.cm_world.specs.Laws.{WalksOnce}
+
+-- the station behind a next, or the given one
+station_of : Station → Next → Station
+station_of d (To s) = s
+station_of d _ = d
+
+pub same_station : (s t : Station) → To s ≡ To t → s ≡ t
+unfolding station_of
+same_station s t e = ap (station_of s) e
+
+found : Walked → Option Walked → Walked
+found d None = d
+found d (Some v) = v
+
+is_found : Option Walked → Bool
+is_found None = false
+is_found (Some v) = true
+
+same_found : (v w : Walked) → Some v ≡ Some w → v ≡ w
+unfolding found
+same_found v w e = ap (found v) e
+
+not_both : (v : Walked) → Some v ≡ None → ⊥
+unfolding is_found
+not_both v e = true≢false (ap is_found e)
+
+-- what is decided from a station behind a front is decided only once
+pub decided_once : (rows : List Row) (builtins : List Builtin) (front : List Station) (s : Station) (xs ys : List Station) (v w : Walked) → IsChain rows builtins s xs → IsChain rows builtins s ys → IsDecided rows builtins front s xs v → IsDecided rows builtins front s ys w → v ≡ w
+decided_once rows builtins front s [] [] v w on to first second = same_found v w (sym first ∙ second)
+decided_once rows builtins front s [] (y ∷ ys) v w on to first second = absurd (not_both v (sym first ∙ second.0))
+decided_once rows builtins front s (x ∷ xs) [] v w on to first second = absurd (not_both w (sym second ∙ first.0))
+decided_once rows builtins front s (x ∷ xs) (y ∷ ys) v w on to first second =
+    let same : y ≡ x = same_station y x (sym to.0 ∙ on.0) in
+    decided_once rows builtins (front ++ s ∷ []) x xs ys v w on.1
+    (subst (λ z. IsChain rows builtins z ys) same to.1) first.1
+    (subst (λ z. IsDecided rows builtins (front ++ s ∷ []) z ys w) same second.1)
+
+walked_from_once : (rows : List Row) (builtins : List Builtin) (n : Named) (v w : Walked) → IsWalkedFrom rows builtins n v → IsWalkedFrom rows builtins n w → v ≡ w
+walked_from_once rows builtins (First s) v w first second =
+    decided_once rows builtins [] s first.rest second.rest v w first.chain second.chain first.decided second.decided
+walked_from_once rows builtins NoUse v w first second = first ∙ sym second
+walked_from_once rows builtins (NoneExposed hop) v w first second = first ∙ sym second
+
+-- a walk comes to one answer
+pub walked_once : WalksOnce
+walked_once rows builtins begin v w first second = walked_from_once rows builtins (named_by rows begin) v w first second
+
+-- a chain goes on by the next of its last station
+pub IsChain-push : (rows : List Row) (builtins : List Builtin) (s : Station) (ss : List Station) (t : Station) → IsChain rows builtins s ss → next_of rows builtins (last_of s ss) ≡ To t → IsChain rows builtins s (ss ++ t ∷ [])
+IsChain-push rows builtins s [] t chain next = (next, tt)
+IsChain-push rows builtins s (x ∷ xs) t chain next = (chain.0, IsChain-push rows builtins x xs t chain.1 next)
+
+-- nothing is decided at any of these stations behind a front
+pub NoneDecided : List Row → List Builtin → List Station → List Station → Type 0
+NoneDecided rows builtins front [] = Unit {0}
+NoneDecided rows builtins front (s ∷ ss) =
+    (trial rows builtins front s ≡ None) × NoneDecided rows builtins (front ++ s ∷ []) ss
+
+pub NoneDecided-push : (rows : List Row) (builtins : List Builtin) (front ss : List Station) (s : Station) → NoneDecided rows builtins front ss → trial rows builtins (front ++ ss) s ≡ None → NoneDecided rows builtins front (ss ++ s ∷ [])
+unfolding NoneDecided
+NoneDecided-push rows builtins front [] s before none = (subst (λ f. trial rows builtins f s ≡ None) (append-nil front) none, tt)
+NoneDecided-push rows builtins front (x ∷ xs) s before none =
+    (before.0, NoneDecided-push rows builtins (front ++ x ∷ []) xs s before.1 (subst (λ f. trial rows builtins f s ≡ None) (sym (append_assoc front (x ∷ []) xs)) none))
+
+-- where nothing is decided at the stations before, and something at the last one, that is the verdict
+pub decided_at_last : (rows : List Row) (builtins : List Builtin) (front : List Station) (s : Station) (ss : List Station) (t : Station) (v : Walked) → NoneDecided rows builtins front (s ∷ ss) → trial rows builtins (front ++ (s ∷ ss)) t ≡ Some v → IsDecided rows builtins front s (ss ++ t ∷ []) v
+unfolding NoneDecided
+decided_at_last rows builtins front s [] t v before found = (before.0, found)
+decided_at_last rows builtins front s (x ∷ xs) t v before found =
+    (before.0, decided_at_last rows builtins (front ++ s ∷ []) x xs t v before.1 (subst (λ f. trial rows builtins f t ≡ Some v) (sym (append_assoc front (s ∷ []) (x ∷ xs))) found))

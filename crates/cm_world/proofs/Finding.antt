@@ -1,0 +1,36 @@
+-- What a row that is found in a list passes.
+use Rattle.std.proofs.Common.{◌≡◌, ℕ, List, [], ◌∷◌, Bool, true, false, cond, ◌&&◌, ◌==◌, true≢false, Option, Some, None, find, is_some, unwrap_or, refl, sym, ap, subst, IsTrue}
+use Rattle.std.specs.List.{list_all}
+use Rattle.std.specs.Cmp.{unsigned_Decides}
+use Rattle.cm_decl.proofs.Sameness.{and_first, and_second}
+use Rattle.cm_world.specs.declared.row.Row.{Row}
+use Rattle.cm_world.specs.Rows.{row_of}
+
+pub some_same : {A : Type 0} (x y : A) → Some x ≡ Some y → x ≡ y
+some_same x y e = ap (λ o. unwrap_or o x) e
+
+pub none_some : {A : Type 0} (x : A) → None ≡ Some x → ⊥
+none_some x e = true≢false (sym (ap is_some e))
+
+found_by : {A : Type 0} (t : Bool) (p : A → Bool) (s r : A) (o : Option A) → p s ≡ t → (o ≡ Some r → IsTrue (p r)) → cond t (Some s) o ≡ Some r → IsTrue (p r)
+found_by true p s r o here later e = subst (λ z. IsTrue (p z)) (some_same s r e) here
+found_by false p s r o here later e = later e
+
+-- what is found passes the test
+pub find-passes : {A : Type 0} (p : A → Bool) (xs : List A) (r : A) → find p xs ≡ Some r → IsTrue (p r)
+find-passes p [] r e = absurd (none_some r e)
+find-passes p (s ∷ ss) r e = found_by (p s) p s r (find p ss) refl (find-passes p ss r) e
+
+-- the row of an incarnation has it
+pub row_of-inc : (rows : List Row) (i : ℕ) (r : Row) → row_of rows i ≡ Some r → r.inc ≡ i
+row_of-inc rows i r e = (unsigned_Decides r.inc i).0 (find-passes (λ s. s.inc == i) rows r e)
+
+found_of_all : {A : Type 0} (t : Bool) (q : A → Bool) (s r : A) (o : Option A) (rest : Bool) → IsTrue (q s && rest) → (IsTrue rest → o ≡ Some r → IsTrue (q r)) → cond t (Some s) o ≡ Some r → IsTrue (q r)
+found_of_all true q s r o rest all later e =
+    subst (λ z. IsTrue (q z)) (some_same s r e) (and_first (q s) rest all)
+found_of_all false q s r o rest all later e = later (and_second (q s) rest all) e
+
+-- what all items pass, an item that is found passes
+pub find-all : {A : Type 0} (p q : A → Bool) (xs : List A) (r : A) → IsTrue (list_all q xs) → find p xs ≡ Some r → IsTrue (q r)
+find-all p q [] r all e = absurd (none_some r e)
+find-all p q (s ∷ ss) r all e = found_of_all (p s) q s r (find p ss) (list_all q ss) all (find-all p q ss r) e

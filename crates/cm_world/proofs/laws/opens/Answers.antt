@@ -1,0 +1,5 @@
+use Rattle.cm_world.proofs.Actions.{opened_is_legal}
+use Rattle.cm_world.proofs.laws.opens.Goals as goal
+
+pub returns : goal.returns
+returns c = opened_is_legal

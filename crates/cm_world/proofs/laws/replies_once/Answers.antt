@@ -1,0 +1,5 @@
+use Rattle.cm_world.proofs.Once.{replies_once}
+use Rattle.cm_world.proofs.laws.replies_once.Goals as goal
+
+pub returns : goal.returns
+returns c = replies_once

@@ -1,0 +1,110 @@
+-- The world that an entry leaves.
+use Rattle.std.specs.Prelude.{ℕ, ◌+◌, List, [], ◌∷◌, ◌++◌, Bool, true, false, not, Some, None, filter, if◌then◌else◌}
+use Rattle.std.specs.List.{list_any}
+use Rattle.cm_world.specs.declared.row.Row.{Row}
+use Rattle.cm_world.specs.declared.action.Act.{Act}
+use Rattle.cm_world.specs.declared.action.Join.{Join}
+use Rattle.cm_world.specs.declared.action.ActKind.{ActKind}
+use Rattle.cm_world.specs.declared.action.ActKind.TheVariants.{Stop}
+use Rattle.cm_world.specs.declared.action.Outcome.{Outcome}
+use Rattle.cm_world.specs.declared.action.Finish.{Finish}
+use Rattle.cm_world.specs.declared.reply.Reply.{Reply}
+use Rattle.cm_world.specs.declared.reply.Reply.TheVariants as reply
+use Rattle.cm_world.specs.declared.reply.Entry.{Entry}
+use Rattle.cm_world.specs.declared.event.Event.{Event}
+use Rattle.cm_world.specs.declared.event.Event.TheVariants.{Begin, End, Await, Create, Mark, Pick, Purge, Exited}
+use Rattle.cm_world.specs.Edits.{drop_first}
+use Rattle.cm_world.specs.Rows.{is_below}
+use Rattle.cm_world.specs.World.{World, act_of}
+use Rattle.cm_world.specs.End.{changed, set_pending, set_on, set_closing, set_doomed, set_shut, rows_by, added_by, ended}
+use Rattle.cm_world.specs.Create.{created_row}
+use Rattle.cm_world.specs.Step.{is_join}
+
+-- ---- actions
+
+abbrev pub new_act : ℕ → ActKind → ℕ → ℕ → Act
+new_act action kind i caller = record { action = action; kind = kind; inc = i; by = caller; outcome = None }
+
+-- an action begins at a row
+abbrev pub with_action : World → ℕ → ActKind → ℕ → World
+with_action w caller kind i =
+    record w {
+      rows = changed i (set_pending (Some (kind, w.next_action))) w.rows;
+      next_action = w.next_action + 1;
+      acts = w.acts ++ new_act w.next_action kind i caller ∷ [];
+    }
+
+-- an action ends with an outcome; it names its row
+abbrev pub with_end : World → ℕ → Finish → Outcome → World
+with_end w a finish o =
+    elim (act_of w.acts a) as (λ _. World) [
+      | None ↦ w
+      | Some x ↦ record w {
+        rows = rows_by x.inc w.next_inc finish o w.rows;
+        next_inc = w.next_inc + added_by finish o;
+        acts = ended a o w.acts;
+      }
+    ]
+
+-- ---- joins
+
+-- with this one, which stands there once however often it is made
+abbrev pub joined : ℕ → ℕ → List Join → List Join
+joined caller action joins =
+    if list_any (is_join caller action) joins then joins else joins ++ record { caller = caller; action = action } ∷ []
+
+abbrev pub unjoined : ℕ → ℕ → List Join → List Join
+unjoined caller action joins = drop_first (is_join caller action) joins
+
+abbrev pub with_joins : World → List Join → World
+with_joins w joins = record w { joins = joins }
+
+-- ---- rows
+
+abbrev pub with_rows : World → List Row → World
+with_rows w rows = record w { rows = rows }
+
+-- a new row stands last
+abbrev pub with_row : World → Row → World
+with_row w r = record w { rows = w.rows ++ r ∷ []; next_inc = w.next_inc + 1 }
+
+-- the rows that aren't at or below one
+abbrev pub others_than : List Row → ℕ → List Row
+others_than rows top = filter (λ r. not (is_below rows top r.inc)) rows
+
+-- ---- entries
+
+-- what an event with its reply changes, but for the number of entries
+abbrev pub moved : World → ℕ → Event → Reply → World
+moved w caller (Begin kind i) (reply.Begun work) = with_action w caller kind i
+moved w caller (Begin kind i) (reply.Joined a) = with_joins w (joined caller a w.joins)
+moved w caller (End a finish) (reply.Ended o) = with_end w a finish o
+moved w caller (Await a) (reply.Ended o) = with_joins w (unjoined caller a w.joins)
+moved w caller (Create p coll name url gives) (reply.Created i) = with_row w (created_row i p coll name url gives)
+moved w caller (Mark doom i) reply.Marked = with_rows w (changed i (if doom then set_doomed else set_closing) w.rows)
+moved w caller (Pick t) (reply.Stopping work) = with_action w caller Stop work.inc
+moved w caller (Pick t) (reply.ShutDown i) = with_rows w (changed i set_shut w.rows)
+moved w caller (Purge i) (reply.Purged lost) = with_rows w (others_than w.rows i)
+moved w caller (Exited i) (reply.Left m) = with_rows w (changed i (set_on false) w.rows)
+moved w caller event r = w
+
+-- whether an event with its reply may change more than that number
+abbrev pub moves : Event → Reply → Bool
+moves (Begin kind i) (reply.Begun work) = true
+moves (Begin kind i) (reply.Joined a) = true
+moves (End a finish) (reply.Ended o) = true
+moves (Await a) (reply.Ended o) = true
+moves (Create p coll name url gives) (reply.Created i) = true
+moves (Mark doom i) reply.Marked = true
+moves (Pick t) (reply.Stopping work) = true
+moves (Pick t) (reply.ShutDown i) = true
+moves (Purge i) (reply.Purged lost) = true
+moves (Exited i) (reply.Left m) = true
+moves event r = false
+
+abbrev pub counted : World → World
+counted w = record w { entries = w.entries + 1 }
+
+-- the world that an entry leaves
+unfoldable pub after : World → Entry → World
+after w e = counted (moved w e.caller e.event e.reply)

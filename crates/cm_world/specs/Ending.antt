@@ -1,0 +1,60 @@
+-- How many steps a walk can still make. It goes up while it follows uses and offers, each time to a row with a lower
+-- incarnation; then it goes down by exposes, each time to a row with a higher one, and never up again.
+use Rattle.std.specs.Prelude.{◌≡◌, ℕ, ◌+◌, ◌-◌, ◌<◌, List, Bool, true, false, ◌&&◌, Option, Some, None}
+use Rattle.cm_decl.specs.declared.origin.Origin.{Origin}
+use Rattle.cm_decl.specs.declared.origin.Origin.TheVariants.{Parent}
+use Rattle.cm_world.specs.declared.row.Row.{Row}
+use Rattle.cm_world.specs.declared.frame.Builtin.{Builtin}
+use Rattle.cm_world.specs.declared.route.Start.{Start}
+use Rattle.cm_world.specs.declared.route.Walked.{Walked}
+use Rattle.cm_world.specs.declared.route.StepKind.{StepKind}
+use Rattle.cm_world.specs.declared.route.StepKind.TheVariants.{ExposeHop}
+use Rattle.cm_world.specs.Stations.{Station}
+use Rattle.cm_world.specs.Next.{To, next_of}
+use Rattle.cm_world.specs.Route.{First, named_by, IsWalked}
+use Rattle.cm_world.specs.Sound.{IsOrderly}
+
+abbrev pub is_expose : StepKind → Bool
+is_expose ExposeHop = true
+is_expose _ = false
+
+-- at a row with this incarnation, below the next one: on the way down, or on the way up
+abbrev pub left_at : ℕ → ℕ → Bool → ℕ
+left_at next i true = (next - i) + 1
+left_at next i false = next + i + 2
+
+abbrev pub left_from : ℕ → ℕ → StepKind → Option Origin → ℕ
+left_from next i step None = 0
+left_from next i step (Some from) = left_at next i (is_expose step)
+
+-- at most so many stations come behind this one
+abbrev pub steps_left : ℕ → Station → ℕ
+steps_left next s = left_from next s.hop.inc s.hop.step s.source
+
+abbrev pub is_from_parent : Option Origin → Bool
+is_from_parent (Some Parent) = true
+is_from_parent _ = false
+
+-- no expose leads up
+abbrev pub KeepsDown : Station → Type 0
+KeepsDown s = (is_from_parent s.source && is_expose s.hop.step) ≡ false
+
+-- ---- laws
+
+-- a start leads to no expose that leads up
+abbrev pub BeginsDown : Type 0
+BeginsDown =
+    (rows : List Row) (next : ℕ) (begin : Start) (s : Station) → IsOrderly rows next
+    → named_by rows begin ≡ First s → KeepsDown s
+
+-- nor does a station, and fewer steps are left from the one behind it
+abbrev pub StepsFall : Type 0
+StepsFall =
+    (rows : List Row) (next : ℕ) (builtins : List Builtin) (s t : Station) → IsOrderly rows next
+    → KeepsDown s → next_of rows builtins s ≡ To t → (steps_left next t < steps_left next s) × KeepsDown t
+
+-- in an orderly tree every walk comes to an answer
+abbrev pub WalksEnd : Type 0
+WalksEnd =
+    (rows : List Row) (next : ℕ) (builtins : List Builtin) (begin : Start) → IsOrderly rows next
+    → (v : Walked) × IsWalked rows builtins begin v

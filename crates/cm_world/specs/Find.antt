@@ -1,0 +1,18 @@
+-- The reply to a find.
+use Rattle.std.specs.Prelude.{ℕ, List, [], ◌∷◌, ◌++◌, Some, None, if◌then◌else◌}
+use Rattle.cm_names.specs.declared.child.ChildName.{ChildName}
+use Rattle.cm_world.specs.declared.row.Row.{Row}
+use Rattle.cm_world.specs.declared.reply.Reply.{Reply}
+use Rattle.cm_world.specs.declared.reply.Reply.TheVariants.{Found, Need, Shut, NotFound}
+use Rattle.cm_world.specs.Rows.{is_resolved, is_closed, child_of}
+
+-- where row i was reached by the names of the front, and these are left
+abbrev pub found_from : List Row → ℕ → List ChildName → List ChildName → Reply
+found_from rows i front [] = Found i
+found_from rows i front (c ∷ cs) =
+    if is_resolved rows i then
+    elim (child_of rows i c) as (λ _. Reply) [
+      | None ↦ NotFound (record { parts = front })
+      | Some j ↦ found_from rows j (front ++ c ∷ []) cs
+    ]
+    else if is_closed rows i then Shut i else Need i

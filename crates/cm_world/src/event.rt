@@ -1,0 +1,68 @@
+//! Events, which read and change a realm tree.
+
+use crate::{ActKind, Finish};
+use cm_decl::Give;
+use cm_names::{CapPath, List, Moniker, Name, Plain, Text};
+
+/// Which instance a command means.
+#[derive(Debug, Drop, Clone, PartialEq, Eq)]
+pub enum Target {
+    /// The one that stands there.
+    Named(Moniker),
+    /// The one of this incarnation, whatever stands in its place now.
+    Inc(u64),
+}
+
+impl Plain for Target {
+    ghost use Rattle.std.proofs.Common.{rules};
+
+    ghost exact = { Prim.search rules };
+}
+
+/// One event of a realm tree, which is made as a whole or not at all. A number is the
+/// incarnation of an instance, unless the variant says otherwise.
+#[derive(Debug, Drop, Clone, PartialEq, Eq)]
+pub enum Event {
+    /// Which instance stands there?
+    Find(Moniker),
+    /// Begins an action at an instance, or joins the one that was begun.
+    Begin(ActKind, u64),
+    /// Ends the action of this number, which the caller began.
+    End(u64, Finish),
+    /// Takes the outcome of the action of this number, which the caller joined.
+    Await(u64),
+    /// Creates a child of an instance, in a collection, by a name, with a URL and with offers
+    /// to it alone: `CreateChild` of `fuchsia.component.Realm`.
+    Create(u64, Name, Name, Text, List<Give>),
+    /// Marks an instance: where true is given to be destroyed, else to be shut down.
+    Mark(bool, u64),
+    /// Picks one instance to stop next, so that the one given shuts down with all below it.
+    Pick(u64),
+    /// Removes an instance that was marked to be destroyed, with all below it.
+    Purge(u64),
+    /// Where does what an instance uses at this path come from?
+    Route(u64, CapPath),
+    /// Opens what an instance uses at this path.
+    OpenUse(u64, CapPath),
+    /// Opens what an instance exposes by this name: `OpenExposedDir` of
+    /// `fuchsia.component.Realm`.
+    OpenExposed(u64, Name),
+    /// Which children has an instance in this collection? `ListChildren` of
+    /// `fuchsia.component.Realm`.
+    Listing(u64, Name),
+    /// How is an instance?
+    Show(u64),
+    /// How are an instance and all below it?
+    Survey(u64),
+    /// The program of an instance has ended by itself.
+    Exited(u64),
+    /// How long is the history now? The second number is the place that the caller reads it
+    /// from.
+    Tail(u64, u64),
+}
+
+impl Plain for Event {
+    ghost use Rattle.std.proofs.Common.{rules};
+
+    ghost exact = { Prim.search rules };
+}

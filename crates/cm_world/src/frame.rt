@@ -1,0 +1,59 @@
+//! What a realm tree is made with, and what no event changes.
+
+use cm_decl::Kind;
+use cm_names::{CapPath, List, Name, Plain, Rights, Text};
+
+/// A capability that the component manager itself gives to the root: what stands above the root
+/// where it uses something, or offers it on, from its parent.
+///
+/// Fuchsia's component manager has such capabilities from its own namespace ("Component manager
+/// configuration", fuchsia.dev).
+#[derive(Debug, Drop, Clone, PartialEq, Eq)]
+pub struct Builtin {
+    /// What it is.
+    pub kind: Kind,
+    /// Its name.
+    pub name: Name,
+    /// Where it stands.
+    pub path: CapPath,
+    /// The rights that a directory is provided with; `None` for a protocol.
+    pub rights: Option<Rights>,
+}
+
+impl Plain for Builtin {
+    ghost use Rattle.std.proofs.Common.{rules};
+
+    ghost exact = { Prim.search rules };
+}
+
+/// How large a tree and its history may grow.
+#[derive(Debug, Clone, Copy, PartialEq, Eq)]
+pub struct Limits {
+    /// The most instances that may live at once.
+    pub rows: u32,
+    /// The most entries that the history may hold, reserved ones counted.
+    pub entries: u64,
+}
+
+impl Plain for Limits {
+    ghost use Rattle.std.proofs.Common.{rules};
+
+    ghost exact = { Prim.search rules };
+}
+
+/// What a tree is made with.
+#[derive(Debug, Drop, Clone, PartialEq, Eq)]
+pub struct Frame {
+    /// The URL of the root component.
+    pub root: Text,
+    /// The capabilities that stand above the root, in their order.
+    pub builtins: List<Builtin>,
+    /// How large it may grow.
+    pub limits: Limits,
+}
+
+impl Plain for Frame {
+    ghost use Rattle.std.proofs.Common.{rules};
+
+    ghost exact = { Prim.search rules };
+}

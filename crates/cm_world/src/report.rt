@@ -1,0 +1,82 @@
+//! What replies tell of instances.
+
+use crate::ActKind;
+use cm_names::{CapPath, List, Moniker, Name, Plain, Text};
+
+/// A child in a collection.
+#[derive(Debug, Drop, Clone, PartialEq, Eq)]
+pub struct Kid {
+    /// Its name in the collection.
+    pub name: Name,
+    /// Its incarnation.
+    pub inc: u64,
+}
+
+impl Plain for Kid {
+    ghost use Rattle.std.proofs.Common.{rules};
+
+    ghost exact = { Prim.search rules };
+}
+
+/// How an instance is.
+#[derive(Debug, Drop, Clone, PartialEq, Eq)]
+pub struct Look {
+    /// Its incarnation.
+    pub inc: u64,
+    /// Its URL as declared, or as it was created with.
+    pub url: Text,
+    /// Whether it has its declaration.
+    pub resolved: bool,
+    /// Whether its program runs.
+    pub on: bool,
+    /// Whether it itself was marked to be shut down or destroyed.
+    pub closing: bool,
+    /// Whether it is shut down.
+    pub shut: bool,
+    /// The action that was begun here and hasn't ended.
+    pub pending: Option<ActKind>,
+}
+
+impl Plain for Look {
+    ghost use Rattle.std.proofs.Common.{rules};
+
+    ghost exact = { Prim.search rules };
+}
+
+/// How one instance of a survey is.
+#[derive(Debug, Drop, Clone, PartialEq, Eq)]
+pub struct SurveyRow {
+    /// Its incarnation.
+    pub inc: u64,
+    /// Where it stands.
+    pub moniker: Moniker,
+    /// Whether it has its declaration.
+    pub resolved: bool,
+    /// Whether its program runs.
+    pub on: bool,
+    /// Whether it is shut down.
+    pub shut: bool,
+    /// The paths of its uses, in the order of its declaration.
+    pub paths: List<CapPath>,
+}
+
+impl Plain for SurveyRow {
+    ghost use Rattle.std.proofs.Common.{rules};
+
+    ghost exact = { Prim.search rules };
+}
+
+/// An instance that was removed.
+#[derive(Debug, Drop, Clone, PartialEq, Eq)]
+pub struct Lost {
+    /// Its incarnation.
+    pub inc: u64,
+    /// Where it stood.
+    pub moniker: Moniker,
+}
+
+impl Plain for Lost {
+    ghost use Rattle.std.proofs.Common.{rules};
+
+    ghost exact = { Prim.search rules };
+}

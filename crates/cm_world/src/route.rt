@@ -1,0 +1,153 @@
+//! Routes, by which a capability comes from its provider to a client.
+//!
+//! The rules are those of "Capability routing" and of the pages on protocol and directory
+//! capabilities of Fuchsia's component framework (fuchsia.dev).
+
+use cm_decl::Kind;
+use cm_names::{Availability, CapPath, List, Moniker, Name, Plain, Rights, Text};
+
+/// What a hop of a route is.
+#[derive(Debug, Clone, Copy, PartialEq, Eq)]
+pub enum StepKind {
+    /// A use of the client, written `use`.
+    UseHop,
+    /// An offer of a parent, written `offer`.
+    OfferHop,
+    /// An expose of a child, written `expose`.
+    ExposeHop,
+    /// A capability that an instance provides itself, written `capability`.
+    CapabilityHop,
+    /// A capability that the framework provides, written `framework`.
+    FrameworkHop,
+    /// A capability that stands above the root, written `builtin`.
+    BuiltinHop,
+}
+
+impl Plain for StepKind {
+    ghost use Rattle.std.proofs.Common.{rules};
+
+    ghost exact = { Prim.search rules };
+}
+
+/// A hop of a route: one row of one declaration, or what stands in the place of one.
+#[derive(Debug, Drop, Clone, PartialEq, Eq)]
+pub struct Hop {
+    /// What it is.
+    pub step: StepKind,
+    /// The instance whose declaration has the row.
+    pub inc: u64,
+    /// Where that instance stands.
+    pub moniker: Moniker,
+    /// The kind of the capability.
+    pub kind: Kind,
+    /// The name of the capability at this hop: of an offer or an expose the name at its target.
+    pub name: Name,
+    /// The rights that the row states, if it states some.
+    pub rights: Option<Rights>,
+    /// The availability that a use, an offer or an expose states.
+    pub availability: Option<Availability>,
+    /// Whether the target stops before the source; only a use and an offer may be weak.
+    pub strong: bool,
+}
+
+impl Plain for Hop {
+    ghost use Rattle.std.proofs.Common.{rules};
+
+    ghost exact = { Prim.search rules };
+}
+
+/// Who provides the capability at the end of a route.
+#[derive(Debug, Drop, Clone, PartialEq, Eq)]
+pub enum Provider {
+    /// An instance: its incarnation, and where it stands.
+    Instance(u64, Moniker),
+    /// The component framework itself.
+    Framework,
+    /// What stands above the root.
+    Builtin,
+}
+
+impl Plain for Provider {
+    ghost use Rattle.std.proofs.Common.{rules};
+
+    ghost exact = { Prim.search rules };
+}
+
+/// A whole route, from the client to the provider.
+#[derive(Debug, Drop, Clone, PartialEq, Eq)]
+pub struct Route {
+    /// Its hops, from the use or the expose that it begins with to the provider's.
+    pub hops: List<Hop>,
+    /// Where the capability stands at its provider: the provider's path with the subdirectories
+    /// of the hops behind it, in the order from the provider to the client.
+    pub path: Text,
+    /// The rights that a directory is opened with; `None` for a protocol.
+    pub rights: Option<Rights>,
+    /// Who provides it.
+    pub provider: Provider,
+}
+
+impl Plain for Route {
+    ghost use Rattle.std.proofs.Common.{rules};
+
+    ghost exact = { Prim.search rules };
+}
+
+/// Why there is no route.
+#[derive(Debug, Clone, Copy, PartialEq, Eq)]
+pub enum Why {
+    /// The parent offers no such capability.
+    NoOffer,
+    /// The child exposes no such capability.
+    NoExpose,
+    /// There is no child of that name.
+    NoInstance,
+    /// No such capability stands above the root.
+    NoBuiltin,
+    /// The hop before asks for this availability, and this hop states less.
+    AvailabilityTooWeak(Availability, Availability),
+    /// These rights are asked, and this hop states others only.
+    RightsTooWeak(Rights, Rights),
+}
+
+impl Plain for Why {
+    ghost use Rattle.std.proofs.Common.{rules};
+
+    ghost exact = { Prim.search rules };
+}
+
+/// Where a route begins.
+#[derive(Debug, Drop, Clone, PartialEq, Eq)]
+pub enum Start {
+    /// At the use of an instance that has this path.
+    UseAt(u64, CapPath),
+    /// At the expose of an instance that has this name at its target.
+    ExposeAt(u64, Name),
+}
+
+impl Plain for Start {
+    ghost use Rattle.std.proofs.Common.{rules};
+
+    ghost exact = { Prim.search rules };
+}
+
+/// What a walk along a route comes to.
+#[derive(Debug, Drop, Clone, PartialEq, Eq)]
+pub enum Walked {
+    /// The capability is given by this route.
+    Given(Route),
+    /// There is no route: the first hop that fails, and why.
+    Failed(Hop, Why),
+    /// The walk needs the declaration of this instance, which isn't resolved.
+    Need(u64),
+    /// The capability is left out on purpose, by this hop.
+    Void(Hop),
+    /// The instance has no use of that path.
+    NoSuchUse,
+}
+
+impl Plain for Walked {
+    ghost use Rattle.std.proofs.Common.{rules};
+
+    ghost exact = { Prim.search rules };
+}

@@ -1,0 +1,80 @@
+//! What deciders read of a realm tree.
+
+use crate::{ActKind, Builtin};
+use cm_decl::{Decl, Give, Kind};
+use cm_names::{ChildName, List, Name, Plain};
+
+/// What an instance is, but for its name, its declaration and what it was given.
+#[derive(Debug, Clone, Copy, PartialEq, Eq)]
+pub struct Facts {
+    /// The incarnation of its parent; `None` for the root.
+    pub parent: Option<u64>,
+    /// Whether its program runs.
+    pub on: bool,
+    /// The action that was begun here and hasn't ended, with its number.
+    pub pending: Option<(ActKind, u64)>,
+    /// Whether it itself was marked to be shut down or destroyed.
+    pub closing: bool,
+    /// Whether it itself was marked to be destroyed.
+    pub doomed: bool,
+    /// Whether it is shut down.
+    pub shut: bool,
+}
+
+impl Plain for Facts {
+    ghost use Rattle.std.proofs.Common.{rules};
+
+    ghost exact = { Prim.search rules };
+}
+
+/// A realm tree that can be read: the rows and the builtins of an orderly world.
+pub trait View: Drop {
+    ghost use Rattle.std.specs.Prelude.{◌≡◌, ℕ, List as Seq, option_map};
+    ghost use Rattle.std.specs.Option.{option_copied};
+    ghost use Rattle.cm_world.specs.declared.frame.Builtin.{Builtin as Given};
+    ghost use Rattle.cm_world.specs.declared.row.Row.{Row};
+    ghost use Rattle.cm_world.specs.Rows.{row_of, name_of, decl_of, child_of, child_behind, facts_of};
+    ghost use Rattle.cm_world.specs.Next.{builtin_of};
+    ghost use Rattle.cm_world.specs.Sound.{IsOrderly};
+
+    // The rows of the tree.
+    ghost rows: { Self → Seq Row };
+
+    // The incarnation that the next new row gets.
+    ghost next_inc: { Self → ℕ };
+
+    // What stands above the root.
+    ghost builtins: { Self → Seq Given };
+
+    /// How the instance is, or `None` where it doesn't live.
+    fn facts(&self, inc: u64) -> Option<Facts>
+        ensures facts { result ≡ option_map facts_of (row_of (rows self.now) inc) }
+        ensures orderly { IsOrderly (rows self.now) (next_inc self.now) };
+
+    /// The name of the instance among the children of its parent, or `None` where it doesn't
+    /// live or is the root.
+    fn name(&self, inc: u64) -> Option<&ChildName>
+        ensures { option_copied result ≡ name_of (rows self.now) inc };
+
+    /// The declaration of the instance, or `None` where it doesn't live or isn't resolved.
+    fn decl(&self, inc: u64) -> Option<&Decl>
+        ensures decl { option_copied result ≡ decl_of (rows self.now) inc }
+        ensures orderly { IsOrderly (rows self.now) (next_inc self.now) };
+
+    /// What the instance alone was offered when it was created, or `None` where it doesn't live.
+    fn gives(&self, inc: u64) -> Option<&List<Give>>
+        ensures { option_copied result ≡ option_map (λ r. r.gives) (row_of (rows self.now) inc) };
+
+    /// The child of that name, or `None` where there is none that isn't being destroyed.
+    fn child(&self, parent: u64, name: &ChildName) -> Option<u64>
+        ensures { result ≡ child_of (rows self.now) parent name.now };
+
+    /// The first child, or the one that was made next after the given one, or `None` where there
+    /// is no other. Children that are being destroyed are among them.
+    fn next_child(&self, parent: u64, after: Option<u64>) -> Option<u64>
+        ensures { result ≡ child_behind (rows self.now) parent after };
+
+    /// The first capability of that kind and name above the root, or `None` where there is none.
+    fn builtin(&self, kind: Kind, name: &Name) -> Option<&Builtin>
+        ensures { option_copied result ≡ builtin_of (builtins self.now) kind name.now };
+}
