@@ -1,6 +1,7 @@
 mod CheckLemmas
-mod Cuts
+mod FrontLemmas
 mod ReplyLemmas
 mod RunLemmas
-mod TextLemmas
+mod ScriptLaws
+mod StockLemmas
 mod WordLemmas

@@ -5,7 +5,7 @@ use Rattle.std.specs.List.{flat_map}
 use Rattle.std.proofs.lemmas.Grind.{flat_map-append}
 use Rattle.std.proofs.lemmas.List.{append-nil}
 use Rattle.component_manager.specs.Replies.{IsTextOf, reply_line}
-use Rattle.component_manager.specs.declared.script.Question.{Question}
+use Rattle.component_manager.specs.declared.stock.Question.{Question}
 
 pub no_lines : IsTextOf [] []
 no_lines = record { replies = []; as_many = refl; lines = refl }

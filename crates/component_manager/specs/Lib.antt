@@ -1,10 +1,9 @@
-pub mod Calls
-pub mod Checks
 pub mod Form
 pub mod Reading
+pub mod Stock
+pub mod Texts
+pub mod Calls
+pub mod Written
+pub mod Checks
 pub mod Replies
 pub mod Run
-pub mod Script
-pub mod Stock
-pub mod Words
-pub mod Written

@@ -1,7 +1,7 @@
 -- What is printed.
 use Rattle.std.specs.Prelude.{◌≡◌, ℕ, List, ◌++◌, length, codes}
 use Rattle.std.specs.List.{flat_map}
-use Rattle.component_manager.specs.declared.script.Question.{Question}
+use Rattle.component_manager.specs.declared.stock.Question.{Question}
 
 -- a lane's number, a space, the reply and a line feed
 unfoldable pub reply_line : List ℕ → List ℕ

@@ -5,14 +5,14 @@ ghost use Rattle.component_manager.specs.Replies.{IsTextOf, reply_line};
 
 use crate::realm::Realm;
 use crate::refusal::Refusal;
-use crate::script::Question;
+use crate::stock::Question;
 use crate::walk::route;
 use cm_names::{Memory, Text};
 use std::alloc::Global;
 
 /// The reply to one command.
 fn reply(alloc: Global, realm: &mut Realm, question: &Question) -> Result<Text, Memory> {
-    match route(alloc, realm, question.client.as_slice(), &question.path) {
+    match route(alloc, realm, &question.client, &question.path) {
         Ok(text) => Ok(text),
         Err(Refusal::Memory) => Err(Memory),
         Err(refusal) => {

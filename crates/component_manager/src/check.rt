@@ -81,8 +81,8 @@ fn unread(alloc: Global, fault: &ReadFault) -> Result<Verdict, Memory>
 
 /// The verdict on a manifest that is read and isn't valid.
 fn invalid(alloc: Global, fault: &ValidFault) -> Result<Verdict, Memory>
-    ensures verdict { (read : Result Decl ReadFault) (d : Decl) → read ≡ Ok d → Reports d fault.now →
-        IfOk result (λ verdict. IsJudged read verdict.status verdict.line) }
+    ensures verdict { (read : Result Decl ReadFault) (d : Decl) → read ≡ Ok d →
+        Reports d fault.now → IfOk result (λ verdict. IsJudged read verdict.status verdict.line) }
     ensures status { IfOk result (λ verdict. verdict.status ≡ 1) }
 {
     match fault {

@@ -1,40 +1,28 @@
-//! Why a script was refused.
+//! Why a script is refused.
 
+use cm_command::{ScriptFault, ScriptNumber};
 use cm_names::Memory;
-use std::alloc::{AllocError, AllocFailed};
 use std::fmt;
 
-/// What is wrong with a script, by the numbers that users see.
+/// What is wrong with a script that was read.
 #[derive(Debug, Clone, Copy, PartialEq, Eq)]
 pub enum Problem {
-    /// 72: no line names the root, or a command comes before it.
-    NoRoot,
-    /// 73: a manifest block has no end.
-    UnclosedManifest,
-    /// 75: a line has more than 65,536 bytes.
-    LineTooLong,
-    /// 76: the script has more than 67,108,864 bytes.
-    TooLarge,
     /// 77: a block's URL is none, or has no fragment.
     BadManifestUrl,
     /// 78: an earlier block has the URL.
     RepeatedManifest,
-    /// 79: a line or a manifest that this version doesn't serve yet, or that is wrong in a way which it doesn't tell apart.
+    /// 79: a command or a manifest that this version doesn't serve yet.
     LaterForm,
 }
 
 impl fmt::Display for Problem {
     ghost use Rattle.std.specs.Prelude.{Some};
-    ghost use Rattle.component_manager.specs.Words.{problem_text};
+    ghost use Rattle.component_manager.specs.Texts.{problem_text};
 
     ghost output = { λ p. Some (problem_text p) };
 
     fn fmt<W: fmt::Write>(&self, f: &mut fmt::Formatter<W>) -> fmt::Result {
         match self {
-            Problem::NoRoot => f.write_str("72 no-root"),
-            Problem::UnclosedManifest => f.write_str("73 unclosed-manifest"),
-            Problem::LineTooLong => f.write_str("75 line-too-long"),
-            Problem::TooLarge => f.write_str("76 too-large"),
             Problem::BadManifestUrl => f.write_str("77 bad-manifest-url"),
             Problem::RepeatedManifest => f.write_str("78 repeated-manifest"),
             Problem::LaterForm => f.write_str("79 later-form"),
@@ -42,13 +30,47 @@ impl fmt::Display for Problem {
     }
 }
 
-/// Why a script was not read.
+/// Why a script is refused: its first fault by [`read_script`](cm_command::read_script), or else
+/// its first block, or command, that isn't served yet, or else its first block that the repository
+/// refuses.
 #[derive(Debug, Clone, Copy, PartialEq, Eq)]
 pub enum Fault {
-    /// The first problem, with the number of its line.
-    Bad { line: u64, problem: Problem },
+    /// 70 to 76: the text is no script, by its first fault.
+    Unread {
+        line: u32,
+        number: ScriptNumber,
+        at: u32,
+    },
+    /// 77 to 79: what stands at this line of a script is refused.
+    Unserved {
+        line: u32,
+        problem: Problem,
+    },
     /// Memory ran out.
     Memory,
+}
+
+/// It is written `line L: NUMBER WORD`, at 70 followed by ` at POSITION`.
+impl fmt::Display for Fault {
+    ghost use Rattle.std.specs.Prelude.{Some};
+    ghost use Rattle.component_manager.specs.Texts.{fault_text};
+
+    ghost output = { λ fault. Some (fault_text fault) };
+
+    fn fmt<W: fmt::Write>(&self, f: &mut fmt::Formatter<W>) -> fmt::Result {
+        match self {
+            Fault::Unread { line, number, at } => {
+                let fault = ScriptFault::Bad {
+                    line: *line,
+                    number: *number,
+                    at: *at,
+                };
+                write!(f, "{fault}")
+            }
+            Fault::Unserved { line, problem } => write!(f, "line {line}: {problem}"),
+            Fault::Memory => f.write_str("out of memory"),
+        }
+    }
 }
 
 impl From<Memory> for Fault {
@@ -58,28 +80,6 @@ impl From<Memory> for Fault {
     ghost from_gives = { λ _ e. e ≡ OutOfMemory };
 
     fn from(_: Memory) -> Fault {
-        Fault::Memory
-    }
-}
-
-impl From<AllocError> for Fault {
-    ghost use Rattle.std.specs.Prelude.{◌≡◌};
-    ghost use Rattle.component_manager.specs.declared.fault.Fault.TheVariants.{Memory as OutOfMemory};
-
-    ghost from_gives = { λ _ e. e ≡ OutOfMemory };
-
-    fn from(_: AllocError) -> Fault {
-        Fault::Memory
-    }
-}
-
-impl<T: Drop> From<AllocFailed<T>> for Fault {
-    ghost use Rattle.std.specs.Prelude.{◌≡◌};
-    ghost use Rattle.component_manager.specs.declared.fault.Fault.TheVariants.{Memory as OutOfMemory};
-
-    ghost from_gives = { λ _ e. e ≡ OutOfMemory };
-
-    fn from(_: AllocFailed<T>) -> Fault {
         Fault::Memory
     }
 }

@@ -1,5 +1,5 @@
-//! Which declarations are served by now: protocols alone, from the parent, from the component itself or from a child
-//! that is declared, always required, and no collections.
+//! Which declarations are served by now: protocols alone, from the parent, from the component
+//! itself or from a child that is declared, always required, and no collections.
 
 ghost use Rattle.std.specs.Prelude.{◌≡◌};
 ghost use Rattle.std.specs.List.{list_all};

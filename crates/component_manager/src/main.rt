@@ -13,7 +13,6 @@ mod ran;
 mod realm;
 mod refusal;
 mod run;
-mod script;
 mod scripts;
 mod stock;
 #[cfg(test)]

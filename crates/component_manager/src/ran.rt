@@ -18,7 +18,8 @@ pub struct Ran {
     /// - 3: the source failed; nothing was written on `out`.
     /// - 4: `out` failed; a front of the text was written.
     /// - 6: memory ran out; nothing was written on `out`.
-    /// - 7: the script is refused; nothing was written on `out`.
+    /// - 7: the script is refused, and the line on `err` says where and why; nothing was written
+    ///   on `out`.
     pub status: u8,
 }
 

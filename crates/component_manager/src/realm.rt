@@ -1,10 +1,11 @@
 //! The instances as a list of rows. An instance's incarnation is its place in the list.
 
 use crate::refusal::{Outcome, Refusal};
-use cm_decl::Decl;
-use cm_names::{Memory, Name, Text};
+use cm_decl::{Decl, Kind};
+use cm_names::{ChildName, List, Memory, Moniker, Name, Text};
 use cm_read::{ReadFault, read_decl};
 use cm_repo::{Repository, UrlFault, absolute};
+use cm_world::Builtin;
 use std::alloc::Global;
 
 /// The most instances that there are.
@@ -42,13 +43,19 @@ pub struct Resolved {
 #[derive(Drop)]
 pub struct Realm {
     repository: Repository,
+    builtins: List<Builtin>,
     rows: Vec<Row>,
     actions: u64,
 }
 
 impl Realm {
     /// The root alone, not resolved yet.
-    pub fn new(alloc: Global, repository: Repository, url: Text) -> Result<Realm, Memory> {
+    pub fn new(
+        alloc: Global,
+        repository: Repository,
+        builtins: List<Builtin>,
+        url: Text,
+    ) -> Result<Realm, Memory> {
         let mut rows = Vec::new(alloc);
         rows.push(Row {
             place: None,
@@ -58,6 +65,7 @@ impl Realm {
         })?;
         Ok(Realm {
             repository,
+            builtins,
             rows,
             actions: 0,
         })
@@ -89,17 +97,31 @@ impl Realm {
         })
     }
 
-    /// The instance that the names lead to from the root; the instances above it are resolved.
-    pub fn find(&mut self, alloc: Global, names: &[Name]) -> Result<usize, Refusal> {
+    /// The protocol of that name above the root.
+    pub fn builtin(&self, name: &Name) -> Option<&Builtin> {
+        self.builtins.as_slice().iter().find(|builtin| builtin.kind == Kind::Protocol
+            && builtin.name.as_str() == name.as_str())
+    }
+
+    /// The instance that the moniker leads to from the root; those above it are resolved.
+    pub fn find(&mut self, alloc: Global, moniker: &Moniker) -> Result<usize, Refusal> {
         let mut found = 0;
-        for name in names {
+        for part in moniker.parts.as_slice() {
             self.resolve(alloc, found)?;
-            match self.child(found, name) {
+            match self.part(found, part) {
                 Some(child) => found = child,
                 None => return Err(Refusal::NotFound(self.moniker(alloc, found)?)),
             }
         }
         Ok(found)
+    }
+
+    /// The child of that name. No collection has children yet.
+    fn part(&self, parent: usize, part: &ChildName) -> Option<usize> {
+        match &part.coll {
+            None => self.child(parent, &part.name),
+            Some(_) => None,
+        }
     }
 
     /// Resolves an instance, if it isn't: its manifest is read, and its children become rows.

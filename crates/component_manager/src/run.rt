@@ -23,6 +23,13 @@ use std::thread::Threads;
 /// The words `run [--journal] [--repo DIR]` ask for the replies to the commands of the script that
 /// the input is, and the word `check` for the verdict on the manifest that the input is. The words,
 /// the statuses and the lines on `err` are this project's own choice; [`Ran`] lists the statuses.
+///
+/// A script that is refused ends the run with 7, and its line on `err` tells the first of these:
+///
+/// - 70 to 76: it is no script, by [`read_script`](cm_command::read_script);
+/// - 79: a manifest, or else a command, that this version doesn't serve yet;
+/// - 77 and 78: a manifest that [`Repository::add`](cm_repo::Repository::add) refuses, for its URL
+///   and as one that is repeated.
 pub fn run<R: Threads + Wait + Sync, S: Source, K: Sink, E: Sink>(
     rt: &R,
     alloc: Global,
@@ -42,8 +49,8 @@ pub fn run<R: Threads + Wait + Sync, S: Source, K: Sink, E: Sink>(
     ensures silent { (result.status ≡ 2) ⊎ ((result.status ≡ 3) ⊎ (result.status ≡ 6)) →
         Keeps (K.written out.old) (K.written out.new) }
 
-    // For `run`: 7 comes only for a script that is refused, and what isn't served gets it unless
-    // the source failed or memory ran out.
+    // For `run`: 7 comes only for a script that is refused, and all that is refused or isn't served
+    // gets it unless the source failed or memory ran out.
     ensures refused { AsksRun words.now → result.status ≡ 7 →
         OfKnown (IsRefused (K.written out.old) (K.written out.new) (E.written err.old)
         (E.written err.new)) (S.left input.old) }

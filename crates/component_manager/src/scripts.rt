@@ -5,15 +5,15 @@ ghost use Rattle.std.specs.Io.KnownBytes.{Appends, Keeps};
 ghost use Rattle.cm_io.specs.Outside.{Rose};
 ghost use Rattle.component_manager.specs.Replies.{IsTextOf};
 ghost use Rattle.component_manager.specs.Run.{Answers, IsAnswered, IsFaulty, IsRefusal, IsRefused, IsScriptStatus, Stops};
-ghost use Rattle.component_manager.specs.Stock.{served_of};
-ghost use Rattle.component_manager.specs.Words as spec;
+ghost use Rattle.component_manager.specs.Run as run;
+ghost use Rattle.component_manager.specs.Stock.{Serves};
+ghost use Rattle.component_manager.specs.Texts as spec;
 ghost use Rattle.component_manager.specs.Written.{AppendsFront, OfKnown};
 
 use crate::answers::replies;
-use crate::fault::{Fault, Problem};
+use crate::fault::Fault;
 use crate::ran::{Ran, read_fault, tell, want_of_memory};
 use crate::realm::Realm;
-use crate::script::SCRIPT_LIMIT;
 use crate::stock::{Served, serve};
 use cm_io::{Put, Sink, Source, SourceFault, put_all, read_up_to};
 use cm_names::{Memory, Text};
@@ -21,12 +21,28 @@ use std::alloc::Global;
 use std::sync::Wait;
 use std::thread::Threads;
 
+/// So many bytes are read of a source at least, if it has them: those of the largest script, and
+/// one more than the longest line with its line feed has, so that the fault of the line that
+/// passes the script's limit is known.
+const READ_LIMIT: usize = 67_108_864 + 65_537;
+
 /// Why a script isn't served.
 #[derive(Drop)]
 pub enum Stop {
     ReadFault,
-    Bad { line: u64, problem: Problem },
+    Refused(Fault),
     Memory,
+}
+
+/// How a fault stops a run.
+fn stop_of(fault: Fault) -> Stop
+    ensures { result ≡ run.stop_of fault }
+{
+    match fault {
+        Fault::Memory => Stop::Memory,
+        Fault::Unread { line, number, at } => Stop::Refused(Fault::Unread { line, number, at }),
+        Fault::Unserved { line, problem } => Stop::Refused(Fault::Unserved { line, problem }),
+    }
 }
 
 /// Reads the script that the source has left.
@@ -36,28 +52,27 @@ fn read_served<R: Threads + Wait + Sync, S: Source>(
     source: &mut S,
 ) -> Result<Served, Stop>
     ensures good { IfOk result
-        (λ served. OfKnown (λ bytes. served_of bytes ≡ Ok served) (S.left source.old)) }
+        (λ served. OfKnown (λ bytes. Serves bytes served) (S.left source.old)) }
     ensures bad { IfErr result (λ stop. Stops stop (S.left source.old)) }
     ensures fault { IfErr result (λ stop. stop ≡ Stop.ReadFault →
         Rose (S.faults source.old) (S.faults source.new)) }
 {
-    let bytes = match read_up_to(rt, alloc, source, SCRIPT_LIMIT) {
+    let bytes = match read_up_to(rt, alloc, source, READ_LIMIT) {
         Ok(bytes) => bytes,
         Err(SourceFault::Failed) => return Err(Stop::ReadFault),
         Err(SourceFault::Memory) => return Err(Stop::Memory),
     };
-    match serve(alloc, bytes.as_slice()) {
+    match serve(alloc, bytes) {
         Ok(served) => Ok(served),
-        Err(Fault::Bad { line, problem }) => Err(Stop::Bad { line, problem }),
-        Err(Fault::Memory) => Err(Stop::Memory),
+        Err(fault) => Err(stop_of(fault)),
     }
 }
 
-fn fault_line(alloc: Global, line: u64, problem: Problem) -> Result<Text, Memory>
-    ensures { IfOk result (λ text. text ≡ spec.fault_line line problem) }
+fn fault_line(alloc: Global, fault: Fault) -> Result<Text, Memory>
+    ensures { IfOk result (λ text. text ≡ spec.fault_line fault) }
 {
     let mut text = Text::new(alloc);
-    text.push(format_args!("line {line}: {problem}\n"))?;
+    text.push(format_args!("{fault}\n"))?;
     Ok(text)
 }
 
@@ -66,14 +81,13 @@ fn refuse<R: Threads + Wait + Sync, E: Sink>(
     rt: &R,
     alloc: Global,
     err: &mut E,
-    line: u64,
-    problem: Problem,
+    fault: Fault,
 ) -> Ran
     ensures refused { result.status ≡ 7 →
-        AppendsFront (E.written err.old) (E.written err.new) (spec.fault_line line problem) }
+        AppendsFront (E.written err.old) (E.written err.new) (spec.fault_line fault) }
     ensures others { (result.status ≡ 7) ⊎ (result.status ≡ 6) }
 {
-    match fault_line(alloc, line, problem) {
+    match fault_line(alloc, fault) {
         Ok(text) => {
             tell(rt, err, text.as_str().as_bytes());
             Ran { status: 7 }
@@ -88,10 +102,11 @@ fn text_of(alloc: Global, served: Served) -> Result<Text, Memory>
 {
     let Served {
         repository,
+        builtins,
         root,
         questions,
     } = served;
-    let mut realm = Realm::new(alloc, repository, root)?;
+    let mut realm = Realm::new(alloc, repository, builtins, root)?;
     replies(alloc, &mut realm, questions.as_slice())
 }
 
@@ -148,7 +163,7 @@ pub fn run_script<R: Threads + Wait + Sync, S: Source, K: Sink, E: Sink>(
     match read_served(rt, alloc, script) {
         Ok(served) => answer(rt, alloc, served, out, err),
         Err(Stop::ReadFault) => read_fault(rt, err),
-        Err(Stop::Bad { line, problem }) => refuse(rt, alloc, err, line, problem),
+        Err(Stop::Refused(fault)) => refuse(rt, alloc, err, fault),
         Err(Stop::Memory) => want_of_memory(rt, err),
     }
 }

@@ -26,6 +26,11 @@ const CLIENT: &str =
 const ASK: &str =
     "root fuchsia-pkg://t/a#meta/root.cm\n0 route client /svc/fuchsia.logger.LogSink\n";
 
+const BUILTIN_CLIENT: &str =
+    "manifest fuchsia-pkg://t/a#meta/root.cm\n{\"children\":[{\"name\":\"c\",\"url\":\"#meta/c.cm\"}],\"offer\":[{\"protocol\":\"p\",\"from\":\"parent\",\"to\":\"#c\"}]}\n%%\nmanifest fuchsia-pkg://t/a#meta/c.cm\n{\"use\":[{\"protocol\":\"p\"}]}\n%%\n";
+
+const ASK_BUILTIN: &str = "root fuchsia-pkg://t/a#meta/root.cm\n0 route c /svc/p\n";
+
 /// The words, the input in parts, and what must come of them.
 #[derive(Clone, Copy)]
 struct Case {
@@ -41,7 +46,7 @@ const USAGE: &str = "usage: run, check, serve, audit, generate\n";
 const REPLY: &str =
     "0 route /svc/fuchsia.logger.LogSink at logger incarnation 1 through use client, offer ., expose logger, capability logger\n";
 
-const CASES: [Case; 26] = [
+const CASES: [Case; 40] = [
     Case {
         words: &["run"],
         input: &[ROOT, LOGGER, CLIENT, ASK],
@@ -116,10 +121,112 @@ const CASES: [Case; 26] = [
     },
     Case {
         words: &["run"],
+        input: &[BUILTIN_CLIENT, "builtin protocol p\n", ASK_BUILTIN],
+        status: 0,
+        out: "0 route /svc/p at builtin through use c, offer ., builtin .\n",
+        err: "",
+    },
+    Case {
+        words: &["run"],
+        input: &[
+            BUILTIN_CLIENT,
+            "builtin directory p /p connect\n",
+            ASK_BUILTIN,
+        ],
+        status: 0,
+        out: "0 refused 87 no-builtin at builtin .\n",
+        err: "",
+    },
+    Case {
+        words: &["run"],
+        input: &[ROOT, LOGGER, CLIENT, ASK, "sync\n0 route c:x /svc/p"],
+        status: 0,
+        out: "0 route /svc/fuchsia.logger.LogSink at logger incarnation 1 through use client, offer ., expose logger, capability logger\n0 refused 80 not-found in .\n",
+        err: "",
+    },
+    Case {
+        words: &["run"],
         input: &[ROOT, ASK, "0 route client /svc/p\u{1}\n"],
         status: 7,
         out: "",
+        err: "line 6: 70 bad-command at 21\n",
+    },
+    Case {
+        words: &["run"],
+        input: &[ROOT, ASK, "0 route client\n"],
+        status: 7,
+        out: "",
+        err: "line 6: 70 bad-command at 14\n",
+    },
+    Case {
+        words: &["run"],
+        input: &["manifest a b\n", ROOT, ASK],
+        status: 7,
+        out: "",
+        err: "line 1: 70 bad-command at 10\n",
+    },
+    Case {
+        words: &["run"],
+        input: &["builtin protocol p\nbuiltin protocol p\n", ASK],
+        status: 7,
+        out: "",
+        err: "line 2: 70 bad-command at 0\n",
+    },
+    Case {
+        words: &["run"],
+        input: &[ROOT, ASK, "builtin protocol p\n"],
+        status: 7,
+        out: "",
+        err: "line 6: 70 bad-command at 0\n",
+    },
+    Case {
+        words: &["run"],
+        input: &[ASK, "root fuchsia-pkg://t/a#meta/root.cm\n"],
+        status: 7,
+        out: "",
+        err: "line 3: 70 bad-command at 0\n",
+    },
+    Case {
+        words: &["run"],
+        input: &[ROOT, ASK, "route client /a\n"],
+        status: 7,
+        out: "",
+        err: "line 6: 71 bad-lane\n",
+    },
+    Case {
+        words: &["run"],
+        input: &[ROOT, ASK, "16 show .\n", "nonsense"],
+        status: 7,
+        out: "",
+        err: "line 6: 74 too-many-lanes\n",
+    },
+    Case {
+        words: &["run"],
+        input: &[ROOT, "builtin protocol p\n", ASK, "0 start client\nfoo\n"],
+        status: 7,
+        out: "",
+        err: "line 8: 71 bad-lane\n",
+    },
+    Case {
+        words: &["run"],
+        input: &[ROOT, ASK, "1 route . /svc/p\n0 start .\n"],
+        status: 7,
+        out: "",
         err: "line 6: 79 later-form\n",
+    },
+    Case {
+        words: &["run"],
+        input: &[ROOT, ASK, "sync\n0 route @0 /svc/p\n"],
+        status: 7,
+        out: "",
+        err: "line 7: 79 later-form\n",
+    },
+    Case {
+        words: &["run"],
+        input: &[ROOT, ROOT, ASK, "0 stop .\n"],
+        status: 7,
+        out: "",
+        err: "line 9: 79 later-form\n",
     },
     Case {
         words: &["run"],
@@ -297,65 +404,109 @@ const OUTSIDES: [Outside; 5] = [
     },
 ];
 
-/// A manifest of a front, a byte so many times, and a back, and what must be said of it.
+/// The word, an input of a front, a byte so many times, and a back, and what must come of it.
 #[derive(Clone, Copy)]
 struct Large {
+    word: &'static str,
     front: &'static str,
     byte: u8,
     count: usize,
     back: &'static str,
     status: u8,
     out: &'static str,
+    err: &'static str,
 }
 
-const LARGE: [Large; 6] = [
+const LARGE: [Large; 9] = [
     Large {
+        word: "check",
         front: "{children:[{name:'",
         byte: b'n',
         count: 255,
         back: "',url:'#a'}]}",
         status: 0,
         out: "valid\n",
+        err: "",
     },
     Large {
+        word: "check",
         front: "{children:[{name:'",
         byte: b'n',
         count: 256,
         back: "',url:'#a'}]}",
         status: 1,
         out: "invalid 36 children 0 name\n",
+        err: "",
     },
     Large {
+        word: "check",
         front: "{facets:",
         byte: b'[',
         count: 200,
         back: "",
         status: 1,
         out: "invalid 31 manifest 0\n",
+        err: "",
     },
     Large {
+        word: "check",
         front: "",
         byte: b'[',
         count: 1_048_576,
         back: "",
         status: 1,
         out: "invalid 31 manifest 0\n",
+        err: "",
     },
     Large {
+        word: "check",
         front: "{}",
         byte: b' ',
         count: 1_048_575,
         back: "",
         status: 1,
         out: "invalid 41 manifest 0\n",
+        err: "",
     },
     Large {
+        word: "check",
         front: "",
         byte: 255,
         count: 1,
         back: "",
         status: 1,
         out: "invalid 30 manifest 0\n",
+        err: "",
+    },
+    Large {
+        word: "run",
+        front: "",
+        byte: b'#',
+        count: 65_536,
+        back: "\n",
+        status: 7,
+        out: "",
+        err: "line 2: 72 no-root\n",
+    },
+    Large {
+        word: "run",
+        front: "\n",
+        byte: b'#',
+        count: 65_537,
+        back: "",
+        status: 7,
+        out: "",
+        err: "line 2: 75 line-too-long\n",
+    },
+    Large {
+        word: "run",
+        front: "manifest a\n",
+        byte: b' ',
+        count: 65_537,
+        back: "\n",
+        status: 7,
+        out: "",
+        err: "line 2: 75 line-too-long\n",
     },
 ];
 
@@ -452,15 +603,16 @@ fn the_outside_may_fail(rt: HostRuntime) -> Result<(), Fail> {
 }
 
 #[test]
-fn large_manifests_are_checked(rt: HostRuntime) -> Result<(), Fail> {
+fn large_inputs_are_answered(rt: HostRuntime) -> Result<(), Fail> {
     let alloc = rt.alloc();
     for case in LARGE {
         let bytes = List::from_vec(filled(alloc, case)?);
         let input = MemorySource::new(bytes, Plan::quiet(alloc));
         let out = MemorySink::new(alloc, Plan::quiet(alloc));
-        let came = come(&rt, alloc, &["check"], input, out)?;
+        let came = come(&rt, alloc, &[case.word], input, out)?;
         assert_eq!(rt; came.status, case.status);
         assert!(rt; came.out.bytes() == case.out.as_bytes());
+        assert!(rt; came.err.bytes() == case.err.as_bytes());
     }
     Ok(())
 }

@@ -1,9 +1,10 @@
-//! The route of a protocol: from a client's use over offers up to where they turn, and over exposes down.
+//! The route of a protocol: from a client's use over offers up to where they turn, and over exposes
+//! down.
 
 use crate::realm::Realm;
 use crate::refusal::{Refusal, StepKind, Why};
 use cm_decl::{Decl, Give, Origin};
-use cm_names::{CapPath, Memory, Name, Text};
+use cm_names::{CapPath, Memory, Moniker, Name, Text};
 use std::alloc::Global;
 
 /// The most hops that a route has: it goes up over instances, and then down over others.
@@ -26,7 +27,7 @@ struct Way {
 pub fn route(
     alloc: Global,
     realm: &mut Realm,
-    client: &[Name],
+    client: &Moniker,
     path: &CapPath,
 ) -> Result<Text, Refusal> {
     let inc = realm.find(alloc, client)?;
@@ -36,9 +37,13 @@ pub fn route(
         if matches!(way.from, Origin::Own) {
             return end(alloc, realm, way);
         }
+        if matches!(way.from, Origin::Parent) && way.at == 0 {
+            return above(alloc, realm, way);
+        }
         way = next(alloc, realm, way)?;
     }
-    // Not reached: a route visits each instance at most once on its way up, and once on its way down.
+    // Not reached: a route visits each instance at most once on its way up, and once on its way
+    // down.
     Err(Refusal::Memory)
 }
 
@@ -156,6 +161,19 @@ fn along(
         name: give.source_name.clone()?,
         hops,
     })
+}
+
+/// The text of a route that has come to what stands above the root.
+fn above(alloc: Global, realm: &Realm, way: Way) -> Result<Text, Refusal> {
+    let Some(builtin) = realm.builtin(&way.name) else {
+        return Err(missing(alloc, realm, Why::NoBuiltin, StepKind::Builtin, way.at)?);
+    };
+    let path = builtin.path.as_str();
+    let moniker = realm.moniker(alloc, way.at)?;
+    let hops = way.hops;
+    let mut text = Text::new(alloc);
+    text.push(format_args!("route {path} at builtin through {hops}, builtin {moniker}"))?;
+    Ok(text)
 }
 
 /// The text of a route that has come to the instance that declares the capability.

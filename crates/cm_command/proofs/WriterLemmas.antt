@@ -1,0 +1,42 @@
+-- The words of a command, put together.
+use Rattle.std.proofs.Common.{◌≡◌, ℕ, ◌+◌, ◌<◌, List, [], ◌∷◌, ◌++◌, length, take, get_or, codes, sym, ap, ◌∙◌, append_assoc, append-nil}
+use Rattle.std.specs.List.{join_with_byte, flat_map}
+use Rattle.std.proofs.lemmas.Grind.{flat_map-append}
+use Rattle.std.proofs.lemmas.List.{take_more}
+use Rattle.cm_decl.specs.declared.rows.Give.{Give}
+use Rattle.cm_decl.specs.Words.{kind_word}
+use Rattle.cm_command.specs.Grammar.{Text}
+use Rattle.cm_command.specs.Written.{spaced, give_words, target_word, rights_word, subdir_word, dependency_word, availability_word, origin_text}
+
+-- words with one space between them are the first one and each other behind its space
+pub joined_is : (w : Text) (ws : List Text) → join_with_byte 32 (w ∷ ws) ≡ w ++ flat_map spaced ws
+joined_is w [] = sym (append-nil w)
+joined_is w (v ∷ vs) = ap (λ t. w ++ 32 ∷ t) (joined_is v vs)
+
+-- the words of a group behind its origin
+parts_are : (g : Give) → flat_map spaced (target_word g ++ (rights_word g.rights ++ (subdir_word g.subdir ++ (dependency_word g.dependency ++ availability_word g.availability)))) ≡ flat_map spaced (target_word g) ++ (flat_map spaced (rights_word g.rights) ++ (flat_map spaced (subdir_word g.subdir) ++ (flat_map spaced (dependency_word g.dependency) ++ flat_map spaced (availability_word g.availability))))
+parts_are g =
+    flat_map-append spaced (target_word g) _ ∙ ap (λ t. flat_map spaced (target_word g) ++ t) (flat_map-append spaced (rights_word g.rights) _ ∙ ap (λ t. flat_map spaced (rights_word g.rights) ++ t) (flat_map-append spaced (subdir_word g.subdir) _ ∙ ap (λ t. flat_map spaced (subdir_word g.subdir) ++ t) (flat_map-append spaced (dependency_word g.dependency) (availability_word g.availability))))
+
+pub give_is : (g : Give) (old a b d e f h i : Text) → a ≡ (old ++ codes " ") ++ codes "+" → b ≡ (a ++ codes " ") ++ kind_word g.kind → d ≡ (b ++ codes " ") ++ g.source_name → e ≡ (d ++ codes " ") ++ origin_text g.from → f ≡ e ++ flat_map spaced (target_word g) → h ≡ (f ++ flat_map spaced (rights_word g.rights)) ++ flat_map spaced (subdir_word g.subdir) → i ≡ (h ++ flat_map spaced (dependency_word g.dependency)) ++ flat_map spaced (availability_word g.availability) → i ≡ old ++ flat_map spaced (give_words g)
+give_is g old a b d e f h i ea eb ed ee ef eh ei = rw (parts_are g, ei, eh, ef, ee, ed, eb, ea) (simp append_assoc)
+
+-- one group more
+pub gives_more : (gs : List Give) (i : ℕ) (g : Give) (start t u : Text) → i < length gs → g ≡ get_or gs i g → t ≡ start ++ flat_map spaced (flat_map give_words (take i gs)) → u ≡ t ++ flat_map spaced (give_words g) → u ≡ start ++ flat_map spaced (flat_map give_words (take (i + 1) gs))
+gives_more gs i g start t u lt at e f =
+    f ∙ ap (λ x. x ++ flat_map spaced (give_words g)) e ∙ append_assoc start _ _ ∙ ap (λ x. start ++ x) (sym (flat_map-append spaced (flat_map give_words (take i gs)) (give_words g)) ∙ ap (flat_map spaced) (sym (whole gs i g lt at)))
+  where
+    whole : (gs : List Give) (i : ℕ) (g : Give) → i < length gs → g ≡ get_or gs i g → flat_map give_words (take (i + 1) gs) ≡ flat_map give_words (take i gs) ++ give_words g
+    whole gs i g lt at =
+        ap (flat_map give_words) (take_more gs i g lt) ∙ flat_map-append give_words (take i gs) (get_or gs i g ∷ []) ∙ ap (λ x. flat_map give_words (take i gs) ++ x) (append-nil (give_words (get_or gs i g)) ∙ ap give_words (sym at))
+
+-- a verb, a target and one word
+pub word_is : (verb target word old t : Text) → old ≡ (verb ++ codes " ") ++ target → t ≡ (old ++ codes " ") ++ word → t ≡ (((verb ++ codes " ") ++ target) ++ codes " ") ++ word
+word_is verb target word old t e f = f ∙ ap (λ x. (x ++ codes " ") ++ word) e
+
+pub three_words : (verb target word t : Text) → t ≡ (((verb ++ codes " ") ++ target) ++ codes " ") ++ word → t ≡ verb ++ 32 ∷ (target ++ 32 ∷ word)
+three_words verb target word t e = e ∙ simp append_assoc
+
+pub create_is : (target coll name url t a b c : Text) (ws : List Text) → t ≡ (((codes "create" ++ codes " ") ++ target) ++ codes " ") ++ coll → a ≡ (t ++ codes " ") ++ name → b ≡ (a ++ codes " ") ++ url → c ≡ b ++ flat_map spaced ws → c ≡ join_with_byte 32 (codes "create" ∷ target ∷ coll ∷ name ∷ url ∷ ws)
+create_is target coll name url t a b c ws et ea eb ec =
+    rw (ec, eb, ea, et, joined_is (codes "create") (target ∷ coll ∷ name ∷ url ∷ ws)) (simp append_assoc)

@@ -1,0 +1,11 @@
+use Rattle.std.proofs.Common.{arith}
+use Rattle.cm_command.proofs.AdditionCounts.{fault_2, protocol_reads}
+use Rattle.cm_command.proofs.addition.from_subdir.Goals as goal
+
+pub returns-in-Protocol : goal.returns-in-Protocol
+returns-in-Protocol c =
+    protocol_reads 2 c.args.kind c.args.word.now c.from_weak.result c.in-Protocol.is (omega arith) (omega arith) c.from_weak.ensures
+
+pub returns-in-Err-from_weak : goal.returns-in-Err-from_weak
+returns-in-Err-from_weak c =
+    fault_2 c.args.kind c.args.word.now c.in-Err.fault c.in-Err-from_weak.other c.either.result c.in-Directory.is c.either.ensures c.in-Err.ensures c.in-Err-from_weak.ensures

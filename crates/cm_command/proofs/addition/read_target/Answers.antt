@@ -1,0 +1,12 @@
+use Rattle.std.proofs.Common.{codes}
+use Rattle.cm_command.proofs.KindLemmas.{fault_of_rest, fault_no_front}
+use Rattle.cm_command.proofs.AdditionCounts.{target_behind}
+use Rattle.cm_command.proofs.addition.read_target.Goals as goal
+
+pub returns-in_default : goal.returns-in_default
+returns-in_default c =
+    fault_no_front (codes "as=") c.args.word.now c.text_fronts.result target_behind c.in_default.ensures c.text_fronts.ensures
+
+pub returns-in-Err : goal.returns-in-Err
+returns-in-Err c =
+    fault_of_rest (codes "as=") c.args.word.now c.in-Some.name.now c.in-Err.fault c.behind.result target_behind c.in-Some.ensures c.behind.ensures c.in-Err.ensures

@@ -1,0 +1,7 @@
+use Rattle.std.proofs.Common.{rules}
+use Rattle.cm_command.proofs.StepLemmas.{kind_counts, no_kind}
+use Rattle.cm_command.proofs.step.read_kind.Goals as goal
+
+pub returns : goal.returns
+returns c =
+    (no_kind c.args.word.now (search rules) (search rules), kind_counts c.args.word.now c.text_fronts.result c.text_fronts-2.result c.max.result c.max.ensures c.text_fronts.ensures c.text_fronts-2.ensures)

@@ -1,0 +1,5 @@
+use Rattle.cm_command.proofs.StepLemmas.{group_name_fault}
+use Rattle.cm_command.proofs.step.take_group_name.Goals as goal
+
+pub returns-in-Err : goal.returns-in-Err
+returns-in-Err c = group_name_fault c.args.creation c.args.kind c.args.word.now c.in-Err.fault c.in-Err.ensures

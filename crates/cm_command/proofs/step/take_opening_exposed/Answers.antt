@@ -1,0 +1,5 @@
+use Rattle.cm_command.proofs.StepLemmas.{opening_exposed_fault}
+use Rattle.cm_command.proofs.step.take_opening_exposed.Goals as goal
+
+pub returns-in-Err : goal.returns-in-Err
+returns-in-Err c = opening_exposed_fault c.args.target c.args.word.now c.in-Err.fault c.in-Err.ensures

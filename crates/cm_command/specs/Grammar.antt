@@ -1,0 +1,102 @@
+-- Which line is which command.
+use Rattle.std.specs.Prelude.{◌≡◌, ℕ, ◌+◌, ◌≤◌, List, [], ◌∷◌, ◌++◌, codes, Some, None, IsTrue}
+use Rattle.cm_names.specs.declared.availability.Availability.TheVariants as availability
+use Rattle.cm_names.specs.declared.dependency.Dependency.TheVariants as dependency
+use Rattle.cm_names.specs.Name.{IsName}
+use Rattle.cm_names.specs.Path.{is_path, is_subdir, service_path}
+use Rattle.cm_names.specs.Rights.{RightSet}
+use Rattle.cm_names.specs.Fronts.{IsLongestFront}
+use Rattle.cm_decl.specs.declared.kind.Kind.{Kind}
+use Rattle.cm_decl.specs.declared.kind.Kind.TheVariants as kind
+use Rattle.cm_decl.specs.declared.origin.Origin.{Origin}
+use Rattle.cm_decl.specs.declared.rows.Give.{Give}
+use Rattle.cm_decl.specs.Words.{kind_word}
+use Rattle.cm_world.specs.declared.event.Target.{Target}
+use Rattle.cm_world.specs.declared.frame.Builtin.{Builtin}
+use Rattle.cm_command.specs.declared.command.Command.{Command}
+use Rattle.cm_command.specs.declared.command.Command.TheVariants as command
+use Rattle.cm_command.specs.declared.command.CommandFault.{CommandFault}
+use Rattle.cm_command.specs.declared.command.CommandFault.TheVariants.{BadCommand, Memory}
+use Rattle.cm_command.specs.Words.{words_of, IsUrlText, IsTargetText, IsOriginText, IsRightsText}
+
+-- bytes
+abbrev pub Text : Type 0
+Text = List ℕ
+
+-- what a group gives that has no word behind its origin: all else is the default
+abbrev pub plain_give : Kind → Text → Origin → Give
+plain_give kind name origin =
+    record { kind = kind; source_name = name; from = origin; target_name = name; rights = None; subdir = None; dependency = dependency.Strong; availability = availability.Required }
+
+-- the word, which is the n-th in the order of what a group may add, makes the first give the second
+pub data Adds : ℕ → Text → Give → Give → Type 0 where
+  target : {name : Text} {g : Give} → IsName name → Adds 0 (codes "as=" ++ name) g (record g { target_name = name })
+  rights : {w : Text} {r : RightSet} {g : Give} → g.kind ≡ kind.Directory → IsRightsText w r → Adds 1 (codes "rights=" ++ w) g (record g { rights = Some r })
+  subdir : {w : Text} {g : Give} → g.kind ≡ kind.Directory → IsTrue (is_subdir w) → Adds 2 (codes "subdir=" ++ w) g (record g { subdir = Some w })
+  weak : {g : Give} → Adds 3 (codes "weak") g (record g { dependency = dependency.Weak })
+  optional : {g : Give} → Adds 4 (codes "optional") g (record g { availability = availability.Optional })
+
+mutual
+  -- groups, each of which begins with the word `+`
+  pub data Groups : List Text → List Give → Type 0 where
+    no_group : Groups [] []
+    group : {k : Kind} {name from : Text} {origin : Origin} {ws : List Text} {gs : List Give} → IsName name → IsOriginText from origin → Behind 0 (plain_give k name origin) ws gs → Groups (codes "+" ∷ kind_word k ∷ name ∷ from ∷ ws) gs
+
+  -- what stands behind a group's origin: additions from the n-th on, each once at most and in their order, and further groups
+  pub data Behind : ℕ → Give → List Text → List Give → Type 0 where
+    whole : {n : ℕ} {g : Give} {ws : List Text} {gs : List Give} → Groups ws gs → Behind n g ws (g ∷ gs)
+    addition : {n m : ℕ} {g h : Give} {w : Text} {ws : List Text} {gs : List Give} → n ≤ m → Adds m w g h → Behind (m + 1) h ws gs → Behind n g (w ∷ ws) gs
+
+-- the commands, each with its words
+pub data CommandWords : List Text → Command → Type 0 where
+  resolve : {t : Text} {a : Target} → IsTargetText t a → CommandWords (codes "resolve" ∷ t ∷ []) (command.Resolve a)
+  start : {t : Text} {a : Target} → IsTargetText t a → CommandWords (codes "start" ∷ t ∷ []) (command.Start a)
+  stop : {t : Text} {a : Target} → IsTargetText t a → CommandWords (codes "stop" ∷ t ∷ []) (command.Stop a)
+  shutdown : {t : Text} {a : Target} → IsTargetText t a → CommandWords (codes "shutdown" ∷ t ∷ []) (command.Shutdown a)
+  create : {t coll name url : Text} {a : Target} {ws : List Text} {gives : List Give} → IsTargetText t a → IsName coll → IsName name → IsUrlText url → Groups ws gives → CommandWords (codes "create" ∷ t ∷ coll ∷ name ∷ url ∷ ws) (command.Create a coll name url gives)
+  destroy : {t : Text} {a : Target} → IsTargetText t a → CommandWords (codes "destroy" ∷ t ∷ []) (command.Destroy a)
+  list : {t coll : Text} {a : Target} → IsTargetText t a → IsName coll → CommandWords (codes "list" ∷ t ∷ coll ∷ []) (command.ListChildren a coll)
+  open_use : {t path : Text} {a : Target} → IsTargetText t a → IsTrue (is_path path) → CommandWords (codes "open" ∷ t ∷ path ∷ []) (command.OpenUse a path)
+  open_exposed : {t name : Text} {a : Target} → IsTargetText t a → IsName name → CommandWords (codes "open-exposed" ∷ t ∷ name ∷ []) (command.OpenExposed a name)
+  route_of : {t path : Text} {a : Target} → IsTargetText t a → IsTrue (is_path path) → CommandWords (codes "route" ∷ t ∷ path ∷ []) (command.RouteOf a path)
+  doctor : {t : Text} {a : Target} → IsTargetText t a → CommandWords (codes "doctor" ∷ t ∷ []) (command.Doctor a)
+  show : {t : Text} {a : Target} → IsTargetText t a → CommandWords (codes "show" ∷ t ∷ []) (command.Show a)
+  survey : {t : Text} {a : Target} → IsTargetText t a → CommandWords (codes "survey" ∷ t ∷ []) (command.Survey a)
+  exited : {t : Text} {a : Target} → IsTargetText t a → CommandWords (codes "exited" ∷ t ∷ []) (command.Exited a)
+
+-- the line asks for that command
+abbrev pub CommandText : Text → Command → Type 0
+CommandText t c = CommandWords (words_of t) c
+
+-- the line asks for some command
+abbrev pub IsCommandText : Text → Type 0
+IsCommandText t = (c : Command) × CommandText t c
+
+-- the fault of a line that asks for none
+abbrev pub IsCommandFault : Text → CommandFault → Type 0
+IsCommandFault t (BadCommand n) = (IsCommandText t → ⊥) × IsLongestFront IsCommandText t n
+IsCommandFault t Memory = ⊥
+
+-- the words behind `builtin`; a protocol's path is `/svc/` and its name
+pub data BuiltinWords : List Text → Builtin → Type 0 where
+  protocol : {name : Text} → IsName name → BuiltinWords (codes "protocol" ∷ name ∷ []) (record { kind = kind.Protocol; name = name; path = service_path name; rights = None })
+  directory : {name path w : Text} {r : RightSet} → IsName name → IsTrue (is_path path) → IsRightsText w r → BuiltinWords (codes "directory" ∷ name ∷ path ∷ w ∷ []) (record { kind = kind.Directory; name = name; path = path; rights = Some r })
+
+-- what stands behind `builtin ` says that there is that capability
+abbrev pub BuiltinText : Text → Builtin → Type 0
+BuiltinText t b = BuiltinWords (words_of t) b
+
+-- what stands there says that there is some capability
+abbrev pub IsBuiltinText : Text → Type 0
+IsBuiltinText t = (b : Builtin) × BuiltinText t b
+
+-- what stands there says no such thing
+abbrev pub IsBuiltinFault : Text → CommandFault → Type 0
+IsBuiltinFault t (BadCommand n) = (IsBuiltinText t → ⊥) × IsLongestFront IsBuiltinText t n
+IsBuiltinFault t Memory = ⊥
+
+-- ---- laws
+
+-- a line asks for one command at most
+abbrev pub ReadsOneWay : Type 0
+ReadsOneWay = (t : Text) (c d : Command) → CommandText t c → CommandText t d → c ≡ d

@@ -1,0 +1,11 @@
+pub mod Numbers
+pub mod Words
+pub mod Grammar
+pub mod Counts
+pub mod PathPlaces
+pub mod Additions
+pub mod Pieces
+pub mod Written
+pub mod FaultText
+pub mod Scripts
+pub mod Places

@@ -1,0 +1,164 @@
+-- Where a line stands behind some of its words: which word leads on, and to what.
+use Rattle.std.specs.Prelude.{◌≡◌, ◌⊎◌, ℕ, ◌+◌, ◌-◌, ◌≤◌, ◌^◌, List, [], ◌∷◌, ◌++◌, codes, Some, None, Result, MatchResult, IsTrue}
+use Rattle.cm_names.specs.Name.{IsName}
+use Rattle.cm_names.specs.Path.{is_path, service_path}
+use Rattle.cm_names.specs.Rights.{RightSet}
+use Rattle.cm_decl.specs.declared.kind.Kind.{Kind}
+use Rattle.cm_decl.specs.declared.kind.Kind.TheVariants as kind
+use Rattle.cm_decl.specs.declared.origin.Origin.{Origin}
+use Rattle.cm_decl.specs.declared.rows.Give.{Give}
+use Rattle.cm_decl.specs.Words.{kind_word}
+use Rattle.cm_world.specs.declared.event.Target.{Target}
+use Rattle.cm_world.specs.declared.frame.Builtin.{Builtin}
+use Rattle.cm_command.specs.declared.command.Command.{Command}
+use Rattle.cm_command.specs.declared.command.Command.TheVariants as command
+use Rattle.cm_command.specs.declared.place.Verb.{Verb}
+use Rattle.cm_command.specs.declared.place.Verb.TheVariants as verb
+use Rattle.cm_command.specs.declared.place.Sentence.{Sentence}
+use Rattle.cm_command.specs.declared.place.Sentence.TheVariants as sentence
+use Rattle.cm_command.specs.declared.place.Creation.{Creation}
+use Rattle.cm_command.specs.declared.place.Place.{Place}
+use Rattle.cm_command.specs.declared.place.Place.TheVariants as place
+use Rattle.cm_command.specs.declared.tokens.WordFault.{WordFault}
+use Rattle.cm_command.specs.declared.tokens.WordFault.TheVariants as word_fault
+use Rattle.cm_command.specs.declared.command.CommandFault.{CommandFault}
+use Rattle.cm_command.specs.declared.command.CommandFault.TheVariants as command_fault
+use Rattle.cm_command.specs.Counts.{IsWordFault}
+use Rattle.cm_command.specs.Pieces.{Wants}
+use Rattle.cm_command.specs.Words.{IsUrlText, IsTargetText, IsOriginText, IsRightsText}
+use Rattle.cm_command.specs.Grammar.{Text, Adds, plain_give}
+
+-- the word of a verb
+abbrev pub verb_word : Verb → Text
+verb_word verb.Resolve = codes "resolve"
+verb_word verb.Start = codes "start"
+verb_word verb.Stop = codes "stop"
+verb_word verb.Shutdown = codes "shutdown"
+verb_word verb.Create = codes "create"
+verb_word verb.Destroy = codes "destroy"
+verb_word verb.List = codes "list"
+verb_word verb.Open = codes "open"
+verb_word verb.OpenExposed = codes "open-exposed"
+verb_word verb.Route = codes "route"
+verb_word verb.Doctor = codes "doctor"
+verb_word verb.Show = codes "show"
+verb_word verb.Survey = codes "survey"
+verb_word verb.Exited = codes "exited"
+
+-- all verbs
+abbrev pub verbs : List Verb
+verbs =
+    verb.Resolve ∷ verb.Start ∷ verb.Stop ∷ verb.Shutdown ∷ verb.Create ∷ verb.Destroy ∷ verb.List ∷ verb.Open ∷ verb.OpenExposed ∷ verb.Route ∷ verb.Doctor ∷ verb.Show ∷ verb.Survey ∷ verb.Exited ∷ []
+
+-- the word of some verb
+abbrev pub IsVerbWord : Text → Type 0
+IsVerbWord w = (v : Verb) × (w ≡ verb_word v)
+
+-- the word of some kind
+abbrev pub IsKindWord : Text → Type 0
+IsKindWord w = (k : Kind) × (w ≡ kind_word k)
+
+-- the place behind the words of a command
+abbrev pub asks : Command → Place
+asks c = place.Whole (sentence.Command c)
+
+-- the place behind a verb and its target
+abbrev pub behind_target : Verb → Target → Place
+behind_target verb.Resolve a = asks (command.Resolve a)
+behind_target verb.Start a = asks (command.Start a)
+behind_target verb.Stop a = asks (command.Stop a)
+behind_target verb.Shutdown a = asks (command.Shutdown a)
+behind_target verb.Create a = place.Creating a
+behind_target verb.Destroy a = asks (command.Destroy a)
+behind_target verb.List a = place.Listing a
+behind_target verb.Open a = place.Opening a
+behind_target verb.OpenExposed a = place.OpeningExposed a
+behind_target verb.Route a = place.Routing a
+behind_target verb.Doctor a = asks (command.Doctor a)
+behind_target verb.Show a = asks (command.Show a)
+behind_target verb.Survey a = asks (command.Survey a)
+behind_target verb.Exited a = asks (command.Exited a)
+
+-- a builtin protocol, whose path is that of its name
+abbrev pub protocol_of : Text → Builtin
+protocol_of name = record { kind = kind.Protocol; name = name; path = service_path name; rights = None }
+
+-- a builtin directory
+abbrev pub directory_of : Text → Text → RightSet → Builtin
+directory_of name path r = record { kind = kind.Directory; name = name; path = path; rights = Some r }
+
+-- the place behind the words of a builtin capability
+abbrev pub provides : Builtin → Place
+provides b = place.Whole (sentence.Builtin b)
+
+-- the place behind the name of a builtin capability
+abbrev pub behind_builtin : Kind → Text → Place
+behind_builtin kind.Protocol name = provides (protocol_of name)
+behind_builtin kind.Directory name = place.BuiltinPath name
+
+-- the place behind a child's URL
+abbrev pub create : Target → Text → Text → Text → Place
+create parent coll name url =
+    place.Groups (record { parent = parent; coll = coll; name = name; url = url; gives = [] })
+
+-- the place behind the origin of what a group gives: all else is the default
+abbrev pub give : Creation → Kind → Text → Origin → Place
+give c kind name origin = place.Additions c (plain_give kind name origin) 0
+
+-- a creation with one give more
+abbrev pub with_give : Creation → Give → Creation
+with_give c g = record c { gives = c.gives ++ g ∷ [] }
+
+-- the word leads from the first place to the second
+abbrev pub Steps : Place → Text → Place → Type 0
+Steps place.Start w p = (v : Verb) × (w ≡ verb_word v) × (p ≡ place.Verb v)
+Steps (place.Verb v) w p = (a : Target) × IsTargetText w a × (p ≡ behind_target v a)
+Steps (place.Listing a) w p = IsName w × (p ≡ asks (command.ListChildren a w))
+Steps (place.Opening a) w p = IsTrue (is_path w) × (p ≡ asks (command.OpenUse a w))
+Steps (place.OpeningExposed a) w p = IsName w × (p ≡ asks (command.OpenExposed a w))
+Steps (place.Routing a) w p = IsTrue (is_path w) × (p ≡ asks (command.RouteOf a w))
+Steps (place.Creating a) w p = IsName w × (p ≡ place.CreatingIn a w)
+Steps (place.CreatingIn a coll) w p = IsName w × (p ≡ place.CreatingNamed a coll w)
+Steps (place.CreatingNamed a coll name) w p = IsUrlText w × (p ≡ create a coll name w)
+Steps (place.Groups c) w p = (w ≡ codes "+") × (p ≡ place.GroupKind c)
+Steps (place.GroupKind c) w p = (k : Kind) × (w ≡ kind_word k) × (p ≡ place.GroupName c k)
+Steps (place.GroupName c k) w p = IsName w × (p ≡ place.GroupFrom c k w)
+Steps (place.GroupFrom c k name) w p = (o : Origin) × IsOriginText w o × (p ≡ give c k name o)
+Steps (place.Additions c g n) w p =
+    ((w ≡ codes "+") × (p ≡ place.GroupKind (with_give c g))) ⊎ ((m : ℕ) × (h : Give) × (n ≤ m) × Adds m w g h × (p ≡ place.Additions c h (m + 1)))
+Steps place.BuiltinKind w p = (k : Kind) × (w ≡ kind_word k) × (p ≡ place.BuiltinName k)
+Steps (place.BuiltinName k) w p = IsName w × (p ≡ behind_builtin k w)
+Steps (place.BuiltinPath name) w p = IsTrue (is_path w) × (p ≡ place.BuiltinRights name w)
+Steps (place.BuiltinRights name path) w p =
+    (r : RightSet) × IsRightsText w r × (p ≡ provides (directory_of name path r))
+Steps (place.Whole s) w p = ⊥
+
+-- the command of a creation that is whole
+abbrev pub created : Creation → Sentence
+created c = sentence.Command (command.Create c.parent c.coll c.name c.url c.gives)
+
+-- the line may end at the place, and says that
+abbrev pub Ends : Place → Sentence → Type 0
+Ends (place.Groups c) s = s ≡ created c
+Ends (place.Additions c g n) s = s ≡ created (with_give c g)
+Ends (place.Whole t) s = s ≡ t
+Ends _ s = ⊥
+
+-- where the word leads from the place, or the fault of one that leads nowhere
+abbrev pub StepsFrom : Place → Text → Result Place WordFault → Type 0
+StepsFrom p w r = MatchResult r (λ q. Steps p w q) (λ e. IsWordFault (Wants Steps p) w e)
+
+-- the fault of a line of that length whose words lead to a place where it may not end
+abbrev pub IsUnended : Place → ℕ → WordFault → Type 0
+IsUnended p len (word_fault.Bad n) = ((s : Sentence) → Ends p s → ⊥) × (n ≡ len + 1)
+IsUnended p len word_fault.Memory = Unit {0}
+
+-- some front can be completed, and the count stays in 32 bits
+abbrev pub IsShort : WordFault → Type 0
+IsShort (word_fault.Bad n) = (1 ≤ n) × (n ≤ 2 ^ 32)
+IsShort word_fault.Memory = Unit {0}
+
+-- the fault of a line, which tells the length of the longest front that can be completed
+abbrev pub line_fault : WordFault → CommandFault
+line_fault (word_fault.Bad n) = command_fault.BadCommand (n - 1)
+line_fault word_fault.Memory = command_fault.Memory

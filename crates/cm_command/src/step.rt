@@ -1,0 +1,472 @@
+//! From word to word of a line.
+
+ghost use Rattle.std.specs.Prelude.{◌≡◌, ℕ, List as Seq, Some, IfOk, MatchOption, MatchResult};
+ghost use Rattle.cm_decl.specs.declared.kind.Kind.{Kind as OneKind};
+ghost use Rattle.cm_decl.specs.Words.{kind_word};
+ghost use Rattle.cm_command.specs.declared.place.Place.TheVariants as place;
+ghost use Rattle.cm_command.specs.declared.place.Sentence.{Sentence as Said};
+ghost use Rattle.cm_command.specs.Additions.{IsAddition};
+ghost use Rattle.cm_command.specs.Counts.{CountsFronts, IsWordFault};
+ghost use Rattle.cm_command.specs.Places as spec;
+ghost use Rattle.cm_command.specs.Places.{Ends, IsVerbWord, IsKindWord, Steps, StepsFrom, verb_word};
+
+use crate::Command;
+use crate::addition::{Addition, read_addition};
+use crate::place::{Creation, Place, Sentence, Verb};
+use crate::rights::read_rights;
+use crate::tokens::{
+    WordFault, read_name, read_origin, read_path, read_target, read_url, text_fronts,
+};
+use crate::words::is_same;
+use cm_decl::{Give, Kind, Origin};
+use cm_names::{Availability, CapPath, Dependency, List, Memory, Name, Rights, Text};
+use cm_world::{Builtin, Target};
+use std::alloc::Global;
+
+/// The place behind one word more.
+///
+/// `Err(Bad)` comes where no place stands behind the word, and tells how many of its fronts some
+/// word that leads on begins with. `Err(Memory)` comes where memory runs out.
+pub fn step(alloc: Global, place: Place, word: &[u8]) -> Result<Place, WordFault>
+    ensures { StepsFrom place word.now result }
+{
+    match place {
+        Place::Start => take_verb(word),
+        Place::Verb(verb) => take_target(alloc, verb, word),
+        Place::Listing(target) => take_listing(alloc, target, word),
+        Place::Opening(target) => take_opening(alloc, target, word),
+        Place::OpeningExposed(target) => take_opening_exposed(alloc, target, word),
+        Place::Routing(target) => take_routing(alloc, target, word),
+        Place::Creating(parent) => take_collection(alloc, parent, word),
+        Place::CreatingIn(parent, coll) => take_child(alloc, parent, coll, word),
+        Place::CreatingNamed(parent, coll, name) => take_url(alloc, parent, coll, name, word),
+        Place::Groups(creation) => take_group(creation, word),
+        Place::GroupKind(creation) => take_group_kind(creation, word),
+        Place::GroupName(creation, kind) => take_group_name(alloc, creation, kind, word),
+        Place::GroupFrom(creation, kind, name) => take_from(alloc, creation, kind, name, word),
+        Place::Additions(creation, give, from) => {
+            take_addition(alloc, creation, give, from, word)
+        }
+        Place::BuiltinKind => take_builtin_kind(word),
+        Place::BuiltinName(kind) => take_builtin_name(alloc, kind, word),
+        Place::BuiltinPath(name) => take_builtin_path(alloc, name, word),
+        Place::BuiltinRights(name, path) => take_builtin_rights(alloc, name, path, word),
+        Place::Whole(_sentence) => Err(WordFault::Bad(0)),
+    }
+}
+
+/// The place behind a verb.
+fn take_verb(word: &[u8]) -> Result<Place, WordFault>
+    ensures { StepsFrom place.Start word.now result }
+{
+    match read_verb(word) {
+        Ok(verb) => Ok(Place::Verb(verb)),
+        Err(fault) => Err(fault),
+    }
+}
+
+/// The place behind a target.
+fn take_target(alloc: Global, verb: Verb, word: &[u8]) -> Result<Place, WordFault>
+    ensures { StepsFrom (place.Verb verb) word.now result }
+{
+    match read_target(alloc, word) {
+        Ok(target) => Ok(behind_target(verb, target)),
+        Err(fault) => Err(fault),
+    }
+}
+
+/// The place behind the collection of `list`.
+fn take_listing(alloc: Global, target: Target, word: &[u8]) -> Result<Place, WordFault>
+    ensures { StepsFrom (place.Listing target) word.now result }
+{
+    match read_name(alloc, word) {
+        Ok(coll) => Ok(asks(Command::ListChildren { target, coll })),
+        Err(fault) => Err(fault),
+    }
+}
+
+/// The place behind the path of `open`.
+fn take_opening(alloc: Global, target: Target, word: &[u8]) -> Result<Place, WordFault>
+    ensures { StepsFrom (place.Opening target) word.now result }
+{
+    match read_path(alloc, word) {
+        Ok(path) => Ok(asks(Command::OpenUse { target, path })),
+        Err(fault) => Err(fault),
+    }
+}
+
+/// The place behind the name of `open-exposed`.
+fn take_opening_exposed(alloc: Global, target: Target, word: &[u8]) -> Result<Place, WordFault>
+    ensures { StepsFrom (place.OpeningExposed target) word.now result }
+{
+    match read_name(alloc, word) {
+        Ok(name) => Ok(asks(Command::OpenExposed { target, name })),
+        Err(fault) => Err(fault),
+    }
+}
+
+/// The place behind the path of `route`.
+fn take_routing(alloc: Global, target: Target, word: &[u8]) -> Result<Place, WordFault>
+    ensures { StepsFrom (place.Routing target) word.now result }
+{
+    match read_path(alloc, word) {
+        Ok(path) => Ok(asks(Command::RouteOf { target, path })),
+        Err(fault) => Err(fault),
+    }
+}
+
+/// The place behind the collection of `create`.
+fn take_collection(alloc: Global, parent: Target, word: &[u8]) -> Result<Place, WordFault>
+    ensures { StepsFrom (place.Creating parent) word.now result }
+{
+    match read_name(alloc, word) {
+        Ok(coll) => Ok(Place::CreatingIn(parent, coll)),
+        Err(fault) => Err(fault),
+    }
+}
+
+/// The place behind the child's name of `create`.
+fn take_child(alloc: Global, parent: Target, coll: Name, word: &[u8]) -> Result<Place, WordFault>
+    ensures { StepsFrom (place.CreatingIn parent coll) word.now result }
+{
+    match read_name(alloc, word) {
+        Ok(name) => Ok(Place::CreatingNamed(parent, coll, name)),
+        Err(fault) => Err(fault),
+    }
+}
+
+/// The place behind the child's URL of `create`.
+fn take_url(
+    alloc: Global,
+    parent: Target,
+    coll: Name,
+    name: Name,
+    word: &[u8],
+) -> Result<Place, WordFault>
+    ensures { StepsFrom (place.CreatingNamed parent coll name) word.now result }
+{
+    match read_url(alloc, word) {
+        Ok(url) => Ok(create(alloc, parent, coll, name, url)),
+        Err(fault) => Err(fault),
+    }
+}
+
+/// The place behind the word `+`.
+fn take_group(creation: Creation, word: &[u8]) -> Result<Place, WordFault>
+    ensures { StepsFrom (place.Groups creation) word.now result }
+{
+    if is_same(word, "+") {
+        Ok(Place::GroupKind(creation))
+    } else {
+        Err(WordFault::Bad(text_fronts("+", word)))
+    }
+}
+
+/// The place behind the kind of a group.
+fn take_group_kind(creation: Creation, word: &[u8]) -> Result<Place, WordFault>
+    ensures { StepsFrom (place.GroupKind creation) word.now result }
+{
+    match read_kind(word) {
+        Ok(kind) => Ok(Place::GroupName(creation, kind)),
+        Err(fault) => Err(fault),
+    }
+}
+
+/// The place behind the name of what a group gives.
+fn take_group_name(
+    alloc: Global,
+    creation: Creation,
+    kind: Kind,
+    word: &[u8],
+) -> Result<Place, WordFault>
+    ensures { StepsFrom (place.GroupName creation kind) word.now result }
+{
+    match read_name(alloc, word) {
+        Ok(name) => Ok(Place::GroupFrom(creation, kind, name)),
+        Err(fault) => Err(fault),
+    }
+}
+
+/// The place behind the origin of what a group gives.
+fn take_from(
+    alloc: Global,
+    creation: Creation,
+    kind: Kind,
+    name: Name,
+    word: &[u8],
+) -> Result<Place, WordFault>
+    ensures { StepsFrom (place.GroupFrom creation kind name) word.now result }
+{
+    match read_origin(alloc, word) {
+        Ok(from) => Ok(give(creation, kind, name, from)?),
+        Err(fault) => Err(fault),
+    }
+}
+
+/// The place behind an addition, or behind the word `+`.
+fn take_addition(
+    alloc: Global,
+    creation: Creation,
+    give: Give,
+    from: u32,
+    word: &[u8],
+) -> Result<Place, WordFault>
+    ensures { StepsFrom (place.Additions creation give from) word.now result }
+{
+    match read_addition(alloc, from, give.kind, word) {
+        Ok(addition) => Ok(add(creation, give, addition)?),
+        Err(fault) => Err(fault),
+    }
+}
+
+/// The place behind the kind of a builtin capability.
+fn take_builtin_kind(word: &[u8]) -> Result<Place, WordFault>
+    ensures { StepsFrom place.BuiltinKind word.now result }
+{
+    match read_kind(word) {
+        Ok(kind) => Ok(Place::BuiltinName(kind)),
+        Err(fault) => Err(fault),
+    }
+}
+
+/// The place behind the name of a builtin capability.
+fn take_builtin_name(alloc: Global, kind: Kind, word: &[u8]) -> Result<Place, WordFault>
+    ensures { StepsFrom (place.BuiltinName kind) word.now result }
+{
+    match read_name(alloc, word) {
+        Ok(name) => Ok(behind_builtin(alloc, kind, name)?),
+        Err(fault) => Err(fault),
+    }
+}
+
+/// The place behind the path of a builtin directory.
+fn take_builtin_path(alloc: Global, name: Name, word: &[u8]) -> Result<Place, WordFault>
+    ensures { StepsFrom (place.BuiltinPath name) word.now result }
+{
+    match read_path(alloc, word) {
+        Ok(path) => Ok(Place::BuiltinRights(name, path)),
+        Err(fault) => Err(fault),
+    }
+}
+
+/// The place behind the rights of a builtin directory.
+fn take_builtin_rights(
+    alloc: Global,
+    name: Name,
+    path: CapPath,
+    word: &[u8],
+) -> Result<Place, WordFault>
+    ensures { StepsFrom (place.BuiltinRights name path) word.now result }
+{
+    match read_rights(alloc, word) {
+        Ok(rights) => Ok(provide(name, path, rights)),
+        Err(fault) => Err(fault),
+    }
+}
+
+/// The verb that is the word.
+fn verb_of(word: &[u8]) -> Option<Verb>
+    ensures { MatchOption result (IsVerbWord word.now → ⊥) (λ verb. word.now ≡ verb_word verb) }
+{
+    for verb in Verb::all() {
+        if is_same(word, verb.word()) {
+            return Some(verb);
+        }
+    }
+    None
+}
+
+/// How many fronts of the word some verb begins with.
+fn verb_fronts(word: &[u8]) -> usize
+    ensures { CountsFronts IsVerbWord word.now result }
+{
+    let mut fronts = 0;
+    for verb in Verb::all() {
+        fronts = fronts.max(text_fronts(verb.word(), word));
+    }
+    fronts
+}
+
+/// The verb that the word is.
+fn read_verb(word: &[u8]) -> Result<Verb, WordFault>
+    ensures { MatchResult result (λ verb. word.now ≡ verb_word verb)
+        (λ e. IsWordFault IsVerbWord word.now e) }
+{
+    match verb_of(word) {
+        Some(verb) => Ok(verb),
+        None => Err(WordFault::Bad(verb_fronts(word))),
+    }
+}
+
+/// The kind that the word is.
+fn read_kind(word: &[u8]) -> Result<Kind, WordFault>
+    ensures { MatchResult result (λ kind. word.now ≡ kind_word kind)
+        (λ e. IsWordFault IsKindWord word.now e) }
+{
+    if is_same(word, "protocol") {
+        return Ok(Kind::Protocol);
+    }
+    if is_same(word, "directory") {
+        return Ok(Kind::Directory);
+    }
+    Err(WordFault::Bad(text_fronts("protocol", word).max(text_fronts("directory", word))))
+}
+
+/// The place behind the command.
+fn asks(command: Command) -> Place
+    ensures { result ≡ spec.asks command }
+{
+    Place::Whole(Sentence::Command(command))
+}
+
+/// The place behind a verb and its target.
+fn behind_target(verb: Verb, target: Target) -> Place
+    ensures { result ≡ spec.behind_target verb target }
+{
+    match verb {
+        Verb::Resolve => asks(Command::Resolve(target)),
+        Verb::Start => asks(Command::Start(target)),
+        Verb::Stop => asks(Command::Stop(target)),
+        Verb::Shutdown => asks(Command::Shutdown(target)),
+        Verb::Create => Place::Creating(target),
+        Verb::Destroy => asks(Command::Destroy(target)),
+        Verb::List => Place::Listing(target),
+        Verb::Open => Place::Opening(target),
+        Verb::OpenExposed => Place::OpeningExposed(target),
+        Verb::Route => Place::Routing(target),
+        Verb::Doctor => asks(Command::Doctor(target)),
+        Verb::Show => asks(Command::Show(target)),
+        Verb::Survey => asks(Command::Survey(target)),
+        Verb::Exited => asks(Command::Exited(target)),
+    }
+}
+
+fn create(alloc: Global, parent: Target, coll: Name, name: Name, url: Text) -> Place
+    ensures { result ≡ spec.create parent coll name url }
+{
+    Place::Groups(Creation {
+        parent,
+        coll,
+        name,
+        url,
+        gives: List::new(alloc),
+    })
+}
+
+/// The place behind the origin of what a group gives.
+fn give(creation: Creation, kind: Kind, name: Name, from: Origin) -> Result<Place, Memory>
+    ensures { IfOk result (λ next. next ≡ spec.give creation kind name from) }
+{
+    let target_name = name.clone()?;
+    let give = Give {
+        kind,
+        source_name: name,
+        from,
+        target_name,
+        rights: None,
+        subdir: None,
+        dependency: Dependency::Strong,
+        availability: Availability::Required,
+    };
+    Ok(Place::Additions(creation, give, 0))
+}
+
+/// The place behind an addition.
+fn add(mut creation: Creation, mut give: Give, addition: Addition) -> Result<Place, Memory>
+    ensures { IfOk result
+        (λ next. (n : ℕ) (t : Seq ℕ) → IsAddition n give.kind t addition
+        → Steps (place.Additions creation give n) t next) }
+{
+    match addition {
+        Addition::Group => {
+            creation.gives.push(give)?;
+            Ok(Place::GroupKind(creation))
+        }
+        Addition::Target(name) => {
+            give.target_name = name;
+            Ok(Place::Additions(creation, give, 1))
+        }
+        Addition::Rights(rights) => {
+            give.rights = Some(rights);
+            Ok(Place::Additions(creation, give, 2))
+        }
+        Addition::Subdir(subdir) => {
+            give.subdir = Some(subdir);
+            Ok(Place::Additions(creation, give, 3))
+        }
+        Addition::Weak => {
+            give.dependency = Dependency::Weak;
+            Ok(Place::Additions(creation, give, 4))
+        }
+        Addition::Optional => {
+            give.availability = Availability::Optional;
+            Ok(Place::Additions(creation, give, 5))
+        }
+    }
+}
+
+/// The place behind the name of a builtin capability.
+fn behind_builtin(alloc: Global, kind: Kind, name: Name) -> Result<Place, Memory>
+    ensures { IfOk result (λ next. next ≡ spec.behind_builtin kind name) }
+{
+    match kind {
+        Kind::Protocol => {
+            let path = CapPath::service(alloc, &name)?;
+            Ok(Place::Whole(Sentence::Builtin(Builtin {
+                kind,
+                name,
+                path,
+                rights: None,
+            })))
+        }
+        Kind::Directory => Ok(Place::BuiltinPath(name)),
+    }
+}
+
+/// The place behind the rights of a builtin directory.
+fn provide(name: Name, path: CapPath, rights: Rights) -> Place
+    ensures { result ≡ spec.provides (spec.directory_of name path rights) }
+{
+    let rights = Some(rights);
+    Place::Whole(Sentence::Builtin(Builtin {
+        kind: Kind::Directory,
+        name,
+        path,
+        rights,
+    }))
+}
+
+/// What the line says, where it may end there.
+pub fn end(place: Place) -> Result<Option<Sentence>, Memory>
+    ensures { IfOk result
+        (λ said. MatchOption said ((s : Said) → Ends place s → ⊥) (λ s. Ends place s)) }
+{
+    match place {
+        Place::Groups(creation) => Ok(Some(created(creation))),
+        Place::Additions(mut creation, give, _from) => {
+            creation.gives.push(give)?;
+            Ok(Some(created(creation)))
+        }
+        Place::Whole(sentence) => Ok(Some(sentence)),
+        _ => Ok(None),
+    }
+}
+
+fn created(creation: Creation) -> Sentence
+    ensures { result ≡ spec.created creation }
+{
+    let Creation {
+        parent,
+        coll,
+        name,
+        url,
+        gives,
+    } = creation;
+    Sentence::Command(Command::Create {
+        parent,
+        coll,
+        name,
+        url,
+        gives,
+    })
+}

@@ -1,0 +1,6 @@
+pub mod Failures
+pub mod Logs
+pub mod Manifests
+pub mod Meeting
+pub mod Places
+pub mod Planned

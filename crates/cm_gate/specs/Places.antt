@@ -1,0 +1,49 @@
+-- Where the manifest of a URL lies in a folder.
+use Rattle.std.specs.Prelude.{ℕ, List, ◌++◌, codes, length, Bool, not, ◌&&◌, ◌==◌, if◌then◌else◌, Option, Some, None, Ok, Err, option_map}
+use Rattle.std.specs.List.{list_all}
+use Rattle.cm_names.specs.Moniker.{behind_slash}
+use Rattle.cm_names.specs.Path.{is_dots, parts_of}
+use Rattle.cm_gate.specs.declared.asked.Fetch.{Fetch}
+use Rattle.url.specs.Host.{host_text}
+use Rattle.url.specs.Parser.{parse_url, Parsed}
+use Rattle.url.specs.Parts.{Parts, nonempty_host}
+
+-- a part names a file or a folder of its own: it isn't empty, and isn't `.` or `..`
+abbrev pub is_plain : List ℕ → Bool
+is_plain part = not (length part == 0) && not (is_dots part)
+
+-- what stands between the slashes is plain
+abbrev pub are_plain : List ℕ → Bool
+are_plain text = list_all is_plain (parts_of text)
+
+-- the file of a URL's host, path and fragment: in the folder of the host, along the path, the file of the fragment
+abbrev pub file_in : List ℕ → List ℕ → List ℕ → List ℕ → List ℕ
+file_in repo host path fragment = repo ++ (codes "/" ++ (host ++ (codes "/" ++ (path ++ (codes "/" ++ fragment)))))
+
+-- that file, where all its parts are plain
+abbrev pub place_in : List ℕ → List ℕ → List ℕ → List ℕ → Option (List ℕ)
+place_in repo host path fragment =
+    if is_plain host && (are_plain path && are_plain fragment) then Some (file_in repo host path fragment) else None
+
+-- the file of a URL that has a host and a fragment
+abbrev pub place_with : List ℕ → List ℕ → Option (List ℕ) → Option (List ℕ) → Option (List ℕ)
+place_with repo path None fragment = None
+place_with repo path (Some host) None = None
+place_with repo path (Some host) (Some fragment) = place_in repo host (behind_slash path) fragment
+
+-- the file of a URL, its parts as they stand in the URL when it is read by the URL Standard
+abbrev pub place_at : List ℕ → Parsed Parts → Option (List ℕ)
+place_at repo (Ok url) = place_with repo url.path (option_map host_text (nonempty_host url)) url.fragment
+place_at repo (Err fault) = None
+
+-- where in a folder the manifest of a URL is looked for, if anywhere
+unfoldable pub place_of : List ℕ → List ℕ → Option (List ℕ)
+place_of repo url = place_at repo (parse_url None url)
+
+abbrev pub place_for : Option (List ℕ) → List ℕ → Option (List ℕ)
+place_for None url = None
+place_for (Some repo) url = place_of repo url
+
+-- where the manifest of a fetch is looked for, if anywhere: in the folder that the fetch names
+abbrev pub place_of_fetch : Fetch → Option (List ℕ)
+place_of_fetch what = place_for what.repo what.url

@@ -1,0 +1,78 @@
+-- Planned gates, as contracts see them.
+use Rattle.std.specs.Prelude.{◌≡◌, ◌⊎◌, ℕ, cond, nat_le, nat_eq, Bool, true, false, List, [], ◌∷◌, ◌++◌, length, Option, Some, None}
+use Rattle.std.specs.List.{list_any}
+use Rattle.std.specs.Str.{bytes_eq}
+use Rattle.cm_io.specs.Counts.{one_more, count_after}
+use Rattle.cm_gate.specs.declared.asked.Asked.{Asked}
+use Rattle.cm_gate.specs.declared.asked.Fetched.{Fetched}
+use Rattle.cm_gate.specs.declared.asked.Fetched.TheVariants as fetched
+use Rattle.cm_gate.specs.declared.asked.Launched.{Launched}
+use Rattle.cm_gate.specs.declared.asked.Launched.TheVariants as launched
+use Rattle.cm_gate.specs.declared.asked.Halted.{Halted}
+use Rattle.cm_gate.specs.declared.asked.Halted.TheVariants as halted
+use Rattle.cm_gate.specs.declared.planned.GatePlan.{GatePlan}
+use Rattle.cm_gate.specs.declared.planned.Unnoted.{Unnoted}
+use Rattle.cm_gate.specs.declared.planned.Unnoted.TheVariants as unnoted
+use Rattle.cm_gate.specs.Failures.{is_failure}
+use Rattle.cm_gate.specs.Manifests.{manifest_at}
+
+-- planned gates between two calls
+pub record PlanAtWork : Type 0 where
+  pub plan : GatePlan
+  -- the questions that were noted, with their answers
+  pub noted : List Asked
+  -- whether these are all
+  pub told : Bool
+  -- how many calls were made, and how many of them failed
+  pub calls : ℕ
+  pub faults : ℕ
+
+-- gates by a plan, before the first call
+abbrev pub not_yet_asked : GatePlan → PlanAtWork
+not_yet_asked plan = record { plan = plan; noted = []; told = true; calls = 0; faults = 0 }
+
+-- whether a URL is one of these
+abbrev pub is_among : List ℕ → List (List ℕ) → Bool
+is_among url urls = list_any (λ other. bytes_eq other url) urls
+
+-- whether the next call is planned to fail
+abbrev pub fails_next : PlanAtWork → Bool
+fails_next g = list_any (λ call. nat_eq call g.calls) g.plan.failing
+
+-- whether the log has no room for one question more
+abbrev pub is_full : PlanAtWork → Bool
+is_full g = nat_le g.plan.room (length g.noted)
+
+-- the answer that is planned for a fetch of this URL
+abbrev pub planned_fetch : PlanAtWork → List ℕ → Fetched
+planned_fetch g url = cond (fails_next g) fetched.Failed (manifest_at url g.plan.manifests)
+
+-- the answer that is planned for a launch of this component
+abbrev pub planned_launch : PlanAtWork → List ℕ → Launched
+planned_launch g url = cond (fails_next g) launched.Failed (cond (is_among url g.plan.declined) launched.Declined launched.Running)
+
+-- the answer that is planned for a halt
+abbrev pub planned_halt : PlanAtWork → Halted
+planned_halt g = cond (fails_next g) halted.Failed halted.Stopped
+
+-- the log, where it is told
+abbrev pub told_log : PlanAtWork → Option (List Asked)
+told_log g = cond g.told (Some g.noted) None
+
+-- why a question isn't noted: the log is full; or it isn't, and memory ran out
+abbrev pub Causes : Bool → Unnoted → Type 0
+Causes full unnoted.NoRoom = full ≡ true
+Causes full unnoted.Memory = full ≡ false
+
+-- a question went into the log with its answer, where there was room
+abbrev pub Notes : PlanAtWork → PlanAtWork → Asked → Type 0
+Notes old new question = (is_full old ≡ false) × (new ≡ record old { noted = old.noted ++ question ∷ [] })
+
+-- one call more is counted, and its failure is
+abbrev pub counted : Bool → PlanAtWork → PlanAtWork
+counted failed g = record g { calls = one_more g.calls; faults = count_after failed g.faults }
+
+-- what a call leaves: it is counted, and its question stands in the log with its answer, or the log isn't told any more
+abbrev pub Leaves : PlanAtWork → PlanAtWork → Asked → Type 0
+Leaves old new question =
+    Notes (counted (is_failure question) old) new question ⊎ (new ≡ record (counted (is_failure question) old) { told = false })

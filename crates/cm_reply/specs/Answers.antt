@@ -1,0 +1,110 @@
+-- How the answers to commands are written. Lines after the first begin with two spaces, and no line feed stands behind the last.
+use Rattle.std.specs.Prelude.{ℕ, List, [], ◌++◌, length, codes, decimal, not, Option, Some, None, Result, Ok, Err}
+use Rattle.cm_names.specs.Child.{in_collection}
+use Rattle.cm_names.specs.Moniker.{moniker_text}
+use Rattle.cm_world.specs.declared.event.Target.{Target}
+use Rattle.cm_world.specs.declared.route.Route.{Route}
+use Rattle.cm_world.specs.declared.answer.Refusal.{Refusal}
+use Rattle.cm_world.specs.declared.answer.Checked.{Checked}
+use Rattle.cm_world.specs.declared.answer.Answer.{Answer}
+use Rattle.cm_world.specs.declared.answer.Answer.TheVariants as answer
+use Rattle.cm_command.specs.declared.command.Command.{Command}
+use Rattle.cm_command.specs.declared.command.Command.TheVariants as command
+use Rattle.cm_command.specs.Written.{target_text}
+use Rattle.cm_reply.specs.Lists.{Text, further_lines, when}
+use Rattle.cm_reply.specs.Routes.{place_text, route_text}
+use Rattle.cm_reply.specs.States.{incarnation_text, look_text, survey_text, kid_text}
+use Rattle.cm_reply.specs.Refusals.{refusal_text}
+
+-- the call that the command names can give that answer
+abbrev pub Answers : Command → Answer → Type 0
+Answers (command.Resolve target) (answer.Resolved action) = Unit {0}
+Answers (command.Start target) (answer.Started action) = Unit {0}
+Answers (command.Stop target) (answer.Stopped action forced) = Unit {0}
+Answers (command.Shutdown target) answer.Shut = Unit {0}
+Answers (command.Create parent coll name url gives) (answer.Created inc) = Unit {0}
+Answers (command.Destroy target) answer.Destroyed = Unit {0}
+Answers (command.ListChildren target coll) (answer.Children kids) = Unit {0}
+Answers (command.OpenUse target path) (answer.Opened route) = Unit {0}
+Answers (command.OpenExposed target name) (answer.Opened route) = Unit {0}
+Answers (command.RouteOf target path) (answer.Routed route) = Unit {0}
+Answers (command.Doctor target) (answer.Doctored lines) = Unit {0}
+Answers (command.Show target) (answer.Shown look) = Unit {0}
+Answers (command.Survey target) (answer.Surveyed rows) = Unit {0}
+Answers (command.Exited target) (answer.Left was_on) = Unit {0}
+Answers _ _ = ⊥
+
+-- the instance that the command names
+abbrev pub target_of : Command → Target
+target_of (command.Resolve target) = target
+target_of (command.Start target) = target
+target_of (command.Stop target) = target
+target_of (command.Shutdown target) = target
+target_of (command.Create parent coll name url gives) = parent
+target_of (command.Destroy target) = target
+target_of (command.ListChildren target coll) = target
+target_of (command.OpenUse target path) = target
+target_of (command.OpenExposed target name) = target
+target_of (command.RouteOf target path) = target
+target_of (command.Doctor target) = target
+target_of (command.Show target) = target
+target_of (command.Survey target) = target
+target_of (command.Exited target) = target
+
+-- the child that the command creates
+abbrev pub child_of : Command → Text
+child_of (command.Create parent coll name url gives) = in_collection (Some coll) name
+child_of _ = []
+
+-- the collection whose children the command lists
+abbrev pub collection_of : Command → Text
+collection_of (command.ListChildren target coll) = coll
+collection_of _ = []
+
+-- a word, and the instance as the command names it
+abbrev pub of_target : Text → Command → Text
+of_target word c = word ++ (codes " " ++ target_text (target_of c))
+
+-- the action that brought it about, or that it was so before
+abbrev pub done_by : Option ℕ → Text
+done_by None = codes " already"
+done_by (Some action) = codes " action " ++ decimal action
+
+-- the route of a use, or why it has none
+abbrev pub found_text : Result Route Refusal → Text
+found_text (Ok route) = codes "route " ++ route_text route
+found_text (Err refusal) = refusal_text refusal
+
+-- what a check of all routes says of an instance without a declaration, or of one use
+abbrev pub checked_words : Option Text → Result Route Refusal → Text
+checked_words None found = codes "unresolved"
+checked_words (Some path) found = path ++ (codes " " ++ found_text found)
+
+-- what a check of all routes says of one use, behind where the instance stands
+abbrev pub checked_text : Checked → Text
+checked_text c = moniker_text c.moniker ++ (codes " " ++ checked_words c.path c.result)
+
+-- how many items there are, and each on a line of its own
+abbrev pub counted : {A : Type 0} → (A → Text) → List A → Text
+counted text items = codes " " ++ (decimal (length items) ++ further_lines text items)
+
+-- the answer to that command
+abbrev pub answer_text : Command → Answer → Text
+answer_text c (answer.Resolved action) = of_target (codes "resolved") c ++ done_by action
+answer_text c (answer.Started action) = of_target (codes "started") c ++ done_by action
+answer_text c (answer.Stopped action forced) = of_target (codes "stopped") c ++ (when forced (codes " by-force") ++ done_by action)
+answer_text c answer.Shut = of_target (codes "shut") c
+answer_text c (answer.Created inc) = of_target (codes "created") c ++ (codes " " ++ (child_of c ++ incarnation_text inc))
+answer_text c answer.Destroyed = of_target (codes "destroyed") c
+answer_text c (answer.Children kids) = of_target (codes "children") c ++ (codes " " ++ (collection_of c ++ counted kid_text kids))
+answer_text c (answer.Opened route) = codes "opened " ++ place_text route
+answer_text c (answer.Routed route) = codes "route " ++ route_text route
+answer_text c (answer.Shown look) = of_target (codes "shown") c ++ (incarnation_text look.inc ++ (codes " url " ++ (look.url ++ (codes " " ++ look_text look))))
+answer_text c (answer.Surveyed rows) = of_target (codes "survey") c ++ counted survey_text rows
+answer_text c (answer.Doctored lines) = of_target (codes "doctor") c ++ counted checked_text lines
+answer_text c (answer.Left was_on) = of_target (codes "exited") c ++ when (not was_on) (codes " already")
+
+-- the answer to that command, or why it was refused
+abbrev pub reply_text : Command → Result Answer Refusal → Text
+reply_text c (Ok answer) = answer_text c answer
+reply_text c (Err refusal) = refusal_text refusal

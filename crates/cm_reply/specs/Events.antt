@@ -1,0 +1,46 @@
+-- How events are written.
+use Rattle.std.specs.Prelude.{◌++◌, List, flat_map, codes, decimal, Bool, true, false}
+use Rattle.cm_names.specs.Moniker.{moniker_text}
+use Rattle.cm_decl.specs.declared.rows.Give.{Give}
+use Rattle.cm_read.specs.Writing.{decl_text}
+use Rattle.cm_world.specs.declared.action.Finish.{Finish}
+use Rattle.cm_world.specs.declared.action.Finish.TheVariants as finish
+use Rattle.cm_world.specs.declared.event.Event.{Event}
+use Rattle.cm_world.specs.declared.event.Event.TheVariants as event
+use Rattle.cm_command.specs.Written.{spaced, give_words}
+use Rattle.cm_reply.specs.Lists.{Text}
+use Rattle.cm_reply.specs.States.{act_word, outcome_text}
+
+-- what is offered, as a command writes it, each word behind a space
+abbrev pub groups_text : List Give → Text
+groups_text gives = flat_map spaced (flat_map give_words gives)
+
+-- what a mark is for
+abbrev pub mark_word : Bool → Text
+mark_word true = codes "doomed"
+mark_word false = codes "closing"
+
+-- what the beginner of an action reports
+abbrev pub finish_text : Finish → Text
+finish_text (finish.Resolved url decl) = codes "resolved " ++ (url ++ (codes " " ++ decl_text decl))
+finish_text (finish.Other outcome) = outcome_text outcome
+
+-- an event: its word, and what it is about
+abbrev pub event_text : Event → Text
+event_text (event.Find moniker) = codes "find " ++ moniker_text moniker
+event_text (event.Begin kind inc) = codes "begin " ++ (act_word kind ++ (codes " " ++ decimal inc))
+event_text (event.End action finish) = codes "end " ++ (decimal action ++ (codes " " ++ finish_text finish))
+event_text (event.Await action) = codes "await " ++ decimal action
+event_text (event.Create inc coll name url gives) =
+    codes "create " ++ (decimal inc ++ (codes " " ++ (coll ++ (codes " " ++ (name ++ (codes " " ++ (url ++ groups_text gives)))))))
+event_text (event.Mark doomed inc) = codes "mark " ++ (mark_word doomed ++ (codes " " ++ decimal inc))
+event_text (event.Pick inc) = codes "pick " ++ decimal inc
+event_text (event.Purge inc) = codes "purge " ++ decimal inc
+event_text (event.Route inc path) = codes "route " ++ (decimal inc ++ (codes " " ++ path))
+event_text (event.OpenUse inc path) = codes "open " ++ (decimal inc ++ (codes " " ++ path))
+event_text (event.OpenExposed inc name) = codes "open-exposed " ++ (decimal inc ++ (codes " " ++ name))
+event_text (event.Listing inc coll) = codes "list " ++ (decimal inc ++ (codes " " ++ coll))
+event_text (event.Show inc) = codes "show " ++ decimal inc
+event_text (event.Survey inc) = codes "survey " ++ decimal inc
+event_text (event.Exited inc) = codes "exited " ++ decimal inc
+event_text (event.Tail inc from) = codes "tail " ++ (decimal inc ++ (codes " " ++ decimal from))

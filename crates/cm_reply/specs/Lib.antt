@@ -1,0 +1,11 @@
+pub mod Lists
+pub mod Routes
+pub mod States
+pub mod Refusals
+pub mod Answers
+pub mod Events
+pub mod Replies
+pub mod Journal
+pub mod Laws
+pub mod Examples
+pub mod Tables

@@ -1,0 +1,61 @@
+-- How routes, their hops, and the reasons why there is none are written.
+use Rattle.std.specs.Prelude.{◌++◌, codes, decimal}
+use Rattle.cm_names.specs.Moniker.{moniker_text}
+use Rattle.cm_names.specs.Rights.{RightSet, text_of}
+use Rattle.cm_world.specs.declared.route.StepKind.{StepKind}
+use Rattle.cm_world.specs.declared.route.StepKind.TheVariants as step
+use Rattle.cm_world.specs.declared.route.Hop.{Hop}
+use Rattle.cm_world.specs.declared.route.Provider.{Provider}
+use Rattle.cm_world.specs.declared.route.Provider.TheVariants as provider
+use Rattle.cm_world.specs.declared.route.Route.{Route}
+use Rattle.cm_world.specs.declared.route.Why.{Why}
+use Rattle.cm_world.specs.declared.route.Why.TheVariants as why
+use Rattle.cm_reply.specs.Lists.{Text, joined_by, when_some}
+
+-- the word for a hop
+abbrev pub step_word : StepKind → Text
+step_word step.UseHop = codes "use"
+step_word step.OfferHop = codes "offer"
+step_word step.ExposeHop = codes "expose"
+step_word step.CapabilityHop = codes "capability"
+step_word step.FrameworkHop = codes "framework"
+step_word step.BuiltinHop = codes "builtin"
+
+-- a hop: its word, and where its instance stands
+abbrev pub hop_text : Hop → Text
+hop_text h = step_word h.step ++ (codes " " ++ moniker_text h.moniker)
+
+-- the word for the reason why there is no route
+abbrev pub why_word : Why → Text
+why_word why.NoOffer = codes "no-offer"
+why_word why.NoExpose = codes "no-expose"
+why_word why.NoInstance = codes "no-instance"
+why_word why.NoBuiltin = codes "no-builtin"
+why_word (why.AvailabilityTooWeak asked given) = codes "availability-too-weak"
+why_word (why.RightsTooWeak asked given) = codes "rights-too-weak"
+
+-- who provides a capability
+abbrev pub source_text : Provider → Text
+source_text (provider.Instance inc moniker) = moniker_text moniker ++ (codes " incarnation " ++ decimal inc)
+source_text provider.Framework = codes "framework"
+source_text provider.Builtin = codes "builtin"
+
+-- the rights that a directory is opened with
+abbrev pub rights_words : RightSet → Text
+rights_words rights = codes " rights " ++ text_of rights
+
+-- where a route leads, and with which rights
+abbrev pub place_text : Route → Text
+place_text r = r.path ++ (codes " at " ++ (source_text r.provider ++ when_some rights_words r.rights))
+
+-- a whole route: where it leads, and through which hops
+abbrev pub route_text : Route → Text
+route_text r = place_text r ++ (codes " through " ++ joined_by (codes ", ") hop_text r.hops)
+
+-- why there is no route, and the hop that fails
+abbrev pub failure_text : Hop → Why → Text
+failure_text hop reason = why_word reason ++ (codes " at " ++ hop_text hop)
+
+-- the hop that leaves the capability out on purpose
+abbrev pub void_text : Hop → Text
+void_text hop = codes "void at " ++ hop_text hop

@@ -1,0 +1,72 @@
+-- How actions, their outcomes and the states of instances are written.
+use Rattle.std.specs.Prelude.{ℕ, [], ◌++◌, codes, decimal, Bool, true, false}
+use Rattle.cm_names.specs.Moniker.{moniker_text}
+use Rattle.cm_read.specs.declared.fault.ReadFault.TheVariants.{Bad}
+use Rattle.cm_read.specs.Texts.{fault_text}
+use Rattle.cm_world.specs.declared.action.ActKind.{ActKind}
+use Rattle.cm_world.specs.declared.action.ActKind.TheVariants as act
+use Rattle.cm_world.specs.declared.action.FaultNote.{FaultNote}
+use Rattle.cm_world.specs.declared.action.Outcome.{Outcome}
+use Rattle.cm_world.specs.declared.action.Outcome.TheVariants as outcome
+use Rattle.cm_world.specs.declared.report.Kid.{Kid}
+use Rattle.cm_world.specs.declared.report.Look.{Look}
+use Rattle.cm_world.specs.declared.report.SurveyRow.{SurveyRow}
+use Rattle.cm_reply.specs.Lists.{Text, when, when_some}
+
+-- the word for an action
+abbrev pub act_word : ActKind → Text
+act_word act.Resolve = codes "resolve"
+act_word act.Start = codes "start"
+act_word act.Stop = codes "stop"
+
+-- the fault of a manifest, as its reader writes one that is of no field
+abbrev pub note_text : FaultNote → Text
+note_text note = fault_text (Bad note.number note.section note.index [])
+
+-- what became of an action
+abbrev pub outcome_text : Outcome → Text
+outcome_text outcome.Resolved = codes "resolved"
+outcome_text outcome.Started = codes "started"
+outcome_text outcome.Stopped = codes "stopped"
+outcome_text outcome.Killed = codes "killed"
+outcome_text outcome.Absent = codes "absent"
+outcome_text outcome.BadUrl = codes "bad-url"
+outcome_text (outcome.Invalid note) = note_text note
+outcome_text outcome.Declined = codes "declined"
+outcome_text outcome.GateFailed = codes "gate-failed"
+outcome_text outcome.Full = codes "full"
+outcome_text outcome.NoMemory = codes "no-memory"
+
+-- the number of an instance
+abbrev pub incarnation_text : ℕ → Text
+incarnation_text inc = codes " incarnation " ++ decimal inc
+
+-- whether an instance has its declaration
+abbrev pub resolved_word : Bool → Text
+resolved_word true = codes "resolved"
+resolved_word false = codes "unresolved"
+
+-- whether its program runs
+abbrev pub on_word : Bool → Text
+on_word true = codes " on"
+on_word false = codes " off"
+
+-- the action that hasn't ended at an instance
+abbrev pub pending_words : ActKind → Text
+pending_words kind = codes " pending " ++ act_word kind
+
+-- how an instance is
+abbrev pub look_text : Look → Text
+look_text l =
+    resolved_word l.resolved ++ (on_word l.on ++ (when l.closing (codes " closing")
+    ++ (when l.shut (codes " shut") ++ when_some pending_words l.pending)))
+
+-- how one instance of a survey is
+abbrev pub survey_text : SurveyRow → Text
+survey_text r =
+    moniker_text r.moniker ++ (incarnation_text r.inc ++ (codes " " ++ (resolved_word r.resolved
+    ++ (on_word r.on ++ when r.shut (codes " shut")))))
+
+-- how a child in a collection is
+abbrev pub kid_text : Kid → Text
+kid_text k = k.name ++ incarnation_text k.inc

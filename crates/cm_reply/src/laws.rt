@@ -1,0 +1,45 @@
+//! How a journal grows, and texts that are written out.
+//!
+//! These functions do nothing: what each of them promises is a fact about the definitions in
+//! `specs/`, which its proof shows.
+
+ghost use Rattle.cm_reply.specs.Laws as laws;
+ghost use Rattle.cm_reply.specs.Examples as examples;
+ghost use Rattle.cm_reply.specs.Tables as tables;
+
+/// A journal without entries is its header. With an entry more it is a line longer, and the lines
+/// before stay as they are. So it can be written entry by entry.
+pub fn journal_grows()
+    ensures begins { laws.JournalBegins }
+    ensures grows { laws.JournalGrows }
+{}
+
+/// A journal begins with `journal`, the builtin capabilities and the root. The eleven entries
+/// that find a route in a new realm are written as eleven lines.
+pub fn prints_journal()
+    ensures header { examples.PrintsHeader }
+    ensures entries { examples.PrintsEntries }
+{}
+
+/// Longer answers to commands, one of each shape. A refusal is written alike for each command.
+pub fn prints_answers()
+    ensures route { examples.PrintsRoute }
+    ensures rights { examples.PrintsDirectory }
+    ensures forced { examples.PrintsForced }
+    ensures created { examples.PrintsCreated }
+    ensures children { examples.PrintsChildren }
+    ensures look { examples.PrintsLook }
+    ensures survey { examples.PrintsSurvey }
+    ensures doctor { examples.PrintsDoctor }
+    ensures failure { examples.PrintsFailure }
+{}
+
+/// Tables of each refusal, reason, outcome, event and reply, and of the short answers.
+pub fn prints_tables()
+    ensures refusals { tables.PrintsRefusals }
+    ensures reasons { tables.PrintsReasons }
+    ensures outcomes { tables.PrintsOutcomes }
+    ensures events { tables.PrintsEvents }
+    ensures replies { tables.PrintsReplies }
+    ensures short_answers { tables.PrintsShortAnswers }
+{}

@@ -1,0 +1,16 @@
+pub mod Monikers
+pub mod Up
+pub mod Kids
+pub mod Reading
+pub mod Tasks
+pub mod Numbers
+pub mod Counts
+pub mod Going
+pub mod Starting
+pub mod Begun
+pub mod Joined
+pub mod Waits
+pub mod Places
+pub mod Ends
+pub mod Others
+pub mod Beginners

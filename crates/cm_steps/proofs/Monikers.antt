@@ -1,0 +1,64 @@
+-- The names from the root down to an instance, gathered on the way up.
+use Rattle.std.proofs.Common.{◌≡◌, ℕ, zero, suc, ◌+◌, ◌<◌, List, [], ◌∷◌, ◌++◌, Option, Some, None, length, reverse, option_to_list, option_and_then, refl, sym, ◌∙◌, ap, arith, append_assoc, append-nil}
+use Rattle.std.proofs.lemmas.List.{reverse-append}
+use Rattle.cm_names.specs.declared.child.ChildName.{ChildName}
+use Rattle.cm_world.specs.declared.row.Row.{Row}
+use Rattle.cm_world.specs.Rows.{row_of, names_to}
+use Rattle.cm_world.specs.Sound.{IsOrderly}
+use Rattle.cm_world.proofs.Climbing.{names_to-step, names_root}
+use Rattle.cm_world.proofs.Finding.{none_some}
+
+-- an incarnation, which falls on the way up, and at last none
+abbrev pub height : Option ℕ → ℕ
+height None = 0
+height (Some i) = i + 1
+
+parent_lower : (rows : List Row) (next i : ℕ) (r : Row) (o : Option ℕ) → IsOrderly rows next → row_of rows i ≡ Some r → r.parent ≡ o → height o < height (Some i)
+parent_lower rows next i r None orderly lives above = omega arith
+parent_lower rows next i r (Some p) orderly lives above =
+    let lower : p < i = (orderly.parents i p r lives above).0.lower in omega arith
+
+lower_by : (rows : List Row) (next i : ℕ) (o : Option Row) → IsOrderly rows next → row_of rows i ≡ o → height (option_and_then (λ r. r.parent) o) < height (Some i)
+lower_by rows next i None orderly lives = omega arith
+lower_by rows next i (Some r) orderly lives = parent_lower rows next i r r.parent orderly lives refl
+
+-- the parent of an instance has a lower incarnation
+pub parent-lower : (rows : List Row) (next i : ℕ) → IsOrderly rows next → height (option_and_then (λ r. r.parent) (row_of rows i)) < height (Some i)
+parent-lower rows next i orderly = lower_by rows next i (row_of rows i) orderly refl
+
+names_of_none : (n : ℕ) (rows : List Row) (i : ℕ) → row_of rows i ≡ None → names_to n rows (Some i) ≡ []
+names_of_none zero rows i none = refl
+names_of_none (suc n) rows i none = rw (none, names_to) refl
+
+names_by : (rows : List Row) (next i : ℕ) (o : Option Row) → IsOrderly rows next → row_of rows i ≡ o → names_to (length rows) rows (Some i) ≡ names_to (length rows) rows (option_and_then (λ r. r.parent) o) ++ option_to_list (option_and_then (λ r. r.name) o)
+names_by rows next i None orderly lives = names_of_none (length rows) rows i lives ∙ sym (ap (λ names. names ++ []) (names_root (length rows) rows))
+names_by rows next i (Some r) orderly lives = names_to-step rows next i r orderly lives
+
+-- the names down to an instance are those down to its parent, and its own
+pub names-up : (rows : List Row) (next i : ℕ) → IsOrderly rows next → names_to (length rows) rows (Some i) ≡ names_to (length rows) rows (option_and_then (λ r. r.parent) (row_of rows i)) ++ option_to_list (option_and_then (λ r. r.name) (row_of rows i))
+names-up rows next i orderly = names_by rows next i (row_of rows i) orderly refl
+
+reverse_one : (o : Option ChildName) → reverse (option_to_list o) ≡ option_to_list o
+reverse_one None = refl
+reverse_one (Some c) = refl
+
+-- one name more
+pub names-more : (all seen more : List ChildName) (rows : List Row) (next i : ℕ) → IsOrderly rows next → all ≡ names_to (length rows) rows (Some i) ++ reverse seen → more ≡ seen ++ option_to_list (option_and_then (λ r. r.name) (row_of rows i)) → all ≡ names_to (length rows) rows (option_and_then (λ r. r.parent) (row_of rows i)) ++ reverse more
+names-more all seen more rows next i orderly so_far pushed =
+    let name : List ChildName = option_to_list (option_and_then (λ r. r.name) (row_of rows i)) in
+    let above : List ChildName = names_to (length rows) rows (option_and_then (λ r. r.parent) (row_of rows i)) in
+    so_far
+    ∙ ap (λ names. names ++ reverse seen) (names-up rows next i orderly)
+    ∙ append_assoc above name (reverse seen)
+    ∙ sym (ap (λ names. above ++ names) (ap reverse pushed ∙ reverse-append seen name ∙ ap (λ names. names ++ reverse seen) (reverse_one (option_and_then (λ r. r.name) (row_of rows i)))))
+
+-- a loop that is at an instance, and goes on at its parent, is lower there
+pub loop-lower : (rows : List Row) (next i : ℕ) (at above : Option ℕ) → IsOrderly rows next → at ≡ Some i → above ≡ option_and_then (λ r. r.parent) (row_of rows i) → height above < height at
+loop-lower rows next i at above orderly here up =
+    rw (here, up) (parent-lower rows next i orderly)
+
+-- and has put the instance's name behind those that it has seen
+pub loop-more : (all seen more : List ChildName) (name : Option ChildName) (rows : List Row) (next i : ℕ) (at above : Option ℕ) → IsOrderly rows next → at ≡ Some i → above ≡ option_and_then (λ r. r.parent) (row_of rows i) → all ≡ names_to (length rows) rows at ++ reverse seen → name ≡ option_and_then (λ r. r.name) (row_of rows i) → more ≡ seen ++ option_to_list name → all ≡ names_to (length rows) rows above ++ reverse more
+loop-more all seen more name rows next i at above orderly here up so_far named pushed =
+    names-more all seen more rows next i orderly (so_far ∙ ap (λ o. names_to (length rows) rows o ++ reverse seen) here) (pushed ∙ ap (λ o. seen ++ option_to_list o) named)
+    ∙ sym (ap (λ o. names_to (length rows) rows o ++ reverse more) up)

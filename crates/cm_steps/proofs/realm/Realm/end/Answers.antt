@@ -1,0 +1,54 @@
+use Rattle.std.proofs.Common.{◌≡◌, ◌+◌, ◌-◌, ◌≤◌, ◌<◌, ◌++◌, ◌∷◌, [], refl, ap, sym, ◌∙◌, subst, arith}
+use Rattle.cm_book.specs.History.{History}
+use Rattle.cm_world.specs.declared.event.Event.TheVariants.{End}
+use Rattle.cm_world.specs.declared.reply.Reply.TheVariants.{Ended}
+use Rattle.cm_world.specs.World.{World}
+use Rattle.cm_world.specs.End.{rows_by, outcome_by}
+use Rattle.cm_world.specs.Step.{MayEnd}
+use Rattle.cm_steps.specs.Ends.{inc_of, finish_of}
+use Rattle.cm_steps.specs.Story.{world_of}
+use Rattle.cm_steps.specs.Steps.{entry_of}
+use Rattle.cm_steps.proofs.Counts.{open_less}
+use Rattle.cm_steps.proofs.Ends.{inc-ended, can_take, kept_ended}
+use Rattle.cm_steps.proofs.realm.Realm.end.Goals as goal
+
+pub end_at-finish-requires : goal.end_at-finish-requires
+end_at-finish-requires c =
+    let f = finish_of c.args.ending in
+    let acts = c.self.inside.acts.items in
+    let may : MayEnd acts c.args.caller c.args.action f = subst (λ (w : World). MayEnd w.acts c.args.caller c.args.action f) (ap world_of (sym c.self.view_is) ∙ c.self.invariant.stands.world) c.requires.may in
+    let here : c.inc_at-inc.result ≡ may.act.inc = c.inc_at-inc.ensures ∙ ap (λ xs. inc_of xs c.args.action) c.as_slice.ensures.value ∙ inc-ended acts c.args.caller c.args.action f may in
+    can_take c.self.inside.table acts c.args.caller c.args.action c.inc_at-inc.result c.args.ending may here c.self.invariant.tasks c.self.invariant.spare
+
+pub push_reserved-requires : goal.push_reserved-requires
+push_reserved-requires c =
+    let f = finish_of c.args.ending in
+    let may : MayEnd c.self.inside.acts.items c.args.caller c.args.action f = subst (λ (w : World). MayEnd w.acts c.args.caller c.args.action f) (ap world_of (sym c.self.view_is) ∙ c.self.invariant.stands.world) c.requires.may in
+    let less = open_less c.self.inside.acts.items c.args.caller c.args.action f c.end_at-finish.result.outcome may in
+    let was = c.self.invariant.owes in
+    omega arith
+
+pub invariant_of-self : goal.invariant_of-self
+invariant_of-self c =
+    let f = finish_of c.args.ending in
+    let acts = c.self.inside.acts.items in
+    let t = c.self.inside.table in
+    let o = c.end_at-finish.result.outcome in
+    let may : MayEnd acts c.args.caller c.args.action f = subst (λ (w : World). MayEnd w.acts c.args.caller c.args.action f) (ap world_of (sym c.self.view_is) ∙ c.self.invariant.stands.world) c.requires.may in
+    let here : c.inc_at-inc.result ≡ may.act.inc = c.inc_at-inc.ensures ∙ ap (λ xs. inc_of xs c.args.action) c.as_slice.ensures.value ∙ inc-ended acts c.args.caller c.args.action f may in
+    kept_ended c.self.inside _ c.args.caller c.args.action f o may (c.end_at-finish.ensures.outcome ∙ ap (λ n. outcome_by n t.rows t.next_inc f) c.self.invariant.rows) c.self.invariant
+    (record {
+      frame = refl;
+      rows = c.end_at-finish.ensures.rows ∙ ap (λ i. rows_by i t.next_inc f o t.rows) here;
+      next = c.end_at-finish.ensures.next;
+      spare = c.end_at-finish.ensures.spare;
+      limit = c.end_at-finish.ensures.limit;
+      builtins = c.end_at-finish.ensures.builtins;
+      acts = c.settle.ensures;
+      joins = refl;
+      entries =
+          ap (λ (h : History). h.entries) c.push_reserved.ensures
+          ∙ ap (λ g. c.self.inside.book.entries ++ entry_of c.args.caller (End c.args.action g) (Ended o) ∷ []) c.end_at-finish.ensures.finish;
+      reserved = ap (λ (h : History). h.reserved) c.push_reserved.ensures;
+      most = ap (λ (h : History). h.limit) c.push_reserved.ensures;
+    })

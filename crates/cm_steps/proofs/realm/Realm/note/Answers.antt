@@ -1,0 +1,30 @@
+use Rattle.std.proofs.Common.{◌≡◌, ◌+◌, ◌-◌, ◌≤◌, ◌++◌, ◌∷◌, [], refl, ap, sym, ◌∙◌, subst, arith}
+use Rattle.cm_book.specs.History.{History}
+use Rattle.cm_world.specs.declared.reply.Entry.{Entry}
+use Rattle.cm_world.specs.Legal.{IsStep}
+use Rattle.cm_steps.specs.Story.{world_of}
+use Rattle.cm_steps.specs.Steps.{entry_of}
+use Rattle.cm_steps.specs.Inside.{world_in}
+use Rattle.cm_steps.proofs.Going.{goes_on, one_longer, after-quiet}
+use Rattle.cm_steps.proofs.realm.Realm.note.Goals as goal
+
+pub invariant_of-self-2 : goal.invariant_of-self-2
+invariant_of-self-2 c =
+    let e : Entry = entry_of c.args.caller c.args.event c.args.reply in
+    let pushed : History → History = λ t. record { entries = t.entries ++ e ∷ []; reserved = t.reserved - 1; limit = t.limit } in
+    let book = c.push_reserved.ensures ∙ ap pushed c.in_ok-reserve.ensures.ok in
+    let more = ap (λ (t : History). t.entries) book in
+    record {
+      stands =
+          goes_on _ _ _ _ _ c.self.invariant.stands refl more
+          (subst (λ w. IsStep w e) (ap world_of (sym c.self.view_is) ∙ c.self.invariant.stands.world) c.requires.step)
+          (after-quiet (world_in c.self.inside) c.args.caller c.args.event c.args.reply c.requires.quiet
+          ∙ ap (λ n. record (world_in c.self.inside) { entries = n }) (one_longer _ _ _ more));
+      owes = let r = ap (λ (t : History). t.reserved) book in let was = c.self.invariant.owes in omega arith;
+      spare = c.self.invariant.spare;
+      rows = c.self.invariant.rows;
+      entries = ap (λ (t : History). t.limit) book ∙ c.self.invariant.entries;
+      builtins = c.self.invariant.builtins;
+      numbers = c.self.invariant.numbers;
+      tasks = c.self.invariant.tasks;
+    }

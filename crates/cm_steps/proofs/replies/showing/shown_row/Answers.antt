@@ -1,0 +1,11 @@
+use Rattle.std.proofs.Common.{◌≡◌, [], option_map, unwrap_or, ◌∙◌, ap}
+use Rattle.cm_world.specs.declared.reply.Reply.TheVariants.{Shown}
+use Rattle.cm_world.proofs.Finding.{row_of-inc}
+use Rattle.cm_steps.proofs.Reading.{resolved_is}
+use Rattle.cm_steps.proofs.replies.showing.shown_row.Goals as goal
+
+pub returns : goal.returns
+returns c = λ r lives told.
+    ap Shown
+    (c.look-look.ensures r (row_of-inc c.args.table.now.rows c.args.inc r lives) told (c.in_ok-url.ensures ∙ ap (λ o. unwrap_or o []) (c.url.ensures ∙ ap (option_map (λ s. s.url)) lives))
+    (resolved_is c.args.table.now.rows c.args.inc r c.resolved-resolved.result c.resolved-resolved.ensures lives))

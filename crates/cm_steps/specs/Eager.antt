@@ -1,0 +1,24 @@
+-- What the work of an action takes from the tree.
+use Rattle.std.specs.Prelude.{ℕ, List, [], Option, Some, None, filter, filter_map, if◌then◌else◌, option_and_then}
+use Rattle.cm_decl.specs.declared.decl.Decl.{Decl}
+use Rattle.cm_decl.specs.declared.rows.Child.{Child}
+use Rattle.cm_decl.specs.Graph.{static_name}
+use Rattle.cm_world.specs.declared.row.Row.{Row}
+use Rattle.cm_world.specs.Rows.{row_of, child_of}
+
+-- of these declared children of row i those that start with it
+abbrev pub eager_kids : List Row → ℕ → List Child → List ℕ
+eager_kids rows i kids = filter_map (λ k. child_of rows i (static_name k.name)) (filter (λ k. k.eager) kids)
+
+-- by the declaration, if there is one
+abbrev pub eager_by : List Row → ℕ → Option Decl → List ℕ
+eager_by rows i None = []
+eager_by rows i (Some d) = eager_kids rows i d.children
+
+-- a declared child of row i, if it starts with it
+abbrev pub eager_child : List Row → ℕ → Child → Option ℕ
+eager_child rows i k = if k.eager then child_of rows i (static_name k.name) else None
+
+-- the absolute URL of a parent, if there is one and it has one
+abbrev pub above_url : List Row → Option ℕ → Option (List ℕ)
+above_url rows parent = option_and_then (λ p. option_and_then (λ q. q.absolute) (row_of rows p)) parent

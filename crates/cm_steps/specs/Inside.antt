@@ -1,0 +1,38 @@
+-- How a realm keeps its history and its tree.
+use Rattle.std.specs.Prelude.{◌≡◌, ◌+◌, ◌≤◌, length, count_by}
+use Rattle.cm_world.specs.World.{World, owed}
+use Rattle.cm_steps.specs.Story.{Story, world_of, IsLegal}
+use Rattle.cm_steps.specs.Tasks.{is_open_resolve, IsNumbered, IsTasked}
+use Rattle.cm_steps.specs.declared.realm.Realm.TheInside.{Inside}
+
+-- the story that the fields keep
+abbrev pub story_of : Inside → Story
+story_of a = record { frame = a.frame; entries = a.book.entries }
+
+-- the tree that the fields are; the next action has the number behind the last
+abbrev pub world_in : Inside → World
+world_in a = record {
+  frame = a.frame;
+  rows = a.table.rows;
+  next_inc = a.table.next_inc;
+  next_action = length a.acts.items + 1;
+  acts = a.acts.items;
+  joins = a.joins.items;
+  entries = length a.book.entries;
+}
+
+-- the history is legal, and leaves this tree
+pub record Stands (s : Story) (w : World) : Type 0 where
+  pub legal : IsLegal s
+  pub world : world_of s ≡ w
+
+-- the fields are the tree that the book leaves; room is kept for the entries that are owed, and for each open resolve
+pub record IsKept (a : Inside) : Type 0 where
+  pub stands : Stands (story_of a) (world_in a)
+  pub owes : a.book.reserved ≡ owed a.acts.items a.joins.items
+  pub spare : count_by is_open_resolve a.acts.items ≤ a.table.spare
+  pub rows : a.table.limit ≡ a.frame.limits.rows
+  pub entries : a.book.limit ≡ a.frame.limits.entries
+  pub builtins : a.table.builtins ≡ a.frame.builtins
+  pub numbers : IsNumbered 1 a.acts.items
+  pub tasks : IsTasked a.table.rows a.acts.items

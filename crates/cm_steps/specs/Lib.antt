@@ -1,0 +1,10 @@
+pub mod Story
+pub mod Tasks
+pub mod Inside
+pub mod Rooms
+pub mod Steps
+pub mod Eager
+pub mod Marks
+pub mod Answers
+pub mod Ends
+pub mod Laws

@@ -1,0 +1,17 @@
+-- Refusals of a book as refusals of a step.
+use Rattle.std.specs.Prelude.{◌≡◌, ℕ, ◌+◌, ◌<◌, length}
+use Rattle.cm_book.specs.History.{History}
+use Rattle.cm_book.specs.declared.book.BookFault.{BookFault}
+use Rattle.cm_book.specs.declared.book.BookFault.TheVariants as room
+use Rattle.cm_steps.specs.declared.nostep.NoStep.{NoStep}
+use Rattle.cm_steps.specs.declared.nostep.NoStep.TheVariants as step
+
+abbrev pub IsRoom : BookFault → NoStep → Type 0
+IsRoom room.HistoryFull e = e ≡ step.HistoryFull
+IsRoom room.Memory e = e ≡ step.Memory
+
+-- the book doesn't take so many entries more, or memory ran out
+abbrev pub Lacks : History → ℕ → NoStep → Type 0
+Lacks h need (step.Busy a) = ⊥
+Lacks h need step.HistoryFull = h.limit < length h.entries + h.reserved + need
+Lacks h need step.Memory = Unit {0}

@@ -1,0 +1,21 @@
+//! The realm tree with its history: one call for each event.
+//!
+//! A [`Realm`] is a tree of component instances together with the list of everything that ever
+//! happened to it. Each call makes one event: it finds out the reply, changes the tree, and puts
+//! the event with its reply at the end of the history, all three or none of them. That the
+//! history is legal, and that the tree is the one that the history leaves, is part of the type.
+//!
+//! The definitions of events, replies and histories are those of `cm_world`.
+#![tactic(auto)]
+
+pub mod ending;
+pub mod laws;
+pub mod nostep;
+mod pending;
+pub mod realm;
+mod replies;
+mod rooms;
+
+pub use ending::Ending;
+pub use nostep::NoStep;
+pub use realm::Realm;

@@ -1,0 +1,78 @@
+//! Actions that were begun, and the callers that wait for one.
+
+ghost use Rattle.std.specs.Prelude.{◌≡◌, ◌==◌, false, All, IfNone, position};
+ghost use Rattle.std.specs.Option.{option_copied};
+ghost use Rattle.cm_world.specs.World.{act_of, outcome_of};
+ghost use Rattle.cm_world.specs.End.{ended};
+ghost use Rattle.cm_world.specs.Step.{is_join};
+ghost use Rattle.cm_world.specs.After.{unjoined};
+ghost use Rattle.cm_steps.specs.Ends.{inc_of};
+
+use cm_world::{Act, Join, Outcome};
+
+/// The action of that number.
+pub fn act_at(acts: &[Act], action: u64) -> Option<&Act>
+    ensures { option_copied result ≡ act_of acts.now action }
+{
+    acts.iter().find(|act| act.action == action)
+}
+
+/// The instance of the action of that number; 0 where there is no such action.
+pub fn inc_at(acts: &[Act], action: u64) -> u64
+    ensures { result ≡ inc_of acts.now action }
+{
+    match act_at(acts, action) {
+        Some(act) => act.inc,
+        None => 0,
+    }
+}
+
+/// What became of the action of that number, if it has ended.
+pub fn outcome_at(acts: &[Act], action: u64) -> Option<Outcome>
+    ensures { result ≡ outcome_of acts.now action }
+{
+    match act_at(acts, action) {
+        Some(act) => act.outcome,
+        None => None,
+    }
+}
+
+/// The place of the action of that number.
+fn act_place(acts: &[Act], action: u64) -> Option<usize>
+    ensures place { result ≡ position (λ x. x.action == action) acts.now }
+    ensures none { IfNone result (All (λ x. (x.action == action) ≡ false) acts.now) }
+{
+    acts.iter().position(|act| act.action == action)
+}
+
+/// Puts down what became of an action.
+pub fn settle(acts: &mut Vec<Act>, action: u64, outcome: Outcome)
+    ensures { acts.new.items ≡ ended action outcome acts.old.items }
+{
+    match act_place(acts.as_slice(), action) {
+        None => {}
+        Some(place) => acts[place].outcome = Some(outcome),
+    }
+}
+
+/// The place of the caller's join of the action.
+fn join_place(joins: &[Join], caller: u32, action: u64) -> Option<usize>
+    ensures place { result ≡ position (is_join caller action) joins.now }
+    ensures none { IfNone result (All (λ j. is_join caller action j ≡ false) joins.now) }
+{
+    joins
+        .iter()
+        .position(|join| join.caller == caller && join.action == action)
+}
+
+/// Takes away the join of the caller.
+pub fn take_join(joins: &mut Vec<Join>, caller: u32, action: u64)
+    ensures { joins.new.items ≡ unjoined caller action joins.old.items }
+{
+    match join_place(joins.as_slice(), caller, action) {
+        None => {}
+        Some(place) => {
+            let _join = joins.remove(place);
+        }
+    }
+}

@@ -1,0 +1,453 @@
+//! The realm.
+
+ghost use Rattle.std.specs.Prelude.{◌≡◌, ◌↔◌, [], false, Some, IsTrue, IfOk, IfErr, OnOk, OnErr};
+ghost use Rattle.cm_world.specs.World.{start};
+ghost use Rattle.cm_world.specs.Begin.{begin_reply};
+ghost use Rattle.cm_world.specs.Reports.{exit_reply};
+ghost use Rattle.cm_world.specs.Legal.{Legal, IsStep};
+ghost use Rattle.cm_world.specs.After.{moves};
+ghost use Rattle.cm_steps.specs.Story.{world_of};
+ghost use Rattle.cm_steps.specs.Answers.{BeginsBy, ExitsBy};
+ghost use Rattle.cm_steps.specs.Steps.{Tells, HasRoom, Refuses, RefusesQuiet, WaitsToBegin, WaitsToExit, entry_of};
+
+mod ends;
+
+use crate::nostep::NoStep;
+use crate::replies::beginning::{BeginAnswer, begin_answer};
+use crate::replies::finding::found;
+use crate::replies::opening::{open_exposed_reply, open_use_reply, route_reply};
+use crate::replies::showing::{ExitAnswer, exit_answer, shown};
+use crate::rooms::{add_join, make_room, next_action};
+use cm_book::Book;
+use cm_names::{CapPath, List, Memory, Moniker, Name, Plain, Text};
+use cm_table::Table;
+use cm_turn::Storied;
+use cm_world::{Act, ActKind, Builtin, Entry, Event, Frame, Join, Limits, Reply, Work};
+use std::alloc::Global;
+use std::marker::Model;
+
+/// A realm tree with its history. Contracts see it as its frame, which is what it was made with
+/// and what no step changes, and its entries.
+#[derive(Drop)]
+pub struct Realm {
+    frame: Frame,
+    table: Table,
+    acts: Vec<Act>,
+    joins: Vec<Join>,
+    book: Book,
+}
+
+impl Model for Realm {
+    ghost use Rattle.cm_steps.specs.Story.{Story};
+
+    ghost Value = { Story };
+
+    ghost use Rattle.cm_steps.specs.Inside.{story_of, IsKept};
+
+    ghost view = { story_of };
+
+    ghost invariant = { IsKept };
+}
+
+impl Storied for Realm {
+    type Entry = Entry;
+
+    type Frame = Frame;
+
+    ghost story = { λ s. s.entries };
+
+    ghost frame = { λ s. s.frame };
+
+    ghost by = { λ e. e.caller };
+}
+
+impl Realm {
+    /// The realm of one instance, the root, which isn't resolved, with an empty history. `Err`
+    /// where memory runs out.
+    pub fn new(
+        alloc: Global,
+        root: Text,
+        builtins: List<Builtin>,
+        limits: Limits,
+    ) -> Result<Realm, Memory>
+        ensures { IfOk result (λ made. made ≡ record {
+          frame = record { root = root; builtins = builtins; limits = limits };
+          entries = [];
+        }) }
+    {
+        let url = copied(&root)?;
+        let above = copied(&builtins)?;
+        let table = Table::new(alloc, url, above, limits.rows)?;
+        Ok(Realm {
+            frame: Frame {
+                root,
+                builtins,
+                limits,
+            },
+            table,
+            acts: Vec::new(alloc),
+            joins: Vec::new(alloc),
+            book: Book::new(alloc, limits.entries),
+        })
+    }
+
+    /// The history, which is legal.
+    pub fn entries(&self) -> &[Entry]
+        ensures entries { result.now ≡ self.now.entries }
+        ensures legal { Legal (start self.now.frame) self.now.entries }
+    {
+        let _table = &self.table;
+        self.book.entries()
+    }
+
+    /// The history as a book.
+    pub fn into_book(self) -> Book
+        ensures { result.entries ≡ self.entries }
+    {
+        let Realm {
+            frame: _,
+            table: _,
+            acts: _,
+            joins: _,
+            book,
+        } = self;
+        book
+    }
+
+    /// Whether the history takes so many entries more, besides those that are owed.
+    fn has_room(&self, need: u32) -> bool
+        ensures { IsTrue result ↔ HasRoom self.now need }
+    {
+        let _acts = &self.acts;
+        self.book.fits(need)
+    }
+
+    /// Puts down an event that changes no row, no action and no join.
+    fn note(&mut self, caller: u32, event: Event, reply: Reply) -> Result<(), NoStep>
+        requires quiet { moves event reply ≡ false }
+        requires step { IsStep (world_of self.old) (entry_of caller event reply) }
+        ensures step { OnOk result (Tells self.old self.new caller event reply) }
+        ensures room { OnOk result (HasRoom self.old 1) }
+        ensures refused { IfErr result (RefusesQuiet self.old) }
+        ensures err { OnErr result (self.new ≡ self.old) }
+    {
+        let entry = Entry {
+            caller,
+            event,
+            reply,
+        };
+        self.book.reserve(1)?;
+        self.book.push_reserved(entry);
+        Ok(())
+    }
+
+    /// Puts down such an event, and hands its reply back.
+    fn tell(&mut self, caller: u32, event: Event, reply: Reply) -> Result<Reply, NoStep>
+        requires quiet { moves event reply ≡ false }
+        requires step { IsStep (world_of self.old) (entry_of caller event reply) }
+        ensures step { IfOk result (λ told. Tells self.old self.new caller event told) }
+        ensures room { OnOk result (HasRoom self.old 1) }
+        ensures refused { IfErr result (RefusesQuiet self.old) }
+        ensures err { OnErr result (self.new ≡ self.old) }
+    {
+        let kept = copied(&reply)?;
+        self.note(caller, event, kept)?;
+        Ok(reply)
+    }
+
+    /// Which instance stands at the moniker: `Found` with its incarnation; `NotFound` with the
+    /// part of the moniker that was found; or, where an instance on the way isn't resolved,
+    /// `Need`, or `Shut` where it is shut or being shut down.
+    ///
+    /// - `HistoryFull` where one entry more doesn't fit;
+    /// - `Memory` where memory runs out.
+    pub fn find(&mut self, alloc: Global, caller: u32, moniker: Moniker) -> Result<Reply, NoStep>
+        ensures step { IfOk result (λ reply.
+            Tells self.old self.new caller (Event.Find moniker) reply) }
+        ensures room { OnOk result (HasRoom self.old 1) }
+        ensures refused { IfErr result (RefusesQuiet self.old) }
+        ensures err { OnErr result (self.new ≡ self.old) }
+    {
+        let reply = found(alloc, &self.table, moniker.parts.as_slice())?;
+        self.tell(caller, Event::Find(moniker), reply)
+    }
+
+    /// How an instance is: `Shown`, or `Gone` where it doesn't live, or it or one above it is
+    /// being destroyed.
+    ///
+    /// - `HistoryFull` where one entry more doesn't fit;
+    /// - `Memory` where memory runs out.
+    pub fn show(&mut self, alloc: Global, caller: u32, inc: u64) -> Result<Reply, NoStep>
+        ensures step { IfOk result (λ reply.
+            Tells self.old self.new caller (Event.Show inc) reply) }
+        ensures room { OnOk result (HasRoom self.old 1) }
+        ensures refused { IfErr result (RefusesQuiet self.old) }
+        ensures err { OnErr result (self.new ≡ self.old) }
+    {
+        let reply = shown(alloc, &self.table, inc)?;
+        self.tell(caller, Event::Show(inc), reply)
+    }
+
+    /// Where what an instance uses at the path comes from: `Given` with the route, `Void`,
+    /// `Failed`, or `NoSuchUse`. `Need` where an instance on the way has to be resolved first,
+    /// `SourceShut` where it can't be any more; `Gone`, `Need` or `Shut` of the instance itself.
+    ///
+    /// - `HistoryFull` where one entry more doesn't fit;
+    /// - `Memory` where memory runs out.
+    pub fn route(
+        &mut self,
+        alloc: Global,
+        caller: u32,
+        inc: u64,
+        path: CapPath,
+    ) -> Result<Reply, NoStep>
+        ensures step { IfOk result (λ reply.
+            Tells self.old self.new caller (Event.Route inc path) reply) }
+        ensures room { OnOk result (HasRoom self.old 1) }
+        ensures refused { IfErr result (RefusesQuiet self.old) }
+        ensures err { OnErr result (self.new ≡ self.old) }
+    {
+        let reply = route_reply(alloc, &self.table, inc, &path)?;
+        self.tell(caller, Event::Route(inc, path), reply)
+    }
+
+    /// Opens what an instance uses at the path: `Opened` with the route where the provider is
+    /// on, `NeedStart` where it has to be started first, `ClientOff` where the instance is off;
+    /// and otherwise as `route`.
+    ///
+    /// - `HistoryFull` where one entry more doesn't fit;
+    /// - `Memory` where memory runs out.
+    pub fn open_use(
+        &mut self,
+        alloc: Global,
+        caller: u32,
+        inc: u64,
+        path: CapPath,
+    ) -> Result<Reply, NoStep>
+        ensures step { IfOk result (λ reply.
+            Tells self.old self.new caller (Event.OpenUse inc path) reply) }
+        ensures room { OnOk result (HasRoom self.old 1) }
+        ensures refused { IfErr result (RefusesQuiet self.old) }
+        ensures err { OnErr result (self.new ≡ self.old) }
+    {
+        let reply = open_use_reply(alloc, &self.table, inc, &path)?;
+        self.tell(caller, Event::OpenUse(inc, path), reply)
+    }
+
+    /// Opens what an instance exposes by the name, as `open_use`, but the instance needn't be
+    /// on. This is `OpenExposedDir` of `fuchsia.component.Realm`.
+    ///
+    /// - `HistoryFull` where one entry more doesn't fit;
+    /// - `Memory` where memory runs out.
+    pub fn open_exposed(
+        &mut self,
+        alloc: Global,
+        caller: u32,
+        inc: u64,
+        name: Name,
+    ) -> Result<Reply, NoStep>
+        ensures step { IfOk result (λ reply.
+            Tells self.old self.new caller (Event.OpenExposed inc name) reply) }
+        ensures room { OnOk result (HasRoom self.old 1) }
+        ensures refused { IfErr result (RefusesQuiet self.old) }
+        ensures err { OnErr result (self.new ≡ self.old) }
+    {
+        let reply = open_exposed_reply(alloc, &self.table, inc, &name)?;
+        self.tell(caller, Event::OpenExposed(inc, name), reply)
+    }
+
+    /// Begins an action at an instance: `Begun` with what is to be done, or `Joined` with the
+    /// number of an action of that kind which is pending there; else `Gone`, `Already`, `Shut`
+    /// or `Need`. Who began an action ends it, and who joined one awaits its end. These are
+    /// `ResolveInstance`, `StartInstance` and `StopInstance` of
+    /// `fuchsia.sys2.LifecycleController`, in two steps each.
+    ///
+    /// - `Busy` with the number of the action of another kind that is pending there;
+    /// - `HistoryFull` where two entries more don't fit, which is tried first;
+    /// - `Memory` where memory runs out.
+    pub fn begin(
+        &mut self,
+        alloc: Global,
+        caller: u32,
+        kind: ActKind,
+        inc: u64,
+    ) -> Result<Reply, NoStep>
+        ensures step { IfOk result (λ reply.
+            Tells self.old self.new caller (Event.Begin kind inc) reply) }
+        ensures room { OnOk result (HasRoom self.old 2) }
+        ensures refused { let waits = WaitsToBegin (world_of self.old) kind inc in
+            IfErr result (Refuses self.old 2 waits) }
+        ensures err { OnErr result (self.new ≡ self.old) }
+    {
+        if !self.has_room(2) {
+            return Err(NoStep::HistoryFull);
+        }
+        let answer = self.answer_to_begin(alloc, kind, inc)?;
+        self.begin_by(caller, kind, inc, answer)
+    }
+
+    /// What a begin comes to.
+    fn answer_to_begin(&self, alloc: Global, kind: ActKind, inc: u64) -> Result<BeginAnswer, Memory>
+        ensures { IfOk result (BeginsBy (world_of self.now) kind inc) }
+    {
+        let next = next_action(self.acts.as_slice());
+        begin_answer(alloc, &self.table, next, kind, inc)
+    }
+
+    /// Takes the step that a begin comes to, where there is room.
+    fn begin_by(
+        &mut self,
+        caller: u32,
+        kind: ActKind,
+        inc: u64,
+        answer: BeginAnswer,
+    ) -> Result<Reply, NoStep>
+        requires room { HasRoom self.old 2 }
+        requires answer { BeginsBy (world_of self.old) kind inc answer }
+        ensures step { IfOk result (λ reply.
+            Tells self.old self.new caller (Event.Begin kind inc) reply) }
+        ensures refused { let waits = WaitsToBegin (world_of self.old) kind inc in
+            IfErr result (Refuses self.old 2 waits) }
+        ensures err { OnErr result (self.new ≡ self.old) }
+    {
+        match answer {
+            BeginAnswer::Busy(action) => Err(NoStep::Busy(action)),
+            BeginAnswer::Quiet(reply) => self.tell(caller, Event::Begin(kind, inc), reply),
+            BeginAnswer::Joins(action) => {
+                self.join(caller, kind, inc, action)?;
+                Ok(Reply::Joined(action))
+            }
+            BeginAnswer::Begins(work) => {
+                let kept = copied(&work)?;
+                self.begin_action(caller, kind, inc, kept)?;
+                Ok(Reply::Begun(work))
+            }
+        }
+    }
+
+    /// Puts down that a caller joins an action, with room for the entry of its await.
+    fn join(&mut self, caller: u32, kind: ActKind, inc: u64, action: u64) -> Result<(), NoStep>
+        requires { let w = world_of self.old in
+            begin_reply w.rows w.next_action kind inc ≡ Some (Reply.Joined action) }
+        ensures step { let event = Event.Begin kind inc in
+            OnOk result (Tells self.old self.new caller event (Reply.Joined action)) }
+        ensures refused { IfErr result (Refuses self.old 2 (λ a. ⊥)) }
+        ensures err { OnErr result (self.new ≡ self.old) }
+    {
+        add_join(&mut self.joins, &mut self.book, caller, action)?;
+        self.book.push_reserved(Entry {
+            caller,
+            event: Event::Begin(kind, inc),
+            reply: Reply::Joined(action),
+        });
+        Ok(())
+    }
+
+    /// Puts down that an action begins, with room for the entry of its end.
+    fn begin_action(
+        &mut self,
+        caller: u32,
+        kind: ActKind,
+        inc: u64,
+        work: Work,
+    ) -> Result<(), NoStep>
+        requires { let w = world_of self.old in
+            begin_reply w.rows w.next_action kind inc ≡ Some (Reply.Begun work) }
+        ensures step { let event = Event.Begin kind inc in
+            OnOk result (Tells self.old self.new caller event (Reply.Begun work)) }
+        ensures refused { IfErr result (Refuses self.old 2 (λ a. ⊥)) }
+        ensures err { OnErr result (self.new ≡ self.old) }
+    {
+        make_room(&mut self.acts, &mut self.table, &mut self.book, kind)?;
+        let action = next_action(self.acts.as_slice());
+        self.table.set_pending(inc, Some((kind, action)));
+        self.acts.push_reserved(Act {
+            action,
+            kind,
+            inc,
+            by: caller,
+            outcome: None,
+        });
+        self.book.push_reserved(Entry {
+            caller,
+            event: Event::Begin(kind, inc),
+            reply: Reply::Begun(work),
+        });
+        Ok(())
+    }
+
+    /// The program of an instance has ended by itself: `Left` with where the instance stands,
+    /// and the program is off; `Already` where it was off, `Gone` where the instance doesn't
+    /// live. This is the `on_stop` of a runner's `fuchsia.component.runner.ComponentController`.
+    ///
+    /// - `Busy` with the number of the action that is pending at the instance;
+    /// - `HistoryFull` where one entry more doesn't fit, which is tried first;
+    /// - `Memory` where memory runs out.
+    pub fn exited(&mut self, alloc: Global, caller: u32, inc: u64) -> Result<Reply, NoStep>
+        ensures step { IfOk result (λ reply.
+            Tells self.old self.new caller (Event.Exited inc) reply) }
+        ensures room { OnOk result (HasRoom self.old 1) }
+        ensures refused { let waits = WaitsToExit (world_of self.old) inc in
+            IfErr result (Refuses self.old 1 waits) }
+        ensures err { OnErr result (self.new ≡ self.old) }
+    {
+        if !self.has_room(1) {
+            return Err(NoStep::HistoryFull);
+        }
+        let answer = self.answer_to_exit(alloc, inc)?;
+        self.exit_by(caller, inc, answer)
+    }
+
+    /// What the exit of a program comes to.
+    fn answer_to_exit(&self, alloc: Global, inc: u64) -> Result<ExitAnswer, Memory>
+        ensures { IfOk result (ExitsBy (world_of self.now) inc) }
+    {
+        exit_answer(alloc, &self.table, inc)
+    }
+
+    /// Takes the step that an exit comes to, where there is room.
+    fn exit_by(&mut self, caller: u32, inc: u64, answer: ExitAnswer) -> Result<Reply, NoStep>
+        requires room { HasRoom self.old 1 }
+        requires answer { ExitsBy (world_of self.old) inc answer }
+        ensures step { IfOk result (λ reply.
+            Tells self.old self.new caller (Event.Exited inc) reply) }
+        ensures refused { let waits = WaitsToExit (world_of self.old) inc in
+            IfErr result (Refuses self.old 1 waits) }
+        ensures err { OnErr result (self.new ≡ self.old) }
+    {
+        match answer {
+            ExitAnswer::Busy(action) => Err(NoStep::Busy(action)),
+            ExitAnswer::Quiet(reply) => self.tell(caller, Event::Exited(inc), reply),
+            ExitAnswer::Leaves(moniker) => {
+                let kept = copied(&moniker)?;
+                self.leave(caller, inc, kept)?;
+                Ok(Reply::Left(moniker))
+            }
+        }
+    }
+
+    /// Puts down that the program of an instance has ended by itself.
+    fn leave(&mut self, caller: u32, inc: u64, moniker: Moniker) -> Result<(), NoStep>
+        requires { exit_reply (world_of self.old).rows inc ≡ Some (Reply.Left moniker) }
+        ensures step { let event = Event.Exited inc in
+            OnOk result (Tells self.old self.new caller event (Reply.Left moniker)) }
+        ensures refused { IfErr result (RefusesQuiet self.old) }
+        ensures err { OnErr result (self.new ≡ self.old) }
+    {
+        self.book.reserve(1)?;
+        self.table.set_on(inc, false);
+        self.book.push_reserved(Entry {
+            caller,
+            event: Event::Exited(inc),
+            reply: Reply::Left(moniker),
+        });
+        Ok(())
+    }
+}
+
+/// A copy of the value.
+fn copied<T: Plain>(value: &T) -> Result<T, Memory>
+    ensures { IfOk result (λ copy. copy ≡ value.now) }
+{
+    Ok(value.clone()?)
+}

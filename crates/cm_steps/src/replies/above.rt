@@ -1,0 +1,128 @@
+//! What an instance takes from those above it: marks, and where it stands.
+
+ghost use Rattle.std.specs.Prelude.{◌≡◌, ◌++◌, false, IfOk, OnOk, option_and_then, option_to_list};
+ghost use Rattle.std.specs.Option.{option_copied, option_map_or};
+ghost use Rattle.cm_world.specs.Rows.{row_of, some_above, is_gone, is_closed, is_resolved, is_shut, is_on, moniker_of};
+ghost use Rattle.cm_world.specs.Sound.{IsOrderly};
+ghost use Rattle.cm_steps.specs.Marks.{has_mark};
+
+use cm_names::{ChildName, List, Memory, Moniker};
+use cm_world::View;
+use std::alloc::Global;
+
+/// A mark that counts for all instances below the one that has it.
+#[derive(Debug, Clone, Copy, PartialEq, Eq)]
+pub enum Mark {
+    /// The instance is being destroyed.
+    Doomed,
+    /// The instance is being shut down.
+    Closing,
+}
+
+/// Whether an instance itself has the mark.
+fn has<V: View>(view: &V, mark: Mark, inc: u64) -> bool
+    ensures has { result ≡ option_map_or (has_mark mark) (row_of (V.rows view.now) inc) false }
+    ensures orderly { IsOrderly (V.rows view.now) (V.next_inc view.now) }
+{
+    match view.facts(inc) {
+        None => false,
+        Some(facts) => match mark {
+            Mark::Doomed => facts.doomed,
+            Mark::Closing => facts.closing,
+        },
+    }
+}
+
+/// The parent of an instance, or `None` where it is the root or doesn't live.
+fn parent<V: View>(view: &V, inc: u64) -> Option<u64>
+    ensures parent { result ≡ option_and_then (λ r. r.parent) (row_of (V.rows view.now) inc) }
+    ensures orderly { IsOrderly (V.rows view.now) (V.next_inc view.now) }
+{
+    match view.facts(inc) {
+        Some(facts) => facts.parent,
+        None => None,
+    }
+}
+
+/// Whether an instance or one above it has the mark.
+#[tactic(auto, using(crate::proofs::Up::mark_found, crate::proofs::Up::no_mark))]
+fn has_above<V: View>(view: &V, mark: Mark, inc: u64) -> bool
+    ensures { result ≡ some_above (has_mark mark) (V.rows view.now) inc }
+{
+    let mut at = Some(inc);
+    'up: while let Some(here) = at {
+        if has(view, mark, here) {
+            return true;
+        }
+        at = parent(view, here);
+    }
+    false
+}
+
+/// Whether an instance doesn't live, or it or one above it is being destroyed.
+pub fn gone<V: View>(view: &V, inc: u64) -> bool
+    ensures { result ≡ is_gone (V.rows view.now) inc }
+{
+    view.facts(inc).is_none() || has_above(view, Mark::Doomed, inc)
+}
+
+/// Whether an instance is shut, or it or one above it is being shut down.
+pub fn closed<V: View>(view: &V, inc: u64) -> bool
+    ensures { result ≡ is_closed (V.rows view.now) inc }
+{
+    has_above(view, Mark::Closing, inc) || shut(view, inc)
+}
+
+/// Whether an instance is shut.
+pub fn shut<V: View>(view: &V, inc: u64) -> bool
+    ensures { result ≡ is_shut (V.rows view.now) inc }
+{
+    match view.facts(inc) {
+        None => false,
+        Some(facts) => facts.shut,
+    }
+}
+
+/// Whether the program of an instance runs.
+pub fn on<V: View>(view: &V, inc: u64) -> bool
+    ensures { result ≡ is_on (V.rows view.now) inc }
+{
+    match view.facts(inc) {
+        None => false,
+        Some(facts) => facts.on,
+    }
+}
+
+/// Whether an instance lives and is resolved.
+pub fn resolved<V: View>(view: &V, inc: u64) -> bool
+    ensures { result ≡ is_resolved (V.rows view.now) inc }
+{
+    view.decl(inc).is_some()
+}
+
+/// Where an instance stands; the root's place where it doesn't live.
+pub fn moniker_at<V: View>(alloc: Global, view: &V, inc: u64) -> Result<Moniker, Memory>
+    ensures { IfOk result (λ moniker. moniker ≡ moniker_of (V.rows view.now) inc) }
+{
+    let mut names = Vec::new(alloc);
+    let mut at = Some(inc);
+    'up: while let Some(here) = at {
+        push_name(&mut names, view.name(here))?;
+        at = parent(view, here);
+    }
+    names.reverse();
+    Ok(Moniker {
+        parts: List::from_vec(names),
+    })
+}
+
+/// Puts a copy of the name at the end, if there is one.
+fn push_name(names: &mut Vec<ChildName>, name: Option<&ChildName>) -> Result<(), Memory>
+    ensures { let name = option_to_list (option_copied name.entry) in
+        OnOk result (names.new.items ≡ names.old.items ++ name) }
+{
+    if let Some(name) = name {
+        names.push(name.clone()?)?;
+    }
+    Ok(())
+}

@@ -1,0 +1,126 @@
+//! Room for what a begin leaves to come: entries of ends and awaits, and rows of resolves.
+
+ghost use Rattle.std.specs.Prelude.{◌≡◌, ◌+◌, ◌-◌, ◌≤◌, ◌<◌, ◌^◌, length, cond, count_by, OnOk, OnErr, IfErr};
+ghost use Rattle.std.specs.List.{list_any};
+ghost use Rattle.std.specs.Vec.{vec_len, vec_capacity};
+ghost use Rattle.cm_world.specs.Begin.{same_act};
+ghost use Rattle.cm_world.specs.Step as step;
+ghost use Rattle.cm_world.specs.After.{joined};
+ghost use Rattle.cm_steps.specs.Tasks as tasks;
+ghost use Rattle.cm_steps.specs.Rooms.{Lacks};
+
+use crate::nostep::NoStep;
+use cm_book::Book;
+use cm_table::Table;
+use cm_world::{Act, ActKind, Join};
+
+/// The number of the next action.
+pub fn next_action(acts: &[Act]) -> u64
+    ensures { result ≡ length acts.now + 1 }
+{
+    acts.len() as u64 + 1
+}
+
+/// Makes room for an action more: for itself, for the entries of its begin and its end, and,
+/// where it is a resolve, for the rows that it may add.
+pub fn make_room(
+    acts: &mut Vec<Act>,
+    table: &mut Table,
+    book: &mut Book,
+    kind: ActKind,
+) -> Result<(), NoStep>
+    requires { count_by tasks.is_open_resolve acts.old.items ≤ table.old.spare }
+    ensures acts { acts.new.items ≡ acts.old.items }
+    ensures room { OnOk result (vec_len acts.new < vec_capacity acts.new) }
+    ensures table { table.new ≡ record table.old { spare = table.new.spare } }
+    ensures later { table.old.spare ≤ table.new.spare }
+    ensures spare { let begun = count_by tasks.is_open_resolve acts.old.items in
+        OnOk result (begun + cond (same_act kind ActKind.Resolve) 1 0 ≤ table.new.spare) }
+    ensures book { let reserved = book.old.reserved + 2 in
+        OnOk result (book.new ≡ record book.old { reserved = reserved }) }
+    ensures err { OnErr result (book.new ≡ book.old) }
+    ensures refused { IfErr result (Lacks book.old 2) }
+{
+    acts.reserve(1)?;
+    room_for_rows(acts.as_slice(), table, kind)?;
+    book.reserve(2)?;
+    Ok(())
+}
+
+/// Makes room for the rows of a resolve more, if it is one.
+fn room_for_rows(acts: &[Act], table: &mut Table, kind: ActKind) -> Result<(), NoStep>
+    requires { count_by tasks.is_open_resolve acts.now ≤ table.old.spare }
+    ensures table { table.new ≡ record table.old { spare = table.new.spare } }
+    ensures later { table.old.spare ≤ table.new.spare }
+    ensures spare { let begun = count_by tasks.is_open_resolve acts.now in
+        OnOk result (begun + cond (same_act kind ActKind.Resolve) 1 0 ≤ table.new.spare) }
+    ensures refused { IfErr result (λ e. e ≡ NoStep.Memory) }
+{
+    if !is_resolve(kind) {
+        return Ok(());
+    }
+    let Ok(resolves) = u32::try_from(open_resolves(acts) + 1) else {
+        return Err(NoStep::Memory);
+    };
+    table.reserve(resolves)?;
+    Ok(())
+}
+
+fn is_resolve(kind: ActKind) -> bool
+    ensures { result ≡ same_act kind ActKind.Resolve }
+{
+    kind == ActKind::Resolve
+}
+
+/// Whether it is a resolve that hasn't ended.
+fn is_open_resolve(act: &Act) -> bool
+    ensures { result ≡ tasks.is_open_resolve act.now }
+{
+    is_resolve(act.kind) && act.outcome.is_none()
+}
+
+/// How many resolves haven't ended.
+fn open_resolves(acts: &[Act]) -> usize
+    ensures count { result ≡ count_by tasks.is_open_resolve acts.now }
+    ensures bound { result ≤ length acts.now }
+{
+    acts.iter().filter(|act| is_open_resolve(act)).count()
+}
+
+/// Puts down that a caller waits for an action, with room for the entry that says so, and for
+/// that of its await where it didn't wait before.
+pub fn add_join(
+    joins: &mut Vec<Join>,
+    book: &mut Book,
+    caller: u32,
+    action: u64,
+) -> Result<(), NoStep>
+    ensures joins { OnOk result (joins.new.items ≡ joined caller action joins.old.items) }
+    ensures same { OnErr result (joins.new.items ≡ joins.old.items) }
+    ensures book { let more = length joins.new.items - length joins.old.items in
+        OnOk result (book.new ≡ record book.old { reserved = book.old.reserved + 1 + more }) }
+    ensures err { OnErr result (book.new ≡ book.old) }
+    ensures refused { IfErr result (Lacks book.old 2) }
+{
+    if waits(joins.as_slice(), caller, action) {
+        book.reserve(1)?;
+        return Ok(());
+    }
+    joins.reserve(1)?;
+    book.reserve(2)?;
+    joins.push_reserved(Join { caller, action });
+    Ok(())
+}
+
+/// Whether the caller waits for the action.
+fn waits(joins: &[Join], caller: u32, action: u64) -> bool
+    ensures { result ≡ list_any (step.is_join caller action) joins.now }
+{
+    joins.iter().any(|join| is_join(join, caller, action))
+}
+
+fn is_join(join: &Join, caller: u32, action: u64) -> bool
+    ensures { result ≡ step.is_join caller action join.now }
+{
+    join.caller == caller && join.action == action
+}

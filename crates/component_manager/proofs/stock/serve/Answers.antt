@@ -1,0 +1,5 @@
+use Rattle.component_manager.proofs.StockLemmas.{fault_of_script}
+use Rattle.component_manager.proofs.stock.serve.Goals as goal
+
+pub returns-clause-bad : goal.returns-clause-bad
+returns-clause-bad c = fault_of_script c.args.bytes c.in_ok-script.script _ c.in_ok-script.ensures.ok c.serve_script.ensures
