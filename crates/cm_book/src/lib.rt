@@ -7,7 +7,5 @@
 #![tactic(auto)]
 
 pub mod book;
-#[cfg(test)]
-mod tests;
 
 pub use book::{Book, BookFault};

@@ -29,8 +29,6 @@ pub mod rights;
 pub mod script;
 pub mod script_reader;
 pub mod step;
-#[cfg(test)]
-mod tests;
 pub mod tokens;
 pub mod words;
 pub mod writer;

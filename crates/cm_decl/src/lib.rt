@@ -14,8 +14,6 @@ pub mod node;
 pub mod origin;
 pub mod rows;
 pub mod section;
-#[cfg(test)]
-mod tests;
 
 pub use decl::Decl;
 pub use kind::Kind;

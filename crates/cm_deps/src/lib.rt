@@ -19,8 +19,6 @@ pub mod outcome;
 pub(crate) mod realm;
 pub(crate) mod ring;
 pub(crate) mod sources;
-#[cfg(test)]
-mod tests;
 
 pub use graph::Graph;
 pub use outcome::{Order, order_of};

@@ -26,8 +26,6 @@ pub mod meeting;
 mod place;
 pub mod planned;
 pub mod quiet;
-#[cfg(test)]
-mod tests;
 
 pub use asked::{Asked, Fetch, Fetched, Halted, Job, Launched};
 pub use folder::FolderGates;

@@ -15,8 +15,6 @@ pub mod output;
 pub mod sink;
 pub mod source;
 pub mod standard;
-#[cfg(test)]
-mod tests;
 
 pub use input::{SourceFault, read_up_to};
 pub use lines::{LineReader, Next};

@@ -17,8 +17,6 @@ pub mod name;
 pub mod path;
 pub mod plain;
 pub mod rights;
-#[cfg(test)]
-mod tests;
 pub mod text;
 
 pub use availability::Availability;

@@ -25,6 +25,3 @@ mod writing;
 pub use fault::ReadFault;
 pub use manifest::{read_decl, read_decl_text};
 pub use writing::write_decl;
-
-#[cfg(test)]
-mod tests;

@@ -16,24 +16,6 @@ use Rattle.cm_reply.specs.Routes.{place_text, route_text}
 use Rattle.cm_reply.specs.States.{incarnation_text, look_text, survey_text, kid_text}
 use Rattle.cm_reply.specs.Refusals.{refusal_text}
 
--- the call that the command names can give that answer
-abbrev pub Answers : Command → Answer → Type 0
-Answers (command.Resolve target) (answer.Resolved action) = Unit {0}
-Answers (command.Start target) (answer.Started action) = Unit {0}
-Answers (command.Stop target) (answer.Stopped action forced) = Unit {0}
-Answers (command.Shutdown target) answer.Shut = Unit {0}
-Answers (command.Create parent coll name url gives) (answer.Created inc) = Unit {0}
-Answers (command.Destroy target) answer.Destroyed = Unit {0}
-Answers (command.ListChildren target coll) (answer.Children kids) = Unit {0}
-Answers (command.OpenUse target path) (answer.Opened route) = Unit {0}
-Answers (command.OpenExposed target name) (answer.Opened route) = Unit {0}
-Answers (command.RouteOf target path) (answer.Routed route) = Unit {0}
-Answers (command.Doctor target) (answer.Doctored lines) = Unit {0}
-Answers (command.Show target) (answer.Shown look) = Unit {0}
-Answers (command.Survey target) (answer.Surveyed rows) = Unit {0}
-Answers (command.Exited target) (answer.Left was_on) = Unit {0}
-Answers _ _ = ⊥
-
 -- the instance that the command names
 abbrev pub target_of : Command → Target
 target_of (command.Resolve target) = target

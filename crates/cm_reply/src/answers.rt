@@ -58,7 +58,9 @@ use std::alloc::Global;
 /// | `NoRoute`, `VoidSource` | `87 WHY at HOP`, `88 void at HOP` |
 /// | `SourceShut`, `Memory` | `89 source-shut incarnation N`, `want-of-memory` |
 ///
-/// WHY and OUTCOME are those of a journal ([`crate::entry_text`]).
+/// WHY and OUTCOME are those of a journal ([`crate::entry_text`]). An answer that the command
+/// can't have is written by its own words too: a child or a collection that the command doesn't
+/// name is then left out.
 ///
 /// What comes one each stands on a line of its own that begins with two spaces. No line feed
 /// stands behind the last line. `Err` where memory runs out. It takes time and memory in
@@ -68,7 +70,6 @@ pub fn reply_text(
     command: &Command,
     reply: &Result<Answer, Refusal>,
 ) -> Result<Text, Memory>
-    requires { IfOk reply.now (λ answer. spec.Answers command.now answer) }
     ensures { IfOk result (λ text. text ≡ spec.reply_text command.now reply.now) }
 {
     match reply {
@@ -79,7 +80,6 @@ pub fn reply_text(
 
 /// The text of the answer to the command.
 fn answer_text(alloc: Global, command: &Command, answer: &Answer) -> Result<Text, Memory>
-    requires { spec.Answers command.now answer.now }
     ensures { IfOk result (λ text. text ≡ spec.answer_text command.now answer.now) }
 {
     match answer {
@@ -177,30 +177,43 @@ fn stopped_text(
     written(alloc, format_args!("{text}{by_force}{done}"))
 }
 
+/// The child that the command creates, with its collection; nothing for any other command.
+fn child_text(alloc: Global, command: &Command) -> Result<Text, Memory>
+    ensures { IfOk result (λ text. text ≡ spec.child_of command.now) }
+{
+    match command {
+        Command::Create { coll, name, .. } => written(alloc, format_args!("{coll}:{name}")),
+        _ => Ok(Text::new(alloc)),
+    }
+}
+
+/// The collection whose children the command lists; nothing for any other command.
+fn collection_text(alloc: Global, command: &Command) -> Result<Text, Memory>
+    ensures { IfOk result (λ text. text ≡ spec.collection_of command.now) }
+{
+    match command {
+        Command::ListChildren { coll, .. } => written(alloc, format_args!("{coll}")),
+        _ => Ok(Text::new(alloc)),
+    }
+}
+
 /// That the child was created which the command names.
 fn created_text(alloc: Global, command: &Command, inc: u64) -> Result<Text, Memory>
-    requires { spec.Answers command.now (answer.Created inc) }
     ensures { IfOk result (λ text. text ≡ spec.answer_text command.now (answer.Created inc)) }
 {
-    let Command::Create { coll, name, .. } = command else {
-        unreachable!()
-    };
     let text = of_target(alloc, "created", command)?;
-    let child = written(alloc, format_args!("{coll}:{name}"))?;
+    let child = child_text(alloc, command)?;
     written(alloc, format_args!("{text} {child} incarnation {inc}"))
 }
 
 /// The children of the collection that the command names.
 fn children_text(alloc: Global, command: &Command, kids: &[Kid]) -> Result<Text, Memory>
-    requires { spec.Answers command.now (answer.Children kids.now) }
     ensures { IfOk result (λ text. text ≡ spec.answer_text command.now (answer.Children kids.now)) }
 {
-    let Command::ListChildren { coll, .. } = command else {
-        unreachable!()
-    };
     let text = of_target(alloc, "children", command)?;
+    let collection = collection_text(alloc, command)?;
     let lines = counted(alloc, kids)?;
-    written(alloc, format_args!("{text} {coll}{lines}"))
+    written(alloc, format_args!("{text} {collection}{lines}"))
 }
 
 /// The route of a use.

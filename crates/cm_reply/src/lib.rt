@@ -29,8 +29,6 @@ mod refusals;
 mod replies;
 mod routes;
 mod states;
-#[cfg(test)]
-mod tests;
 
 pub use answers::reply_text;
 pub use journal::{entry_text, header_text};

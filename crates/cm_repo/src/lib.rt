@@ -15,6 +15,3 @@ mod urls;
 pub use fault::{RepoFault, UrlFault};
 pub use repository::Repository;
 pub use urls::absolute;
-
-#[cfg(test)]
-mod tests;

@@ -6,7 +6,6 @@ use Rattle.std.proofs.lemmas.List.Folds.{list_any-append}
 use Rattle.cm_world.specs.declared.action.Join.{Join}
 use Rattle.cm_world.specs.declared.action.ActKind.{ActKind}
 use Rattle.cm_world.specs.declared.action.Finish.{Finish}
-use Rattle.cm_world.specs.declared.action.Work.{Work}
 use Rattle.cm_world.specs.declared.event.Event.{Event}
 use Rattle.cm_world.specs.declared.event.Event.TheVariants.{Begin}
 use Rattle.cm_world.specs.declared.reply.Reply.{Reply}
@@ -14,7 +13,7 @@ use Rattle.cm_world.specs.declared.reply.Reply.TheVariants as reply
 use Rattle.cm_world.specs.declared.reply.Entry.{Entry}
 use Rattle.cm_world.specs.World.{World, start}
 use Rattle.cm_world.specs.Step.{MayEnd, is_join}
-use Rattle.cm_world.specs.After.{after, joined}
+use Rattle.cm_world.specs.After.{after}
 use Rattle.cm_world.specs.Legal.{replay}
 use Rattle.cm_world.proofs.Histories.{replay-push}
 use Rattle.cm_steps.specs.Story.{Story, world_of}

@@ -1,5 +1,5 @@
 -- How many items pass a test behind a change of one, and how long lists are then.
-use Rattle.std.proofs.Common.{◌≡◌, ℕ, ◌+◌, ◌≤◌, List, [], ◌∷◌, ◌++◌, Bool, true, false, cond, ◌||◌, ◌&&◌, ◌==◌, true≢false, Option, Some, None, is_none, length, length-append, find, refl, sym, ◌∙◌, ap, subst, arith, IsTrue}
+use Rattle.std.proofs.Common.{◌≡◌, ℕ, ◌+◌, ◌≤◌, List, [], ◌∷◌, ◌++◌, Bool, true, false, cond, ◌||◌, ◌&&◌, ◌==◌, true≢false, Some, is_none, length, find, refl, sym, ◌∙◌, ap, subst, arith, IsTrue}
 use Rattle.std.proofs.lemmas.List.Sums.{sum_by-cons, sum_by_push}
 use Rattle.std.specs.List.{count_by, list_any}
 use Rattle.cm_decl.specs.declared.decl.Decl.{Decl}
@@ -15,7 +15,7 @@ use Rattle.cm_world.specs.World.{is_open}
 use Rattle.cm_world.specs.Begin.{same_act}
 use Rattle.cm_world.specs.End.{fits_kind, put_outcome, ended}
 use Rattle.cm_world.specs.Step.{MayEnd, is_join}
-use Rattle.cm_world.specs.After.{joined, unjoined}
+use Rattle.cm_world.specs.After.{unjoined}
 use Rattle.cm_world.proofs.Finding.{none_some, some_same}
 use Rattle.cm_steps.specs.Tasks.{is_open_resolve}
 

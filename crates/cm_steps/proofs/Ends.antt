@@ -1,5 +1,5 @@
 -- What the end of an action needs, and what it leaves.
-use Rattle.std.proofs.Common.{◌≡◌, ℕ, ◌+◌, ◌-◌, ◌≤◌, ◌<◌, ◌==◌, List, [], ◌∷◌, ◌++◌, Bool, true, false, ◌&&◌, true≢false, length, append-nil, Option, Some, None, is_some, option_and_then, refl, sym, ◌∙◌, ap, subst, arith}
+use Rattle.std.proofs.Common.{◌≡◌, ℕ, ◌+◌, ◌-◌, ◌≤◌, ◌==◌, List, [], ◌∷◌, ◌++◌, Bool, true, false, ◌&&◌, true≢false, length, append-nil, Some, None, is_some, option_and_then, refl, sym, ◌∙◌, ap, subst, arith}
 use Rattle.std.specs.Option.{option_map_or}
 use Rattle.std.specs.List.{count_by}
 use Rattle.cm_decl.specs.declared.decl.Decl.{Decl}
@@ -53,7 +53,7 @@ end_inc outcome.Stopped r = refl
 end_inc outcome.Killed r = refl
 end_inc _ r = refl
 
-end_idle : (o : Outcome) (r : Row) → (end_row o r).pending ≡ None
+pub end_idle : (o : Outcome) (r : Row) → (end_row o r).pending ≡ None
 end_idle outcome.Started r = refl
 end_idle outcome.Stopped r = refl
 end_idle outcome.Killed r = refl

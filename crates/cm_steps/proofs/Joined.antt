@@ -1,5 +1,5 @@
 -- The joins behind one more.
-use Rattle.std.proofs.Common.{◌≡◌, ℕ, ◌≤◌, List, [], ◌∷◌, ◌++◌, length, Bool, true, false, cond, length-append, arith}
+use Rattle.std.proofs.Common.{ℕ, ◌≤◌, List, [], ◌∷◌, ◌++◌, length, Bool, true, false, cond, length-append, arith}
 use Rattle.std.specs.List.{list_any}
 use Rattle.cm_world.specs.declared.action.Join.{Join}
 use Rattle.cm_world.specs.Step.{is_join}

@@ -1,4 +1,3 @@
-pub mod Monikers
 pub mod Up
 pub mod Kids
 pub mod Reading
@@ -10,7 +9,11 @@ pub mod Starting
 pub mod Begun
 pub mod Joined
 pub mod Waits
-pub mod Places
 pub mod Ends
 pub mod Others
 pub mod Beginners
+pub mod Answered
+pub mod Entries
+pub mod Stable
+pub mod Known
+pub mod Outcomes

@@ -1,5 +1,5 @@
 -- The numbers of the actions of a world that a history leaves.
-use Rattle.std.proofs.Common.{◌≡◌, ℕ, ◌+◌, List, [], ◌∷◌, ◌++◌, length, length-append, Option, Some, None, refl, sym, ◌∙◌, ap, subst, arith, ◌==◌}
+use Rattle.std.proofs.Common.{◌≡◌, ℕ, ◌+◌, List, [], ◌∷◌, length, length-append, Option, Some, None, refl, sym, ◌∙◌, ap, subst, arith, ◌==◌}
 use Rattle.cm_world.specs.declared.action.Act.{Act}
 use Rattle.cm_world.specs.declared.action.ActKind.{ActKind}
 use Rattle.cm_world.specs.declared.action.ActKind.TheVariants.{Stop}
@@ -13,7 +13,7 @@ use Rattle.cm_world.specs.declared.reply.Reply.TheVariants as reply
 use Rattle.cm_world.specs.declared.reply.Entry.{Entry}
 use Rattle.cm_world.specs.World.{World, start, act_of}
 use Rattle.cm_world.specs.End.{rows_by, added_by, put_outcome, ended}
-use Rattle.cm_world.specs.After.{new_act, with_action, with_end, moved, after}
+use Rattle.cm_world.specs.After.{new_act, with_action, moved, after}
 use Rattle.cm_world.specs.Legal.{replay}
 use Rattle.cm_table.proofs.Edits.{length-edit_first}
 use Rattle.cm_steps.specs.Tasks.{IsNumbered}
@@ -56,7 +56,7 @@ counted_moved w caller (Purge i) (reply.Purged lost) it = kept w _ refl refl it
 counted_moved w caller (Exited i) (reply.Left m) it = kept w _ refl refl it
 counted_moved w caller e r it = it
 
-counted_after : (w : World) (e : Entry) → IsCounted w → IsCounted (after w e)
+pub counted_after : (w : World) (e : Entry) → IsCounted w → IsCounted (after w e)
 unfolding after
 counted_after w e it = kept (moved w e.caller e.event e.reply) _ refl refl (counted_moved w e.caller e.event e.reply it)
 

@@ -1,11 +1,10 @@
 -- What the entries of other callers leave: who began an action may still end it, and who joined one is still joined.
-use Rattle.std.proofs.Common.{◌≡◌, ℕ, ◌+◌, ◌==◌, List, [], ◌∷◌, ◌++◌, Bool, true, false, true≢false, cond, ◌&&◌, ◌||◌, Option, Some, None, find, refl, sym, ◌∙◌, ap, subst, IsTrue}
+use Rattle.std.proofs.Common.{◌≡◌, ℕ, ◌+◌, ◌==◌, List, [], ◌∷◌, ◌++◌, Bool, true, false, true≢false, cond, ◌&&◌, ◌||◌, Option, Some, None, refl, sym, ◌∙◌, ap, subst, IsTrue}
 use Rattle.std.specs.List.{list_any}
 use Rattle.std.proofs.lemmas.List.Folds.{list_any-append}
 use Rattle.std.specs.Cmp.{unsigned_Decides}
 use Rattle.cm_world.specs.declared.action.Act.{Act}
 use Rattle.cm_world.specs.declared.action.Join.{Join}
-use Rattle.cm_world.specs.declared.action.ActKind.{ActKind}
 use Rattle.cm_world.specs.declared.action.ActKind.TheVariants.{Stop}
 use Rattle.cm_world.specs.declared.action.Finish.{Finish}
 use Rattle.cm_world.specs.declared.action.Outcome.{Outcome}
@@ -18,7 +17,7 @@ use Rattle.cm_world.specs.Edits.{drop_first}
 use Rattle.cm_world.specs.World.{World, act_of}
 use Rattle.cm_world.specs.End.{rows_by, added_by, put_outcome, ended}
 use Rattle.cm_world.specs.Step.{MayEnd, IsEnabled, is_join}
-use Rattle.cm_world.specs.After.{new_act, with_action, moved, after, joined, unjoined}
+use Rattle.cm_world.specs.After.{new_act, moved, after}
 use Rattle.cm_world.specs.Legal.{IsStep}
 use Rattle.cm_world.proofs.Finding.{some_same}
 use Rattle.cm_steps.proofs.Tasks.{find_left, edit_other}

@@ -1,5 +1,5 @@
 -- The replies of the definitions, from what was read of a row.
-use Rattle.std.proofs.Common.{◌≡◌, ℕ, List, [], Bool, true, false, cond, Option, Some, None, is_some, filter, option_map, option_and_then, unwrap_or, Result, Ok, Err, IfOk, refl, sym, ◌∙◌, ap, subst}
+use Rattle.std.proofs.Common.{◌≡◌, ℕ, List, [], Bool, true, false, cond, Option, Some, None, is_some, filter, option_map, option_and_then, unwrap_or, refl, sym, ◌∙◌, ap, subst}
 use Rattle.std.specs.List.{filter_map}
 use Rattle.cm_names.specs.declared.moniker.Moniker.{Moniker}
 use Rattle.cm_decl.specs.declared.decl.Decl.{Decl}
@@ -18,15 +18,12 @@ use Rattle.cm_world.specs.Work.{base_of, eager_of, runner_of, program_work, work
 use Rattle.cm_world.specs.Reports.{look_at, show_reply}
 use Rattle.cm_world.specs.After.{moves}
 use Rattle.cm_world.proofs.Finding.{some_same, row_of-inc}
+pub use Rattle.cm_walk.proofs.Steps.{if_ok}
 use Rattle.cm_steps.specs.Answers.{AnswersBegin, AnswersIdle}
 use Rattle.cm_steps.specs.Eager.{eager_by, eager_kids, above_url}
 use Rattle.cm_steps.specs.declared.replies.beginning.BeginAnswer.{BeginAnswer}
 use Rattle.cm_steps.specs.declared.replies.beginning.BeginAnswer.TheVariants as answer
 use Rattle.cm_steps.proofs.Up.{Told, told}
-
-pub if_ok : {A E : Type 0} (P Q : A → Type 0) (r : Result A E) → ((x : A) → P x → Q x) → IfOk r P → IfOk r Q
-if_ok P Q (Ok x) more it = more x it
-if_ok P Q (Err e) more it = it
 
 -- what is told of a row that lives
 pub told_of : (rows : List Row) (i : ℕ) (f : Facts) (r : Row) → Some f ≡ option_map facts_of (row_of rows i) → row_of rows i ≡ Some r → f ≡ facts_of r

@@ -1,5 +1,5 @@
 -- A new realm.
-use Rattle.std.proofs.Common.{◌≡◌, ℕ, ◌+◌, ◌≤◌, List, [], ◌∷◌, length, refl, sym, ◌∙◌, ap, subst, arith}
+use Rattle.std.proofs.Common.{◌≡◌, ◌+◌, ◌≤◌, List, [], length, sym, ◌∙◌, ap, subst, arith}
 use Rattle.std.specs.List.{count_by}
 use Rattle.cm_world.specs.declared.reply.Entry.{Entry}
 use Rattle.cm_world.specs.declared.action.Act.{Act}
@@ -8,7 +8,7 @@ use Rattle.cm_world.specs.World.{World, start, owed}
 use Rattle.cm_world.specs.Legal.{Legal, replay}
 use Rattle.cm_book.specs.History.{History}
 use Rattle.cm_table.specs.Tree.{Tree, first_tree}
-use Rattle.cm_steps.specs.Story.{Story, world_of, IsLegal}
+use Rattle.cm_steps.specs.Story.{world_of, IsLegal}
 use Rattle.cm_steps.specs.Tasks.{is_open_resolve, IsNumbered, IsTasked}
 use Rattle.cm_steps.specs.Inside.{story_of, world_in, Stands, IsKept}
 use Rattle.cm_steps.specs.declared.realm.Realm.TheInside.{Inside}

@@ -1,5 +1,5 @@
 -- Which action is pending where, before and behind a change.
-use Rattle.std.proofs.Common.{◌≡◌, ℕ, suc, ◌+◌, ◌<◌, ◌≤◌, ◌==◌, List, [], ◌∷◌, ◌++◌, Bool, true, false, cond, true≢false, Option, Some, None, length, find, option_map, refl, sym, ◌∙◌, ap, subst, arith, inl, inr, ◌⊎◌}
+use Rattle.std.proofs.Common.{◌≡◌, ℕ, ◌+◌, ◌<◌, ◌≤◌, ◌==◌, List, [], ◌∷◌, ◌++◌, Bool, true, false, cond, true≢false, Option, Some, None, length, find, option_map, refl, sym, ◌∙◌, ap, subst, arith, inl, inr, ◌⊎◌}
 use Rattle.std.specs.Cmp.{unsigned_Decides}
 use Rattle.std.specs.Option.{option_or}
 use Rattle.std.proofs.lemmas.List.Folds.{find-append}
@@ -39,7 +39,7 @@ either_by None q z e = inr e
 either_by (Some x) q z e = inl e
 
 -- what is found in two lists is found in the one or the other
-find_split : {A : Type 0} (p : A → Bool) (xs ys : List A) (z : A) → find p (xs ++ ys) ≡ Some z → (find p xs ≡ Some z) ⊎ (find p ys ≡ Some z)
+pub find_split : {A : Type 0} (p : A → Bool) (xs ys : List A) (z : A) → find p (xs ++ ys) ≡ Some z → (find p xs ≡ Some z) ⊎ (find p ys ≡ Some z)
 find_split p xs ys z e = either_by (find p xs) (find p ys) z (sym (find-append p xs ys) ∙ e)
 
 pub find_left : {A : Type 0} (p : A → Bool) (xs ys : List A) (z : A) → find p xs ≡ Some z → find p (xs ++ ys) ≡ Some z
@@ -49,7 +49,7 @@ pub find_last : {A : Type 0} (p : A → Bool) (xs : List A) (y : A) → find p x
 find_last p xs y none hits =
     find-append p xs (y ∷ []) ∙ ap (λ o. option_or o (find p (y ∷ []))) none ∙ ap (λ b. cond b (Some y) None) hits
 
-only_by : {A : Type 0} (b : Bool) (y z : A) → cond b (Some y) None ≡ Some z → y ≡ z
+pub only_by : {A : Type 0} (b : Bool) (y z : A) → cond b (Some y) None ≡ Some z → y ≡ z
 only_by true y z e = some_same y z e
 only_by false y z e = absurd (none_some z e)
 

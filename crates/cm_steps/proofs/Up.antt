@@ -1,5 +1,5 @@
 -- Up the tree.
-use Rattle.std.proofs.Common.{◌≡◌, ℕ, zero, suc, ◌+◌, ◌<◌, ◌||◌, List, Bool, true, false, true≢false, Option, Some, None, length, option_map, option_and_then, refl, sym, ◌∙◌, ap, arith}
+use Rattle.std.proofs.Common.{◌≡◌, ℕ, zero, suc, ◌||◌, List, Bool, true, false, true≢false, Option, Some, None, length, option_map, option_and_then, refl, sym, ◌∙◌, ap}
 use Rattle.std.specs.Option.{option_map_or}
 use Rattle.cm_world.specs.declared.row.Row.{Row}
 use Rattle.cm_world.specs.declared.view.Facts.{Facts}

@@ -1,12 +1,11 @@
 -- What the answers to a begin and to an exit say.
-use Rattle.std.specs.Prelude.{◌≡◌, ℕ, List, Bool, true, false, Option, Some, None, option_and_then}
+use Rattle.std.specs.Prelude.{◌≡◌, ℕ, List, false, Some, None}
 use Rattle.cm_world.specs.declared.row.Row.{Row}
 use Rattle.cm_world.specs.declared.action.ActKind.{ActKind}
-use Rattle.cm_world.specs.declared.reply.Reply.{Reply}
 use Rattle.cm_world.specs.declared.reply.Reply.TheVariants as reply
 use Rattle.cm_world.specs.declared.event.Event.TheVariants.{Begin, Exited}
 use Rattle.cm_world.specs.Rows.{row_of}
-use Rattle.cm_world.specs.Begin.{begin_reply, begin_at, begin_idle}
+use Rattle.cm_world.specs.Begin.{begin_reply, begin_idle}
 use Rattle.cm_world.specs.Reports.{exit_reply}
 use Rattle.cm_world.specs.World.{World}
 use Rattle.cm_world.specs.After.{moves}

@@ -8,3 +8,4 @@ pub mod Marks
 pub mod Answers
 pub mod Ends
 pub mod Laws
+pub mod Lasting

@@ -18,8 +18,6 @@ mod change;
 pub mod prepared;
 mod reading;
 pub mod table;
-#[cfg(test)]
-mod tests;
 mod view;
 
 pub use prepared::Prepared;

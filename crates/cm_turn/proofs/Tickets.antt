@@ -172,7 +172,7 @@ module _ {S E F : Type 0} (story : S → List E) (frame : S → F) (by : E → �
                   home = inr (id, w, set_at s.views id v w at, refl, ap (λ hs. slice_set hs 0 none) x.1 ∙ ap (λ b. left_home b ∷ []) (sym plain));
                 },
               ),
-              ((λ _. (x.0, (subst (λ l. StartsWith l v.seen) (sym x.2) fit.seen, (λ c e. ap (entries_by by c) x.2 ∙ (fit.called c e).2), (λ g e. fit.framed g e ∙ sym x.3)), refl)), (λ miss. absurd (miss hit))),
+              ((λ _. (x.0, (subst (λ l. StartsWith l v.seen) (sym x.2) fit.seen, (λ c e. (ap (entries_by by c) x.2 ∙ (fit.called c e).2, fit.own c e)), (λ g e. fit.framed g e ∙ sym x.3)), refl)), (λ miss. absurd (miss hit))),
             )
         | inr x ↦
             let theirs = (h.each x.0 x.1 x.2).turn x.3 in

@@ -11,9 +11,9 @@ ticket_word None = 0
 ticket_word (Some t) = t % 2 ^ 64
 
 module _ {S E F : Type 0} (story : S → List E) (frame : S → F) (by : E → ℕ) where
-  -- the state s is found: its list begins with what was seen, has the caller's entries and no others of it, and the frame is the same
+  -- the state s is found: its list begins with what was seen, and has no further entry of the caller, and the frame is the same
   abbrev pub Found : View E F → S → Type 0
-  Found v s = StartsWith (story s) v.seen × ((c : ℕ) → v.caller ≡ Some c → entries_by by c (story s) ≡ v.mine) × ((g : F) → v.frame ≡ Some g → g ≡ frame s)
+  Found v s = StartsWith (story s) v.seen × ((c : ℕ) → v.caller ≡ Some c → (entries_by by c (story s) ≡ v.mine) × (entries_by by c v.seen ≡ v.mine)) × ((g : F) → v.frame ≡ Some g → g ≡ frame s)
 
   -- where the ticket is served, the turn and the state are found, and else nothing changes
   abbrev pub Looks : Step (Option S) → Me (Option S) (View E F) → ℕ → Me (Option S) (View E F) → Type 0

@@ -90,7 +90,8 @@ impl<S: Storied> Turn<S> {
     /// Waits for the turn and takes it, for the caller of this pass, which is one of the lock's.
     ///
     /// The state that is found has the pass's frame. Its history begins with all that the pass had seen, and has those
-    /// entries of the caller that the pass knows, and no others of it. The pass in the held turn has seen the whole of it.
+    /// entries of the caller that the pass knows, and no others of it: all of these it had seen. The pass in the held turn
+    /// has seen the whole history.
     ///
     /// Turns come in the order in which callers ask. A caller that waits is parked until the next turn is passed on: it uses
     /// no processor meanwhile. Each time all that wait are woken, and those whose turn it isn't park again.
@@ -100,6 +101,7 @@ impl<S: Storied> Turn<S> {
         ensures frame { pass.frame ≡ Some (S.frame result.state) }
         ensures begins { StartsWith (S.story result.state) pass.seen }
         ensures own { entries_by S.by pass.caller (S.story result.state) ≡ pass.mine }
+        ensures known { IsOwn S.by pass }
     {
         let Pass { badge, number } = pass;
         let table = &self.table.shared;

@@ -16,8 +16,6 @@ pub(crate) mod names;
 pub(crate) mod near;
 pub(crate) mod pass;
 pub(crate) mod row;
-#[cfg(test)]
-mod tests;
 pub mod validator;
 
 pub use fault::ValidFault;

@@ -12,8 +12,8 @@ use cm_world::{Hop, StepKind, View};
 use std::alloc::Global;
 
 /// Where the instance stands: the names from the root down to it. Where it doesn't live, that of
-/// the root.
-pub(crate) fn moniker<V: View>(alloc: Global, view: &V, inc: u64) -> Result<Moniker, Memory>
+/// the root. `Err` where memory runs out.
+pub fn moniker<V: View>(alloc: Global, view: &V, inc: u64) -> Result<Moniker, Memory>
     ensures { IfOk result (λ made. made ≡ moniker_of (V.rows view.now) inc) }
 {
     let mut names = Vec::new(alloc);
@@ -40,7 +40,7 @@ fn push_name(names: &mut Vec<ChildName>, name: Option<&ChildName>) -> Result<(),
 }
 
 /// The parent of the instance, or `None` where it is the root or doesn't live.
-fn parent<V: View>(view: &V, inc: u64) -> Option<u64>
+pub fn parent<V: View>(view: &V, inc: u64) -> Option<u64>
     ensures parent { result ≡ option_and_then (λ r. r.parent) (row_of (V.rows view.now) inc) }
     ensures orderly { IsOrderly (V.rows view.now) (V.next_inc view.now) }
 {

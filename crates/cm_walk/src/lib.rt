@@ -11,12 +11,10 @@
 #![tactic(auto)]
 
 pub(crate) mod find;
-pub(crate) mod hop;
+pub mod hop;
 pub mod laws;
 pub(crate) mod next;
 pub(crate) mod station;
-#[cfg(test)]
-mod tests;
 pub(crate) mod trail;
 pub mod walking;
 

@@ -32,8 +32,6 @@ pub mod reply;
 pub mod report;
 pub mod route;
 pub mod row;
-#[cfg(test)]
-mod tests;
 pub mod view;
 
 pub use action::{Act, ActKind, FaultNote, Finish, Join, Outcome, Work};

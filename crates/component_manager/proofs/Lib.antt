@@ -1,7 +1,10 @@
 mod CheckLemmas
 mod FrontLemmas
-mod ReplyLemmas
+mod Histories
+mod Printing
 mod RunLemmas
 mod ScriptLaws
+mod Sixteen
 mod StockLemmas
+mod Wanting
 mod WordLemmas

@@ -1,12 +1,196 @@
--- What is known of the bytes that a source had left.
-use Rattle.std.proofs.Common.{ℕ, List, Option, Some, None}
-use Rattle.component_manager.specs.Run.{IsFaulty, IsRefusal}
-use Rattle.component_manager.specs.Stock.{Serves}
-use Rattle.component_manager.specs.Written.{OfKnown}
+-- What a run of a script promises, from what its parts did.
+use Rattle.std.proofs.Common.{◌≡◌, ◌≢◌, ◌⊎◌, inl, inr, ⊎_elim, ℕ, ◌≤◌, List, [], ◌∷◌, ◌++◌, All, map, flat_map, length, Bool, Option, Some, None, IfSome, Err, refl, sym, ap, subst, ◌∙◌, arith}
+use Rattle.std.specs.List.{slice_get}
+use Rattle.cm_turn.specs.Passes.{LockView, new_passes}
+use Rattle.cm_world.specs.declared.answer.Refusal.TheVariants as refusal
+use Rattle.cm_world.specs.declared.frame.Frame.{Frame}
+use Rattle.cm_world.specs.declared.reply.Entry.{Entry}
+use Rattle.cm_world.specs.World.{start}
+use Rattle.cm_world.specs.Legal.{Legal}
+use Rattle.cm_book.specs.History.{History}
+use Rattle.cm_command.specs.declared.script.Line.{Line}
+use Rattle.cm_gate.specs.declared.asked.Asked.{Asked}
+use Rattle.cm_gate.proofs.Logs.{grew_nothing, rose_nothing}
+use Rattle.cm_reply.specs.Journal.{header_text}
+use Rattle.cm_steps.proofs.Stable.{routes_are_stable}
+use Rattle.cm_steps.proofs.Outcomes.{outcomes_are_one}
+use Rattle.cm_manager.specs.Turns.{own_entries}
+use Rattle.cm_manager.specs.Closed.{HasEnds}
+use Rattle.cm_manager.specs.Contract.{RealmPass}
+use Rattle.cm_manager.specs.Managers.{Closes}
+use Rattle.cm_manager.specs.Work.{Shelf, WorksWith, nothing}
+use Rattle.cm_manager.proofs.HavingEnds.{none_has_ends}
+use Rattle.cm_command.proofs.LineGrammar.{reads_one_way_lem}
+use Rattle.cm_lanes.specs.declared.said.Said.{Said}
+use Rattle.cm_lanes.specs.declared.said.Lanes.{Lanes}
+use Rattle.cm_lanes.specs.Script.{Answered, said_of, answered_lines, IsFit}
+use Rattle.cm_lanes.specs.Kept.{AreSixteen}
+use Rattle.cm_lanes.specs.Lanes.{RanOrNot}
+use Rattle.component_manager.specs.Headline.{KeepsLaws, WorksEach, RunsScript, shelf_of}
+use Rattle.component_manager.specs.Performing.{Performs}
+use Rattle.component_manager.specs.Printed.{IsPrinted, phases_text, journal_of, printed_text, texts_of}
+use Rattle.component_manager.specs.Run.{IsFaulty, IsRefusal, RunsAsServed}
+use Rattle.component_manager.specs.Stock.{IsFault, Serves, served_script}
+use Rattle.component_manager.specs.Written.{AppendsFront, OfKnown}
+use Rattle.component_manager.specs.declared.call.RunOptions.{RunOptions}
+use Rattle.component_manager.specs.declared.fault.Fault.{Fault}
+use Rattle.component_manager.specs.declared.performing.Performed.{Performed}
 use Rattle.component_manager.specs.declared.stock.Served.{Served}
-use Rattle.component_manager.proofs.ScriptLaws.{served_faultless}
+use Rattle.component_manager.proofs.Histories.{makes_by, works_by, nothing_happened, legal_nothing}
+use Rattle.component_manager.proofs.Printing.{texts_all, no_want_all, nothing_written, front_of_nothing}
+use Rattle.component_manager.proofs.ScriptLaws.{one_script, served_faultless}
+use Rattle.component_manager.proofs.Sixteen.{some_same}
+use Rattle.component_manager.proofs.StockLemmas.{served_fit}
+use Rattle.component_manager.proofs.Wanting.{all_wanting, makes_nothing}
 
 -- bytes that are served aren't faulty, so that all may be said of those that are
 pub not_faulty : (left : Option (List ℕ)) (served : Served) (status : ℕ) → OfKnown (λ bytes. Serves bytes served) left → OfKnown (λ bytes. IsFaulty bytes → IsRefusal status) left
 not_faulty None served status h = tt
 not_faulty (Some bytes) served status h = λ faulty. absurd (served_faultless bytes served h faulty)
+
+-- ---- bytes are served in one way
+
+one_served : (bytes : List ℕ) (a b : Served) → Serves bytes a → Serves bytes b → a ≡ b
+one_served bytes a b h k =
+    let same = one_script reads_one_way_lem bytes h.script k.script h.reads k.reads in
+    let asks : served_script h.script ≡ served_script k.script = ap served_script same in
+    cc (h.asks, k.asks, asks)
+
+-- so what holds of the script that was served holds of whichever the bytes are
+pub as_served : (P : Served → Type 0) (left : Option (List ℕ)) (served : Served) → OfKnown (λ bytes. Serves bytes served) left → P served → OfKnown (RunsAsServed P) left
+as_served P None served known is = tt
+as_served P (Some bytes) served known is = λ other serves. subst P (one_served bytes served other known serves) is
+
+-- ---- runs
+
+nothing_legal : (f : Frame) → Legal (start f) []
+nothing_legal f = tt
+
+nothing_ends : (history : List Entry) → history ≡ [] → HasEnds history
+nothing_ends history none = subst HasEnds (sym none) none_has_ends
+
+kept_laws : (f : Frame) (history : List Entry) → Legal (start f) history → HasEnds history → KeepsLaws f history
+kept_laws f history legal ends = record { routes = routes_are_stable f history legal; outcomes = outcomes_are_one f history legal; ends = ends }
+
+module _ {G : Type 0} (log_of : G → Option (List Asked)) (faults_of : G → ℕ) where
+  le_self : (n : ℕ) → n ≤ n
+  le_self n = omega arith
+
+  -- gates that were asked nothing
+  works_nothing : (shelf : Shelf) (history : List Entry) (gates₀ gates₁ : List G) → history ≡ [] → gates₁ ≡ gates₀ → WorksEach log_of faults_of shelf history gates₀ gates₁
+  works_nothing shelf history gates₀ gates₁ none same k g h at now =
+      let is : g ≡ h = some_same g h (sym at ∙ ap (λ (l : List G). slice_get l k) (sym same) ∙ now) in
+      subst (λ (x : G). WorksWith shelf (own_entries k history) (log_of g) (log_of x) (faults_of g) (faults_of x)) is
+      (subst (λ (l : List Entry). WorksWith shelf (own_entries k l) (log_of g) (log_of g) (faults_of g) (faults_of g)) (sym none)
+      (record { asked = []; works = nothing; log = grew_nothing (log_of g); faults = rose_nothing (faults_of g) (faults_of g) (le_self (faults_of g)) }))
+
+  -- a realm that was made and closed without a manager
+  pub performs_nothing : (shelf : Shelf) (f : Frame) (phases : List (List Line)) (gates : List G) (book : History) → All (λ lines. All IsFit lines) phases → book.entries ≡ [] → Performs log_of faults_of shelf f phases gates (record { book = book; gates = gates; said = None })
+  performs_nothing shelf f phases gates book fit none = record {
+    answered = all_wanting phases;
+    makes = makes_nothing f phases book.entries fit none (subst (Legal (start f)) (sym none) (nothing_legal f));
+    ends = nothing_ends book.entries none;
+    work = works_nothing shelf book.entries gates gates none refl;
+    said = tt;
+  }
+
+  -- lanes that ran, or did nothing
+  pub performs_by : (shelf : Shelf) (turn : LockView) (f : Frame) (phases : List (List Line)) (passes : List RealmPass) (gates : List G) (back : Lanes G) (book : History) → All (λ lines. All IsFit lines) phases → passes ≡ new_passes turn.lock f 16 → length gates ≡ 16 → AreSixteen turn back.passes → Closes book.entries back.passes → HasEnds book.entries
+      → RanOrNot log_of faults_of shelf phases passes gates back → Performs log_of faults_of shelf f phases gates (record { book = book; gates = back.gates; said = back.said })
+  performs_by shelf turn f phases passes gates back book fit new count are closes ends (inl ran) = record {
+    answered = ran.answered;
+    makes = makes_by log_of faults_of shelf turn f phases passes gates back book.entries new count are closes ran;
+    ends = ends;
+    work = works_by log_of faults_of shelf turn f phases passes gates back book.entries new count are closes ran;
+    said = ran.said;
+  }
+  performs_by shelf turn f phases passes gates back book fit new count are closes ends (inr un) =
+      let none = nothing_happened log_of faults_of shelf turn f phases passes gates back book.entries new count are closes un.same_passes in
+      record {
+        answered = all_wanting phases;
+        makes = makes_nothing f phases book.entries fit none (legal_nothing log_of faults_of shelf turn f phases passes gates back book.entries new count are closes un.same_passes);
+        ends = ends;
+        work = works_nothing shelf book.entries gates back.gates none un.same_gates;
+        said = subst (λ (o : Option (List Said)). IfSome o (λ said. said ≡ flat_map (λ phase. map said_of phase) (all_wanting phases))) (sym un.nothing) tt;
+      }
+
+  -- the text of the answers
+  text_is : (options : RunOptions) (served : Served) (answered : List (List Answered)) (said : List Said) (history : List Entry) → map answered_lines answered ≡ served.phases → said ≡ flat_map (λ phase. map said_of phase) answered
+      → printed_text served.phases said options.journal (header_text served.frame) history ≡ phases_text answered ++ journal_of options.journal served.frame history
+  text_is options served answered said history lines is =
+      ap (λ (t : List ℕ). t ++ journal_of options.journal served.frame history)
+      (ap (λ (p : List (List Line)). texts_of (flat_map (λ lines. lines) p) said) (sym lines)
+      ∙ ap (texts_of (flat_map (λ lines. lines) (map answered_lines answered))) is
+      ∙ texts_all answered)
+
+  -- what is said of a script's run
+  pub runs_by : (options : RunOptions) (served : Served) (gates : List G) (done : Performed G) (status : ℕ) (old new : Option (List ℕ)) → Performs log_of faults_of (shelf_of options served) served.frame served.phases gates done
+      → ((said : List Said) → done.said ≡ Some said → IsPrinted (printed_text served.phases said options.journal (header_text served.frame) done.book.entries) said status old new)
+      → (done.said ≡ None → (status ≡ 6) × AppendsFront old new [])
+      → RunsScript log_of faults_of options served gates done.gates done.book.entries status old new
+  runs_by options served gates done status old new p told untold = by done.said refl p.said
+    where
+      text : List ℕ
+      text = phases_text p.answered ++ journal_of options.journal served.frame done.book.entries
+
+      by : (o : Option (List Said)) → done.said ≡ o → IfSome o (λ said. said ≡ flat_map (λ phase. map said_of phase) p.answered) → RunsScript log_of faults_of options served gates done.gates done.book.entries status old new
+      by None is said =
+          let none = untold is in
+          record { answered = p.answered; makes = p.makes; laws = kept_laws served.frame done.book.entries p.makes.legal p.ends; work = p.work; text = text; prints = refl; all = λ ended. absurd (cc (ended, none.0)); front = front_of_nothing old new text none.1 }
+      by (Some said) is same =
+          let printed = told said is in
+          let the_text : printed_text served.phases said options.journal (header_text served.frame) done.book.entries ≡ text = text_is options served p.answered said done.book.entries p.makes.lines same in
+          record {
+            answered = p.answered;
+            makes = p.makes;
+            laws = kept_laws served.frame done.book.entries p.makes.legal p.ends;
+            work = p.work;
+            text = printed_text served.phases said options.journal (header_text served.frame) done.book.entries;
+            prints = the_text;
+            all = λ ended. (printed.all ended, no_want_all p.answered (subst (All (λ s. s.result ≢ Err refusal.Memory)) same (printed.no_want ended)));
+            front = printed.front;
+          }
+
+  -- the same of what a run hands back, whose parts were moved and borrowed
+  pub runs_back : (options : RunOptions) (served : Served) (gates gates₁ : List G) (done : Performed G) (book : History) (status : ℕ) (old new : Option (List ℕ)) (frame : Frame) (phases others : List (List Line)) (head : List ℕ)
+      → Performs log_of faults_of (shelf_of options served) frame phases gates done → frame ≡ served.frame → phases ≡ served.phases
+      → ((said : List Said) → done.said ≡ Some said → IsPrinted (printed_text others said options.journal head done.book.entries) said status old new) → others ≡ served.phases → head ≡ header_text served.frame
+      → (done.said ≡ None → (status ≡ 6) × AppendsFront old new [])
+      → book ≡ done.book → gates₁ ≡ done.gates → RunsScript log_of faults_of options served gates gates₁ book.entries status old new
+  runs_back options served gates gates₁ done book status old new frame phases others head performs framed lined told lined_too headed untold is same =
+      let p = subst (λ (f : Frame). Performs log_of faults_of (shelf_of options served) f served.phases gates done) framed (subst (λ (l : List (List Line)). Performs log_of faults_of (shelf_of options served) frame l gates done) lined performs) in
+      let printed : (said : List Said) → done.said ≡ Some said → IsPrinted (printed_text served.phases said options.journal (header_text served.frame) done.book.entries) said status old new = λ said some.
+      subst (λ (h : List ℕ). IsPrinted (printed_text served.phases said options.journal h done.book.entries) said status old new) headed
+      (subst (λ (l : List (List Line)). IsPrinted (printed_text l said options.journal head done.book.entries) said status old new) lined_too (told said some)) in
+      subst (λ (b : History). RunsScript log_of faults_of options served gates gates₁ b.entries status old new) (sym is)
+      (subst (λ (gs : List G). RunsScript log_of faults_of options served gates gs done.book.entries status old new) (sym same)
+      (runs_by options served gates done status old new p printed untold))
+
+  -- a script of which no line was run
+  pub runs_nothing : (options : RunOptions) (served : Served) (gates₀ gates₁ : List G) (history : List Entry) (status : ℕ) (out : Option (List ℕ)) → All (λ lines. All IsFit lines) served.phases → history ≡ [] → gates₁ ≡ gates₀ → status ≡ 6 → RunsScript log_of faults_of options served gates₀ gates₁ history status out out
+  runs_nothing options served gates₀ gates₁ history status out fit none same is =
+      let answered = all_wanting served.phases in
+      let text = phases_text answered ++ journal_of options.journal served.frame history in
+      let legal = subst (Legal (start served.frame)) (sym none) (nothing_legal served.frame) in
+      record {
+        answered = answered;
+        makes = makes_nothing served.frame served.phases history fit none legal;
+        laws = kept_laws served.frame history legal (nothing_ends history none);
+        work = works_nothing (shelf_of options served) history gates₀ gates₁ none same;
+        text = text;
+        prints = refl;
+        all = λ ended. absurd (cc (ended, is));
+        front = nothing_written out text;
+      }
+
+  pub known_nothing : (left : Option (List ℕ)) (options : RunOptions) (gates₀ gates₁ : List G) (history : List Entry) (status : ℕ) (out : Option (List ℕ)) → history ≡ [] → gates₁ ≡ gates₀ → status ≡ 6
+      → OfKnown (RunsAsServed (λ served. RunsScript log_of faults_of options served gates₀ gates₁ history status out out)) left
+  known_nothing None options gates₀ gates₁ history status out none same is = tt
+  known_nothing (Some bytes) options gates₀ gates₁ history status out none same is = λ served serves. runs_nothing options served gates₀ gates₁ history status out (served_fit bytes served serves) none same is
+
+-- ---- runs of other bytes
+
+-- bytes that are refused are served in no way
+pub refused_runs : (P : Served → Type 0) (left : Option (List ℕ)) (fault : Fault) → OfKnown (λ bytes. IsFault bytes fault) left → OfKnown (RunsAsServed P) left
+refused_runs P None fault is = tt
+refused_runs P (Some bytes) fault is = λ served serves. absurd (served_faultless bytes served serves (IsFaulty.refused fault is))

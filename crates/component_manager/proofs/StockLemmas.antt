@@ -1,27 +1,24 @@
--- Questions behind others, and the faults of scripts.
-use Rattle.std.proofs.Common.{◌≡◌, ℕ, ◌==◌, List, [], ◌∷◌, ◌++◌, Bool, true, false, cond, Option, Result, Ok, Err, IfErr, refl, subst}
+-- The faults of scripts, and the lines of those that are served.
+use Rattle.std.proofs.Common.{◌≡◌, ℕ, ◌+◌, ◌<◌, ◌≤◌, List, [], ◌∷◌, ◌++◌, All, Bool, true, false, cond, IsTrue, Option, Result, Ok, Err, IfOk, IfErr, refl, sym, subst, arith}
+use Rattle.std.proofs.lemmas.List.Elements.{All-nil, All-cons, All-append, All-head, All-tail}
 use Rattle.cm_repo.specs.Blocks.{Blocks, added}
 use Rattle.cm_repo.specs.declared.fault.RepoFault.{RepoFault}
 use Rattle.cm_repo.specs.declared.fault.RepoFault.TheVariants as repo
-use Rattle.cm_world.specs.declared.event.Target.TheVariants as target
-use Rattle.cm_command.specs.Scripts.{IsScript}
-use Rattle.cm_command.specs.declared.command.Command.{Command}
-use Rattle.cm_command.specs.declared.command.Command.TheVariants as command
+use Rattle.cm_command.specs.Scripts.{Takes, Reads, IsScript}
 use Rattle.cm_command.specs.declared.script.Block.{Block}
 use Rattle.cm_command.specs.declared.script.Line.{Line}
 use Rattle.cm_command.specs.declared.script.Script.{Script}
+use Rattle.cm_command.specs.declared.script_reader.Draft.{Draft}
+use Rattle.cm_manager.specs.Calls.{is_built}
+use Rattle.cm_lanes.specs.Script.{IsFit}
 use Rattle.component_manager.specs.Reading.{Read, ◌>>=◌, Gives, bad}
 use Rattle.component_manager.specs.Run.{Stops, stop_of}
-use Rattle.component_manager.specs.Stock.{all_served, is_served_block, route_of, question_of, questions_in, questions_of, accepted, stocked, stock_of, served_script, IsFault}
+use Rattle.component_manager.specs.Stock.{checked_lines, checked_phases, frame_of, accepted, stocked, stock_of, served_script, IsFault, Serves}
 use Rattle.component_manager.specs.Written.{OfKnown}
 use Rattle.component_manager.specs.declared.fault.Fault.{Fault}
 use Rattle.component_manager.specs.declared.fault.Fault.TheVariants.{Unread, Unserved, Memory}
 use Rattle.component_manager.specs.declared.fault.Problem.TheVariants.{LaterForm}
-use Rattle.component_manager.specs.declared.stock.Question.{Question}
 use Rattle.component_manager.specs.declared.stock.Served.{Served}
-
-abbrev pub behind : List Question → Read (List Question) → Read (List Question)
-behind front read = read >>= λ others. Ok (front ++ others)
 
 -- what was read of a script that is one has no fault of the reader
 abbrev pub IsOfScript : {A : Type 0} → Read A → Type 0
@@ -36,32 +33,17 @@ bind_told (Err (Unserved line problem)) f h k = tt
 bind_told (Err Memory) f h k = tt
 bind_told (Err (Unread line number at)) f h k = absurd h
 
-blocks_told : (blocks : List Block) → IsOfScript (all_served blocks)
-blocks_told [] = tt
-blocks_told (b ∷ bs) = by (is_served_block b) (blocks_told bs)
+lines_told : (lines : List Line) → IsOfScript (checked_lines lines)
+lines_told [] = tt
+lines_told (l ∷ ls) = by (is_built l.command) (lines_told ls)
   where
-    by : (v : Bool) → IsOfScript (all_served bs) → IsOfScript (cond v (all_served bs) (Err (bad b.line LaterForm)))
+    by : (v : Bool) → IsOfScript (checked_lines ls) → IsOfScript (cond v (checked_lines ls) (Err (bad l.line LaterForm)))
     by true h = h
     by false h = tt
 
-route_told : (line : ℕ) (c : Command) → IsOfScript (route_of line c)
-route_told line (command.RouteOf (target.Named client) path) = tt
-route_told line _ = tt
-
-question_told : (l : Line) → IsOfScript (question_of l)
-question_told l = by (l.lane == 0)
-  where
-    by : (v : Bool) → IsOfScript (cond v (route_of l.line l.command) (Err (bad l.line LaterForm)))
-    by true = route_told l.line l.command
-    by false = tt
-
-phase_told : (lines : List Line) → IsOfScript (questions_in lines)
-phase_told [] = tt
-phase_told (l ∷ ls) = bind_told (question_of l) _ (question_told l) (λ q. bind_told (questions_in ls) _ (phase_told ls) (λ qs. tt))
-
-phases_told : (phases : List (List Line)) → IsOfScript (questions_of phases)
+phases_told : (phases : List (List Line)) → IsOfScript (checked_phases phases)
 phases_told [] = tt
-phases_told (p ∷ ps) = bind_told (questions_in p) _ (phase_told p) (λ q. bind_told (questions_of ps) _ (phases_told ps) (λ qs. tt))
+phases_told (p ∷ ps) = bind_told (checked_lines p) _ (lines_told p) (λ checked. phases_told ps)
 
 accepted_told : (line : ℕ) (r : Result Blocks RepoFault) → IsOfScript (accepted line r)
 accepted_told line (Ok blocks) = tt
@@ -76,7 +58,7 @@ stock_told old (b ∷ bs) = bind_told (stocked old b) _ (accepted_told b.line (a
 
 script_told : (s : Script) → IsOfScript (served_script s)
 unfolding served_script
-script_told s = bind_told (all_served s.manifests) _ (blocks_told s.manifests) (λ checked. bind_told (questions_of s.phases) _ (phases_told s.phases) (λ questions. bind_told (stock_of [] s.manifests) _ (stock_told [] s.manifests) (λ repository. tt)))
+script_told s = bind_told (checked_phases s.phases) _ (phases_told s.phases) (λ checked. bind_told (stock_of [] s.manifests) _ (stock_told [] s.manifests) (λ repository. tt))
 
 -- a script that isn't served is refused for what it gives
 pub fault_of_script : (bytes : List ℕ) (s : Script) (r : Read Served) → IsScript bytes s → Gives r (served_script s) → IfErr r (λ f. (f ≡ Memory → ⊥) → IsFault bytes f)
@@ -90,3 +72,74 @@ pub stops_for : (left : Option (List ℕ)) (f : Fault) → ((f ≡ Memory → �
 stops_for left (Unserved line problem) h = h (λ e. absurd (cc))
 stops_for left (Unread line number at) h = h (λ e. absurd (cc))
 stops_for left Memory h = tt
+
+-- ---- the lines of a script that is served
+
+abbrev IsLow : Line → Type 0
+IsLow l = l.lane ≤ 15
+
+-- the lanes of all lines that were read so far
+record IsLowDraft (d : Draft) : Type 0 where
+  phases : All (λ lines. All IsLow lines) d.phases
+  phase : All IsLow d.phase
+
+took_low : (n : ℕ) {t : List ℕ} {d e : Draft} → Takes n t d e → IsLowDraft d → IsLowDraft e
+took_low n (Takes.closes is) h = record { phases = h.phases; phase = h.phase }
+took_low n (Takes.inner is other) h = record { phases = h.phases; phase = h.phase }
+took_low n (Takes.blank is b) h = h
+took_low n (Takes.opens is early u) h = record { phases = h.phases; phase = h.phase }
+took_low n (Takes.builtin is early b fresh) h = record { phases = h.phases; phase = h.phase }
+took_low n (Takes.root is early first u) h = record { phases = h.phases; phase = h.phase }
+took_low n {d = d} (Takes.sync is r) h = record {
+  phases = All-append (λ lines. All IsLow lines) d.phases (d.phase ∷ []) h.phases (All-cons (λ lines. All IsLow lines) d.phase [] h.phase (All-nil (λ lines. All IsLow lines)));
+  phase = All-nil IsLow;
+}
+took_low n {d = d} (Takes.command {lane = lane} {c = c} is r way low text) h = record {
+  phases = h.phases;
+  phase = All-append IsLow d.phase (record { line = n; lane = lane; command = c } ∷ []) h.phase (All-cons IsLow (record { line = n; lane = lane; command = c }) [] low (All-nil IsLow));
+}
+
+read_low : (size : ℕ) {place n : ℕ} {d e : Draft} {ts : List (List ℕ)} → Reads size place n d ts e → IsLowDraft d → IsLowDraft e
+read_low size Reads.no_more h = h
+read_low size {n = n} (Reads.one_more fits takes rest) h = read_low size rest (took_low n takes h)
+
+script_low : (bytes : List ℕ) (s : Script) → IsScript bytes s → All (λ lines. All IsLow lines) s.phases
+script_low bytes s is =
+    let low = read_low _ is.reads (record { phases = All-nil (λ lines. All IsLow lines); phase = All-nil IsLow }) in
+    subst (All (λ lines. All IsLow lines)) (sym is.whole.phases)
+    (All-append (λ lines. All IsLow lines) is.draft.phases (is.draft.phase ∷ []) low.phases (All-cons (λ lines. All IsLow lines) is.draft.phase [] low.phase (All-nil (λ lines. All IsLow lines))))
+
+-- a line that has a call, and the others behind it
+line_fits : (l : Line) (ls : List Line) (built : Bool) → is_built l.command ≡ built → l.lane ≤ 15 → (checked_lines ls ≡ Ok tt → All IsFit ls) → cond built (checked_lines ls) (Err (bad l.line LaterForm)) ≡ Ok tt → All IsFit (l ∷ ls)
+line_fits l ls true is low others rest = All-cons IsFit l ls (record { lane = omega (arith, low); built = is }) (others rest)
+line_fits l ls false is low others rest = absurd (cc rest)
+
+lines_fit : (lines : List Line) → All IsLow lines → checked_lines lines ≡ Ok tt → All IsFit lines
+lines_fit [] low is = All-nil IsFit
+lines_fit (l ∷ ls) low is = line_fits l ls (is_built l.command) refl (All-head IsLow l ls low) (lines_fit ls (All-tail IsLow l ls low)) is
+
+phase_fits : (p : List Line) (ps : List (List Line)) (r : Read (Unit {0})) → (r ≡ Ok tt → All IsFit p) → (checked_phases ps ≡ Ok tt → All (λ lines. All IsFit lines) ps) → r >>= (λ checked. checked_phases ps) ≡ Ok tt → All (λ lines. All IsFit lines) (p ∷ ps)
+phase_fits p ps (Ok u) here others rest = All-cons (λ lines. All IsFit lines) p ps (here refl) (others rest)
+phase_fits p ps (Err e) here others rest = absurd (cc rest)
+
+phases_fit : (phases : List (List Line)) → All (λ lines. All IsLow lines) phases → checked_phases phases ≡ Ok tt → All (λ lines. All IsFit lines) phases
+phases_fit [] low is = All-nil (λ lines. All IsFit lines)
+phases_fit (p ∷ ps) low is =
+    phase_fits p ps (checked_lines p) (lines_fit p (All-head (λ lines. All IsLow lines) p ps low)) (phases_fit ps (All-tail (λ lines. All IsLow lines) p ps low)) is
+
+served_by : (s : Script) (checked : Read (Unit {0})) (stock : Read Blocks) (served : Served) → (checked >>= λ c. stock >>= λ repository. Ok (record { repository = repository; frame = frame_of s; phases = s.phases })) ≡ Ok served → (checked ≡ Ok tt) × (served.phases ≡ s.phases)
+served_by s (Ok u) (Ok blocks) served is = (refl, cc)
+served_by s (Ok u) (Err e) served is = absurd (cc is)
+served_by s (Err e) stock served is = absurd (cc is)
+
+-- each has a lane of the sixteen, and a call
+pub served_fit : (bytes : List ℕ) (served : Served) → Serves bytes served → All (λ lines. All IsFit lines) served.phases
+unfolding served_script
+served_fit bytes served is =
+    let by = served_by is.script (checked_phases is.script.phases) (stock_of [] is.script.manifests) served is.asks in
+    subst (All (λ lines. All IsFit lines)) (sym by.1) (phases_fit is.script.phases (script_low bytes is.script is.reads) by.0)
+
+-- the same of what a script gave
+pub fit_of_script : (bytes : List ℕ) (s : Script) (r : Read Served) → IsScript bytes s → Gives r (served_script s) → IfOk r (λ served. All (λ lines. All IsFit lines) served.phases)
+fit_of_script bytes s (Ok served) h gives = served_fit bytes served (record { script = s; reads = h; asks = gives })
+fit_of_script bytes s (Err e) h gives = tt

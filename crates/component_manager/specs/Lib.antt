@@ -1,9 +1,10 @@
-pub mod Form
 pub mod Reading
 pub mod Stock
 pub mod Texts
 pub mod Calls
 pub mod Written
 pub mod Checks
-pub mod Replies
+pub mod Printed
+pub mod Headline
+pub mod Performing
 pub mod Run

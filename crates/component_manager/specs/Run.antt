@@ -2,7 +2,6 @@
 use Rattle.std.specs.Prelude.{◌≡◌, ◌⊎◌, ℕ, List, Option, Ok}
 use Rattle.std.specs.Io.KnownBytes.{Keeps}
 use Rattle.component_manager.specs.Calls.{words_of}
-use Rattle.component_manager.specs.Replies.{IsTextOf}
 use Rattle.component_manager.specs.Stock.{IsFault, Serves}
 use Rattle.component_manager.specs.Texts.{fault_line}
 use Rattle.component_manager.specs.Written.{AppendsFront, OfKnown}
@@ -12,7 +11,6 @@ use Rattle.component_manager.specs.declared.fault.Fault.{Fault}
 use Rattle.component_manager.specs.declared.fault.Fault.TheVariants as fault
 use Rattle.component_manager.specs.declared.scripts.Stop.{Stop}
 use Rattle.component_manager.specs.declared.scripts.Stop.TheVariants.{ReadFault, Refused, Memory}
-use Rattle.component_manager.specs.declared.stock.Question.{Question}
 use Rattle.component_manager.specs.declared.stock.Served.{Served}
 
 -- the words are those of `run`
@@ -30,17 +28,9 @@ pub record IsRefused (out_old out_new err_old err_new : Option (List ℕ)) (byte
   pub out : Keeps out_old out_new
   pub err : AppendsFront err_old err_new (fault_line fault)
 
--- the bytes are a script that is served, and this was written of the replies to its commands
-pub record IsAnswered (written : List ℕ → Type 0) (bytes : List ℕ) : Type 0 where
-  pub served : Served
-  pub good : Serves bytes served
-  pub text : List ℕ
-  pub replies : IsTextOf served.questions text
-  pub out : written text
-
--- the replies to these commands, of which this is known
-abbrev pub Answers : List Question → (List ℕ → Type 0) → Type 0
-Answers questions written = (text : List ℕ) × IsTextOf questions text × written text
+-- whichever script that is served the bytes are, this holds of it; they are one at most
+abbrev pub RunsAsServed : (Served → Type 0) → List ℕ → Type 0
+RunsAsServed P bytes = (served : Served) → Serves bytes served → P served
 
 -- the bytes are refused, or they are no script that is served
 pub data IsFaulty (bytes : List ℕ) : Type 0 where
@@ -63,8 +53,12 @@ Stops (Refused fault) left = OfKnown (λ bytes. IsFault bytes fault) left
 abbrev pub IsRefusal : ℕ → Type 0
 IsRefusal status = (status ≡ 7) ⊎ ((status ≡ 3) ⊎ (status ≡ 6))
 
+-- the status of a script's run: all was written, the output failed, or memory ran out
+abbrev pub IsScriptRun : ℕ → Type 0
+IsScriptRun status = (status ≡ 0) ⊎ ((status ≡ 4) ⊎ (status ≡ 6))
+
 abbrev pub IsScriptStatus : ℕ → Type 0
-IsScriptStatus status = (status ≡ 0) ⊎ ((status ≡ 3) ⊎ ((status ≡ 4) ⊎ ((status ≡ 6) ⊎ (status ≡ 7))))
+IsScriptStatus status = IsScriptRun status ⊎ ((status ≡ 3) ⊎ (status ≡ 7))
 
 abbrev pub IsCheckStatus : ℕ → Type 0
 IsCheckStatus status = (status ≡ 0) ⊎ ((status ≡ 1) ⊎ ((status ≡ 3) ⊎ ((status ≡ 4) ⊎ (status ≡ 6))))

@@ -1,57 +1,38 @@
 -- What a script asks for.
-use Rattle.std.specs.Prelude.{◌≡◌, ℕ, ◌==◌, List, [], ◌∷◌, ◌++◌, Bool, false, Result, Ok, Err, if◌then◌else◌}
-use Rattle.cm_decl.specs.declared.decl.Decl.{Decl}
-use Rattle.cm_read.specs.declared.fault.ReadFault.{ReadFault}
-use Rattle.cm_read.specs.Manifest.{decl_of_bytes}
+use Rattle.std.specs.Prelude.{◌≡◌, ℕ, List, [], ◌∷◌, Result, Ok, Err, if◌then◌else◌}
 use Rattle.cm_repo.specs.Blocks.{Blocks, added}
 use Rattle.cm_repo.specs.declared.fault.RepoFault.{RepoFault}
 use Rattle.cm_repo.specs.declared.fault.RepoFault.TheVariants as repo
-use Rattle.cm_world.specs.declared.event.Target.TheVariants as target
+use Rattle.cm_world.specs.declared.frame.Frame.{Frame}
+use Rattle.cm_world.specs.declared.frame.Limits.{Limits}
+use Rattle.cm_manager.specs.Calls.{is_built}
 use Rattle.cm_command.specs.Scripts as scripts
-use Rattle.cm_command.specs.declared.command.Command.{Command}
-use Rattle.cm_command.specs.declared.command.Command.TheVariants as command
 use Rattle.cm_command.specs.declared.script.Block.{Block}
 use Rattle.cm_command.specs.declared.script.Line.{Line}
 use Rattle.cm_command.specs.declared.script.Script.{Script}
 use Rattle.component_manager.specs.Reading.{Read, ◌>>=◌, bad}
-use Rattle.component_manager.specs.Form.{is_served}
 use Rattle.component_manager.specs.declared.fault.Fault.{Fault}
 use Rattle.component_manager.specs.declared.fault.Fault.TheVariants.{Unread, Unserved, Memory}
 use Rattle.component_manager.specs.declared.fault.Problem.TheVariants.{BadManifestUrl, RepeatedManifest, LaterForm}
-use Rattle.component_manager.specs.declared.stock.Question.{Question}
 use Rattle.component_manager.specs.declared.stock.Served.{Served}
 
--- whether what was read is a declaration that is served by now
-abbrev pub is_served_read : Result Decl ReadFault → Bool
-is_served_read (Ok decl) = is_served decl
-is_served_read (Err fault) = false
+-- nothing, or that the first line whose command has no call yet is refused
+abbrev pub checked_lines : List Line → Read (Unit {0})
+checked_lines [] = Ok tt
+checked_lines (l ∷ ls) = if is_built l.command then checked_lines ls else Err (bad l.line LaterForm)
 
-abbrev pub is_served_block : Block → Bool
-is_served_block block = is_served_read (decl_of_bytes block.bytes)
+-- the same of all phases
+abbrev pub checked_phases : List (List Line) → Read (Unit {0})
+checked_phases [] = Ok tt
+checked_phases (lines ∷ phases) = checked_lines lines >>= λ checked. checked_phases phases
 
--- nothing, or that the first block that isn't served by now is refused
-abbrev pub all_served : List Block → Read (Unit {0})
-all_served [] = Ok tt
-all_served (block ∷ blocks) = if is_served_block block then all_served blocks else Err (bad block.line LaterForm)
+-- how many instances a realm may have, and how many entries its history
+abbrev pub limits : Limits
+limits = record { rows = 65536; entries = 4194304 }
 
--- a route from an instance that is named is served by now, and no other command
-abbrev pub route_of : ℕ → Command → Read Question
-route_of line (command.RouteOf (target.Named client) path) = Ok (record { client = client; path = path })
-route_of line _ = Err (bad line LaterForm)
-
--- lane 0 is served by now, and no other
-abbrev pub question_of : Line → Read Question
-question_of l = if l.lane == 0 then route_of l.line l.command else Err (bad l.line LaterForm)
-
--- the questions of the lines of a phase, or the first line that isn't served by now
-abbrev pub questions_in : List Line → Read (List Question)
-questions_in [] = Ok []
-questions_in (line ∷ lines) = question_of line >>= λ first. questions_in lines >>= λ others. Ok (first ∷ others)
-
--- those of all phases
-abbrev pub questions_of : List (List Line) → Read (List Question)
-questions_of [] = Ok []
-questions_of (phase ∷ phases) = questions_in phase >>= λ first. questions_of phases >>= λ others. Ok (first ++ others)
+-- what the realm of a script is made with
+abbrev pub frame_of : Script → Frame
+frame_of script = record { root = script.root; builtins = script.builtins; limits = limits }
 
 -- a refusal of the repository, as the script's
 abbrev pub accepted : ℕ → Result Blocks RepoFault → Read Blocks
@@ -70,13 +51,12 @@ abbrev pub stock_of : Blocks → List Block → Read Blocks
 stock_of old [] = Ok old
 stock_of old (block ∷ blocks) = stocked old block >>= λ new. stock_of new blocks
 
--- what a script asks for; or else its first block, or line, that isn't served by now; or else its first block that is refused
+-- what a script asks for; or else its first line whose command has no call yet; or else its first block that is refused
 unfoldable pub served_script : Script → Read Served
 served_script script = do
-  checked ← all_served script.manifests
-  questions ← questions_of script.phases
+  checked ← checked_phases script.phases
   repository ← stock_of [] script.manifests
-  Ok (record { repository = repository; builtins = script.builtins; root = script.root; questions = questions })
+  Ok (record { repository = repository; frame = frame_of script; phases = script.phases })
 
 -- the bytes are a script, and this is what it asks for
 pub record Serves (bytes : List ℕ) (served : Served) : Type 0 where

@@ -13,7 +13,7 @@ ghost use Rattle.component_manager.specs.Checks.{IsChecked, IsJudged, IsTold, Is
 ghost use Rattle.component_manager.specs.Run.{IsCheckStatus};
 ghost use Rattle.component_manager.specs.Written.{AppendsFront, OfKnown};
 
-use crate::ran::{Ran, read_fault, want_of_memory};
+use crate::ran::{read_fault, want_of_memory};
 use cm_io::{Put, Sink, Source, SourceFault, put_all, read_up_to};
 use cm_names::{Memory, Text};
 use cm_read::{ReadFault, read_decl};
@@ -141,32 +141,33 @@ fn read_verdict<R: Threads + Wait + Sync, S: Source>(
 }
 
 /// Says whether the manifest that the source has left is valid, or else its first fault.
+/// The result is the status.
 pub fn run_check<R: Threads + Wait + Sync, S: Source, K: Sink, E: Sink>(
     rt: &R,
     alloc: Global,
     source: &mut S,
     out: &mut K,
     err: &mut E,
-) -> Ran
-    ensures read { result.status ≡ 3 → Rose (S.faults source.old) (S.faults source.new) }
-    ensures write { result.status ≡ 4 → Rose (K.faults out.old) (K.faults out.new) }
-    ensures valid { result.status ≡ 0 →
+) -> u8
+    ensures read { result ≡ 3 → Rose (S.faults source.old) (S.faults source.new) }
+    ensures write { result ≡ 4 → Rose (K.faults out.old) (K.faults out.new) }
+    ensures valid { result ≡ 0 →
         OfKnown (IsChecked (Appends (K.written out.old) (K.written out.new)) 0)
         (S.left source.old) }
-    ensures invalid { result.status ≡ 1 →
+    ensures invalid { result ≡ 1 →
         OfKnown (IsChecked (Appends (K.written out.old) (K.written out.new)) 1)
         (S.left source.old) }
-    ensures front { result.status ≡ 4 →
+    ensures front { result ≡ 4 →
         OfKnown (IsTold (AppendsFront (K.written out.old) (K.written out.new)))
         (S.left source.old) }
-    ensures silent { (result.status ≡ 3) ⊎ (result.status ≡ 6) →
+    ensures silent { (result ≡ 3) ⊎ (result ≡ 6) →
         Keeps (K.written out.old) (K.written out.new) }
-    ensures others { IsCheckStatus result.status }
+    ensures others { IsCheckStatus result }
 {
     match read_verdict(rt, alloc, source) {
         Ok(Verdict { status, line }) => match put_all(rt, out, line.as_str().as_bytes()) {
-            Put::Done => Ran { status },
-            Put::WriteFault(_) => Ran { status: 4 },
+            Put::Done => status,
+            Put::WriteFault(_) => 4,
         },
         Err(NoVerdict::ReadFault) => read_fault(rt, err),
         Err(NoVerdict::Memory) => want_of_memory(rt, err),

@@ -1,28 +1,31 @@
-//! A component manager: it answers the commands of a script of component manifests, and says
-//! whether a manifest is valid.
+//! A component manager: it runs the commands of a script of component manifests, and says whether
+//! a manifest is valid.
 //!
-//! [`run::run`] is the top call; `main` makes the standard streams for it.
+//! [`run::run`] is the top call; `main` makes the standard streams and the gates for it.
 #![tactic(auto)]
 
 mod answers;
 mod call;
 mod check;
 mod fault;
-mod form;
+mod performing;
 mod ran;
-mod realm;
-mod refusal;
 mod run;
+mod running;
 mod scripts;
 mod stock;
 #[cfg(test)]
 mod tests;
-mod walk;
 
+ghost use Rattle.std.specs.Prelude.{◌≡◌, IfOk, length};
+
+use crate::ran::want_of_memory;
+use cm_gate::FolderGates;
 use cm_io::{Reading, Writing};
-use cm_names::{List, Text};
+use cm_names::{List, Memory, Text};
 use std::alloc::Global;
 use std::process::ExitCode;
+use std::rt::Files;
 use std::{env, io};
 
 /// The words behind the program's name.
@@ -32,6 +35,21 @@ fn words<R: env::Env + Alloc<A = Global>>(rt: &R) -> io::Result<List<Text>> {
         words.push(Text::from_string(word))?;
     }
     Ok(List::from_vec(words))
+}
+
+/// Sixteen gates, one for each lane, that read through `files`.
+fn folder_gates<F: Files + Copy + Drop>(
+    alloc: Global,
+    files: F,
+) -> Result<List<FolderGates<F>>, Memory>
+    ensures { IfOk result (λ gates. length gates ≡ 16) }
+{
+    let mut gates = List::new(alloc);
+    for lane in 0..16_u32 {
+        let _number = lane;
+        gates.push(FolderGates::new(files))?;
+    }
+    Ok(gates)
 }
 
 fn main(rt: HostRuntime) -> ExitCode {
@@ -45,6 +63,9 @@ fn main(rt: HostRuntime) -> ExitCode {
     let error = rt.stderr();
     let mut out = Writing::new(io::writer(&output));
     let mut err = Writing::new(io::writer(&error));
+    let Ok(gates) = folder_gates(rt.alloc(), rt) else {
+        return ExitCode::from(want_of_memory(&rt, &mut err));
+    };
     let ran = run::run(
         &rt,
         rt.alloc(),
@@ -52,6 +73,7 @@ fn main(rt: HostRuntime) -> ExitCode {
         &mut input,
         &mut out,
         &mut err,
+        gates,
     );
     ExitCode::from(ran.status)
 }

@@ -1,15 +1,18 @@
 //! What a run comes to, and the lines of the error stream.
 
-ghost use Rattle.std.specs.Prelude.{◌≡◌};
+ghost use Rattle.std.specs.Prelude.{◌≡◌, []};
 ghost use Rattle.component_manager.specs.Written.{AppendsFront};
 
+use cm_book::Book;
 use cm_io::{Put, Sink, put_all};
+use cm_names::List;
+use std::alloc::Global;
 use std::sync::Wait;
 use std::thread::Threads;
 
 /// What a run came to.
-#[derive(Debug, Drop)]
-pub struct Ran {
+#[derive(Drop)]
+pub struct Ran<G> {
     /// The status that the program ends with.
     ///
     /// - 0: the input was read to its end, and everything was written.
@@ -17,10 +20,27 @@ pub struct Ran {
     /// - 2: the words ask for nothing.
     /// - 3: the source failed; nothing was written on `out`.
     /// - 4: `out` failed; a front of the text was written.
-    /// - 6: memory ran out; nothing was written on `out`.
+    /// - 6: memory ran out, or a line was answered so; a front of the text was written.
     /// - 7: the script is refused, and the line on `err` says where and why; nothing was written
     ///   on `out`.
     pub status: u8,
+    /// The history of the realm that a script was run over. It is empty where none was.
+    pub book: Book,
+    /// The gates, in the order in which they were given.
+    pub gates: List<G>,
+}
+
+/// A run that came to this without a realm.
+pub fn ended<G>(alloc: Global, status: u8, gates: List<G>) -> Ran<G>
+    ensures status { result.status ≡ status }
+    ensures empty { result.book.entries ≡ [] }
+    ensures gates { result.gates ≡ gates }
+{
+    Ran {
+        status,
+        book: Book::new(alloc, 0),
+        gates,
+    }
 }
 
 /// Writes a line on the error stream, as far as it goes.
@@ -33,18 +53,18 @@ pub fn tell<R: Threads + Wait + Sync, E: Sink>(rt: &R, err: &mut E, line: &[u8])
     }
 }
 
-/// Says that memory ran out.
-pub fn want_of_memory<R: Threads + Wait + Sync, E: Sink>(rt: &R, err: &mut E) -> Ran
-    ensures { result.status ≡ 6 }
+/// Says that memory ran out. The result is the status.
+pub fn want_of_memory<R: Threads + Wait + Sync, E: Sink>(rt: &R, err: &mut E) -> u8
+    ensures { result ≡ 6 }
 {
     tell(rt, err, b"want of memory\n");
-    Ran { status: 6 }
+    6
 }
 
-/// Says that the source failed.
-pub fn read_fault<R: Threads + Wait + Sync, E: Sink>(rt: &R, err: &mut E) -> Ran
-    ensures { result.status ≡ 3 }
+/// Says that the source failed. The result is the status.
+pub fn read_fault<R: Threads + Wait + Sync, E: Sink>(rt: &R, err: &mut E) -> u8
+    ensures { result ≡ 3 }
 {
     tell(rt, err, b"read fault\n");
-    Ran { status: 3 }
+    3
 }

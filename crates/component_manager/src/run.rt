@@ -1,43 +1,53 @@
 //! The top call.
 
-ghost use Rattle.std.specs.Prelude.{◌≡◌, ◌⊎◌, Err};
+ghost use Rattle.std.specs.Prelude.{◌≡◌, ◌⊎◌, [], Ok, Err, length};
 ghost use Rattle.std.specs.Io.KnownBytes.{Appends, Keeps};
 ghost use Rattle.cm_io.specs.Outside.{Rose};
 ghost use Rattle.component_manager.specs.Calls.{words_of};
 ghost use Rattle.component_manager.specs.Checks.{IsChecked, IsTold};
-ghost use Rattle.component_manager.specs.Run.{AsksCheck, AsksRun, IsAnswered, IsCheckStatus, IsFaulty, IsRefusal, IsRefused, IsScriptStatus};
+ghost use Rattle.component_manager.specs.Headline.{RunsScript};
+ghost use Rattle.component_manager.specs.Run.{AsksCheck, AsksRun, IsCheckStatus, IsFaulty, IsRefusal, IsRefused, IsScriptRun, IsScriptStatus, RunsAsServed};
+ghost use Rattle.component_manager.specs.declared.call.RunOptions.{RunOptions as TheOptions};
 ghost use Rattle.component_manager.specs.Written.{AppendsFront, OfKnown};
 
 use crate::call::{Call, WordsFault, read_words};
 use crate::check::run_check;
-use crate::ran::{Ran, tell, want_of_memory};
+use crate::ran::{Ran, ended, tell, want_of_memory};
 use crate::scripts::run_script;
+use cm_gate::Gates;
 use cm_io::{Sink, Source};
-use cm_names::Text;
+use cm_names::{List, Text};
 use std::alloc::Global;
 use std::sync::Wait;
 use std::thread::Threads;
 
-/// Runs the program with these words, on this input, with these outputs.
+/// Runs the program with these words, on this input, with these outputs and gates.
 ///
-/// The words `run [--journal] [--repo DIR]` ask for the replies to the commands of the script that
-/// the input is, and the word `check` for the verdict on the manifest that the input is. The words,
-/// the statuses and the lines on `err` are this project's own choice; [`Ran`] lists the statuses.
+/// The words `run [--journal] [--repo DIR]` ask for the answers to the commands of the script that
+/// the input is, with `--journal` for the history behind them, and with `--repo DIR` for manifests
+/// of that folder besides the script's. The word `check` asks for the verdict on the manifest that
+/// the input is. The words, the statuses and the lines on `err` are this project's own choice;
+/// [`Ran`] lists the statuses.
+///
+/// There are sixteen gates, one for each lane of a script; they come back in their order.
 ///
 /// A script that is refused ends the run with 7, and its line on `err` tells the first of these:
 ///
 /// - 70 to 76: it is no script, by [`read_script`](cm_command::read_script);
-/// - 79: a manifest, or else a command, that this version doesn't serve yet;
+/// - 79: a line whose command this version has no call for yet;
 /// - 77 and 78: a manifest that [`Repository::add`](cm_repo::Repository::add) refuses, for its URL
 ///   and as one that is repeated.
-pub fn run<R: Threads + Wait + Sync, S: Source, K: Sink, E: Sink>(
+pub fn run<R: Threads + Wait + Sync, S: Source, K: Sink, E: Sink, G: Gates + Send + Drop>(
     rt: &R,
     alloc: Global,
     words: &[Text],
     input: &mut S,
     out: &mut K,
     err: &mut E,
-) -> Ran
+    gates: List<G>,
+) -> Ran<G>
+    requires gates { length gates ≡ 16 }
+
     // 2 comes only where the words ask for nothing, and there it comes unless memory ran out.
     ensures usage { result.status ≡ 2 → words_of words.now ≡ Err WordsFault.Usage }
     ensures unusable { words_of words.now ≡ Err WordsFault.Usage → (result.status ≡ 2) ⊎
@@ -46,8 +56,13 @@ pub fn run<R: Threads + Wait + Sync, S: Source, K: Sink, E: Sink>(
     // 3 comes only where the source failed in this run, and 4 only where `out` did.
     ensures read { result.status ≡ 3 → Rose (S.faults input.old) (S.faults input.new) }
     ensures write { result.status ≡ 4 → Rose (K.faults out.old) (K.faults out.new) }
-    ensures silent { (result.status ≡ 2) ⊎ ((result.status ≡ 3) ⊎ (result.status ≡ 6)) →
+    ensures silent { (result.status ≡ 2) ⊎ (result.status ≡ 3) →
         Keeps (K.written out.old) (K.written out.new) }
+
+    // The gates come back. Without a run of a script they are as they were, and the book is empty.
+    ensures gates { length result.gates ≡ 16 }
+    ensures empty { (result.status ≡ 2) ⊎ ((result.status ≡ 3) ⊎ (result.status ≡ 7)) →
+        (result.book.entries ≡ []) × (result.gates ≡ gates) }
 
     // For `run`: 7 comes only for a script that is refused, and all that is refused or isn't served
     // gets it unless the source failed or memory ran out.
@@ -56,15 +71,15 @@ pub fn run<R: Threads + Wait + Sync, S: Source, K: Sink, E: Sink>(
         (E.written err.new)) (S.left input.old) }
     ensures faulty { AsksRun words.now → OfKnown (λ bytes. IsFaulty bytes →
         IsRefusal result.status) (S.left input.old) }
-
-    // At 0 the replies to all commands were written, and at 4 a front of them.
-    ensures all { AsksRun words.now → result.status ≡ 0 →
-        OfKnown (IsAnswered (Appends (K.written out.old) (K.written out.new)))
-        (S.left input.old) }
-    ensures front { AsksRun words.now → result.status ≡ 4 →
-        OfKnown (IsAnswered (AppendsFront (K.written out.old) (K.written out.new)))
-        (S.left input.old) }
     ensures script { AsksRun words.now → IsScriptStatus result.status }
+
+    // The headline: a script that is served has the history, the text and the work that its lanes
+    // make of it, whatever the order of their turns was.
+    ensures headline { (options : TheOptions) → words_of words.now ≡ Ok (Call.Run options) →
+        IsScriptRun result.status →
+        OfKnown (RunsAsServed (λ served. RunsScript G.log G.faults options served gates
+        result.gates result.book.entries result.status (K.written out.old)
+        (K.written out.new))) (S.left input.old) }
 
     // For `check`: 0 and `valid`, or 1 and the first fault; and at 4 a front of that line.
     ensures valid { AsksCheck words.now → result.status ≡ 0 →
@@ -79,12 +94,12 @@ pub fn run<R: Threads + Wait + Sync, S: Source, K: Sink, E: Sink>(
     ensures check { AsksCheck words.now → IsCheckStatus result.status }
 {
     match read_words(alloc, words) {
-        Ok(Call::Run(_)) => run_script(rt, alloc, input, out, err),
-        Ok(Call::Check) => run_check(rt, alloc, input, out, err),
+        Ok(Call::Run(options)) => run_script(rt, alloc, options, input, out, err, gates),
+        Ok(Call::Check) => ended(alloc, run_check(rt, alloc, input, out, err), gates),
         Err(WordsFault::Usage) => {
             tell(rt, err, b"usage: run, check, serve, audit, generate\n");
-            Ran { status: 2 }
+            ended(alloc, 2, gates)
         }
-        Err(WordsFault::Memory) => want_of_memory(rt, err),
+        Err(WordsFault::Memory) => ended(alloc, want_of_memory(rt, err), gates),
     }
 }

@@ -1,22 +1,24 @@
-//! The command `run`: the replies to the commands of a script.
+//! The command `run`: a script is read and run.
 
-ghost use Rattle.std.specs.Prelude.{◌≡◌, ◌⊎◌, Ok, IfOk, IfErr};
-ghost use Rattle.std.specs.Io.KnownBytes.{Appends, Keeps};
+ghost use Rattle.std.specs.Prelude.{◌≡◌, ◌⊎◌, [], All, IfOk, IfErr, length};
+ghost use Rattle.std.specs.Io.KnownBytes.{Keeps};
 ghost use Rattle.cm_io.specs.Outside.{Rose};
-ghost use Rattle.component_manager.specs.Replies.{IsTextOf};
-ghost use Rattle.component_manager.specs.Run.{Answers, IsAnswered, IsFaulty, IsRefusal, IsRefused, IsScriptStatus, Stops};
+ghost use Rattle.cm_lanes.specs.Script.{IsFit};
+ghost use Rattle.component_manager.specs.Headline.{RunsScript};
+ghost use Rattle.component_manager.specs.Run.{IsFaulty, IsRefusal, IsRefused, IsScriptRun, IsScriptStatus, RunsAsServed, Stops};
 ghost use Rattle.component_manager.specs.Run as run;
 ghost use Rattle.component_manager.specs.Stock.{Serves};
 ghost use Rattle.component_manager.specs.Texts as spec;
 ghost use Rattle.component_manager.specs.Written.{AppendsFront, OfKnown};
 
-use crate::answers::replies;
+use crate::call::RunOptions;
 use crate::fault::Fault;
-use crate::ran::{Ran, read_fault, tell, want_of_memory};
-use crate::realm::Realm;
+use crate::ran::{Ran, ended, read_fault, tell, want_of_memory};
+use crate::running::run_served;
 use crate::stock::{Served, serve};
-use cm_io::{Put, Sink, Source, SourceFault, put_all, read_up_to};
-use cm_names::{Memory, Text};
+use cm_gate::Gates;
+use cm_io::{Sink, Source, SourceFault, read_up_to};
+use cm_names::{List, Memory, Text};
 use std::alloc::Global;
 use std::sync::Wait;
 use std::thread::Threads;
@@ -53,6 +55,7 @@ fn read_served<R: Threads + Wait + Sync, S: Source>(
 ) -> Result<Served, Stop>
     ensures good { IfOk result
         (λ served. OfKnown (λ bytes. Serves bytes served) (S.left source.old)) }
+    ensures fit { IfOk result (λ served. All (λ lines. All IsFit lines) served.phases) }
     ensures bad { IfErr result (λ stop. Stops stop (S.left source.old)) }
     ensures fault { IfErr result (λ stop. stop ≡ Stop.ReadFault →
         Rose (S.faults source.old) (S.faults source.new)) }
@@ -76,73 +79,33 @@ fn fault_line(alloc: Global, fault: Fault) -> Result<Text, Memory>
     Ok(text)
 }
 
-/// Says why the script is refused.
-fn refuse<R: Threads + Wait + Sync, E: Sink>(
-    rt: &R,
-    alloc: Global,
-    err: &mut E,
-    fault: Fault,
-) -> Ran
-    ensures refused { result.status ≡ 7 →
+/// Says why the script is refused. The result is the status.
+fn refuse<R: Threads + Wait + Sync, E: Sink>(rt: &R, alloc: Global, err: &mut E, fault: Fault) -> u8
+    ensures refused { result ≡ 7 →
         AppendsFront (E.written err.old) (E.written err.new) (spec.fault_line fault) }
-    ensures others { (result.status ≡ 7) ⊎ (result.status ≡ 6) }
+    ensures others { (result ≡ 7) ⊎ (result ≡ 6) }
 {
     match fault_line(alloc, fault) {
         Ok(text) => {
             tell(rt, err, text.as_str().as_bytes());
-            Ran { status: 7 }
+            7
         }
         Err(Memory) => want_of_memory(rt, err),
     }
 }
 
-/// The replies to the commands.
-fn text_of(alloc: Global, served: Served) -> Result<Text, Memory>
-    ensures { IfOk result (IsTextOf served.questions) }
-{
-    let Served {
-        repository,
-        builtins,
-        root,
-        questions,
-    } = served;
-    let mut realm = Realm::new(alloc, repository, builtins, root)?;
-    replies(alloc, &mut realm, questions.as_slice())
-}
-
-/// Answers the commands.
-fn answer<R: Threads + Wait + Sync, K: Sink, E: Sink>(
+/// Runs the script that the source has left.
+pub fn run_script<R: Threads + Wait + Sync, S: Source, K: Sink, E: Sink, G: Gates + Send + Drop>(
     rt: &R,
     alloc: Global,
-    served: Served,
-    out: &mut K,
-    err: &mut E,
-) -> Ran
-    ensures all { result.status ≡ 0 →
-        Answers served.questions (Appends (K.written out.old) (K.written out.new)) }
-    ensures front { result.status ≡ 4 →
-        Answers served.questions (AppendsFront (K.written out.old) (K.written out.new)) }
-    ensures cause { result.status ≡ 4 → Rose (K.faults out.old) (K.faults out.new) }
-    ensures silent { result.status ≡ 6 → Keeps (K.written out.old) (K.written out.new) }
-    ensures others { (result.status ≡ 0) ⊎ ((result.status ≡ 4) ⊎ (result.status ≡ 6)) }
-{
-    match text_of(alloc, served) {
-        Ok(text) => match put_all(rt, out, text.as_str().as_bytes()) {
-            Put::Done => Ran { status: 0 },
-            Put::WriteFault(_) => Ran { status: 4 },
-        },
-        Err(Memory) => want_of_memory(rt, err),
-    }
-}
-
-/// Answers the commands of the script that the source has left.
-pub fn run_script<R: Threads + Wait + Sync, S: Source, K: Sink, E: Sink>(
-    rt: &R,
-    alloc: Global,
+    options: RunOptions,
     script: &mut S,
     out: &mut K,
     err: &mut E,
-) -> Ran
+    gates: List<G>,
+) -> Ran<G>
+    requires gates { length gates ≡ 16 }
+    ensures gates { length result.gates ≡ 16 }
     ensures read { result.status ≡ 3 → Rose (S.faults script.old) (S.faults script.new) }
     ensures write { result.status ≡ 4 → Rose (K.faults out.old) (K.faults out.new) }
     ensures refused { result.status ≡ 7 →
@@ -150,20 +113,19 @@ pub fn run_script<R: Threads + Wait + Sync, S: Source, K: Sink, E: Sink>(
         (E.written err.new)) (S.left script.old) }
     ensures faulty { OfKnown (λ bytes. IsFaulty bytes →
         IsRefusal result.status) (S.left script.old) }
-    ensures all { result.status ≡ 0 →
-        OfKnown (IsAnswered (Appends (K.written out.old) (K.written out.new)))
-        (S.left script.old) }
-    ensures front { result.status ≡ 4 →
-        OfKnown (IsAnswered (AppendsFront (K.written out.old) (K.written out.new)))
-        (S.left script.old) }
-    ensures silent { (result.status ≡ 3) ⊎ (result.status ≡ 6) →
-        Keeps (K.written out.old) (K.written out.new) }
+    ensures headline { IsScriptRun result.status →
+        OfKnown (RunsAsServed (λ served. RunsScript G.log G.faults options served gates
+        result.gates result.book.entries result.status (K.written out.old)
+        (K.written out.new))) (S.left script.old) }
+    ensures empty { (result.status ≡ 3) ⊎ (result.status ≡ 7) →
+        (result.book.entries ≡ []) × (result.gates ≡ gates) }
+    ensures silent { result.status ≡ 3 → Keeps (K.written out.old) (K.written out.new) }
     ensures others { IsScriptStatus result.status }
 {
     match read_served(rt, alloc, script) {
-        Ok(served) => answer(rt, alloc, served, out, err),
-        Err(Stop::ReadFault) => read_fault(rt, err),
-        Err(Stop::Refused(fault)) => refuse(rt, alloc, err, fault),
-        Err(Stop::Memory) => want_of_memory(rt, err),
+        Ok(served) => run_served(rt, alloc, options, served, out, err, gates),
+        Err(Stop::ReadFault) => ended(alloc, read_fault(rt, err), gates),
+        Err(Stop::Refused(fault)) => ended(alloc, refuse(rt, alloc, err, fault), gates),
+        Err(Stop::Memory) => ended(alloc, want_of_memory(rt, err), gates),
     }
 }

@@ -1,38 +1,35 @@
 //! What a script asks for.
 
-ghost use Rattle.std.specs.Prelude.{◌≡◌, ◌≢◌, [], IfOk, IfErr};
+ghost use Rattle.std.specs.Prelude.{◌≡◌, ◌≢◌, [], All, IfOk, IfErr};
 ghost use Rattle.component_manager.specs.Stock as spec;
 ghost use Rattle.component_manager.specs.Stock.{IsFault, Serves};
 ghost use Rattle.component_manager.specs.Reading.{Gives, Steps, bad};
 ghost use Rattle.cm_command.specs.Scripts.{IsScript};
+ghost use Rattle.cm_lanes.specs.Script.{IsFit};
 
 use crate::fault::{Fault, Problem};
-use crate::form::is_served;
-use cm_command::{Block, Command, Line, Script, ScriptFault, read_script};
-use cm_names::{Bytes, CapPath, List, Memory, Moniker, Text};
-use cm_read::{ReadFault, read_decl};
+use cm_command::{Block, Line, Script, ScriptFault, read_script};
+use cm_manager::is_built;
+use cm_names::{Bytes, List};
 use cm_repo::{RepoFault, Repository};
-use cm_world::{Builtin, Target};
+use cm_world::{Frame, Limits};
 use std::alloc::Global;
 
-/// A line that asks for the route of what an instance uses.
-#[derive(Debug, Drop)]
-pub struct Question {
-    /// The instance.
-    pub client: Moniker,
-    /// The path that it uses.
-    pub path: CapPath,
-}
+/// How many instances a realm may have, and how many entries its history.
+const LIMITS: Limits = Limits {
+    rows: 65_536,
+    entries: 4_194_304,
+};
 
 /// What a script asks for.
 #[derive(Drop)]
 pub struct Served {
+    /// The manifests.
     pub repository: Repository,
-    /// What stands above the root.
-    pub builtins: List<Builtin>,
-    /// The URL of the root as written.
-    pub root: Text,
-    pub questions: List<Question>,
+    /// What the realm is made with: its root, what stands above it, and its limits.
+    pub frame: Frame,
+    /// The lines of each phase, for each of which there is a call.
+    pub phases: List<List<Line>>,
 }
 
 fn later(line: u32) -> Fault
@@ -44,76 +41,29 @@ fn later(line: u32) -> Fault
     }
 }
 
-/// Whether the block's manifest is one that is served by now.
-fn is_served_block(alloc: Global, block: &Block) -> Result<bool, Memory>
-    ensures { IfOk result (λ served. served ≡ spec.is_served_block block.now) }
+/// Refuses the first line whose command has no call yet.
+fn check_lines(lines: &[Line]) -> Result<(), Fault>
+    ensures { result ≡ spec.checked_lines lines.now }
 {
-    match read_decl(alloc, block.bytes.as_slice()) {
-        Ok(decl) => Ok(is_served(&decl)),
-        Err(ReadFault::Memory) => Err(Memory),
-        Err(_) => Ok(false),
-    }
-}
-
-/// Refuses the first block whose manifest isn't served by now.
-fn check_blocks(alloc: Global, blocks: &[Block]) -> Result<(), Fault>
-    ensures { Gives result (spec.all_served blocks.now) }
-{
-    for block in blocks {
-        if !is_served_block(alloc, block)? {
-            return Err(later(block.line));
+    for line in lines {
+        if !is_built(&line.command) {
+            return Err(later(line.line));
         }
     }
     Ok(())
 }
 
-/// What a line asks for.
-fn question_of(line: Line) -> Result<Question, Fault>
-    ensures { result ≡ spec.question_of line }
+/// Refuses the first line of all phases whose command has no call yet.
+fn check_phases(phases: &[List<Line>]) -> Result<(), Fault>
+    ensures { result ≡ spec.checked_phases phases.now }
 {
-    let Line {
-        line: number,
-        lane,
-        command,
-    } = line;
-    if lane != 0 {
-        return Err(later(number));
-    }
-    match command {
-        Command::RouteOf { target, path } => match target {
-            Target::Named(client) => Ok(Question { client, path }),
-            Target::Inc(_) => Err(later(number)),
-        },
-        _ => Err(later(number)),
-    }
-}
-
-/// What the lines of a phase ask for.
-fn questions_in(alloc: Global, lines: List<Line>) -> Result<List<Question>, Fault>
-    ensures { Gives result (spec.questions_in lines) }
-{
-    let mut questions = List::new(alloc);
-    for line in lines.into_vec() {
-        match question_of(line) {
-            Ok(question) => questions.push(question)?,
+    for phase in phases {
+        match check_lines(phase.as_slice()) {
+            Ok(()) => {}
             Err(fault) => return Err(fault),
         }
     }
-    Ok(questions)
-}
-
-/// What the lines of all phases ask for.
-fn questions_of(alloc: Global, phases: List<List<Line>>) -> Result<List<Question>, Fault>
-    ensures { Gives result (spec.questions_of phases) }
-{
-    let mut questions = List::new(alloc);
-    for phase in phases.into_vec() {
-        match questions_in(alloc, phase) {
-            Ok(others) => questions.append(others)?,
-            Err(fault) => return Err(fault),
-        }
-    }
-    Ok(questions)
+    Ok(())
 }
 
 /// Puts a block into the repository.
@@ -160,14 +110,17 @@ fn serve_script(alloc: Global, script: Script) -> Result<Served, Fault>
         root,
         phases,
     } = script;
-    check_blocks(alloc, manifests.as_slice())?;
-    let questions = questions_of(alloc, phases)?;
+    check_phases(phases.as_slice())?;
     let repository = stock_all(alloc, manifests)?;
+    let frame = Frame {
+        root,
+        builtins,
+        limits: LIMITS,
+    };
     Ok(Served {
         repository,
-        builtins,
-        root,
-        questions,
+        frame,
+        phases,
     })
 }
 
@@ -186,6 +139,7 @@ fn script_of(alloc: Global, bytes: Bytes) -> Result<Script, Fault>
 /// What the script that the bytes are asks for, or why they are refused.
 pub fn serve(alloc: Global, bytes: Bytes) -> Result<Served, Fault>
     ensures good { IfOk result (Serves bytes) }
+    ensures fit { IfOk result (λ served. All (λ lines. All IsFit lines) served.phases) }
     ensures bad { IfErr result (λ fault. fault ≢ Fault.Memory → IsFault bytes fault) }
 {
     let script = script_of(alloc, bytes)?;

@@ -1,6 +1,9 @@
 //! What no clause says: the printed words, and that ample memory is enough.
 
+ghost use Rattle.std.specs.Prelude.{◌≡◌, IfOk, length};
+
 use crate::run::run;
+use cm_gate::QuietGates;
 use cm_io::{MemorySink, MemorySource, Plan};
 use cm_names::{List, Text};
 use std::alloc::{AllocError, Global};
@@ -46,7 +49,7 @@ const USAGE: &str = "usage: run, check, serve, audit, generate\n";
 const REPLY: &str =
     "0 route /svc/fuchsia.logger.LogSink at logger incarnation 1 through use client, offer ., expose logger, capability logger\n";
 
-const CASES: [Case; 40] = [
+const CASES: [Case; 44] = [
     Case {
         words: &["run"],
         input: &[ROOT, LOGGER, CLIENT, ASK],
@@ -209,28 +212,28 @@ const CASES: [Case; 40] = [
     },
     Case {
         words: &["run"],
-        input: &[ROOT, ASK, "1 route . /svc/p\n0 start .\n"],
-        status: 7,
-        out: "",
-        err: "line 6: 79 later-form\n",
-    },
-    Case {
-        words: &["run"],
-        input: &[ROOT, ASK, "sync\n0 route @0 /svc/p\n"],
+        input: &[ROOT, ASK, "1 route . /svc/p\n0 shutdown .\n"],
         status: 7,
         out: "",
         err: "line 7: 79 later-form\n",
     },
     Case {
         words: &["run"],
-        input: &[ROOT, ROOT, ASK, "0 stop .\n"],
+        input: &[ROOT, ASK, "sync\n0 survey @0\n"],
+        status: 7,
+        out: "",
+        err: "line 7: 79 later-form\n",
+    },
+    Case {
+        words: &["run"],
+        input: &[ROOT, ROOT, ASK, "0 doctor .\n"],
         status: 7,
         out: "",
         err: "line 9: 79 later-form\n",
     },
     Case {
         words: &["run"],
-        input: &[ROOT, ASK, "0 start client\n"],
+        input: &[ROOT, ASK, "0 list . coll\n"],
         status: 7,
         out: "",
         err: "line 6: 79 later-form\n",
@@ -242,9 +245,9 @@ const CASES: [Case; 40] = [
             "manifest fuchsia-pkg://t/a#meta/b.cm\n{\"collections\":[{\"name\":\"c\",\"durability\":\"transient\"}]}\n%%\n",
             ASK,
         ],
-        status: 7,
-        out: "",
-        err: "line 4: 79 later-form\n",
+        status: 0,
+        out: "0 refused 83 cannot-resolve action 2 absent\n",
+        err: "",
     },
     Case {
         words: &["run"],
@@ -348,6 +351,42 @@ const CASES: [Case; 40] = [
         out: "valid\n",
         err: "",
     },
+    Case {
+        words: &["run"],
+        input: &[
+            "manifest fuchsia-pkg://t/a#meta/root.cm\n{\"children\":[{\"name\":\"store\",\"url\":\"#meta/store.cm\"},{\"name\":\"client\",\"url\":\"#meta/client.cm\"}],\"offer\":[{\"directory\":\"data\",\"from\":\"#store\",\"to\":\"#client\",\"rights\":[\"r*\"]}]}\n%%\nmanifest fuchsia-pkg://t/a#meta/store.cm\n{\"program\":{\"runner\":\"elf\"},\"capabilities\":[{\"directory\":\"data\",\"path\":\"/data\",\"rights\":[\"rw*\"]}],\"expose\":[{\"directory\":\"data\",\"from\":\"self\"}]}\n%%\nmanifest fuchsia-pkg://t/a#meta/client.cm\n{\"program\":{\"runner\":\"elf\"},\"use\":[{\"directory\":\"data\",\"rights\":[\"r*\"],\"path\":\"/data\"}]}\n%%\nroot fuchsia-pkg://t/a#meta/root.cm\n0 start client\n0 open client /data\n",
+        ],
+        status: 0,
+        out: "0 started client action 3\n0 opened /data at store incarnation 1 rights connect,enumerate,get_attributes,read_bytes,traverse\n",
+        err: "",
+    },
+    Case {
+        words: &["run"],
+        input: &[
+            "manifest fuchsia-pkg://t/a#meta/root.cm\n{\"children\":[{\"name\":\"logger\",\"url\":\"#meta/logger.cm\"},{\"name\":\"client\",\"url\":\"#meta/client.cm\"}],\"offer\":[{\"protocol\":\"fuchsia.logger.LogSink\",\"from\":\"#logger\",\"to\":\"#client\"}]}\n%%\nmanifest fuchsia-pkg://t/a#meta/logger.cm\n{\"program\":{\"runner\":\"elf\"},\"capabilities\":[{\"protocol\":\"fuchsia.logger.LogSink\"}],\"expose\":[{\"protocol\":\"fuchsia.logger.LogSink\",\"from\":\"self\"}]}\n%%\nmanifest fuchsia-pkg://t/a#meta/client.cm\n{\"program\":{\"runner\":\"elf\"},\"use\":[{\"protocol\":\"fuchsia.logger.LogSink\"}]}\n%%\nroot fuchsia-pkg://t/a#meta/root.cm\n0 stop client\n0 open client /svc/fuchsia.logger.LogSink\n0 route client /svc/x\n",
+        ],
+        status: 0,
+        out: "0 stopped client already\n0 refused 85 client-off\n0 refused 86 no-such-use\n",
+        err: "",
+    },
+    Case {
+        words: &["run"],
+        input: &[
+            "manifest fuchsia-pkg://t/a#meta/root.cm\n{\"children\":[{\"name\":\"logger\",\"url\":\"#meta/logger.cm\"},{\"name\":\"client\",\"url\":\"#meta/client.cm\"}],\"offer\":[{\"protocol\":\"fuchsia.logger.LogSink\",\"from\":\"#logger\",\"to\":\"#client\"}]}\n%%\nmanifest fuchsia-pkg://t/a#meta/logger.cm\n{\"program\":{\"runner\":\"elf\"},\"capabilities\":[{\"protocol\":\"fuchsia.logger.LogSink\"}],\"expose\":[{\"protocol\":\"fuchsia.logger.LogSink\",\"from\":\"self\"}]}\n%%\nmanifest fuchsia-pkg://t/a#meta/client.cm\n{\"program\":{\"runner\":\"elf\"},\"use\":[{\"protocol\":\"fuchsia.logger.LogSink\"}]}\n%%\nroot fuchsia-pkg://t/a#meta/root.cm\n0 start client\nsync\n1 show client\nsync\n0 show client\n",
+        ],
+        status: 0,
+        out: "0 started client action 3\n1 shown client incarnation 2 url #meta/client.cm resolved on\n0 shown client incarnation 2 url #meta/client.cm resolved on\n",
+        err: "",
+    },
+    Case {
+        words: &["run", "--journal"],
+        input: &[
+            "manifest fuchsia-pkg://t/a#meta/root.cm\n{\"children\":[{\"name\":\"logger\",\"url\":\"#meta/logger.cm\"},{\"name\":\"client\",\"url\":\"#meta/client.cm\"}],\"offer\":[{\"protocol\":\"fuchsia.logger.LogSink\",\"from\":\"#logger\",\"to\":\"#client\"}]}\n%%\nmanifest fuchsia-pkg://t/a#meta/logger.cm\n{\"program\":{\"runner\":\"elf\"},\"capabilities\":[{\"protocol\":\"fuchsia.logger.LogSink\"}],\"expose\":[{\"protocol\":\"fuchsia.logger.LogSink\",\"from\":\"self\"}]}\n%%\nmanifest fuchsia-pkg://t/a#meta/client.cm\n{\"program\":{\"runner\":\"elf\"},\"use\":[{\"protocol\":\"fuchsia.logger.LogSink\"}]}\n%%\nroot fuchsia-pkg://t/a#meta/root.cm\n0 route client /svc/fuchsia.logger.LogSink\n",
+        ],
+        status: 0,
+        out: "0 route /svc/fuchsia.logger.LogSink at logger incarnation 1 through use client, offer ., expose logger, capability logger\njournal\nroot fuchsia-pkg://t/a#meta/root.cm\n1 0 find client => need 0\n2 0 begin resolve 0 => begun 1\n3 0 end 1 resolved fuchsia-pkg://t/a#meta/root.cm {\"capabilities\":[],\"children\":[{\"name\":\"logger\",\"startup\":\"lazy\",\"url\":\"#meta/logger.cm\"},{\"name\":\"client\",\"startup\":\"lazy\",\"url\":\"#meta/client.cm\"}],\"collections\":[],\"expose\":[],\"offer\":[{\"as\":\"fuchsia.logger.LogSink\",\"availability\":\"required\",\"dependency\":\"strong\",\"from\":\"#logger\",\"protocol\":\"fuchsia.logger.LogSink\",\"to\":\"#client\"}],\"use\":[]} => ended resolved\n4 0 find client => found 2\n5 0 route 2 /svc/fuchsia.logger.LogSink => need 2\n6 0 begin resolve 2 => begun 2\n7 0 end 2 resolved fuchsia-pkg://t/a#meta/client.cm {\"capabilities\":[],\"children\":[],\"collections\":[],\"expose\":[],\"offer\":[],\"program\":{\"runner\":\"elf\"},\"use\":[{\"availability\":\"required\",\"dependency\":\"strong\",\"from\":\"parent\",\"path\":\"/svc/fuchsia.logger.LogSink\",\"protocol\":\"fuchsia.logger.LogSink\"}]} => ended resolved\n8 0 route 2 /svc/fuchsia.logger.LogSink => need 1\n9 0 begin resolve 1 => begun 3\n10 0 end 3 resolved fuchsia-pkg://t/a#meta/logger.cm {\"capabilities\":[{\"path\":\"/svc/fuchsia.logger.LogSink\",\"protocol\":\"fuchsia.logger.LogSink\"}],\"children\":[],\"collections\":[],\"expose\":[{\"as\":\"fuchsia.logger.LogSink\",\"availability\":\"required\",\"from\":\"self\",\"protocol\":\"fuchsia.logger.LogSink\"}],\"offer\":[],\"program\":{\"runner\":\"elf\"},\"use\":[]} => ended resolved\n11 0 route 2 /svc/fuchsia.logger.LogSink => given /svc/fuchsia.logger.LogSink at logger incarnation 1 through use client, offer ., expose logger, capability logger\n",
+        err: "",
+    },
 ];
 
 /// How the outside moves the bytes and where it fails, and what must come of it.
@@ -417,7 +456,7 @@ struct Large {
     err: &'static str,
 }
 
-const LARGE: [Large; 9] = [
+const LARGE: [Large; 11] = [
     Large {
         word: "check",
         front: "{children:[{name:'",
@@ -508,6 +547,26 @@ const LARGE: [Large; 9] = [
         out: "",
         err: "line 2: 75 line-too-long\n",
     },
+    Large {
+        word: "run",
+        front: "",
+        byte: b'\n',
+        count: 67_108_864,
+        back: "",
+        status: 7,
+        out: "",
+        err: "line 67108865: 72 no-root\n",
+    },
+    Large {
+        word: "run",
+        front: "",
+        byte: b'\n',
+        count: 67_108_864,
+        back: "\n",
+        status: 7,
+        out: "",
+        err: "line 67108865: 76 too-large\n",
+    },
 ];
 
 /// What came of a run.
@@ -555,6 +614,18 @@ fn plan(alloc: Global, piece: usize, failing: Option<u64>) -> Result<Plan, Alloc
     })
 }
 
+/// Gates that never fail and have no manifests, one for each lane.
+fn quiet_gates(alloc: Global) -> Result<List<QuietGates>, AllocError>
+    ensures { IfOk result (λ gates. length gates ≡ 16) }
+{
+    let mut gates = Vec::new(alloc);
+    for lane in 0..16_u32 {
+        let _number = lane;
+        gates.push(QuietGates)?;
+    }
+    Ok(List::from_vec(gates))
+}
+
 fn come<R: Threads + Wait + Sync>(
     rt: &R,
     alloc: Global,
@@ -564,7 +635,15 @@ fn come<R: Threads + Wait + Sync>(
 ) -> Result<Came, AllocError> {
     let words = texts(alloc, words)?;
     let mut err = MemorySink::new(alloc, Plan::quiet(alloc));
-    let ran = run(rt, alloc, words.as_slice(), &mut input, &mut out, &mut err);
+    let ran = run(
+        rt,
+        alloc,
+        words.as_slice(),
+        &mut input,
+        &mut out,
+        &mut err,
+        quiet_gates(alloc)?,
+    );
     Ok(Came {
         status: ran.status,
         out,

@@ -1,14 +1,13 @@
-//! What an instance takes from those above it: marks, and where it stands.
+//! What an instance takes from those above it, and how it is itself.
 
-ghost use Rattle.std.specs.Prelude.{◌≡◌, ◌++◌, false, IfOk, OnOk, option_and_then, option_to_list};
-ghost use Rattle.std.specs.Option.{option_copied, option_map_or};
-ghost use Rattle.cm_world.specs.Rows.{row_of, some_above, is_gone, is_closed, is_resolved, is_shut, is_on, moniker_of};
+ghost use Rattle.std.specs.Prelude.{◌≡◌, false};
+ghost use Rattle.std.specs.Option.{option_map_or};
+ghost use Rattle.cm_world.specs.Rows.{row_of, some_above, is_gone, is_closed, is_resolved, is_shut, is_on};
 ghost use Rattle.cm_world.specs.Sound.{IsOrderly};
 ghost use Rattle.cm_steps.specs.Marks.{has_mark};
 
-use cm_names::{ChildName, List, Memory, Moniker};
+use cm_walk::hop::parent;
 use cm_world::View;
-use std::alloc::Global;
 
 /// A mark that counts for all instances below the one that has it.
 #[derive(Debug, Clone, Copy, PartialEq, Eq)]
@@ -30,17 +29,6 @@ fn has<V: View>(view: &V, mark: Mark, inc: u64) -> bool
             Mark::Doomed => facts.doomed,
             Mark::Closing => facts.closing,
         },
-    }
-}
-
-/// The parent of an instance, or `None` where it is the root or doesn't live.
-fn parent<V: View>(view: &V, inc: u64) -> Option<u64>
-    ensures parent { result ≡ option_and_then (λ r. r.parent) (row_of (V.rows view.now) inc) }
-    ensures orderly { IsOrderly (V.rows view.now) (V.next_inc view.now) }
-{
-    match view.facts(inc) {
-        Some(facts) => facts.parent,
-        None => None,
     }
 }
 
@@ -98,31 +86,4 @@ pub fn resolved<V: View>(view: &V, inc: u64) -> bool
     ensures { result ≡ is_resolved (V.rows view.now) inc }
 {
     view.decl(inc).is_some()
-}
-
-/// Where an instance stands; the root's place where it doesn't live.
-pub fn moniker_at<V: View>(alloc: Global, view: &V, inc: u64) -> Result<Moniker, Memory>
-    ensures { IfOk result (λ moniker. moniker ≡ moniker_of (V.rows view.now) inc) }
-{
-    let mut names = Vec::new(alloc);
-    let mut at = Some(inc);
-    'up: while let Some(here) = at {
-        push_name(&mut names, view.name(here))?;
-        at = parent(view, here);
-    }
-    names.reverse();
-    Ok(Moniker {
-        parts: List::from_vec(names),
-    })
-}
-
-/// Puts a copy of the name at the end, if there is one.
-fn push_name(names: &mut Vec<ChildName>, name: Option<&ChildName>) -> Result<(), Memory>
-    ensures { let name = option_to_list (option_copied name.entry) in
-        OnOk result (names.new.items ≡ names.old.items ++ name) }
-{
-    if let Some(name) = name {
-        names.push(name.clone()?)?;
-    }
-    Ok(())
 }

@@ -11,10 +11,11 @@ ghost use Rattle.cm_world.specs.Work.{work_of};
 ghost use Rattle.cm_steps.specs.Answers.{AnswersBegin, AnswersIdle};
 ghost use Rattle.cm_steps.specs.Eager.{eager_by, eager_child, eager_kids, above_url};
 
-use crate::replies::above::{closed, gone, moniker_at, resolved};
+use crate::replies::above::{closed, gone, resolved};
 use cm_decl::Child;
 use cm_names::{ChildName, List, Memory, Name, Text};
 use cm_table::Table;
+use cm_walk::hop::moniker;
 use cm_world::{ActKind, Facts, Reply, View, Work};
 use std::alloc::Global;
 
@@ -147,7 +148,7 @@ fn resolve_work(
 {
     let base = text_or_empty(alloc, absolute_of(table, parent))?;
     let url = text_or_empty(alloc, table.url(inc))?;
-    let moniker = moniker_at(alloc, table, inc)?;
+    let moniker = moniker(alloc, table, inc)?;
     Ok(Work {
         action,
         inc,
@@ -171,7 +172,7 @@ fn program_work(
 {
     let url = text_or_empty(alloc, table.absolute(inc))?;
     let runner = runner_at(table, inc)?;
-    let moniker = moniker_at(alloc, table, inc)?;
+    let moniker = moniker(alloc, table, inc)?;
     Ok(Work {
         action,
         inc,

@@ -6,10 +6,11 @@ ghost use Rattle.cm_world.specs.Rows.{row_of, facts_of};
 ghost use Rattle.cm_world.specs.Reports.{show_reply, look_at};
 ghost use Rattle.cm_steps.specs.Answers.{AnswersExit};
 
-use crate::replies::above::{gone, moniker_at, resolved};
+use crate::replies::above::{gone, resolved};
 use crate::replies::beginning::text_or_empty;
 use cm_names::{Memory, Moniker, Text};
 use cm_table::Table;
+use cm_walk::hop::moniker;
 use cm_world::{Facts, Look, Reply, View};
 use std::alloc::Global;
 
@@ -78,7 +79,7 @@ pub fn exit_answer<V: View>(alloc: Global, view: &V, inc: u64) -> Result<ExitAns
         return Ok(ExitAnswer::Busy(action));
     }
     if facts.on {
-        let moniker = moniker_at(alloc, view, inc)?;
+        let moniker = moniker(alloc, view, inc)?;
         Ok(ExitAnswer::Leaves(moniker))
     } else {
         Ok(ExitAnswer::Quiet(Reply::Already))

@@ -1,4 +1,4 @@
-use Rattle.std.proofs.Common.{◌≡◌, ℕ, ◌+◌, sym, ◌∙◌, ap, subst, length, IfOk}
+use Rattle.std.proofs.Common.{◌≡◌, ◌+◌, sym, ◌∙◌, ap, subst, length, IfOk}
 use Rattle.cm_world.specs.World.{World}
 use Rattle.cm_steps.specs.Story.{world_of}
 use Rattle.cm_steps.specs.Inside.{world_in}

@@ -1,15 +1,14 @@
-use Rattle.std.proofs.Common.{◌≡◌, ℕ, ◌+◌, ◌-◌, ◌≤◌, ◌++◌, ◌∷◌, [], List, cond, refl, ap, sym, ◌∙◌, subst, arith, length, length-append, Some, is_some}
+use Rattle.std.proofs.Common.{◌≡◌, ℕ, ◌+◌, ◌-◌, ◌++◌, ◌∷◌, [], List, cond, refl, ap, sym, ◌∙◌, subst, arith, length, length-append, Some, is_some}
 use Rattle.std.specs.List.{count_by}
 use Rattle.cm_book.specs.History.{History}
 use Rattle.cm_table.specs.Tree.{Tree}
 use Rattle.cm_table.specs.Change.{with_changed}
 use Rattle.cm_world.specs.declared.action.Act.{Act}
-use Rattle.cm_world.specs.declared.action.ActKind.TheVariants.{Resolve}
 use Rattle.cm_world.specs.declared.reply.Entry.{Entry}
 use Rattle.cm_world.specs.declared.event.Event.TheVariants as event
 use Rattle.cm_world.specs.declared.reply.Reply.TheVariants as reply
 use Rattle.cm_world.specs.World.{World, is_open}
-use Rattle.cm_world.specs.Begin.{begin_reply, same_act}
+use Rattle.cm_world.specs.Begin.{begin_reply}
 use Rattle.cm_world.specs.End.{set_pending}
 use Rattle.cm_world.specs.After.{new_act, after}
 use Rattle.cm_steps.specs.Story.{world_of}

@@ -1,4 +1,4 @@
-use Rattle.std.proofs.Common.{◌≡◌, [], sym, ◌∙◌, ap, subst}
+use Rattle.std.proofs.Common.{[], sym, ◌∙◌, ap, subst}
 use Rattle.cm_world.specs.declared.event.Event.TheVariants as event
 use Rattle.cm_world.specs.Legal.{IsStep}
 use Rattle.cm_world.specs.Find.{found_from}

@@ -1,4 +1,4 @@
-use Rattle.std.proofs.Common.{◌≡◌, ℕ, ◌+◌, ◌-◌, ◌≤◌, ◌++◌, ◌∷◌, [], List, false, refl, ap, sym, ◌∙◌, subst, arith, length, Some, is_some}
+use Rattle.std.proofs.Common.{◌≡◌, ℕ, ◌+◌, ◌-◌, ◌≤◌, ◌++◌, ◌∷◌, [], false, refl, ap, sym, ◌∙◌, subst, arith, length, Some, is_some}
 use Rattle.std.specs.List.{count_by}
 use Rattle.cm_book.specs.History.{History}
 use Rattle.cm_table.specs.Tree.{Tree}

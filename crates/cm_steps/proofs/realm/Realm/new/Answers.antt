@@ -1,4 +1,4 @@
-use Rattle.std.proofs.Common.{◌≡◌, ◌∙◌, ap}
+use Rattle.std.proofs.Common.{◌∙◌, ap}
 use Rattle.cm_table.specs.Tree.{first_tree}
 use Rattle.cm_steps.proofs.Starting.{kept_new}
 use Rattle.cm_steps.proofs.realm.Realm.new.Goals as goal

@@ -1,6 +1,6 @@
 use Rattle.std.proofs.Common.{sym, ◌∙◌}
 use Rattle.cm_steps.specs.Marks.{has_mark}
-use Rattle.cm_steps.proofs.Monikers.{loop-lower}
+use Rattle.cm_walk.proofs.Monikers.{loop-lower}
 use Rattle.cm_steps.proofs.Up.{no_mark_here}
 use Rattle.cm_steps.proofs.replies.above.has_above.Goals as goal
 

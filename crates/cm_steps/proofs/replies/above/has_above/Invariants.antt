@@ -1,7 +1,7 @@
 use Rattle.std.proofs.Common.{◌≡◌, length}
 use Rattle.cm_world.specs.Rows.{some_above, at_or_above}
 use Rattle.cm_steps.specs.Marks.{has_mark}
-use Rattle.cm_steps.proofs.Monikers.{height}
+use Rattle.cm_walk.proofs.Monikers.{height}
 use Rattle.cm_steps.proofs.replies.above.has_above.Given as goal
 
 -- what is left of the way up decides

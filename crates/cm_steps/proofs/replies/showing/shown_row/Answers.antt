@@ -1,4 +1,4 @@
-use Rattle.std.proofs.Common.{◌≡◌, [], option_map, unwrap_or, ◌∙◌, ap}
+use Rattle.std.proofs.Common.{[], option_map, unwrap_or, ◌∙◌, ap}
 use Rattle.cm_world.specs.declared.reply.Reply.TheVariants.{Shown}
 use Rattle.cm_world.proofs.Finding.{row_of-inc}
 use Rattle.cm_steps.proofs.Reading.{resolved_is}

@@ -1,0 +1,114 @@
+-- What is kept of a pass and of its gates, from call to call.
+use Rattle.std.proofs.Common.{◌≡◌, ℕ, ◌+◌, List, [], ◌++◌, length, refl, sym, ap, ◌∙◌, subst, append_assoc, append-nil, arith}
+use Rattle.std.proofs.lemmas.List.{length-append}
+use Rattle.std.proofs.lemmas.List.Elements.{filter-append}
+use Rattle.cm_turn.specs.History.{StartsWith}
+use Rattle.cm_turn.specs.Passes.{seen_up_to}
+use Rattle.cm_world.specs.declared.frame.Frame.{Frame}
+use Rattle.cm_world.specs.declared.reply.Entry.{Entry}
+use Rattle.cm_gate.specs.Logs.{RoseBy}
+use Rattle.cm_gate.proofs.Logs.{grew_nothing, grew_trans, rose_nothing, rose_trans}
+use Rattle.cm_manager.specs.Turns.{Later}
+use Rattle.cm_manager.specs.Closed.{empty}
+use Rattle.cm_manager.specs.Work.{Shelf, WorksWith, nothing, failures, tells_failure}
+use Rattle.cm_manager.specs.Contract.{RealmPass, GatesView, Helps}
+use Rattle.cm_manager.proofs.Joining.{starts-trans, works-append}
+use Rattle.cm_manager.proofs.Closing.{closed-append}
+use Rattle.cm_lanes.specs.Kept.{Keeps}
+use Rattle.cm_lanes.specs.Lane.{IsOwnPass}
+
+pub starts_same : (a : List Entry) → StartsWith a a
+starts_same a = ([], sym (append-nil a))
+
+failures_append : (p q : List Entry) → failures (p ++ q) ≡ failures p + failures q
+failures_append p q = ap (λ (l : List Entry). length l) (filter-append tells_failure p q) ∙ length-append (filter_of p) (filter_of q) where
+  filter_of : List Entry → List Entry
+  filter_of l = Rattle.std.specs.Prelude.filter tells_failure l
+
+-- the work of one part behind that of another
+pub works_then : (shelf : Shelf) (p q : List Entry) (g h k : GatesView) → WorksWith shelf p g.log h.log g.faults h.faults → WorksWith shelf q h.log k.log h.faults k.faults → WorksWith shelf (p ++ q) g.log k.log g.faults k.faults
+works_then shelf p q g h k v w = record {
+  asked = v.asked ++ w.asked;
+  works = works-append shelf p q v.asked w.asked v.works w.works;
+  log = grew_trans g.log h.log k.log v.asked w.asked v.log w.log;
+  faults = subst (λ (n : ℕ). RoseBy n g.faults k.faults) (sym (failures_append p q)) (rose_trans (failures p) (failures q) g.faults h.faults k.faults v.faults w.faults);
+}
+
+works_nothing : (shelf : Shelf) (g : GatesView) → WorksWith shelf [] g.log g.log g.faults g.faults
+works_nothing shelf g = record { asked = []; works = nothing; log = grew_nothing g.log; faults = rose_nothing g.faults g.faults (grind arith) }
+
+pub keeps_nothing : (shelf : Shelf) (p : RealmPass) (g : GatesView) → IsOwnPass p → Keeps shelf p p g g
+keeps_nothing shelf p g own = record {
+  lock = refl;
+  frame = refl;
+  caller = refl;
+  seen = starts_same p.seen;
+  own = sym own;
+  part = [];
+  mine = sym (append-nil p.mine);
+  closed = empty;
+  work = works_nothing shelf g;
+}
+
+-- the parts of two in a row
+mine_then : (a b d x y : List Entry) → b ≡ a ++ x → d ≡ b ++ y → d ≡ a ++ (x ++ y)
+mine_then a b d x y ab bd = bd ∙ ap (λ (l : List Entry). l ++ y) ab ∙ append_assoc a x y
+
+pub keeps_trans : (shelf : Shelf) (p q r : RealmPass) (g h k : GatesView) → Keeps shelf p q g h → Keeps shelf q r h k → Keeps shelf p r g k
+keeps_trans shelf p q r g h k a b = record {
+  lock = b.lock ∙ a.lock;
+  frame = b.frame ∙ a.frame;
+  caller = b.caller ∙ a.caller;
+  seen = starts-trans p.seen q.seen r.seen a.seen b.seen;
+  own = b.own;
+  part = a.part ++ b.part;
+  mine = mine_then p.mine q.mine r.mine a.part b.part a.mine b.mine;
+  closed = closed-append a.part b.part a.closed b.closed;
+  work = works_then shelf a.part b.part g h k a.work b.work;
+}
+
+-- a call of the manager keeps a pass
+pub keeps_helps : (shelf : Shelf) (f : Frame) (Way : List Entry → List Entry → Type 0) (q r : RealmPass) (h k : GatesView) → Helps shelf f Way q r h k → Keeps shelf q r h k
+keeps_helps shelf f Way q r h k is = record {
+  lock = is.same.lock;
+  frame = is.same.frame;
+  caller = is.same.caller;
+  seen = is.same.seen;
+  own = is.same.own;
+  part = is.part;
+  mine = is.mine;
+  closed = is.closed;
+  work = is.work;
+}
+
+-- and so does a meeting
+pub keeps_met : (shelf : Shelf) (p q : RealmPass) (s : List Entry) (g h : GatesView) → Keeps shelf p q g h → StartsWith s q.seen → IsOwnPass (seen_up_to s q) → Keeps shelf p (seen_up_to s q) g h
+keeps_met shelf p q s g h is grows own = record {
+  lock = is.lock;
+  frame = is.frame;
+  caller = is.caller;
+  seen = starts-trans p.seen q.seen s is.seen grows;
+  own = sym own;
+  part = is.part;
+  mine = is.mine;
+  closed = is.closed;
+  work = is.work;
+}
+
+-- what a pass learns at a meeting has no entry of its own caller
+pub met_later : (q : RealmPass) (s : List Entry) → StartsWith s q.seen → IsOwnPass q → IsOwnPass (seen_up_to s q) → Later q.caller q.seen s
+met_later q s grows own met = record { grows = grows; own = met ∙ sym own }
+
+-- a meeting alone
+pub keeps_learns : (shelf : Shelf) (p : RealmPass) (s : List Entry) (g : GatesView) → StartsWith s p.seen → IsOwnPass (seen_up_to s p) → Keeps shelf p (seen_up_to s p) g g
+keeps_learns shelf p s g grows own = record {
+  lock = refl;
+  frame = refl;
+  caller = refl;
+  seen = grows;
+  own = sym own;
+  part = [];
+  mine = sym (append-nil p.mine);
+  closed = empty;
+  work = works_nothing shelf g;
+}

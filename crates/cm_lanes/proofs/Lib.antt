@@ -1,0 +1,10 @@
+pub mod Keeping
+pub mod Performing
+pub mod Rounds
+pub mod Passing
+pub mod Weaving
+pub mod Advancing
+pub mod Queues
+pub mod Making
+pub mod Ending
+pub mod Parting

@@ -1,0 +1,149 @@
+-- The parts of a caller's lines, and lines that are lost.
+use Rattle.std.proofs.Common.{◌≡◌, ℕ, ◌==◌, List, [], ◌∷◌, ◌++◌, All, map, flat_map, cond, Bool, true, false, Result, Ok, Err, IsTrue, refl, sym, ap, ◌∙◌, subst, inl, inr, append-nil, append_assoc, suc, arith}
+use Rattle.std.proofs.lemmas.List.Elements.{filter-append}
+use Rattle.cm_turn.specs.History.{StartsWith}
+use Rattle.cm_world.specs.declared.action.ActKind.{ActKind}
+use Rattle.cm_world.specs.declared.answer.Answer.{Answer}
+use Rattle.cm_world.specs.declared.answer.Refusal.{Refusal}
+use Rattle.cm_world.specs.declared.answer.Refusal.TheVariants as refusal
+use Rattle.cm_world.specs.declared.event.Event.{Event}
+use Rattle.cm_world.specs.declared.event.Target.{Target}
+use Rattle.cm_world.specs.declared.event.Target.TheVariants as target
+use Rattle.cm_world.specs.declared.frame.Frame.{Frame}
+use Rattle.cm_world.specs.declared.reply.Entry.{Entry}
+use Rattle.cm_world.specs.declared.reply.Reply.{Reply}
+use Rattle.cm_world.specs.World.{start}
+use Rattle.cm_world.specs.Legal.{Legal}
+use Rattle.cm_command.specs.declared.command.Command.{Command}
+use Rattle.cm_command.specs.declared.command.Command.TheVariants as command
+use Rattle.cm_command.specs.declared.script.Line.{Line}
+use Rattle.cm_manager.specs.declared.acted.Acted.{Acted}
+use Rattle.cm_manager.specs.Turns.{own_entries, Later}
+use Rattle.cm_manager.specs.Runs.{Acts, Tries, decided, needs, failed, cut_try, lost_try}
+use Rattle.cm_manager.specs.Calls.{Way, Finding, Behind, OnRow, Tried, ActedOn, Calls, Goes, is_built}
+use Rattle.cm_manager.proofs.Joining.{starts-trans}
+use Rattle.cm_manager.proofs.Closing.{makes-own, cut-later, acts-close}
+use Rattle.cm_lanes.specs.Script.{Answered, answers_of, IsFit, Follows, rests, performs, IsPhase, ArePhases}
+use Rattle.cm_lanes.specs.Laws.{FallsIntoRuns, no_answer}
+use Rattle.cm_lanes.proofs.Keeping.{starts_same}
+
+-- ---- a call's history goes on
+
+tries_grow : (f : Frame) (c : ℕ) (e : Event) {a b : List Entry} {end : Result Reply Refusal} → Tries f c e a b end → StartsWith b a
+tries_grow f c e (decided asks is) = (makes-own c _ _ _ _ asks.made).0
+tries_grow f c e (needs asks is act fine again) = starts-trans _ _ _ (makes-own c _ _ _ _ asks.made).0 (starts-trans _ _ _ (acts-close f c act).grows (tries_grow f c e again))
+tries_grow f c e (failed asks is act fails) = starts-trans _ _ _ (makes-own c _ _ _ _ asks.made).0 (acts-close f c act).grows
+tries_grow f c e (cut_try {h₀ = a} {h₁ = b} {x = x} is) = (cut-later f c a b e x is).grows
+tries_grow f c e (lost_try way) = tries_grow f c e way
+
+abbrev Growing : (ℕ → Way (Result Answer Refusal)) → Type 0
+Growing call = (i : ℕ) (a b : List Entry) (r : Result Answer Refusal) → call i a b r → StartsWith b a
+
+finding_grows : (f : Frame) (c : ℕ) (t : Target) (a b : List Entry) (row : Result ℕ Refusal) → Finding f c t a b row → StartsWith b a
+finding_grows f c (target.Inc n) a b row is = subst (λ (l : List Entry). StartsWith l a) (sym is.0) (starts_same a)
+finding_grows f c (target.Named m) a b row is = tries_grow f c _ is.1
+
+behind_grows : (row : Result ℕ Refusal) (call : ℕ → Way (Result Answer Refusal)) (a b : List Entry) (r : Result Answer Refusal) → Growing call → Behind row call a b r → StartsWith b a
+behind_grows (Ok i) call a b r grows is = grows i a b r is
+behind_grows (Err x) call a b r grows is = subst (λ (l : List Entry). StartsWith l a) (sym is.0) (starts_same a)
+
+on_row_grows : (f : Frame) (c : ℕ) (t : Target) (call : ℕ → Way (Result Answer Refusal)) (a b : List Entry) (r : Result Answer Refusal) → Growing call → OnRow f c t call a b r → StartsWith b a
+on_row_grows f c t call a b r grows is = starts-trans a is.h₁ b (finding_grows f c t a is.h₁ is.row is.finding) (behind_grows is.row call is.h₁ b r grows is.behind)
+
+tried_grows : (f : Frame) (c : ℕ) (e : ℕ → Event) → Growing (Tried f c e)
+tried_grows f c e i a b r is = tries_grow f c (e i) is.1
+
+acted_grows : (f : Frame) (c : ℕ) (k : ActKind) (value : Result Acted Refusal → Result Answer Refusal) → Growing (ActedOn f c k value)
+acted_grows f c k value i a b r is = (acts-close f c is.1).grows
+
+calls_grow : (f : Frame) (c : ℕ) (cmd : Command) (a b : List Entry) (r : Result Answer Refusal) → Calls f c cmd a b r → StartsWith b a
+calls_grow f c (command.Resolve t) a b r is = on_row_grows f c t _ a b r (acted_grows f c _ _) is
+calls_grow f c (command.Start t) a b r is = on_row_grows f c t _ a b r (acted_grows f c _ _) is
+calls_grow f c (command.Stop t) a b r is = on_row_grows f c t _ a b r (acted_grows f c _ _) is
+calls_grow f c (command.OpenUse t path) a b r is = on_row_grows f c t _ a b r (tried_grows f c _) is
+calls_grow f c (command.OpenExposed t name) a b r is = on_row_grows f c t _ a b r (tried_grows f c _) is
+calls_grow f c (command.RouteOf t path) a b r is = on_row_grows f c t _ a b r (tried_grows f c _) is
+calls_grow f c (command.Show t) a b r is = on_row_grows f c t _ a b r (tried_grows f c _) is
+calls_grow f c (command.Exited t) a b r is = on_row_grows f c t _ a b r (tried_grows f c _) is
+calls_grow f c _ a b r is = absurd is
+
+goes_grows : (f : Frame) (c : ℕ) (cmd : Command) (a b : List Entry) (r : Result Answer Refusal) → Goes f c cmd a b r → StartsWith b a
+goes_grows f c cmd a b r (inl is) = calls_grow f c cmd a b r is
+goes_grows f c cmd a b r (inr is) = calls_grow f c cmd a b is.1.0 is.1.1
+
+follows_grows : (f : Frame) (c : ℕ) (xs : List Answered) (a b : List Entry) → Follows f c xs a b → StartsWith b a
+follows_grows f c xs a b (rests later) = later.grows
+follows_grows f c xs a b (performs {a = x} {h₁ = h} goes rest) = starts-trans a h b (goes_grows f c x.line.command a h x.result goes) (follows_grows f c _ h b rest)
+
+-- ---- its parts
+
+own_part : (c : ℕ) (a b : List Entry) (grows : StartsWith b a) → own_entries c b ≡ own_entries c a ++ own_entries c grows.0
+own_part c a b grows = ap (own_entries c) grows.1 ∙ filter-append (λ (y : Entry). y.caller == c) a grows.0
+
+pub falls_into_runs : (f : Frame) (c : ℕ) (xs : List Answered) (a b history : List Entry) → Follows f c xs a b → Legal (start f) history → StartsWith history b → FallsIntoRuns f history c xs a b
+falls_into_runs f c xs a b history (rests later) legal within = record { parts = []; whole = later.own ∙ sym (append-nil (own_entries c a)); runs = tt }
+falls_into_runs f c xs a b history (performs {a = x} {others = others} {h₁ = h} goes rest) legal within =
+    let grows = goes_grows f c x.line.command a h x.result goes in
+    let part = own_entries c grows.0 in
+    let others_are = falls_into_runs f c others h b history rest legal within in
+    record {
+      parts = part ∷ others_are.parts;
+      whole = others_are.whole ∙ ap (λ (l : List Entry). l ++ flat_map (λ (p : List Entry). p) others_are.parts) (own_part c a h grows) ∙ append_assoc (own_entries c a) part (flat_map (λ (p : List Entry). p) others_are.parts);
+      runs = (
+        record {
+          legal = legal;
+          before = a;
+          after = h;
+          within = starts-trans h b history (follows_grows f c others h b rest) within;
+          goes = goes;
+          part_is = own_part c a h grows;
+        },
+        others_are.runs,
+      );
+    }
+
+-- ---- lines that are lost
+
+no_later : (c : ℕ) (h : List Entry) → Later c h h
+no_later c h = record { grows = starts_same h; own = refl }
+
+tries_lost : (f : Frame) (c : ℕ) (e : Event) (h : List Entry) → Tries f c e h h (Err refusal.Memory)
+tries_lost f c e h = Tries.cut_try (no_later c h)
+
+abbrev Losing : List Entry → (ℕ → Way (Result Answer Refusal)) → Type 0
+Losing h call = (i : ℕ) → call i h h (Err refusal.Memory)
+
+on_row_lost : (f : Frame) (c : ℕ) (t : Target) (call : ℕ → Way (Result Answer Refusal)) (h : List Entry) → Losing h call → OnRow f c t call h h (Err refusal.Memory)
+on_row_lost f c (target.Inc n) call h lost = record { row = Ok n; h₁ = h; finding = (refl, refl); behind = lost n }
+on_row_lost f c (target.Named m) call h lost = record { row = Err refusal.Memory; h₁ = h; finding = (Err refusal.Memory, tries_lost f c _ h, refl); behind = (refl, refl) }
+
+tried_lost : (f : Frame) (c : ℕ) (e : ℕ → Event) (h : List Entry) → Losing h (Tried f c e)
+tried_lost f c e h i = (Err refusal.Memory, tries_lost f c (e i) h, refl)
+
+acted_lost : (f : Frame) (c : ℕ) (k : ActKind) (value : Result Acted Refusal → Result Answer Refusal) (h : List Entry) → Err refusal.Memory ≡ value (Err refusal.Memory) → Losing h (ActedOn f c k value)
+acted_lost f c k value h same i = (Err refusal.Memory, Acts.cut (no_later c h), same)
+
+calls_lost : (f : Frame) (c : ℕ) (cmd : Command) (h : List Entry) → IsTrue (is_built cmd) → Calls f c cmd h h (Err refusal.Memory)
+calls_lost f c (command.Resolve t) h built = on_row_lost f c t _ h (acted_lost f c _ _ h refl)
+calls_lost f c (command.Start t) h built = on_row_lost f c t _ h (acted_lost f c _ _ h refl)
+calls_lost f c (command.Stop t) h built = on_row_lost f c t _ h (acted_lost f c _ _ h refl)
+calls_lost f c (command.OpenUse t path) h built = on_row_lost f c t _ h (tried_lost f c _ h)
+calls_lost f c (command.OpenExposed t name) h built = on_row_lost f c t _ h (tried_lost f c _ h)
+calls_lost f c (command.RouteOf t path) h built = on_row_lost f c t _ h (tried_lost f c _ h)
+calls_lost f c (command.Show t) h built = on_row_lost f c t _ h (tried_lost f c _ h)
+calls_lost f c (command.Exited t) h built = on_row_lost f c t _ h (tried_lost f c _ h)
+calls_lost f c _ h built = absurd (cc built)
+
+follows_lost : (f : Frame) (c : ℕ) (lines : List Line) (h : List Entry) → All IsFit lines → Follows f c (answers_of c (map no_answer lines)) h h
+follows_lost f c [] h fit = Follows.rests (no_later c h)
+follows_lost f c (l ∷ ls) h fit = first (l.lane == c) (follows_lost f c ls h (λ k d lt. fit (suc k) d (grind (arith, lt)))) where
+  first : (b : Bool) → Follows f c (answers_of c (map no_answer ls)) h h → Follows f c (cond b (no_answer l ∷ answers_of c (map no_answer ls)) (answers_of c (map no_answer ls))) h h
+  first true rest = Follows.performs (inl (calls_lost f c l.command h (fit 0 l (grind arith)).built)) rest
+  first false rest = rest
+
+phase_lost : (frames : ℕ → Frame) (lines : List Line) (h : List Entry) → All IsFit lines → IsPhase frames (map no_answer lines) h h
+phase_lost frames lines h fit = record { grows = starts_same h; lanes = λ c lt. follows_lost (frames c) c lines h fit }
+
+pub phases_lost : (frames : ℕ → Frame) (phases : List (List Line)) (h : List Entry) → All (All IsFit) phases → ArePhases frames (map (λ p. map no_answer p) phases) h h
+phases_lost frames [] h fit = ArePhases.none_left
+phases_lost frames (p ∷ ps) h fit = ArePhases.one_first (phase_lost frames p h (fit 0 p (grind arith))) (phases_lost frames ps h (λ k d lt. fit (suc k) d (grind (arith, lt))))

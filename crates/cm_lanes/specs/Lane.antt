@@ -1,0 +1,84 @@
+-- What one lane has in hand, from step to step.
+use Rattle.std.specs.Prelude.{◌≡◌, ◌⊎◌, ℕ, ◌<◌, List, [], ◌∷◌, ◌++◌, map, Bool, false, Option, Some, length, slice_index_or}
+use Rattle.cm_turn.specs.History.{StartsWith}
+use Rattle.cm_turn.specs.Passes.{LockView, seen_up_to}
+use Rattle.cm_world.specs.declared.reply.Entry.{Entry}
+use Rattle.cm_command.specs.declared.script.Line.{Line}
+use Rattle.cm_gate.specs.declared.asked.Asked.{Asked}
+use Rattle.cm_manager.specs.Turns.{own_entries}
+use Rattle.cm_manager.specs.Asking.{frame_of}
+use Rattle.cm_manager.specs.Work.{Shelf}
+use Rattle.cm_manager.specs.Contract.{RealmPass}
+use Rattle.cm_lanes.specs.declared.said.Said.{Said}
+use Rattle.cm_lanes.specs.declared.lane.Lane.{Lane}
+use Rattle.cm_lanes.specs.Script.{Answered, said_of, answered_lines, lines_of, Follows}
+use Rattle.cm_lanes.specs.Kept.{Keeps, gates_view}
+
+-- a pass's entries are those of its caller in what it has seen
+abbrev pub IsOwnPass : RealmPass → Type 0
+IsOwnPass p = own_entries p.caller p.seen ≡ p.mine
+
+-- a list grew by this, unless something was lost
+abbrev pub GrewUnless : Bool → List Said → List Said → List Said → Type 0
+GrewUnless lost old new more = lost ≡ false → new ≡ old ++ more
+
+-- an answer is put behind the others, or lost
+abbrev pub PutsUnless : Bool → Bool → List Said → List Said → Said → Type 0
+PutsUnless before now old new s = now ≡ false → (before ≡ false) × (new ≡ old ++ s ∷ [])
+
+module _ {G : Type 0} (log_of : G → Option (List Asked)) (faults_of : G → ℕ) where
+  -- a caller has performed its own lines among these
+  pub record Performed (shelf : Shelf) (lines : List Line) (p q : RealmPass) (g h : G) (said₀ said₁ : List Said) (lost : Bool) : Type 0 where
+    pub keeps : Keeps shelf p q (gates_view log_of faults_of g) (gates_view log_of faults_of h)
+    pub answers : List Answered
+    pub own_lines : answered_lines answers ≡ lines_of p.caller lines
+    pub follows : Follows (frame_of p) p.caller answers p.seen q.seen
+    pub said : GrewUnless lost said₀ said₁ (map said_of answers)
+
+module _ {G : Type 0} where
+  -- a lane with a pass of this lock
+  pub record HasPass (turn : LockView) (lane : Lane G) : Type 0 where
+    pub pass : RealmPass
+    pub there : lane.pass ≡ Some pass
+    pub of_lock : pass.lock ≡ turn.lock
+
+  -- a lane with a pass of this lock that has its own entries
+  pub record IsReady (turn : LockView) (lane : Lane G) : Type 0 where
+    pub pass : RealmPass
+    pub there : lane.pass ≡ Some pass
+    pub of_lock : pass.lock ≡ turn.lock
+    pub own : IsOwnPass pass
+
+  -- a lane's pass has met others, and has seen this now; all else of the lane is as before
+  pub record Met (seen : List Entry) (old new : Lane G) : Type 0 where
+    pub pass : RealmPass
+    pub was : old.pass ≡ Some pass
+    pub now : new.pass ≡ Some (seen_up_to seen pass)
+    pub grows : StartsWith seen pass.seen
+    pub own : IsOwnPass (seen_up_to seen pass)
+    pub gates : new.gates ≡ old.gates
+    pub said : new.said ≡ old.said
+    pub lost : new.lost ≡ old.lost
+
+  -- two lanes have met: both have seen what one of them had
+  pub record MetBoth (a b a' b' : Lane G) : Type 0 where
+    pub seen : List Entry
+    pub one : Met seen a a'
+    pub other : Met seen b b'
+    pub longer : (one.pass.seen ≡ seen) ⊎ (other.pass.seen ≡ seen)
+
+  -- all lanes have met, and have seen the same
+  pub record MetAll (old new : List (Lane G)) : Type 0 where
+    pub seen : List Entry
+    pub long : length new ≡ length old
+    pub each : (k : ℕ) (d : Lane G) → k < length old → Met seen (slice_index_or old k d) (slice_index_or new k d)
+
+module _ {G : Type 0} (log_of : G → Option (List Asked)) (faults_of : G → ℕ) where
+  -- a lane has performed its own lines among these
+  pub record Worked (shelf : Shelf) (lines : List Line) (old new : Lane G) : Type 0 where
+    pub p : RealmPass
+    pub q : RealmPass
+    pub was : old.pass ≡ Some p
+    pub now : new.pass ≡ Some q
+    pub performed : Performed log_of faults_of shelf lines p q old.gates new.gates old.said.items new.said.items new.lost
+    pub lost : new.lost ≡ false → old.lost ≡ false

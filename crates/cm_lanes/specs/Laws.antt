@@ -1,0 +1,36 @@
+-- Laws of lanes.
+use Rattle.std.specs.Prelude.{◌≡◌, ℕ, List, ◌++◌, map, flat_map, All, Err}
+use Rattle.std.specs.List.{AllZip}
+use Rattle.cm_turn.specs.History.{StartsWith}
+use Rattle.cm_world.specs.declared.answer.Refusal.TheVariants as refusal
+use Rattle.cm_world.specs.declared.frame.Frame.{Frame}
+use Rattle.cm_world.specs.declared.reply.Entry.{Entry}
+use Rattle.cm_world.specs.World.{start}
+use Rattle.cm_world.specs.Legal.{Legal}
+use Rattle.cm_manager.specs.Turns.{own_entries}
+use Rattle.cm_manager.specs.Calls.{Runs}
+use Rattle.cm_command.specs.declared.script.Line.{Line}
+use Rattle.cm_lanes.specs.Script.{Answered, IsFit, Follows, ArePhases}
+
+-- what a caller did between two places of a history falls into parts, one for each line, in order and with nothing left over, each of them the run of its line with that answer
+pub record FallsIntoRuns (f : Frame) (history : List Entry) (c : ℕ) (answered : List Answered) (before after : List Entry) : Type 0 where
+  pub parts : List (List Entry)
+  pub whole : own_entries c after ≡ own_entries c before ++ flat_map (λ part. part) parts
+  pub runs : AllZip (λ part a. Runs f history a.line.command c part a.result) parts answered
+
+-- lines that are performed are runs, in every legal history that goes on from there
+abbrev pub LinesAreRuns : Type 0
+LinesAreRuns =
+    (f : Frame) (c : ℕ) (answered : List Answered) (before after history : List Entry)
+    → Follows f c answered before after → Legal (start f) history → StartsWith history after
+    → FallsIntoRuns f history c answered before after
+
+-- want of memory in the place of every answer
+abbrev pub no_answer : Line → Answered
+no_answer l = record { line = l; result = Err refusal.Memory }
+
+-- lines may all be answered so at any place of a history, without an entry
+abbrev pub LinesMayBeLost : Type 0
+LinesMayBeLost =
+    (frames : ℕ → Frame) (phases : List (List Line)) (history : List Entry)
+    → All (All IsFit) phases → ArePhases frames (map (λ p. map no_answer p) phases) history history

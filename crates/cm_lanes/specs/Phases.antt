@@ -1,0 +1,83 @@
+-- What the lanes have done, phase by phase.
+use Rattle.std.specs.Prelude.{◌≡◌, ℕ, ◌<◌, List, map, flat_map, Option, Some, None, length, slice_index_or, slice_get}
+use Rattle.cm_turn.specs.Passes.{LockView}
+use Rattle.cm_world.specs.declared.frame.Frame.{Frame}
+use Rattle.cm_world.specs.declared.reply.Entry.{Entry}
+use Rattle.cm_command.specs.declared.script.Line.{Line}
+use Rattle.cm_gate.specs.declared.asked.Asked.{Asked}
+use Rattle.cm_manager.specs.Asking.{no_frame, frame_of}
+use Rattle.cm_manager.specs.Work.{Shelf}
+use Rattle.cm_manager.specs.Contract.{RealmPass}
+use Rattle.cm_lanes.specs.declared.lane.Lane.{Lane}
+use Rattle.cm_lanes.specs.declared.said.Said.{Said}
+use Rattle.cm_lanes.specs.Script.{Answered, said_of, answered_lines, answers_of, ArePhases}
+use Rattle.cm_lanes.specs.Kept.{GoesOn, Keeps, gates_view}
+use Rattle.cm_lanes.specs.Lane.{IsOwnPass, GrewUnless, Worked}
+
+-- what one lane is told of all phases
+abbrev pub told_to : ℕ → List (List Answered) → List Said
+told_to k answered = flat_map (λ a. map said_of (answers_of k a)) answered
+
+module _ {G : Type 0} where
+  -- a lane of the caller of this number
+  pub record IsLaneOf (turn : LockView) (k : ℕ) (lane : Lane G) : Type 0 where
+    pub pass : RealmPass
+    pub there : lane.pass ≡ Some pass
+    pub of_lock : pass.lock ≡ turn.lock
+    pub caller : pass.caller ≡ k
+
+  -- the lanes of the sixteen callers
+  pub record AreLanes (turn : LockView) (lanes : List (Lane G)) : Type 0 where
+    pub count : length lanes ≡ 16
+    pub each : (k : ℕ) (d : Lane G) → k < 16 → IsLaneOf turn k (slice_index_or lanes k d)
+
+  -- the frame of a lane's pass
+  abbrev pub frame_in_lane : Option (Lane G) → Frame
+  frame_in_lane None = no_frame
+  frame_in_lane (Some lane) = elim lane.pass as (λ _. Frame) [ None ↦ no_frame | Some p ↦ frame_of p ]
+
+  -- the frame of the lane at a place
+  abbrev pub lane_frames : List (Lane G) → ℕ → Frame
+  lane_frames lanes k = frame_in_lane (slice_get lanes k)
+
+  -- a history goes on from what a lane has seen
+  pub record LaneBegins (history : List Entry) (lane : Lane G) : Type 0 where
+    pub pass : RealmPass
+    pub there : lane.pass ≡ Some pass
+    pub goes_on : GoesOn history pass
+
+module _ {G : Type 0} (log_of : G → Option (List Asked)) (faults_of : G → ℕ) where
+  -- a lane has performed its own lines among these, and has met the others
+  pub record Passed (shelf : Shelf) (lines : List Line) (last : List Entry) (old new : Lane G) : Type 0 where
+    pub worked : Worked log_of faults_of shelf lines old new
+    pub seen : worked.q.seen ≡ last
+    pub own : IsOwnPass worked.q
+
+  -- all lanes have performed their own lines among these, and have met
+  pub record PassedAll (shelf : Shelf) (lines : List Line) (old new : List (Lane G)) : Type 0 where
+    pub last : List Entry
+    pub long : length new ≡ length old
+    pub each : (k : ℕ) (d : Lane G) → k < length old → Passed shelf lines last (slice_index_or old k d) (slice_index_or new k d)
+
+  -- what has become of a lane behind these phases
+  pub record LaneRan (shelf : Shelf) (answered : List (List Answered)) (last : List Entry) (k : ℕ) (old new : Lane G) : Type 0 where
+    pub p : RealmPass
+    pub q : RealmPass
+    pub was : old.pass ≡ Some p
+    pub now : new.pass ≡ Some q
+    pub caller : p.caller ≡ k
+    pub seen : q.seen ≡ last
+    pub own : IsOwnPass q
+    pub keeps : Keeps shelf p q (gates_view log_of faults_of old.gates) (gates_view log_of faults_of new.gates)
+    pub said : GrewUnless new.lost old.said.items new.said.items (told_to k answered)
+
+  -- the lanes have performed these phases
+  pub record LanesRan (shelf : Shelf) (phases : List (List Line)) (old new : List (Lane G)) : Type 0 where
+    pub first : List Entry
+    pub last : List Entry
+    pub long : length new ≡ length old
+    pub begins : (k : ℕ) (d : Lane G) → k < 16 → LaneBegins first (slice_index_or old k d)
+    pub answered : List (List Answered)
+    pub lines : map answered_lines answered ≡ phases
+    pub performed : ArePhases (lane_frames old) answered first last
+    pub each : (k : ℕ) (d : Lane G) → k < 16 → LaneRan shelf answered last k (slice_index_or old k d) (slice_index_or new k d)

@@ -1,0 +1,106 @@
+//! One lane.
+
+ghost use Rattle.std.specs.Prelude.{◌≡◌, All};
+ghost use Rattle.cm_lanes.specs.Script.{IsFit};
+ghost use Rattle.cm_lanes.specs.Lane.{IsOwnPass, IsReady, Performed, PutsUnless, Worked};
+
+use crate::Said;
+use cm_command::Line;
+use cm_gate::Gates;
+use cm_manager::Manager;
+use cm_turn::Pass;
+use cm_world::{Entry, Frame};
+use std::alloc::Global;
+use std::collections::VecDeque;
+use std::sync::Wait;
+use std::thread::Threads;
+
+/// What one lane has in hand.
+#[derive(Drop)]
+pub(crate) struct Lane<G> {
+    /// The pass of its caller; `None` only while a call has it.
+    pub(crate) pass: Option<Pass<Entry, Frame>>,
+    /// The gates of its caller.
+    pub(crate) gates: G,
+    /// What was said to its lines so far, in their order.
+    pub(crate) said: VecDeque<Said>,
+    /// Whether an answer is missing there, because memory ran out.
+    pub(crate) lost: bool,
+}
+
+/// Puts an answer behind the others. The result says whether it was lost, because memory ran out
+/// for the list, or another was before.
+fn tell(said: &mut VecDeque<Said>, answer: Said, lost: bool) -> bool
+    ensures { PutsUnless lost result said.old.items said.new.items answer }
+{
+    match said.push_back(answer) {
+        Ok(()) => lost,
+        Err(_) => true,
+    }
+}
+
+/// Performs those of the lines in order that are the lane's own. The answer says whether one of
+/// its answers was lost, because memory ran out for the list.
+fn perform_lines<R: Threads + Wait + Sync, G: Gates>(
+    rt: &R,
+    alloc: Global,
+    manager: &Manager,
+    pass: Pass<Entry, Frame>,
+    gates: &mut G,
+    lines: &[Line],
+    said: &mut VecDeque<Said>,
+) -> (Pass<Entry, Frame>, bool)
+    requires lock { pass.lock ≡ manager.now.turn.lock }
+    requires own { IsOwnPass pass }
+    requires fit { All IsFit lines.now }
+    ensures performed { Performed G.log G.faults manager.now.shelf lines.now pass result.0
+        gates.old gates.new said.old.items said.new.items result.1 }
+{
+    let caller = pass.caller();
+    let mut pass = pass;
+    let mut lost = false;
+    for line in lines {
+        if line.lane != caller {
+            continue;
+        }
+        let (back, result) = manager.perform(rt, alloc, pass, gates, &line.command);
+        pass = back;
+        let answer = Said {
+            line: line.line,
+            lane: line.lane,
+            result,
+        };
+        lost = tell(said, answer, lost);
+    }
+    (pass, lost)
+}
+
+/// Performs the lane's own lines of a phase.
+pub(crate) fn work<R: Threads + Wait + Sync, G: Gates>(
+    rt: &R,
+    alloc: Global,
+    manager: &Manager,
+    lane: &mut Lane<G>,
+    lines: &[Line],
+)
+    requires ready { IsReady manager.now.turn lane.old }
+    requires fit { All IsFit lines.now }
+    ensures worked { Worked G.log G.faults manager.now.shelf lines.now lane.old lane.new }
+{
+    let Some(pass) = lane.pass.take() else {
+        unreachable!()
+    };
+    let (pass, lost) = perform_lines(
+        rt,
+        alloc,
+        manager,
+        pass,
+        &mut lane.gates,
+        lines,
+        &mut lane.said,
+    );
+    lane.pass = Some(pass);
+    if lost {
+        lane.lost = true;
+    }
+}

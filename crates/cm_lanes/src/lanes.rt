@@ -1,0 +1,113 @@
+//! A script's lines, run in lanes.
+
+ghost use Rattle.std.specs.Prelude.{◌≡◌, All, IfSome, false, flat_map, length, map, true};
+ghost use Rattle.std.specs.Prelude.{None as NoneOf};
+ghost use Rattle.cm_manager.specs.Closed.{HasEnds};
+ghost use Rattle.cm_lanes.specs.Kept.{AreSixteen};
+ghost use Rattle.cm_lanes.specs.Lanes.{RanOrNot};
+ghost use Rattle.cm_lanes.specs.Script.{IsFit, said_of};
+ghost use Rattle.cm_lanes.specs.Weave.{HasAll};
+
+use crate::Lanes;
+use crate::parts::{Parts, Room, make_lanes, room_for, take_apart};
+use crate::phase::run_all;
+use crate::weave::weave;
+use cm_command::{Line, Script};
+use cm_gate::Gates;
+use cm_manager::Manager;
+use cm_names::List;
+use cm_turn::Pass;
+use cm_world::{Entry, Frame};
+use std::alloc::Global;
+use std::sync::Wait;
+use std::thread::Threads;
+
+/// Runs the phases of a script: in each phase each lane performs its lines in order, with the pass
+/// and the gates at its place, the lanes side by side. Before the first phase and behind each, all
+/// passes meet.
+///
+/// Every line is one of lanes 0 to 15, and of a command whose call there is. The passes are the
+/// manager's of callers 0 to 15, in this order, and there are 16 gates; both come back in their
+/// order in every case.
+///
+/// What is said to the lines stands in the order of the script. `None` means that memory ran out
+/// for the list itself: either before anything was done, and then passes and gates are as before;
+/// or later, and then all lines were performed, though what was said to them isn't handed back.
+pub fn run_phases<R: Threads + Wait + Sync, G: Gates + Send + Drop>(
+    rt: &R,
+    alloc: Global,
+    manager: &Manager,
+    passes: List<Pass<Entry, Frame>>,
+    gates: List<G>,
+    phases: &[List<Line>],
+) -> Lanes<G>
+    requires passes { AreSixteen manager.now.turn passes }
+    requires gates { length gates ≡ 16 }
+    requires fit { All (λ lines. All IsFit lines) phases.now }
+    ensures ran { RanOrNot G.log G.faults manager.now.shelf phases.now passes gates result }
+    ensures passes { AreSixteen manager.now.turn result.passes }
+    ensures gates { length result.gates ≡ 16 }
+    ensures ended { All (λ p. HasEnds p.mine) passes → All (λ p. HasEnds p.mine) result.passes }
+{
+    let Ok(room) = room_for(alloc) else {
+        return Lanes {
+            passes,
+            gates,
+            said: None,
+        };
+    };
+    let Room { lanes, parts } = room;
+    let lanes = make_lanes(alloc, lanes, passes, gates);
+    let lanes = run_all(rt, alloc, manager, lanes, phases);
+    let parts = take_apart(lanes, parts);
+    hand_back(alloc, phases, parts)
+}
+
+/// Runs all phases of a script, as [`run_phases`] does.
+pub fn run_lanes<R: Threads + Wait + Sync, G: Gates + Send + Drop>(
+    rt: &R,
+    alloc: Global,
+    manager: &Manager,
+    passes: List<Pass<Entry, Frame>>,
+    gates: List<G>,
+    script: &Script,
+) -> Lanes<G>
+    requires passes { AreSixteen manager.now.turn passes }
+    requires gates { length gates ≡ 16 }
+    requires fit { All (λ lines. All IsFit lines) script.now.phases }
+    ensures ran { RanOrNot G.log G.faults manager.now.shelf script.now.phases passes gates result }
+    ensures passes { AreSixteen manager.now.turn result.passes }
+    ensures gates { length result.gates ≡ 16 }
+    ensures ended { All (λ p. HasEnds p.mine) passes → All (λ p. HasEnds p.mine) result.passes }
+{
+    run_phases(rt, alloc, manager, passes, gates, script.phases.as_slice())
+}
+
+/// Hands back what lanes were taken apart into, with what was said to them in the order of the
+/// script, unless an answer was lost or memory runs out.
+fn hand_back<G: Drop>(alloc: Global, phases: &[List<Line>], parts: Parts<G>) -> Lanes<G>
+    requires count { length parts.said.items ≡ 16 }
+    requires fit { All (All IsFit) phases.now }
+    requires has { parts.lost ≡ false → HasAll phases.now parts.said.items }
+    ensures passes { result.passes ≡ parts.passes.items }
+    ensures gates { result.gates ≡ parts.gates.items }
+    ensures lost { parts.lost ≡ true → result.said ≡ NoneOf }
+    ensures said { (is : HasAll phases.now parts.said.items) →
+        IfSome result.said (λ said. said ≡ flat_map (λ p. map said_of p) is.answered) }
+{
+    let Parts {
+        passes,
+        gates,
+        said,
+        lost,
+    } = parts;
+    let said = match lost {
+        true => None,
+        false => weave(alloc, phases, said).ok(),
+    };
+    Lanes {
+        passes: List::from_vec(passes),
+        gates: List::from_vec(gates),
+        said,
+    }
+}

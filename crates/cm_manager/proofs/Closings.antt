@@ -1,0 +1,23 @@
+-- What a manager's history is when it is closed.
+use Rattle.std.proofs.Common.{◌≡◌, List, All, subst, sym}
+use Rattle.cm_turn.specs.Passes.{IsKnown, HasCaller}
+use Rattle.cm_world.specs.declared.reply.Entry.{Entry}
+use Rattle.cm_world.specs.World.{start}
+use Rattle.cm_world.specs.Legal.{Legal}
+use Rattle.cm_steps.specs.Story.{Story, IsLegal}
+use Rattle.cm_steps.proofs.Stable.{routes_are_stable}
+use Rattle.cm_steps.proofs.Outcomes.{outcomes_are_one}
+use Rattle.cm_manager.specs.Contract.{RealmPass}
+use Rattle.cm_manager.specs.Managers.{Closes}
+
+pub closes_by : (history : List Entry) (passes : List RealmPass) (s : Story) → history ≡ s.entries → IsLegal s → All (IsKnown (λ (s : Story). s.entries) (λ s. s.frame) (λ (e : Entry). e.caller) s) passes → All (λ (e : Entry). HasCaller passes e.caller) s.entries → Closes history passes
+unfolding IsLegal
+closes_by history passes s is legal known callers = record {
+  story = s;
+  entries = is;
+  legal = subst (Legal (start s.frame)) (sym is) legal;
+  known = known;
+  callers = subst (All (λ (e : Entry). HasCaller passes e.caller)) (sym is) callers;
+  routes = routes_are_stable s.frame history (subst (Legal (start s.frame)) (sym is) legal);
+  outcomes = outcomes_are_one s.frame history (subst (Legal (start s.frame)) (sym is) legal);
+}

@@ -1,0 +1,17 @@
+pub mod Standing
+pub mod Joining
+pub mod Closing
+pub mod Ends
+pub mod Composing
+pub mod Doings
+pub mod Closings
+pub mod HavingEnds
+pub mod Turning
+pub mod Helping
+pub mod BeginReplies
+pub mod Onward
+pub mod Begins
+pub mod Launches
+pub mod Starts
+pub mod Tryings
+pub mod Calling

@@ -1,0 +1,36 @@
+use Rattle.std.proofs.Common.{ℕ, subst, sym}
+use Rattle.cm_world.specs.Step.{MayEnd}
+use Rattle.cm_steps.specs.Story.{world_of}
+use Rattle.cm_steps.specs.Ends.{finish_of}
+use Rattle.cm_manager.proofs.Turning.{enters_at, entered_by, may_end, may_leave, took_by, same_pass, tells_on, told_as}
+use Rattle.cm_manager.proofs.manager.Manager.end_turn.Goals as goal
+
+pub finish-outcome-requires : goal.finish-outcome-requires
+finish-outcome-requires g c =
+    let e = c.enter-held.ensures in
+    let enters = enters_at c.args.pass c.enter-held.result.pass c.enter-held.result.state c.state.result.now (record { pass = e.pass; frame = e.frame; begins = e.begins; own = e.own; known = e.known }) c.state.ensures.value in
+    λ legal.
+    subst (λ (n : ℕ). MayEnd (world_of c.state.result.now).acts n c.args.action (finish_of c.args.ending)) (sym c.caller-caller.ensures)
+    (may_end _ _ _ _ (entered_by _ _ _ enters legal) c.requires.may)
+
+pub leave-requires-clause-entries : goal.leave-requires-clause-entries
+leave-requires-clause-entries g c =
+    let e = c.enter-held.ensures in
+    let enters = enters_at c.args.pass c.enter-held.result.pass c.enter-held.result.state c.state.result.now (record { pass = e.pass; frame = e.frame; begins = e.begins; own = e.own; known = e.known }) c.state.ensures.value in
+    may_leave _ _ _ _ _ _ enters c.caller-caller.ensures (tells_on _ _ _ _ _ c.finish-outcome.ensures.legal c.finish-outcome.ensures.tells)
+
+pub returns-clause-same : goal.returns-clause-same
+returns-clause-same g c =
+    let e = c.enter-held.ensures in
+    let l = c.leave.ensures in
+    let enters = enters_at c.args.pass c.enter-held.result.pass c.enter-held.result.state c.state.result.now (record { pass = e.pass; frame = e.frame; begins = e.begins; own = e.own; known = e.known }) c.state.ensures.value in
+    let goes = tells_on _ _ _ _ _ c.finish-outcome.ensures.legal c.finish-outcome.ensures.tells in
+    same_pass _ _ _ _ _ (took_by _ _ _ _ _ _ _ enters c.finish-outcome.ensures.legal c.caller-caller.ensures goes (record { lock = l.lock; frame = l.frame; caller = l.caller; seen = l.seen; own = l.own; mine = l.mine }))
+
+pub returns-clause-told : goal.returns-clause-told
+returns-clause-told g c =
+    let e = c.enter-held.ensures in
+    let l = c.leave.ensures in
+    let enters = enters_at c.args.pass c.enter-held.result.pass c.enter-held.result.state c.state.result.now (record { pass = e.pass; frame = e.frame; begins = e.begins; own = e.own; known = e.known }) c.state.ensures.value in
+    let goes = tells_on _ _ _ _ _ c.finish-outcome.ensures.legal c.finish-outcome.ensures.tells in
+    told_as _ _ _ _ _ _ _ c.caller-caller.ensures (took_by _ _ _ _ _ _ _ enters c.finish-outcome.ensures.legal c.caller-caller.ensures goes (record { lock = l.lock; frame = l.frame; caller = l.caller; seen = l.seen; own = l.own; mine = l.mine }))

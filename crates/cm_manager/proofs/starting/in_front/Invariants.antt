@@ -1,0 +1,9 @@
+use Rattle.std.proofs.Common.{◌≡◌, ◌++◌, vec_len}
+use Rattle.cm_manager.proofs.starting.in_front.Given as goal
+
+-- the rows that are left and those in front of the others are all of them
+abbrev pub invariant-loop-row : goal.invariant-loop-row
+invariant-loop-row l = l.rows.items ++ l.all.items ≡ l.fn.rows ++ l.fn.others.items
+
+abbrev pub decreases-loop-row : goal.decreases-loop-row
+decreases-loop-row l = vec_len l.rows

@@ -1,0 +1,83 @@
+-- What the begin of an action came to, in the turns of one caller.
+use Rattle.std.specs.Prelude.{◌≡◌, ◌≢◌, ℕ, List, Bool, true, false, Option, Some, None, Result, Ok, Err, IsTrue, IsFalse}
+use Rattle.cm_world.specs.declared.action.ActKind.{ActKind}
+use Rattle.cm_world.specs.declared.action.ActKind.TheVariants as kind
+use Rattle.cm_world.specs.declared.action.Finish.{Finish}
+use Rattle.cm_world.specs.declared.action.Outcome.{Outcome}
+use Rattle.cm_world.specs.declared.action.Outcome.TheVariants as outcome
+use Rattle.cm_world.specs.declared.action.Work.{Work}
+use Rattle.cm_world.specs.declared.event.Event.TheVariants as event
+use Rattle.cm_world.specs.declared.frame.Frame.{Frame}
+use Rattle.cm_world.specs.declared.reply.Entry.{Entry}
+use Rattle.cm_world.specs.declared.reply.Reply.{Reply}
+use Rattle.cm_world.specs.declared.reply.Reply.TheVariants as reply
+use Rattle.cm_world.specs.declared.answer.Refusal.{Refusal}
+use Rattle.cm_manager.specs.Turns.{Makes, Asks, IsCut}
+use Rattle.cm_manager.specs.Runs.{Acts, Eagers, is_quiet, is_started, needed, ends_call}
+use Rattle.cm_manager.specs.declared.acted.Acted.{Acted}
+use Rattle.cm_manager.specs.declared.acted.Acted.TheVariants as acted
+use Rattle.cm_manager.specs.declared.began.Began.{Began}
+use Rattle.cm_manager.specs.declared.began.Began.TheVariants as began
+use Rattle.cm_manager.specs.declared.began.Launch.{Launch}
+use Rattle.cm_manager.specs.declared.began.Launch.TheVariants as launch
+use Rattle.cm_manager.specs.declared.began.Demand.{Demand}
+use Rattle.cm_manager.specs.declared.began.Demand.TheVariants as demand
+
+-- it was begun and ended; only a start ends in Started
+pub record Ends (f : Frame) (c : ℕ) (k : ActKind) (i a : ℕ) (o : Outcome) (eager : List ℕ) (h₀ h₂ : List Entry) : Type 0 where
+  pub work : Work
+  pub finish : Finish
+  pub h₁ : List Entry
+  pub asks : Asks f c h₀ (event.Begin k i) (reply.Begun work) h₁
+  pub makes : Makes c h₁ (event.End work.action finish) (reply.Ended o) h₂
+  pub action : a ≡ work.action
+  pub children : k ≡ kind.Start → eager ≡ work.eager
+  pub apart : k ≢ kind.Start → IsFalse (is_started o)
+
+-- it was joined and awaited
+pub record Joins (f : Frame) (c : ℕ) (k : ActKind) (i a : ℕ) (o : Outcome) (h₀ h₂ : List Entry) : Type 0 where
+  pub h₁ : List Entry
+  pub asks : Asks f c h₀ (event.Begin k i) (reply.Joined a) h₁
+  pub makes : Makes c h₁ (event.Await a) (reply.Ended o) h₂
+
+-- what a begin came to
+abbrev pub BeginsBy : Frame → ℕ → ActKind → ℕ → Result Began Refusal → List Entry → List Entry → Type 0
+BeginsBy f c k i (Ok (began.Ended a o eager)) h₀ h₁ = Ends f c k i a o eager h₀ h₁
+BeginsBy f c k i (Ok (began.Joined a o)) h₀ h₁ = Joins f c k i a o h₀ h₁
+BeginsBy f c k i (Ok (began.Quiet r)) h₀ h₁ = Asks f c h₀ (event.Begin k i) r h₁ × IsTrue (is_quiet r)
+BeginsBy f c k i (Ok (began.Needs j)) h₀ h₁ = Asks f c h₀ (event.Begin k i) (reply.Need j) h₁ × (k ≡ kind.Start)
+BeginsBy f c k i (Err x) h₀ h₁ = IsCut f c h₀ (event.Begin k i) h₁ x
+
+-- whether an action went well
+abbrev pub is_well : Outcome → Bool
+is_well outcome.Resolved = true
+is_well outcome.Started = true
+is_well outcome.Stopped = true
+is_well outcome.Killed = true
+is_well _ = false
+
+-- what came of an action ends a call that needed it, or the call goes on
+abbrev pub FailsBy : Result Acted Refusal → Option (Result Acted Refusal) → Type 0
+FailsBy went (Some same) = (x : Refusal) × (same ≡ went) × (ends_call went ≡ Some x)
+FailsBy went None = ends_call went ≡ None
+
+-- how a start ends behind its eager children, which this may have ended
+abbrev pub behind_eager : ℕ → Option Refusal → Result Acted Refusal
+behind_eager a None = Ok (acted.Ended kind.Start a outcome.Started)
+behind_eager a (Some x) = Err x
+
+-- what a start came to, which is over, or is made whole by whatever its eager children come to
+abbrev pub StartsBy : Frame → ℕ → ℕ → Launch → List Entry → List Entry → Type 0
+StartsBy f c i (launch.Settled went) h₀ h₁ = Acts f c kind.Start i h₀ h₁ went
+StartsBy f c i (launch.Children a eager) h₀ h₁ =
+    (h₂ : List Entry) (end : Option Refusal) → Eagers f c eager h₁ h₂ end → Acts f c kind.Start i h₀ h₂ (behind_eager a end)
+
+-- the same of its begin alone, which may need that a row is resolved first
+abbrev pub LaunchesBy : Frame → ℕ → ℕ → Result Launch ℕ → List Entry → List Entry → Type 0
+LaunchesBy f c i (Ok started) h₀ h₁ = StartsBy f c i started h₀ h₁
+LaunchesBy f c i (Err j) h₀ h₁ = Asks f c h₀ (event.Begin kind.Start i) (reply.Need j) h₁
+
+-- how a reply is read: as the action that it asks for, or as what decides its event
+abbrev pub ReadsBy : Reply → Demand → Type 0
+ReadsBy r (demand.Action k j) = needed r ≡ Some (k, j)
+ReadsBy r (demand.Decided s) = (s ≡ r) × (needed r ≡ None)

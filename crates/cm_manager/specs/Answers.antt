@@ -1,0 +1,76 @@
+-- The value of the reply that decides a call.
+use Rattle.std.specs.Prelude.{ℕ, Bool, true, false, Option, Some, None, Result, Ok, Err}
+use Rattle.cm_world.specs.declared.action.Outcome.{Outcome}
+use Rattle.cm_world.specs.declared.action.Outcome.TheVariants as outcome
+use Rattle.cm_world.specs.declared.reply.Reply.{Reply}
+use Rattle.cm_world.specs.declared.reply.Reply.TheVariants as reply
+use Rattle.cm_manager.specs.declared.acted.Acted.{Acted}
+use Rattle.cm_manager.specs.declared.acted.Acted.TheVariants as acted
+use Rattle.cm_world.specs.declared.answer.Answer.{Answer}
+use Rattle.cm_world.specs.declared.answer.Answer.TheVariants as answer
+use Rattle.cm_world.specs.declared.answer.Refusal.{Refusal}
+use Rattle.cm_world.specs.declared.answer.Refusal.TheVariants as refusal
+use Rattle.cm_manager.specs.Runs.{ends_call}
+
+-- the refusal that a reply stands for; the last line is for replies that refuse nothing
+abbrev pub refusal_of : Reply → Refusal
+refusal_of reply.NoCollection = refusal.CollectionNotFound
+refusal_of (reply.Exists i) = refusal.AlreadyExists i
+refusal_of reply.OffersRefused = refusal.DynamicOffersRefused
+refusal_of (reply.BadOffer i n) = refusal.BadOffer i n
+refusal_of (reply.Cycle nodes) = refusal.OfferCycle nodes
+refusal_of (reply.Closing i) = refusal.ParentClosing i
+refusal_of reply.Full = refusal.Full
+refusal_of reply.NotDynamic = refusal.NotDynamic
+refusal_of (reply.NotFound m) = refusal.NotFound m
+refusal_of (reply.Gone i) = refusal.Gone i
+refusal_of (reply.Shut i) = refusal.Shut i
+refusal_of reply.ClientOff = refusal.ClientOff
+refusal_of reply.NoSuchUse = refusal.NoSuchUse
+refusal_of (reply.Failed hop why) = refusal.NoRoute hop why
+refusal_of (reply.Void hop) = refusal.VoidSource hop
+refusal_of (reply.SourceShut i) = refusal.SourceShut i
+refusal_of _ = refusal.Memory
+
+-- the answer of a call with one event
+abbrev pub decision : Reply → Result Answer Refusal
+decision (reply.Created i) = Ok (answer.Created i)
+decision (reply.Listed kids) = Ok (answer.Children kids)
+decision (reply.Opened route) = Ok (answer.Opened route)
+decision (reply.Given route) = Ok (answer.Routed route)
+decision (reply.Shown look) = Ok (answer.Shown look)
+decision (reply.Surveyed rows) = Ok (answer.Surveyed rows)
+decision (reply.Left m) = Ok (answer.Left true)
+decision reply.Already = Ok (answer.Left false)
+decision r = Err (refusal_of r)
+
+abbrev pub decided_by : Result Reply Refusal → Result Answer Refusal
+decided_by (Ok r) = decision r
+decided_by (Err x) = Err x
+
+-- the row that a finding gives
+abbrev pub found_by : Result Reply Refusal → Result ℕ Refusal
+found_by (Ok (reply.Found i)) = Ok i
+found_by (Ok r) = Err (refusal_of r)
+found_by (Err x) = Err x
+
+-- what a call that acts answers: the action, or none where it was so already
+abbrev pub acted_answer : (Option ℕ → Outcome → Answer) → Result Acted Refusal → Result Answer Refusal
+acted_answer made (Ok (acted.Ended k a o)) =
+    elim (ends_call (Ok (acted.Ended k a o))) as (λ _. Result Answer Refusal) [ None ↦ Ok (made (Some a) o) | Some x ↦ Err x ]
+acted_answer made (Ok (acted.Quiet reply.Already)) = Ok (made None outcome.Resolved)
+acted_answer made (Ok (acted.Quiet r)) = Err (refusal_of r)
+acted_answer made (Err x) = Err x
+
+abbrev pub is_killed : Outcome → Bool
+is_killed outcome.Killed = true
+is_killed _ = false
+
+abbrev pub resolved_answer : Result Acted Refusal → Result Answer Refusal
+resolved_answer = acted_answer (λ a o. answer.Resolved a)
+
+abbrev pub started_answer : Result Acted Refusal → Result Answer Refusal
+started_answer = acted_answer (λ a o. answer.Started a)
+
+abbrev pub stopped_answer : Result Acted Refusal → Result Answer Refusal
+stopped_answer = acted_answer (λ a o. answer.Stopped a (is_killed o))

@@ -1,0 +1,92 @@
+-- What a turn gives, whose event may get any reply.
+use Rattle.std.specs.Prelude.{◌≡◌, ℕ, List, [], ◌∷◌, ◌++◌, Bool, true, false, Option, Some, None, Result, Ok, Err}
+use Rattle.cm_world.specs.declared.action.Outcome.{Outcome}
+use Rattle.cm_world.specs.declared.event.Event.{Event}
+use Rattle.cm_world.specs.declared.event.Event.TheVariants as event
+use Rattle.cm_world.specs.declared.frame.Frame.{Frame}
+use Rattle.cm_world.specs.declared.reply.Entry.{Entry}
+use Rattle.cm_world.specs.declared.reply.Reply.{Reply}
+use Rattle.cm_world.specs.declared.reply.Reply.TheVariants as reply
+use Rattle.cm_world.specs.declared.answer.Refusal.{Refusal}
+use Rattle.cm_world.specs.declared.answer.Refusal.TheVariants as refusal
+use Rattle.cm_steps.specs.Story.{Story}
+use Rattle.cm_steps.specs.Steps.{Tells, HasRoom, LacksRoom, entry_of}
+use Rattle.cm_steps.specs.declared.nostep.NoStep.{NoStep}
+use Rattle.cm_steps.specs.declared.nostep.NoStep.TheVariants as nostep
+use Rattle.cm_manager.specs.Turns.{Later, Makes, Asks, IsCut, need}
+use Rattle.cm_manager.specs.Contract.{RealmPass}
+
+-- ---- passes
+
+-- the frame of a realm with nothing in it
+abbrev pub no_frame : Frame
+no_frame = record { root = []; builtins = []; limits = record { rows = 0; entries = 0 } }
+
+abbrev pub frame_in : Option Frame → Frame
+frame_in (Some f) = f
+frame_in None = no_frame
+
+-- the frame of a pass, which always has one
+abbrev pub frame_of : RealmPass → Frame
+frame_of p = frame_in p.frame
+
+-- ---- one event at a realm
+
+-- the events that a call asks for, each of which may get more than one reply
+abbrev pub is_asked : Event → Bool
+is_asked (event.Find m) = true
+is_asked (event.Begin kind i) = true
+is_asked (event.Route i path) = true
+is_asked (event.OpenUse i path) = true
+is_asked (event.OpenExposed i name) = true
+is_asked (event.Show i) = true
+is_asked (event.Exited i) = true
+is_asked _ = false
+
+-- and those of them that begin no action themselves
+abbrev pub is_plain : Event → Bool
+is_plain (event.Begin kind i) = false
+is_plain _ = true
+
+-- an event is only refused for want of room where the room is too small
+abbrev pub RefusesRoom : Story → ℕ → NoStep → Type 0
+RefusesRoom s more nostep.HistoryFull = LacksRoom s more
+RefusesRoom s more _ = Unit {0}
+
+-- the event is told, for which there was room; or the realm is as before, and the refusal is a true one
+abbrev pub StepsBy : Story → Story → ℕ → Event → Result Reply NoStep → Type 0
+StepsBy old new c e (Ok r) = Tells old new c e r × HasRoom old (need e)
+StepsBy old new c e (Err x) = (new ≡ old) × RefusesRoom old (need e) x
+
+-- the outcome of an action is told to a caller that joined it; or it has none, and the realm is as before
+abbrev pub AwaitsBy : Story → Story → ℕ → ℕ → Option Outcome → Type 0
+AwaitsBy old new c a (Some o) = Tells old new c (event.Await a) (reply.Ended o)
+AwaitsBy old new c a None = new ≡ old
+
+-- ---- one turn
+
+-- the refusal of a call that a step was refused so; a call that meets another action goes on
+abbrev pub IsTurned : Frame → ℕ → List Entry → Event → List Entry → NoStep → Type 0
+IsTurned f c old e new (nostep.Busy a) = Later c old new
+IsTurned f c old e new nostep.HistoryFull = IsCut f c old e new refusal.HistoryFull
+IsTurned f c old e new nostep.Memory = IsCut f c old e new refusal.Memory
+
+-- one turn with this event: its entry is the caller's newest, or there is none
+abbrev pub Turned : Event → RealmPass → RealmPass → Result Reply NoStep → Type 0
+Turned e old new (Ok r) = Asks (frame_of old) old.caller old.seen e r new.seen × (new.mine ≡ old.mine ++ entry_of old.caller e r ∷ [])
+Turned e old new (Err x) = IsTurned (frame_of old) old.caller old.seen e new.seen x × (new.mine ≡ old.mine)
+
+-- turns until the event has an entry, or the call is cut
+abbrev pub Asked : Event → RealmPass → RealmPass → Result Reply Refusal → Type 0
+Asked e old new (Ok r) = Asks (frame_of old) old.caller old.seen e r new.seen × (new.mine ≡ old.mine ++ entry_of old.caller e r ∷ [])
+Asked e old new (Err x) = IsCut (frame_of old) old.caller old.seen e new.seen x × (new.mine ≡ old.mine)
+
+-- one turn with an entry of this event and its outcome, which needs no room
+pub record Told (old new : RealmPass) (e : Event) (o : Outcome) : Type 0 where
+  pub makes : Makes old.caller old.seen e (reply.Ended o) new.seen
+  pub mine : new.mine ≡ old.mine ++ entry_of old.caller e (reply.Ended o) ∷ []
+
+-- one turn that awaits an action
+abbrev pub Awaited : ℕ → RealmPass → RealmPass → Option Outcome → Type 0
+Awaited a old new (Some o) = Told old new (event.Await a) o
+Awaited a old new None = Later old.caller old.seen new.seen × (new.mine ≡ old.mine)

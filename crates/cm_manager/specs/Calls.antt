@@ -1,0 +1,89 @@
+-- The run of each call.
+use Rattle.std.specs.Prelude.{◌≡◌, ◌⊎◌, ℕ, List, ◌++◌, Bool, true, false, Result, Ok, Err}
+use Rattle.cm_turn.specs.History.{StartsWith}
+use Rattle.cm_world.specs.declared.frame.Frame.{Frame}
+use Rattle.cm_world.specs.declared.action.ActKind.{ActKind}
+use Rattle.cm_world.specs.declared.action.ActKind.TheVariants as kind
+use Rattle.cm_world.specs.declared.event.Event.{Event}
+use Rattle.cm_world.specs.declared.event.Event.TheVariants as event
+use Rattle.cm_world.specs.declared.event.Target.{Target}
+use Rattle.cm_world.specs.declared.event.Target.TheVariants as target
+use Rattle.cm_world.specs.declared.reply.Entry.{Entry}
+use Rattle.cm_world.specs.declared.reply.Reply.{Reply}
+use Rattle.cm_world.specs.declared.answer.Answer.{Answer}
+use Rattle.cm_world.specs.declared.answer.Refusal.{Refusal}
+use Rattle.cm_world.specs.declared.answer.Refusal.TheVariants as refusal
+use Rattle.cm_world.specs.World.{start}
+use Rattle.cm_world.specs.Legal.{Legal}
+use Rattle.cm_command.specs.declared.command.Command.{Command}
+use Rattle.cm_command.specs.declared.command.Command.TheVariants as command
+use Rattle.cm_manager.specs.declared.acted.Acted.{Acted}
+use Rattle.cm_manager.specs.Turns.{own_entries}
+use Rattle.cm_manager.specs.Runs.{Acts, Tries}
+use Rattle.cm_manager.specs.Answers.{decided_by, found_by, resolved_answer, started_answer, stopped_answer}
+
+-- a way from one history to a later one, with what it ends in
+abbrev pub Way : Type 0 → Type 1
+Way A = List Entry → List Entry → A → Type 0
+
+-- the row that a target names: a moniker is looked for, an incarnation is taken as it stands
+abbrev pub Finding : Frame → ℕ → Target → Way (Result ℕ Refusal)
+Finding f c (target.Inc n) h₀ h₁ row = (h₁ ≡ h₀) × (row ≡ Ok n)
+Finding f c (target.Named m) h₀ h₁ row = (went : Result Reply Refusal) × Tries f c (event.Find m) h₀ h₁ went × (row ≡ found_by went)
+
+-- a call on the row, or the end of it where none was found
+abbrev pub Behind : Result ℕ Refusal → (ℕ → Way (Result Answer Refusal)) → Way (Result Answer Refusal)
+Behind (Ok i) call h₀ h₁ a = call i h₀ h₁ a
+Behind (Err x) call h₀ h₁ a = (h₁ ≡ h₀) × (a ≡ Err x)
+
+-- the row is found, and the call goes on from there
+pub record OnRow (f : Frame) (c : ℕ) (t : Target) (call : ℕ → Way (Result Answer Refusal)) (h₀ h₂ : List Entry) (a : Result Answer Refusal) : Type 0 where
+  pub row : Result ℕ Refusal
+  pub h₁ : List Entry
+  pub finding : Finding f c t h₀ h₁ row
+  pub behind : Behind row call h₁ h₂ a
+
+-- a call with one event
+abbrev pub Tried : Frame → ℕ → (ℕ → Event) → ℕ → Way (Result Answer Refusal)
+Tried f c e i h₀ h₁ a = (went : Result Reply Refusal) × Tries f c (e i) h₀ h₁ went × (a ≡ decided_by went)
+
+-- a call with one action
+abbrev pub ActedOn : Frame → ℕ → ActKind → (Result Acted Refusal → Result Answer Refusal) → ℕ → Way (Result Answer Refusal)
+ActedOn f c k value i h₀ h₁ a = (went : Result Acted Refusal) × Acts f c k i h₀ h₁ went × (a ≡ value went)
+
+-- the commands whose calls there are
+abbrev pub is_built : Command → Bool
+is_built (command.Resolve t) = true
+is_built (command.Start t) = true
+is_built (command.Stop t) = true
+is_built (command.OpenUse t path) = true
+is_built (command.OpenExposed t name) = true
+is_built (command.RouteOf t path) = true
+is_built (command.Show t) = true
+is_built (command.Exited t) = true
+is_built _ = false
+
+-- the way of the call that a command names
+abbrev pub Calls : Frame → ℕ → Command → Way (Result Answer Refusal)
+Calls f c (command.Resolve t) = OnRow f c t (ActedOn f c kind.Resolve resolved_answer)
+Calls f c (command.Start t) = OnRow f c t (ActedOn f c kind.Start started_answer)
+Calls f c (command.Stop t) = OnRow f c t (ActedOn f c kind.Stop stopped_answer)
+Calls f c (command.OpenUse t path) = OnRow f c t (Tried f c (λ i. event.OpenUse i path))
+Calls f c (command.OpenExposed t name) = OnRow f c t (Tried f c (λ i. event.OpenExposed i name))
+Calls f c (command.RouteOf t path) = OnRow f c t (Tried f c (λ i. event.Route i path))
+Calls f c (command.Show t) = OnRow f c t (Tried f c event.Show)
+Calls f c (command.Exited t) = OnRow f c t (Tried f c event.Exited)
+Calls f c _ = λ h₀ h₁ a. ⊥
+
+-- a call, whose answer may be lost for want of memory
+abbrev pub Goes : Frame → ℕ → Command → Way (Result Answer Refusal)
+Goes f c cmd h₀ h₁ a = Calls f c cmd h₀ h₁ a ⊎ ((a ≡ Err refusal.Memory) × ((b : Result Answer Refusal) × Calls f c cmd h₀ h₁ b))
+
+-- these entries of the caller, in a legal history, are a whole call with this answer
+pub record Runs (f : Frame) (history : List Entry) (cmd : Command) (c : ℕ) (part : List Entry) (a : Result Answer Refusal) : Type 0 where
+  pub legal : Legal (start f) history
+  pub before : List Entry
+  pub after : List Entry
+  pub within : StartsWith history after
+  pub goes : Goes f c cmd before after a
+  pub part_is : own_entries c after ≡ own_entries c before ++ part

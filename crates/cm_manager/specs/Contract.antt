@@ -1,0 +1,49 @@
+-- What a call of the manager says of the pass and the gates that it was given.
+use Rattle.std.specs.Prelude.{◌≡◌, ℕ, List, [], ◌∷◌, ◌++◌, Option, Some, None, Result}
+use Rattle.cm_turn.specs.History.{StartsWith}
+use Rattle.cm_turn.specs.Passes.{PassView}
+use Rattle.cm_world.specs.declared.frame.Frame.{Frame}
+use Rattle.cm_world.specs.declared.event.Event.{Event}
+use Rattle.cm_world.specs.declared.reply.Entry.{Entry}
+use Rattle.cm_world.specs.declared.reply.Reply.{Reply}
+use Rattle.cm_world.specs.declared.answer.Answer.{Answer}
+use Rattle.cm_world.specs.declared.answer.Refusal.{Refusal}
+use Rattle.cm_world.specs.World.{start}
+use Rattle.cm_world.specs.Legal.{Legal}
+use Rattle.cm_command.specs.declared.command.Command.{Command}
+use Rattle.cm_gate.specs.declared.asked.Asked.{Asked}
+use Rattle.cm_manager.specs.Turns.{own_entries}
+use Rattle.cm_manager.specs.Calls.{Goes}
+use Rattle.cm_manager.specs.Work.{Shelf, WorksWith}
+use Rattle.cm_manager.specs.Closed.{IsClosed}
+
+-- a pass of a realm
+abbrev pub RealmPass : Type 0
+RealmPass = PassView Entry Frame
+
+-- gates as contracts see them: the log that they tell, and their count of faults
+pub record GatesView : Type 0 where
+  pub log : Option (List Asked)
+  pub faults : ℕ
+
+-- the pass is the same one, and has seen a later, legal history
+pub record IsSamePass (f : Frame) (old new : RealmPass) : Type 0 where
+  pub lock : new.lock ≡ old.lock
+  pub frame : new.frame ≡ old.frame
+  pub caller : new.caller ≡ old.caller
+  pub seen : StartsWith new.seen old.seen
+  pub own : new.mine ≡ own_entries new.caller new.seen
+  pub legal : Legal (start f) new.seen
+
+-- a way of its own from what the pass had seen to what it has seen then, with the work of its part
+pub record Helps (shelf : Shelf) (f : Frame) (Way : List Entry → List Entry → Type 0) (old new : RealmPass) (gates₀ gates₁ : GatesView) : Type 0 where
+  pub same : IsSamePass f old new
+  pub way : Way old.seen new.seen
+  pub part : List Entry
+  pub mine : new.mine ≡ old.mine ++ part
+  pub closed : IsClosed part
+  pub work : WorksWith shelf part gates₀.log gates₁.log gates₀.faults gates₁.faults
+
+-- one call of the manager, with its answer
+abbrev pub Performs : Shelf → Frame → Command → RealmPass → RealmPass → GatesView → GatesView → Result Answer Refusal → Type 0
+Performs shelf f command old new gates₀ gates₁ a = Helps shelf f (λ h₀ h₁. Goes f old.caller command h₀ h₁ a) old new gates₀ gates₁

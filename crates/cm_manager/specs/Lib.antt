@@ -1,0 +1,12 @@
+pub mod Turns
+pub mod Runs
+pub mod Answers
+pub mod Calls
+pub mod Closed
+pub mod Work
+pub mod Contract
+pub mod Managers
+pub mod Asking
+pub mod Doing
+pub mod Acting
+pub mod Parts

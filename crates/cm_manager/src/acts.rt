@@ -1,0 +1,131 @@
+//! Actions: their begin, their work and their end.
+
+ghost use Rattle.std.specs.Prelude.{◌≡◌, ◌≢◌};
+ghost use Rattle.cm_world.specs.declared.event.Event.TheVariants as event;
+ghost use Rattle.cm_manager.specs.Asking.{Asked, frame_of};
+ghost use Rattle.cm_manager.specs.Acting.{BeginsBy};
+ghost use Rattle.cm_manager.specs.Contract.{Helps, IsSamePass};
+ghost use Rattle.cm_manager.specs.Runs.{Acts};
+
+use crate::began::Began;
+use crate::{Acted, Manager};
+use cm_gate::Gates;
+use cm_turn::Pass;
+use cm_world::{ActKind, Entry, Event, Frame, Refusal, Reply};
+use std::alloc::Global;
+use std::sync::Wait;
+use std::thread::Threads;
+
+impl Manager {
+    /// Makes the begin of an action, in a later turn again while it has to wait.
+    fn ask_begin<R: Wait>(
+        &self,
+        rt: &R,
+        alloc: Global,
+        pass: Pass<Entry, Frame>,
+        kind: ActKind,
+        inc: u64,
+    ) -> (Pass<Entry, Frame>, Result<Reply, Refusal>)
+        requires lock { pass.lock ≡ self.now.turn.lock }
+        ensures same { IsSamePass (frame_of pass) pass result.0 }
+        ensures asked { Asked (event.Begin kind inc) pass result.0 result.1 }
+    {
+        let event = Event::Begin(kind, inc);
+        self.ask(rt, alloc, pass, &event)
+    }
+
+    /// Begins an action, and sees it ended where it began it or joined it.
+    pub(crate) fn begin<R: Threads + Wait + Sync, G: Gates>(
+        &self,
+        rt: &R,
+        alloc: Global,
+        pass: Pass<Entry, Frame>,
+        gates: &mut G,
+        kind: ActKind,
+        inc: u64,
+    ) -> (Pass<Entry, Frame>, Result<Began, Refusal>)
+        requires lock { pass.lock ≡ self.now.turn.lock }
+        ensures helps { let f = frame_of pass in
+            Helps self.now.shelf f (λ a b. BeginsBy f pass.caller kind inc result.1 a b)
+            pass result.0
+            (record { log = G.log gates.old; faults = G.faults gates.old })
+            (record { log = G.log gates.new; faults = G.faults gates.new }) }
+    {
+        let (pass, asked) = self.ask_begin(rt, alloc, pass, kind, inc);
+        let reply = match asked {
+            Ok(reply) => reply,
+            Err(refusal) => return (pass, Err(refusal)),
+        };
+        match reply {
+            Reply::Begun(work) => {
+                let action = work.action;
+                let (ending, eager) = self.do_work(rt, alloc, gates, &pass, kind, work);
+                let (pass, outcome) = self.end_turn(rt, pass, action, ending);
+                (pass, Ok(Began::Ended(action, outcome, eager)))
+            }
+            Reply::Joined(action) => {
+                let (pass, outcome) = self.await_turn(rt, pass, action);
+                (pass, Ok(Began::Joined(action, outcome)))
+            }
+            Reply::Need(row) => (pass, Ok(Began::Needs(row))),
+            other => (pass, Ok(Began::Quiet(other))),
+        }
+    }
+
+    /// Resolves or stops an instance, or finds that there is nothing to begin.
+    pub(crate) fn act_once<R: Threads + Wait + Sync, G: Gates>(
+        &self,
+        rt: &R,
+        alloc: Global,
+        pass: Pass<Entry, Frame>,
+        gates: &mut G,
+        kind: ActKind,
+        inc: u64,
+    ) -> (Pass<Entry, Frame>, Result<Acted, Refusal>)
+        requires lock { pass.lock ≡ self.now.turn.lock }
+        requires kind { kind ≢ ActKind.Start }
+        ensures helps { let f = frame_of pass in
+            Helps self.now.shelf f (λ a b. Acts f pass.caller kind inc a b result.1)
+            pass result.0
+            (record { log = G.log gates.old; faults = G.faults gates.old })
+            (record { log = G.log gates.new; faults = G.faults gates.new }) }
+    {
+        let (pass, began) = self.begin(rt, alloc, pass, gates, kind, inc);
+        match began {
+            Ok(Began::Ended(action, outcome, _eager)) => {
+                (pass, Ok(Acted::Ended(kind, action, outcome)))
+            }
+            Ok(Began::Joined(action, outcome)) => (pass, Ok(Acted::Ended(kind, action, outcome))),
+            Ok(Began::Quiet(reply)) => (pass, Ok(Acted::Quiet(reply))),
+            Ok(Began::Needs(_row)) => unreachable!(),
+            Err(refusal) => (pass, Err(refusal)),
+        }
+    }
+
+    /// Acts on an instance: begins the action, or joins it, and sees it ended. A start has the
+    /// eager children started behind it, and has the instance resolved before it where needed.
+    ///
+    /// `Err` with `Memory` where memory runs out, and with `HistoryFull` where the history has no
+    /// room for what is needed. Then what was begun is ended.
+    pub(crate) fn act<R: Threads + Wait + Sync, G: Gates>(
+        &self,
+        rt: &R,
+        alloc: Global,
+        pass: Pass<Entry, Frame>,
+        gates: &mut G,
+        kind: ActKind,
+        inc: u64,
+    ) -> (Pass<Entry, Frame>, Result<Acted, Refusal>)
+        requires lock { pass.lock ≡ self.now.turn.lock }
+        ensures helps { let f = frame_of pass in
+            Helps self.now.shelf f (λ a b. Acts f pass.caller kind inc a b result.1)
+            pass result.0
+            (record { log = G.log gates.old; faults = G.faults gates.old })
+            (record { log = G.log gates.new; faults = G.faults gates.new }) }
+    {
+        match kind {
+            ActKind::Start => self.start_row(rt, alloc, pass, gates, inc),
+            _ => self.act_once(rt, alloc, pass, gates, kind, inc),
+        }
+    }
+}

@@ -1,0 +1,99 @@
+//! What a reply, and the end of an action, mean for a call.
+
+ghost use Rattle.std.specs.Prelude.{◌≡◌};
+ghost use Rattle.cm_manager.specs.Runs.{ends_call, failure};
+ghost use Rattle.cm_manager.specs.Answers.{found_by, decided_by, decision, refusal_of};
+
+use crate::Acted;
+use cm_world::{ActKind, Answer, Outcome, Refusal, Reply};
+
+/// The refusal that a reply stands for.
+pub(crate) fn refusing(reply: Reply) -> Refusal
+    ensures { result ≡ refusal_of reply }
+{
+    match reply {
+        Reply::NoCollection => Refusal::CollectionNotFound,
+        Reply::Exists(row) => Refusal::AlreadyExists(row),
+        Reply::OffersRefused => Refusal::DynamicOffersRefused,
+        Reply::BadOffer(index, number) => Refusal::BadOffer(index, number),
+        Reply::Cycle(nodes) => Refusal::OfferCycle(nodes),
+        Reply::Closing(row) => Refusal::ParentClosing(row),
+        Reply::Full => Refusal::Full,
+        Reply::NotDynamic => Refusal::NotDynamic,
+        Reply::NotFound(front) => Refusal::NotFound(front),
+        Reply::Gone(row) => Refusal::Gone(row),
+        Reply::Shut(row) => Refusal::Shut(row),
+        Reply::ClientOff => Refusal::ClientOff,
+        Reply::NoSuchUse => Refusal::NoSuchUse,
+        Reply::Failed(hop, why) => Refusal::NoRoute(hop, why),
+        Reply::Void(hop) => Refusal::VoidSource(hop),
+        Reply::SourceShut(row) => Refusal::SourceShut(row),
+        _ => Refusal::Memory,
+    }
+}
+
+/// The row that was found, or why none was.
+pub(crate) fn found(went: Result<Reply, Refusal>) -> Result<u64, Refusal>
+    ensures { result ≡ found_by went }
+{
+    match went {
+        Err(refusal) => Err(refusal),
+        Ok(Reply::Found(row)) => Ok(row),
+        Ok(other) => Err(refusing(other)),
+    }
+}
+
+/// The answer of a call with one event.
+pub(crate) fn deciding(reply: Reply) -> Result<Answer, Refusal>
+    ensures { result ≡ decision reply }
+{
+    match reply {
+        Reply::Created(row) => Ok(Answer::Created(row)),
+        Reply::Listed(kids) => Ok(Answer::Children(kids)),
+        Reply::Opened(route) => Ok(Answer::Opened(route)),
+        Reply::Given(route) => Ok(Answer::Routed(route)),
+        Reply::Shown(look) => Ok(Answer::Shown(look)),
+        Reply::Surveyed(rows) => Ok(Answer::Surveyed(rows)),
+        Reply::Left(_) => Ok(Answer::Left(true)),
+        Reply::Already => Ok(Answer::Left(false)),
+        other => Err(refusing(other)),
+    }
+}
+
+/// The answer of a call with one event, which was decided or ended before.
+pub(crate) fn decided(went: Result<Reply, Refusal>) -> Result<Answer, Refusal>
+    ensures { result ≡ decided_by went }
+{
+    match went {
+        Err(refusal) => Err(refusal),
+        Ok(reply) => deciding(reply),
+    }
+}
+
+/// What ends a call that needed this.
+pub(crate) fn ending(went: Result<Acted, Refusal>) -> Option<Refusal>
+    ensures { result ≡ ends_call went }
+{
+    match went {
+        Err(refusal) => Some(refusal),
+        Ok(Acted::Quiet(_)) => None,
+        Ok(Acted::Ended(kind, action, outcome)) => failing(kind, action, outcome),
+    }
+}
+
+/// The refusal that a failed action makes.
+fn failing(kind: ActKind, action: u64, outcome: Outcome) -> Option<Refusal>
+    ensures { result ≡ failure kind action outcome }
+{
+    match outcome {
+        Outcome::Resolved => None,
+        Outcome::Started => None,
+        Outcome::Stopped => None,
+        Outcome::Killed => None,
+        Outcome::NoMemory => Some(Refusal::Memory),
+        other => match kind {
+            ActKind::Resolve => Some(Refusal::CannotResolve(action, other)),
+            _ => Some(Refusal::CannotStart(action, other)),
+        },
+    }
+}

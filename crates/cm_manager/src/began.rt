@@ -1,0 +1,38 @@
+//! What became of a begin, of a start and of an event, before what follows from it.
+
+use crate::Acted;
+use cm_names::List;
+use cm_world::{ActKind, Outcome, Refusal, Reply};
+
+/// What became of the begin of an action, in the turns of one caller.
+#[derive(Debug, Drop)]
+pub(crate) enum Began {
+    /// The caller began the action of this number and has ended it in this; for a start with the
+    /// instance's eager children.
+    Ended(u64, Outcome, List<u64>),
+    /// Another caller had begun the action of this number, and it has ended in this.
+    Joined(u64, Outcome),
+    /// There was nothing to begin, as this reply says.
+    Quiet(Reply),
+    /// This instance has to be resolved first.
+    Needs(u64),
+}
+
+/// What became of a start, before its eager children.
+#[derive(Debug, Drop)]
+pub(crate) enum Launch {
+    /// It is over, and has no eager children to start.
+    Settled(Result<Acted, Refusal>),
+    /// The caller itself started the instance by the action of this number, and these are its
+    /// eager children.
+    Children(u64, List<u64>),
+}
+
+/// What a reply asks of its caller.
+#[derive(Debug, Drop)]
+pub(crate) enum Demand {
+    /// An action of this kind at this instance, and then the event again.
+    Action(ActKind, u64),
+    /// Nothing: it decides its event.
+    Decided(Reply),
+}

@@ -1,0 +1,332 @@
+//! The calls of a manager.
+//!
+//! Each call takes the caller's pass and its gates. It finds the instance that its target names,
+//! does what has to be done first, and answers; the pass comes back in every case. The entries
+//! that it made are the caller's newest, and together with its answer they are a whole call, as
+//! `Performs` has it: an instance is found by one event, an action that was begun is ended,
+//! one that was joined is awaited, and what another event needed first was done.
+//!
+//! `Err` with `Memory` or `HistoryFull` ends each call at once, where memory ran out or the
+//! history has no room for the next event. What was begun is ended before, and the entries that
+//! were made stay.
+
+ghost use Rattle.std.specs.Prelude.{◌≡◌, IsTrue};
+ghost use Rattle.cm_command.specs.declared.command.Command.TheVariants as command;
+ghost use Rattle.cm_manager.specs.Asking.{frame_of};
+ghost use Rattle.cm_manager.specs.Calls.{is_built};
+ghost use Rattle.cm_manager.specs.Contract.{Performs};
+
+use crate::Manager;
+use crate::ended::{resolved, started, stopped};
+use cm_command::Command;
+use cm_gate::Gates;
+use cm_names::{CapPath, Name};
+use cm_turn::Pass;
+use cm_world::{ActKind, Answer, Entry, Event, Frame, Refusal, Target};
+use std::alloc::Global;
+use std::sync::Wait;
+use std::thread::Threads;
+
+impl Manager {
+    /// Resolves an instance, as `ResolveInstance` of `fuchsia.sys2.LifecycleController` does:
+    /// `Resolved` with the number of the action, or none where it was resolved before.
+    ///
+    /// - `NotFound` with the part of the moniker that was found, where nothing stands there;
+    /// - `Gone` or `Shut` where the instance doesn't live, or is being shut down;
+    /// - `CannotResolve` with the action and its outcome, where a resolve failed;
+    /// - `HistoryFull` where the history has no room for what is needed, `Memory` where memory
+    ///   runs out.
+    pub fn resolve<R: Threads + Wait + Sync, G: Gates>(
+        &self,
+        rt: &R,
+        alloc: Global,
+        pass: Pass<Entry, Frame>,
+        gates: &mut G,
+        target: &Target,
+    ) -> (Pass<Entry, Frame>, Result<Answer, Refusal>)
+        requires lock { pass.lock ≡ self.now.turn.lock }
+        ensures performs { let f = frame_of pass in
+            Performs self.now.shelf f (command.Resolve target.now) pass result.0
+            (record { log = G.log gates.old; faults = G.faults gates.old })
+            (record { log = G.log gates.new; faults = G.faults gates.new })
+            result.1 }
+    {
+        let (pass, row) = self.find_row(rt, alloc, pass, gates, target);
+        match row {
+            Ok(inc) => {
+                let (pass, went) = self.act(rt, alloc, pass, gates, ActKind::Resolve, inc);
+                (pass, resolved(went))
+            }
+            Err(refusal) => (pass, Err(refusal)),
+        }
+    }
+
+    /// Starts an instance, as `StartInstance` of `fuchsia.sys2.LifecycleController` does, with its
+    /// eager children: `Started` with the number of the action, or none where it ran before.
+    ///
+    /// - `NotFound` with the part of the moniker that was found, where nothing stands there;
+    /// - `Gone` or `Shut` where the instance doesn't live, or is being shut down;
+    /// - `CannotResolve` with the action and its outcome, where a resolve failed;
+    /// - `CannotStart` likewise, where a start failed;
+    /// - `HistoryFull` where the history has no room for what is needed, `Memory` where memory
+    ///   runs out.
+    pub fn start<R: Threads + Wait + Sync, G: Gates>(
+        &self,
+        rt: &R,
+        alloc: Global,
+        pass: Pass<Entry, Frame>,
+        gates: &mut G,
+        target: &Target,
+    ) -> (Pass<Entry, Frame>, Result<Answer, Refusal>)
+        requires lock { pass.lock ≡ self.now.turn.lock }
+        ensures performs { let f = frame_of pass in
+            Performs self.now.shelf f (command.Start target.now) pass result.0
+            (record { log = G.log gates.old; faults = G.faults gates.old })
+            (record { log = G.log gates.new; faults = G.faults gates.new })
+            result.1 }
+    {
+        let (pass, row) = self.find_row(rt, alloc, pass, gates, target);
+        match row {
+            Ok(inc) => {
+                let (pass, went) = self.act(rt, alloc, pass, gates, ActKind::Start, inc);
+                (pass, started(went))
+            }
+            Err(refusal) => (pass, Err(refusal)),
+        }
+    }
+
+    /// Stops an instance, as `StopInstance` of `fuchsia.sys2.LifecycleController` does: `Stopped`
+    /// with the number of the action, or none where it was off before, and whether it had to be
+    /// stopped by force.
+    ///
+    /// - `NotFound` with the part of the moniker that was found, where nothing stands there;
+    /// - `Gone` or `Shut` where the instance doesn't live, or is being shut down;
+    /// - `CannotResolve` with the action and its outcome, where a resolve failed;
+    /// - `HistoryFull` where the history has no room for what is needed, `Memory` where memory
+    ///   runs out.
+    pub fn stop<R: Threads + Wait + Sync, G: Gates>(
+        &self,
+        rt: &R,
+        alloc: Global,
+        pass: Pass<Entry, Frame>,
+        gates: &mut G,
+        target: &Target,
+    ) -> (Pass<Entry, Frame>, Result<Answer, Refusal>)
+        requires lock { pass.lock ≡ self.now.turn.lock }
+        ensures performs { let f = frame_of pass in
+            Performs self.now.shelf f (command.Stop target.now) pass result.0
+            (record { log = G.log gates.old; faults = G.faults gates.old })
+            (record { log = G.log gates.new; faults = G.faults gates.new })
+            result.1 }
+    {
+        let (pass, row) = self.find_row(rt, alloc, pass, gates, target);
+        match row {
+            Ok(inc) => {
+                let (pass, went) = self.act(rt, alloc, pass, gates, ActKind::Stop, inc);
+                (pass, stopped(went))
+            }
+            Err(refusal) => (pass, Err(refusal)),
+        }
+    }
+
+    /// Opens what an instance uses at a path, and starts the provider first where it is off:
+    /// `Opened` with the route.
+    ///
+    /// - `NotFound` with the part of the moniker that was found, where nothing stands there;
+    /// - `Gone` or `Shut` where an instance doesn't live, or can't be resolved any more;
+    /// - `ClientOff` where the instance doesn't run, `NoSuchUse` where it has no use of the path;
+    /// - `NoRoute` with the hop that fails and why, `VoidSource` where it is left out on purpose;
+    /// - `SourceShut` where the provider can't be started any more;
+    /// - `CannotResolve` and `CannotStart` with the action and its outcome, where one failed;
+    /// - `HistoryFull` where the history has no room for what is needed, `Memory` where memory
+    ///   runs out.
+    pub fn open_use<R: Threads + Wait + Sync, G: Gates>(
+        &self,
+        rt: &R,
+        alloc: Global,
+        pass: Pass<Entry, Frame>,
+        gates: &mut G,
+        target: &Target,
+        path: &CapPath,
+    ) -> (Pass<Entry, Frame>, Result<Answer, Refusal>)
+        requires lock { pass.lock ≡ self.now.turn.lock }
+        ensures performs { let f = frame_of pass in
+            Performs self.now.shelf f (command.OpenUse target.now path.now) pass result.0
+            (record { log = G.log gates.old; faults = G.faults gates.old })
+            (record { log = G.log gates.new; faults = G.faults gates.new })
+            result.1 }
+    {
+        let (pass, row) = self.find_row(rt, alloc, pass, gates, target);
+        match row {
+            Ok(inc) => self.open_use_at(rt, alloc, pass, gates, inc, path),
+            Err(refusal) => (pass, Err(refusal)),
+        }
+    }
+
+    /// Opens what an instance exposes by a name, as `OpenExposedDir` of `fuchsia.component.Realm`
+    /// does, and starts the provider first where it is off: `Opened` with the route.
+    ///
+    /// - `NotFound` with the part of the moniker that was found, where nothing stands there;
+    /// - `Gone` or `Shut` where an instance doesn't live, or can't be resolved any more;
+    /// - `NoRoute` with the hop that fails and why, `VoidSource` where it is left out on purpose;
+    /// - `SourceShut` where the provider can't be started any more;
+    /// - `CannotResolve` and `CannotStart` with the action and its outcome, where one failed;
+    /// - `HistoryFull` where the history has no room for what is needed, `Memory` where memory
+    ///   runs out.
+    pub fn open_exposed<R: Threads + Wait + Sync, G: Gates>(
+        &self,
+        rt: &R,
+        alloc: Global,
+        pass: Pass<Entry, Frame>,
+        gates: &mut G,
+        target: &Target,
+        name: &Name,
+    ) -> (Pass<Entry, Frame>, Result<Answer, Refusal>)
+        requires lock { pass.lock ≡ self.now.turn.lock }
+        ensures performs { let f = frame_of pass in
+            Performs self.now.shelf f (command.OpenExposed target.now name.now) pass result.0
+            (record { log = G.log gates.old; faults = G.faults gates.old })
+            (record { log = G.log gates.new; faults = G.faults gates.new })
+            result.1 }
+    {
+        let (pass, row) = self.find_row(rt, alloc, pass, gates, target);
+        match row {
+            Ok(inc) => self.open_exposed_at(rt, alloc, pass, gates, inc, name),
+            Err(refusal) => (pass, Err(refusal)),
+        }
+    }
+
+    /// Tells where what an instance uses at a path comes from: `Routed` with the route.
+    ///
+    /// - `NotFound` with the part of the moniker that was found, where nothing stands there;
+    /// - `Gone` or `Shut` where an instance doesn't live, or can't be resolved any more;
+    /// - `NoSuchUse` where the instance has no use of the path;
+    /// - `NoRoute` with the hop that fails and why, `VoidSource` where it is left out on purpose;
+    /// - `SourceShut` where an instance on the way can't be resolved any more;
+    /// - `CannotResolve` with the action and its outcome, where a resolve failed;
+    /// - `HistoryFull` where the history has no room for what is needed, `Memory` where memory
+    ///   runs out.
+    pub fn route<R: Threads + Wait + Sync, G: Gates>(
+        &self,
+        rt: &R,
+        alloc: Global,
+        pass: Pass<Entry, Frame>,
+        gates: &mut G,
+        target: &Target,
+        path: &CapPath,
+    ) -> (Pass<Entry, Frame>, Result<Answer, Refusal>)
+        requires lock { pass.lock ≡ self.now.turn.lock }
+        ensures performs { let f = frame_of pass in
+            Performs self.now.shelf f (command.RouteOf target.now path.now) pass result.0
+            (record { log = G.log gates.old; faults = G.faults gates.old })
+            (record { log = G.log gates.new; faults = G.faults gates.new })
+            result.1 }
+    {
+        let (pass, row) = self.find_row(rt, alloc, pass, gates, target);
+        match row {
+            Ok(inc) => self.route_at(rt, alloc, pass, gates, inc, path),
+            Err(refusal) => (pass, Err(refusal)),
+        }
+    }
+
+    /// Tells how an instance is: `Shown`.
+    ///
+    /// - `NotFound` with the part of the moniker that was found, where nothing stands there;
+    /// - `Gone` or `Shut` where an instance doesn't live, or can't be resolved any more;
+    /// - `CannotResolve` with the action and its outcome, where a resolve on the way failed;
+    /// - `HistoryFull` where the history has no room for what is needed, `Memory` where memory
+    ///   runs out.
+    pub fn show<R: Threads + Wait + Sync, G: Gates>(
+        &self,
+        rt: &R,
+        alloc: Global,
+        pass: Pass<Entry, Frame>,
+        gates: &mut G,
+        target: &Target,
+    ) -> (Pass<Entry, Frame>, Result<Answer, Refusal>)
+        requires lock { pass.lock ≡ self.now.turn.lock }
+        ensures performs { let f = frame_of pass in
+            Performs self.now.shelf f (command.Show target.now) pass result.0
+            (record { log = G.log gates.old; faults = G.faults gates.old })
+            (record { log = G.log gates.new; faults = G.faults gates.new })
+            result.1 }
+    {
+        let (pass, row) = self.find_row(rt, alloc, pass, gates, target);
+        match row {
+            Ok(inc) => {
+                let event = Event::Show(inc);
+                self.settle(rt, alloc, pass, gates, &event)
+            }
+            Err(refusal) => (pass, Err(refusal)),
+        }
+    }
+
+    /// Tells that the program of an instance has ended by itself: `Left`, and whether it was on.
+    /// It waits while an action is pending at the instance.
+    ///
+    /// - `NotFound` with the part of the moniker that was found, where nothing stands there;
+    /// - `Gone` or `Shut` where an instance doesn't live, or can't be resolved any more;
+    /// - `CannotResolve` with the action and its outcome, where a resolve on the way failed;
+    /// - `HistoryFull` where the history has no room for what is needed, `Memory` where memory
+    ///   runs out.
+    pub fn exited<R: Threads + Wait + Sync, G: Gates>(
+        &self,
+        rt: &R,
+        alloc: Global,
+        pass: Pass<Entry, Frame>,
+        gates: &mut G,
+        target: &Target,
+    ) -> (Pass<Entry, Frame>, Result<Answer, Refusal>)
+        requires lock { pass.lock ≡ self.now.turn.lock }
+        ensures performs { let f = frame_of pass in
+            Performs self.now.shelf f (command.Exited target.now) pass result.0
+            (record { log = G.log gates.old; faults = G.faults gates.old })
+            (record { log = G.log gates.new; faults = G.faults gates.new })
+            result.1 }
+    {
+        let (pass, row) = self.find_row(rt, alloc, pass, gates, target);
+        match row {
+            Ok(inc) => {
+                let event = Event::Exited(inc);
+                self.settle(rt, alloc, pass, gates, &event)
+            }
+            Err(refusal) => (pass, Err(refusal)),
+        }
+    }
+
+    /// Makes the call that a command names, which is one of the calls above, and answers so.
+    pub fn perform<R: Threads + Wait + Sync, G: Gates>(
+        &self,
+        rt: &R,
+        alloc: Global,
+        pass: Pass<Entry, Frame>,
+        gates: &mut G,
+        command: &Command,
+    ) -> (Pass<Entry, Frame>, Result<Answer, Refusal>)
+        requires lock { pass.lock ≡ self.now.turn.lock }
+        requires built { IsTrue (is_built command.now) }
+        ensures performs { let f = frame_of pass in
+            Performs self.now.shelf f command.now pass result.0
+            (record { log = G.log gates.old; faults = G.faults gates.old })
+            (record { log = G.log gates.new; faults = G.faults gates.new })
+            result.1 }
+    {
+        match command {
+            Command::Resolve(target) => self.resolve(rt, alloc, pass, gates, target),
+            Command::Start(target) => self.start(rt, alloc, pass, gates, target),
+            Command::Stop(target) => self.stop(rt, alloc, pass, gates, target),
+            Command::OpenUse { target, path } => {
+                self.open_use(rt, alloc, pass, gates, target, path)
+            }
+            Command::OpenExposed { target, name } => {
+                self.open_exposed(rt, alloc, pass, gates, target, name)
+            }
+            Command::RouteOf { target, path } => {
+                self.route(rt, alloc, pass, gates, target, path)
+            }
+            Command::Show(target) => self.show(rt, alloc, pass, gates, target),
+            Command::Exited(target) => self.exited(rt, alloc, pass, gates, target),
+            _ => unreachable!(),
+        }
+    }
+}

@@ -1,0 +1,24 @@
+//! The calls of the component manager.
+//!
+//! Each call takes turns at the realm tree, does the work of the actions that it begins between
+//! those turns, and answers. What a call does is a run: a list of its caller's own entries in the
+//! one history of the realm.
+#![tactic(auto)]
+
+pub mod acted;
+mod acts;
+mod answers;
+mod began;
+pub mod built;
+mod calls;
+mod ended;
+pub mod manager;
+mod parts;
+mod starting;
+mod trying;
+mod turns;
+mod work;
+
+pub use acted::Acted;
+pub use built::is_built;
+pub use manager::Manager;

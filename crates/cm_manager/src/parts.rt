@@ -1,0 +1,187 @@
+//! The parts of a call: the search for the row of its target, and its one event.
+
+ghost use Rattle.std.specs.Prelude.{◌≡◌, IsTrue};
+ghost use Rattle.cm_world.specs.declared.event.Event.TheVariants as event;
+ghost use Rattle.cm_world.specs.declared.event.Target.TheVariants as target;
+ghost use Rattle.cm_manager.specs.Turns.{Later};
+ghost use Rattle.cm_manager.specs.Asking.{frame_of, is_asked, is_plain};
+ghost use Rattle.cm_manager.specs.Calls.{Finding};
+ghost use Rattle.cm_manager.specs.Contract.{Helps, IsSamePass};
+ghost use Rattle.cm_manager.specs.Parts.{Finds, Settles};
+
+use crate::Manager;
+use crate::answers::{decided, found};
+use crate::manager::check_history;
+use cm_gate::Gates;
+use cm_names::{CapPath, Moniker, Name};
+use cm_turn::Pass;
+use cm_world::{Answer, Entry, Event, Frame, Refusal, Target};
+use std::alloc::Global;
+use std::sync::Wait;
+use std::thread::Threads;
+
+impl Manager {
+    /// Takes one turn and makes no event in it: the pass has then seen the whole history.
+    fn catch_up<R: Wait>(&self, rt: &R, pass: Pass<Entry, Frame>) -> Pass<Entry, Frame>
+        requires lock { pass.lock ≡ self.now.turn.lock }
+        ensures same { IsSamePass (frame_of pass) pass result }
+        ensures later { Later pass.caller pass.seen result.seen }
+        ensures mine { result.mine ≡ pass.mine }
+    {
+        let mut held = self.turn.enter(rt, pass);
+        check_history(held.state());
+        self.turn.leave(held)
+    }
+
+    /// Looks for the row at a moniker: its incarnation, or why there is none.
+    fn find_named<R: Threads + Wait + Sync, G: Gates>(
+        &self,
+        rt: &R,
+        alloc: Global,
+        pass: Pass<Entry, Frame>,
+        gates: &mut G,
+        moniker: &Moniker,
+    ) -> (Pass<Entry, Frame>, Result<u64, Refusal>)
+        requires lock { pass.lock ≡ self.now.turn.lock }
+        ensures helps { let f = frame_of pass in
+            Helps self.now.shelf f
+            (λ a b. Finding f pass.caller (target.Named moniker.now) a b result.1)
+            pass result.0
+            (record { log = G.log gates.old; faults = G.faults gates.old })
+            (record { log = G.log gates.new; faults = G.faults gates.new }) }
+    {
+        match moniker.clone() {
+            Ok(moniker) => {
+                let event = Event::Find(moniker);
+                let (pass, went) = self.try_event(rt, alloc, pass, gates, &event);
+                (pass, found(went))
+            }
+            Err(_) => (self.catch_up(rt, pass), Err(Refusal::Memory)),
+        }
+    }
+
+    /// The row that a target names: an incarnation is taken as it stands, a moniker is looked for.
+    pub(crate) fn find_row<R: Threads + Wait + Sync, G: Gates>(
+        &self,
+        rt: &R,
+        alloc: Global,
+        pass: Pass<Entry, Frame>,
+        gates: &mut G,
+        target: &Target,
+    ) -> (Pass<Entry, Frame>, Result<u64, Refusal>)
+        requires lock { pass.lock ≡ self.now.turn.lock }
+        ensures lock { result.0.lock ≡ pass.lock }
+        ensures finds { Finds self.now.shelf (frame_of pass) target.now pass result.0
+            (record { log = G.log gates.old; faults = G.faults gates.old })
+            (record { log = G.log gates.new; faults = G.faults gates.new })
+            result.1 }
+    {
+        match target {
+            Target::Named(moniker) => self.find_named(rt, alloc, pass, gates, moniker),
+            Target::Inc(inc) => (pass, Ok(*inc)),
+        }
+    }
+
+    /// Makes the event of a call until a reply decides it, and answers so.
+    pub(crate) fn settle<R: Threads + Wait + Sync, G: Gates>(
+        &self,
+        rt: &R,
+        alloc: Global,
+        pass: Pass<Entry, Frame>,
+        gates: &mut G,
+        event: &Event,
+    ) -> (Pass<Entry, Frame>, Result<Answer, Refusal>)
+        requires lock { pass.lock ≡ self.now.turn.lock }
+        requires asked { IsTrue (is_asked event.now) }
+        requires plain { IsTrue (is_plain event.now) }
+        ensures helps { let f = frame_of pass in
+            Helps self.now.shelf f (λ a b. Settles f pass.caller event.now a b result.1)
+            pass result.0
+            (record { log = G.log gates.old; faults = G.faults gates.old })
+            (record { log = G.log gates.new; faults = G.faults gates.new }) }
+    {
+        let (pass, went) = self.try_event(rt, alloc, pass, gates, event);
+        (pass, decided(went))
+    }
+
+    /// Opens what the instance of this incarnation uses at the path.
+    pub(crate) fn open_use_at<R: Threads + Wait + Sync, G: Gates>(
+        &self,
+        rt: &R,
+        alloc: Global,
+        pass: Pass<Entry, Frame>,
+        gates: &mut G,
+        inc: u64,
+        path: &CapPath,
+    ) -> (Pass<Entry, Frame>, Result<Answer, Refusal>)
+        requires lock { pass.lock ≡ self.now.turn.lock }
+        ensures helps { let f = frame_of pass in
+            Helps self.now.shelf f
+            (λ a b. Settles f pass.caller (event.OpenUse inc path.now) a b result.1)
+            pass result.0
+            (record { log = G.log gates.old; faults = G.faults gates.old })
+            (record { log = G.log gates.new; faults = G.faults gates.new }) }
+    {
+        match path.clone() {
+            Ok(path) => {
+                let event = Event::OpenUse(inc, path);
+                self.settle(rt, alloc, pass, gates, &event)
+            }
+            Err(_) => (self.catch_up(rt, pass), Err(Refusal::Memory)),
+        }
+    }
+
+    /// Tells where what the instance of this incarnation uses at the path comes from.
+    pub(crate) fn route_at<R: Threads + Wait + Sync, G: Gates>(
+        &self,
+        rt: &R,
+        alloc: Global,
+        pass: Pass<Entry, Frame>,
+        gates: &mut G,
+        inc: u64,
+        path: &CapPath,
+    ) -> (Pass<Entry, Frame>, Result<Answer, Refusal>)
+        requires lock { pass.lock ≡ self.now.turn.lock }
+        ensures helps { let f = frame_of pass in
+            Helps self.now.shelf f
+            (λ a b. Settles f pass.caller (event.Route inc path.now) a b result.1)
+            pass result.0
+            (record { log = G.log gates.old; faults = G.faults gates.old })
+            (record { log = G.log gates.new; faults = G.faults gates.new }) }
+    {
+        match path.clone() {
+            Ok(path) => {
+                let event = Event::Route(inc, path);
+                self.settle(rt, alloc, pass, gates, &event)
+            }
+            Err(_) => (self.catch_up(rt, pass), Err(Refusal::Memory)),
+        }
+    }
+
+    /// Opens what the instance of this incarnation exposes by the name.
+    pub(crate) fn open_exposed_at<R: Threads + Wait + Sync, G: Gates>(
+        &self,
+        rt: &R,
+        alloc: Global,
+        pass: Pass<Entry, Frame>,
+        gates: &mut G,
+        inc: u64,
+        name: &Name,
+    ) -> (Pass<Entry, Frame>, Result<Answer, Refusal>)
+        requires lock { pass.lock ≡ self.now.turn.lock }
+        ensures helps { let f = frame_of pass in
+            Helps self.now.shelf f
+            (λ a b. Settles f pass.caller (event.OpenExposed inc name.now) a b result.1)
+            pass result.0
+            (record { log = G.log gates.old; faults = G.faults gates.old })
+            (record { log = G.log gates.new; faults = G.faults gates.new }) }
+    {
+        match name.clone() {
+            Ok(name) => {
+                let event = Event::OpenExposed(inc, name);
+                self.settle(rt, alloc, pass, gates, &event)
+            }
+            Err(_) => (self.catch_up(rt, pass), Err(Refusal::Memory)),
+        }
+    }
+}

@@ -1,0 +1,202 @@
+//! Starts, each with its eager children.
+
+ghost use Rattle.std.specs.Prelude.{◌≡◌, ◌++◌, ℕ, List as Seq, IfOk};
+ghost use Rattle.cm_world.specs.declared.frame.Frame.{Frame as TheFrame};
+ghost use Rattle.cm_world.specs.declared.reply.Entry.{Entry as TheEntry};
+ghost use Rattle.cm_manager.specs.Asking.{frame_of};
+ghost use Rattle.cm_manager.specs.Acting.{BeginsBy, StartsBy, LaunchesBy, FailsBy, is_well};
+ghost use Rattle.cm_manager.specs.Contract.{Helps, IsSamePass};
+ghost use Rattle.cm_manager.specs.Runs.{Acts, Eagers, ends_eager};
+
+use crate::began::{Began, Launch};
+use crate::{Acted, Manager};
+use cm_gate::Gates;
+use cm_names::List;
+use cm_turn::Pass;
+use cm_world::{ActKind, Entry, Frame, Outcome, Refusal};
+use std::alloc::{AllocError, Global};
+use std::collections::VecDeque;
+use std::sync::Wait;
+use std::thread::Threads;
+
+/// Whether an action went well.
+fn went_well(outcome: Outcome) -> bool
+    ensures { result ≡ is_well outcome }
+{
+    matches!(
+        outcome,
+        Outcome::Resolved | Outcome::Started | Outcome::Stopped | Outcome::Killed
+    )
+}
+
+/// The same again where it ends a call that needed it, and `None` where the call goes on.
+fn if_failed(went: Result<Acted, Refusal>) -> Option<Result<Acted, Refusal>>
+    ensures { FailsBy went result }
+{
+    match went {
+        Ok(Acted::Ended(kind, action, outcome)) => {
+            if went_well(outcome) {
+                None
+            } else {
+                Some(Ok(Acted::Ended(kind, action, outcome)))
+            }
+        }
+        Ok(Acted::Quiet(_reply)) => None,
+        Err(refusal) => Some(Err(refusal)),
+    }
+}
+
+/// What ends the call where the start of an eager child came to this.
+fn ending_of_eager(went: Result<Acted, Refusal>) -> Option<Refusal>
+    ensures { result ≡ ends_eager went }
+{
+    match went {
+        Ok(Acted::Ended(_, _, Outcome::NoMemory)) => Some(Refusal::Memory),
+        Ok(_) => None,
+        Err(refusal) => Some(refusal),
+    }
+}
+
+/// What a start came to by its begin; `Err` with the instance that has to be resolved first.
+fn launch_of(began: Result<Began, Refusal>) -> Result<Launch, u64>
+    ensures { (f : TheFrame) (c i : ℕ) (a b : Seq TheEntry)
+        → BeginsBy f c ActKind.Start i began a b → LaunchesBy f c i result a b }
+{
+    match began {
+        Ok(Began::Ended(action, outcome, eager)) => match outcome {
+            Outcome::Started => Ok(Launch::Children(action, eager)),
+            other => Ok(Launch::Settled(Ok(Acted::Ended(ActKind::Start, action, other)))),
+        },
+        Ok(Began::Joined(action, outcome)) => {
+            let went = Ok(Acted::Ended(ActKind::Start, action, outcome));
+            Ok(Launch::Settled(went))
+        }
+        Ok(Began::Quiet(reply)) => Ok(Launch::Settled(Ok(Acted::Quiet(reply)))),
+        Ok(Began::Needs(row)) => Err(row),
+        Err(refusal) => Ok(Launch::Settled(Err(refusal))),
+    }
+}
+
+/// These rows in front of the others. `Err` where memory runs out.
+fn in_front(rows: List<u64>, others: VecDeque<u64>) -> Result<VecDeque<u64>, AllocError>
+    ensures { IfOk result (λ all. all.items ≡ rows ++ others.items) }
+{
+    let mut rows = rows.into_vec();
+    let mut all = others;
+    while let Some(row) = rows.pop() {
+        all.push_front(row)?;
+    }
+    Ok(all)
+}
+
+impl Manager {
+    /// Starts an instance without its eager children, and resolves it first where it has to be.
+    fn start_one<R: Threads + Wait + Sync, G: Gates>(
+        &self,
+        rt: &R,
+        alloc: Global,
+        pass: Pass<Entry, Frame>,
+        gates: &mut G,
+        inc: u64,
+    ) -> (Pass<Entry, Frame>, Launch)
+        requires lock { pass.lock ≡ self.now.turn.lock }
+        ensures helps { let f = frame_of pass in
+            Helps self.now.shelf f (λ a b. StartsBy f pass.caller inc result.1 a b)
+            pass result.0
+            (record { log = G.log gates.old; faults = G.faults gates.old })
+            (record { log = G.log gates.new; faults = G.faults gates.new }) }
+    {
+        let mut idle = pass;
+        for _ in rt.forever() {
+            let (after, began) = self.begin(rt, alloc, idle, gates, ActKind::Start, inc);
+            match launch_of(began) {
+                Ok(launch) => return (after, launch),
+                Err(row) => {
+                    let kind = ActKind::Resolve;
+                    let (later, went) = self.act_once(rt, alloc, after, gates, kind, row);
+                    if let Some(failed) = if_failed(went) {
+                        return (later, Launch::Settled(failed));
+                    }
+                    idle = later;
+                }
+            }
+        }
+        unreachable!()
+    }
+
+    /// Starts these instances in order, each with its own eager children before the next. `Some`
+    /// tells what ended the call among them: want of memory, or of room in the history.
+    fn start_all<R: Threads + Wait + Sync, G: Gates>(
+        &self,
+        rt: &R,
+        alloc: Global,
+        pass: Pass<Entry, Frame>,
+        gates: &mut G,
+        rows: VecDeque<u64>,
+    ) -> (Pass<Entry, Frame>, Option<Refusal>)
+        requires lock { pass.lock ≡ self.now.turn.lock }
+        requires known { IsSamePass (frame_of pass) pass pass }
+        ensures helps { let f = frame_of pass in
+            Helps self.now.shelf f (λ a b. Eagers f pass.caller rows.items a b result.1)
+            pass result.0
+            (record { log = G.log gates.old; faults = G.faults gates.old })
+            (record { log = G.log gates.new; faults = G.faults gates.new }) }
+    {
+        let mut idle = pass;
+        let mut left = rows;
+        for _ in rt.forever() {
+            let Some(row) = left.pop_front() else {
+                return (idle, None);
+            };
+            let (after, launch) = self.start_one(rt, alloc, idle, gates, row);
+            idle = after;
+            match launch {
+                Launch::Settled(went) => {
+                    if let Some(refusal) = ending_of_eager(went) {
+                        return (idle, Some(refusal));
+                    }
+                }
+                Launch::Children(_action, eager) => match in_front(eager, left) {
+                    Ok(all) => left = all,
+                    Err(_) => return (idle, Some(Refusal::Memory)),
+                },
+            }
+        }
+        unreachable!()
+    }
+
+    /// Starts an instance, and its eager children behind it where this call itself started it.
+    pub(crate) fn start_row<R: Threads + Wait + Sync, G: Gates>(
+        &self,
+        rt: &R,
+        alloc: Global,
+        pass: Pass<Entry, Frame>,
+        gates: &mut G,
+        inc: u64,
+    ) -> (Pass<Entry, Frame>, Result<Acted, Refusal>)
+        requires lock { pass.lock ≡ self.now.turn.lock }
+        ensures helps { let f = frame_of pass in
+            Helps self.now.shelf f (λ a b. Acts f pass.caller ActKind.Start inc a b result.1)
+            pass result.0
+            (record { log = G.log gates.old; faults = G.faults gates.old })
+            (record { log = G.log gates.new; faults = G.faults gates.new }) }
+    {
+        let (after, launch) = self.start_one(rt, alloc, pass, gates, inc);
+        match launch {
+            Launch::Settled(went) => (after, went),
+            Launch::Children(action, eager) => match in_front(eager, VecDeque::new(alloc)) {
+                Ok(rows) => {
+                    let (after, end) = self.start_all(rt, alloc, after, gates, rows);
+                    match end {
+                        None => {
+                            let done = Acted::Ended(ActKind::Start, action, Outcome::Started);
+                            (after, Ok(done))
+                        }
+                        Some(refusal) => (after, Err(refusal)),
+                    }
+                }
+                Err(_) => (after, Err(Refusal::Memory)),
+            },
+        }
+    }
+}

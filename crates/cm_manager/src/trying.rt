@@ -1,0 +1,72 @@
+//! Events that are made again until a reply decides them.
+
+ghost use Rattle.std.specs.Prelude.{◌≡◌, IsTrue};
+ghost use Rattle.cm_manager.specs.Asking.{frame_of, is_asked, is_plain};
+ghost use Rattle.cm_manager.specs.Acting.{ReadsBy};
+ghost use Rattle.cm_manager.specs.Contract.{Helps};
+ghost use Rattle.cm_manager.specs.Runs.{Tries};
+
+use crate::Manager;
+use crate::answers::ending;
+use crate::began::Demand;
+use cm_gate::Gates;
+use cm_turn::Pass;
+use cm_world::{ActKind, Entry, Event, Frame, Refusal, Reply};
+use std::alloc::Global;
+use std::sync::Wait;
+use std::thread::Threads;
+
+/// What a reply asks of its caller.
+fn reading(reply: Reply) -> Demand
+    ensures { ReadsBy reply result }
+{
+    match reply {
+        Reply::Need(row) => Demand::Action(ActKind::Resolve, row),
+        Reply::NeedStart(row) => Demand::Action(ActKind::Start, row),
+        other => Demand::Decided(other),
+    }
+}
+
+impl Manager {
+    /// Makes an event, which begins no action itself, until a reply decides it: where one asks
+    /// for an action first, that is done, and then the event is made again.
+    ///
+    /// `Err` is what ended the call: an action that was asked for failed, memory ran out, or the
+    /// history has no room for what is needed.
+    pub(crate) fn try_event<R: Threads + Wait + Sync, G: Gates>(
+        &self,
+        rt: &R,
+        alloc: Global,
+        pass: Pass<Entry, Frame>,
+        gates: &mut G,
+        event: &Event,
+    ) -> (Pass<Entry, Frame>, Result<Reply, Refusal>)
+        requires lock { pass.lock ≡ self.now.turn.lock }
+        requires asked { IsTrue (is_asked event.now) }
+        requires plain { IsTrue (is_plain event.now) }
+        ensures helps { let f = frame_of pass in
+            Helps self.now.shelf f (λ a b. Tries f pass.caller event.now a b result.1)
+            pass result.0
+            (record { log = G.log gates.old; faults = G.faults gates.old })
+            (record { log = G.log gates.new; faults = G.faults gates.new }) }
+    {
+        let mut idle = pass;
+        for _ in rt.forever() {
+            let (after, asked) = self.ask(rt, alloc, idle, event);
+            match asked {
+                Ok(reply) => match reading(reply) {
+                    Demand::Decided(reply) => return (after, Ok(reply)),
+                    Demand::Action(kind, row) => {
+                        let (later, went) = self.act(rt, alloc, after, gates, kind, row);
+                        if let Some(refusal) = ending(went) {
+                            return (later, Err(refusal));
+                        }
+                        idle = later;
+                    }
+                },
+                Err(refusal) => return (after, Err(refusal)),
+            }
+        }
+        unreachable!()
+    }
+}

@@ -1,0 +1,298 @@
+//! The work of an action: what its beginner does between its begin and its end.
+//!
+//! A resolve finds the manifest of the component, as `fuchsia.component.resolution.Resolver` does;
+//! a start and a stop ask the runner, as `fuchsia.component.runner.ComponentRunner` is asked
+//! (fuchsia.dev). An instance without a program starts and stops without a question. That a start
+//! or a stop takes no memory is this project's own choice.
+
+ghost use Rattle.std.specs.Prelude.{◌≡◌, Ok, Err, None, IfOk};
+ghost use Rattle.cm_decl.specs.Valid.{IsValid};
+ghost use Rattle.cm_repo.specs.Blocks.{block_at};
+ghost use Rattle.cm_repo.specs.Urls.{absolute_of};
+ghost use Rattle.cm_world.specs.declared.action.Work.{Work as TheWork};
+ghost use Rattle.cm_steps.specs.Ends.{finish_of};
+ghost use Rattle.cm_manager.specs.Work.{Shelf};
+ghost use Rattle.cm_manager.specs.Doing.{JudgesBy, EndsBy, Fits, Did, unread_outcome, invalid_outcome, launched_outcome, halted_outcome};
+
+use crate::Manager;
+use cm_decl::Decl;
+use cm_gate::{Fetch, Fetched, Gates, Halted, Job, Launched};
+use cm_names::{List, Memory, Text};
+use cm_read::{ReadFault, read_decl};
+use cm_repo::{UrlFault, absolute};
+use cm_steps::Ending;
+use cm_table::Prepared;
+use cm_turn::Pass;
+use cm_valid::{ValidFault, validate};
+use cm_world::{ActKind, Entry, FaultNote, Frame, Outcome, Work};
+use std::alloc::Global;
+use std::sync::Wait;
+use std::thread::Threads;
+
+/// How a resolve ends where its manifest isn't read.
+fn unread(fault: ReadFault) -> Outcome
+    ensures { result ≡ unread_outcome fault }
+{
+    match fault {
+        ReadFault::Bad {
+            number,
+            section,
+            index,
+            field: _,
+        } => Outcome::Invalid(FaultNote {
+            number,
+            section,
+            index,
+        }),
+        ReadFault::Memory => Outcome::NoMemory,
+    }
+}
+
+/// How a resolve ends where its declaration isn't valid.
+fn invalid(fault: ValidFault) -> Outcome
+    ensures { result ≡ invalid_outcome fault }
+{
+    match fault {
+        ValidFault::Bad {
+            number,
+            section,
+            index,
+            against: _,
+            cycle: _,
+        } => Outcome::Invalid(FaultNote {
+            number,
+            section,
+            index,
+        }),
+        ValidFault::Memory => Outcome::NoMemory,
+    }
+}
+
+/// The valid declaration of a manifest, or how a resolve ends without one.
+fn judge(alloc: Global, bytes: &[u8]) -> Result<Decl, Outcome>
+    ensures judged { JudgesBy bytes.now result }
+    ensures valid { IfOk result IsValid }
+{
+    match read_decl(alloc, bytes) {
+        Ok(decl) => match validate(alloc, decl) {
+            Ok(valid) => Ok(valid.into_decl()),
+            Err(fault) => Err(invalid(fault)),
+        },
+        Err(fault) => Err(unread(fault)),
+    }
+}
+
+/// The end of a resolve by the bytes of its manifest.
+fn ending_by(alloc: Global, url: Text, bytes: &[u8]) -> Ending
+    ensures ends { EndsBy url bytes.now (finish_of result) }
+    ensures fits { Fits ActKind.Resolve (finish_of result) }
+{
+    match judge(alloc, bytes) {
+        Ok(decl) => match Prepared::make(alloc, decl, url) {
+            Ok(prepared) => Ending::Resolved(prepared),
+            Err(_) => Ending::Other(Outcome::NoMemory),
+        },
+        Err(outcome) => Ending::Other(outcome),
+    }
+}
+
+/// How a start ends by the answer of its runner.
+fn launched(answer: Launched) -> Outcome
+    ensures { result ≡ launched_outcome answer }
+{
+    match answer {
+        Launched::Running => Outcome::Started,
+        Launched::Declined => Outcome::Declined,
+        Launched::Failed => Outcome::GateFailed,
+    }
+}
+
+/// How a stop ends by the answer of its runner: by force where that failed.
+fn halted(answer: Halted) -> Outcome
+    ensures { result ≡ halted_outcome answer }
+{
+    match answer {
+        Halted::Stopped => Outcome::Stopped,
+        Halted::Failed => Outcome::Killed,
+    }
+}
+
+/// The work of a start. It gives the instance's eager children back.
+fn launch<R: Threads + Wait + Sync, G: Gates>(
+    rt: &R,
+    gates: &mut G,
+    idle: &Pass<Entry, Frame>,
+    work: Work,
+) -> (Ending, List<u64>)
+    ensures did { (shelf : Shelf) → Did shelf work ActKind.Start (finish_of result.0)
+        (record { log = G.log gates.old; faults = G.faults gates.old })
+        (record { log = G.log gates.new; faults = G.faults gates.new }) }
+    ensures fits { Fits ActKind.Start (finish_of result.0) }
+    ensures eager { result.1 ≡ work.eager }
+{
+    let Work {
+        action,
+        inc,
+        moniker,
+        base: _,
+        url,
+        runner,
+        eager,
+    } = work;
+    let Some(runner) = runner else {
+        return (Ending::Other(Outcome::Started), eager);
+    };
+    let job = Job {
+        action,
+        inc,
+        moniker,
+        url,
+        runner,
+    };
+    let outcome = launched(gates.launch(rt, idle, &job));
+    (Ending::Other(outcome), eager)
+}
+
+/// The work of a stop.
+fn halt<R: Threads + Wait + Sync, G: Gates>(
+    rt: &R,
+    gates: &mut G,
+    idle: &Pass<Entry, Frame>,
+    work: Work,
+) -> Ending
+    ensures did { (shelf : Shelf) → Did shelf work ActKind.Stop (finish_of result)
+        (record { log = G.log gates.old; faults = G.faults gates.old })
+        (record { log = G.log gates.new; faults = G.faults gates.new }) }
+    ensures fits { Fits ActKind.Stop (finish_of result) }
+{
+    let Work {
+        action,
+        inc,
+        moniker,
+        base: _,
+        url,
+        runner,
+        eager: _,
+    } = work;
+    let Some(runner) = runner else {
+        return Ending::Other(Outcome::Stopped);
+    };
+    let job = Job {
+        action,
+        inc,
+        moniker,
+        url,
+        runner,
+    };
+    Ending::Other(halted(gates.halt(rt, idle, &job)))
+}
+
+impl Manager {
+    /// The work of a resolve, of which the base and the URL of the component are used.
+    fn do_resolve<R: Threads + Wait + Sync, G: Gates>(
+        &self,
+        rt: &R,
+        alloc: Global,
+        gates: &mut G,
+        idle: &Pass<Entry, Frame>,
+        work: &Work,
+    ) -> Ending
+        ensures did { Did self.now.shelf work.now ActKind.Resolve (finish_of result)
+            (record { log = G.log gates.old; faults = G.faults gates.old })
+            (record { log = G.log gates.new; faults = G.faults gates.new }) }
+        ensures fits { Fits ActKind.Resolve (finish_of result) }
+    {
+        match absolute(alloc, work.base.as_str(), work.url.as_str()) {
+            Ok(url) => self.find_manifest(rt, alloc, gates, idle, url),
+            Err(fault) => match fault {
+                UrlFault::Memory => Ending::Other(Outcome::NoMemory),
+                _ => Ending::Other(Outcome::BadUrl),
+            },
+        }
+    }
+
+    /// The end of a resolve by the manifest of this URL.
+    fn find_manifest<R: Threads + Wait + Sync, G: Gates>(
+        &self,
+        rt: &R,
+        alloc: Global,
+        gates: &mut G,
+        idle: &Pass<Entry, Frame>,
+        url: Text,
+    ) -> Ending
+        ensures did { (w : TheWork) → absolute_of w.base w.url ≡ Ok url
+            → Did self.now.shelf w ActKind.Resolve (finish_of result)
+            (record { log = G.log gates.old; faults = G.faults gates.old })
+            (record { log = G.log gates.new; faults = G.faults gates.new }) }
+        ensures fits { Fits ActKind.Resolve (finish_of result) }
+    {
+        match self.repository.find(url.as_str()) {
+            Some(bytes) => ending_by(alloc, url, bytes.as_slice()),
+            None => self.fetch_manifest(rt, alloc, gates, idle, url),
+        }
+    }
+
+    /// What the gates are asked for the manifest of this URL. `Err` where memory runs out.
+    fn question(&self, url: &Text) -> Result<Fetch, Memory>
+        ensures { let repo = self.now.shelf.repo in
+            IfOk result (λ what. what ≡ record { repo = repo; url = url.now }) }
+    {
+        let repo = self.repo.clone()?;
+        let url = url.clone()?;
+        Ok(Fetch { repo, url })
+    }
+
+    /// The same, by what the gates fetch for it.
+    fn fetch_manifest<R: Threads + Wait + Sync, G: Gates>(
+        &self,
+        rt: &R,
+        alloc: Global,
+        gates: &mut G,
+        idle: &Pass<Entry, Frame>,
+        url: Text,
+    ) -> Ending
+        requires { block_at self.now.shelf.blocks url ≡ None }
+        ensures did { (w : TheWork) → absolute_of w.base w.url ≡ Ok url
+            → Did self.now.shelf w ActKind.Resolve (finish_of result)
+            (record { log = G.log gates.old; faults = G.faults gates.old })
+            (record { log = G.log gates.new; faults = G.faults gates.new }) }
+        ensures fits { Fits ActKind.Resolve (finish_of result) }
+    {
+        let Ok(what) = self.question(&url) else {
+            return Ending::Other(Outcome::NoMemory);
+        };
+        match gates.fetch(rt, alloc, idle, &what) {
+            Fetched::Found(bytes) => ending_by(alloc, url, bytes.as_slice()),
+            Fetched::Absent => Ending::Other(Outcome::Absent),
+            Fetched::Failed => Ending::Other(Outcome::GateFailed),
+            Fetched::Memory => Ending::Other(Outcome::NoMemory),
+        }
+    }
+
+    /// Does the work of an action, with the pass of its caller idle. It gives the instance's eager
+    /// children back.
+    pub(crate) fn do_work<R: Threads + Wait + Sync, G: Gates>(
+        &self,
+        rt: &R,
+        alloc: Global,
+        gates: &mut G,
+        idle: &Pass<Entry, Frame>,
+        kind: ActKind,
+        work: Work,
+    ) -> (Ending, List<u64>)
+        ensures did { Did self.now.shelf work kind (finish_of result.0)
+            (record { log = G.log gates.old; faults = G.faults gates.old })
+            (record { log = G.log gates.new; faults = G.faults gates.new }) }
+        ensures fits { Fits kind (finish_of result.0) }
+        ensures eager { kind ≡ ActKind.Start → result.1 ≡ work.eager }
+    {
+        match kind {
+            ActKind::Resolve => {
+                let ending = self.do_resolve(rt, alloc, gates, idle, &work);
+                (ending, work.eager)
+            }
+            ActKind::Start => launch(rt, gates, idle, work),
+            ActKind::Stop => (halt(rt, gates, idle, work), List::new(alloc)),
+        }
+    }
+}

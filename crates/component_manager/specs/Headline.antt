@@ -1,0 +1,59 @@
+-- The headline: what `run` promises of a script that it serves.
+use Rattle.std.specs.Prelude.{◌≡◌, ◌≢◌, ◌⊎◌, ℕ, ◌<◌, List, [], ◌++◌, map, All, Option, Some, Result, Ok, Err, slice_get}
+use Rattle.std.specs.Io.KnownBytes.{Appends}
+use Rattle.cm_world.specs.declared.answer.Refusal.TheVariants as refusal
+use Rattle.cm_world.specs.declared.frame.Frame.{Frame}
+use Rattle.cm_world.specs.declared.reply.Entry.{Entry}
+use Rattle.cm_world.specs.World.{start}
+use Rattle.cm_world.specs.Legal.{Legal}
+use Rattle.cm_command.specs.declared.script.Line.{Line}
+use Rattle.cm_gate.specs.declared.asked.Asked.{Asked}
+use Rattle.cm_steps.specs.Lasting.{HasStableRoutes, HasOneOutcome}
+use Rattle.cm_manager.specs.Turns.{own_entries}
+use Rattle.cm_manager.specs.Closed.{HasEnds}
+use Rattle.cm_manager.specs.Work.{Shelf, WorksWith}
+use Rattle.cm_lanes.specs.Script.{Answered, answered_lines, ArePhases}
+use Rattle.component_manager.specs.Printed.{phases_text, journal_of}
+use Rattle.component_manager.specs.Written.{AppendsFront}
+use Rattle.component_manager.specs.declared.call.RunOptions.{RunOptions}
+use Rattle.component_manager.specs.declared.stock.Served.{Served}
+
+-- where manifests are looked for: in the script's blocks, and then by the gates in that folder
+abbrev pub shelf_of : RunOptions → Served → Shelf
+shelf_of options served = record { repo = options.repository; blocks = served.repository }
+
+-- the line was answered, and not for want of memory
+abbrev pub IsNoWant : Answered → Type 0
+IsNoWant a = a.result ≢ Err refusal.Memory
+
+-- what the lanes make of these lines is this history: a legal one from that frame, in which each lane's entries are those of its own lines in order, phase after phase
+pub record MakesHistory (f : Frame) (phases : List (List Line)) (answered : List (List Answered)) (history : List Entry) : Type 0 where
+  pub lines : map answered_lines answered ≡ phases
+  pub legal : Legal (start f) history
+  pub performed : ArePhases (λ c. f) answered [] history
+  pub callers : All (λ (e : Entry). e.caller < 16) history
+
+-- what holds of the history of every run: the routes that were opened in it are stable, and each action that was begun has its end and one outcome
+pub record KeepsLaws (f : Frame) (history : List Entry) : Type 0 where
+  pub routes : HasStableRoutes f history
+  pub outcomes : HasOneOutcome history
+  pub ends : HasEnds history
+
+module _ {G : Type 0} (log_of : G → Option (List Asked)) (faults_of : G → ℕ) where
+  -- each lane's entries owe their ends to the shelf and to that lane's gates
+  abbrev pub WorksEach : Shelf → List Entry → List G → List G → Type 0
+  WorksEach shelf history gates₀ gates₁ = (k : ℕ) (g h : G) → slice_get gates₀ k ≡ Some g → slice_get gates₁ k ≡ Some h
+      → WorksWith shelf (own_entries k history) (log_of g) (log_of h) (faults_of g) (faults_of h)
+
+  -- the run of a script that is served: its history, its text, and what was written of it
+  pub record RunsScript (options : RunOptions) (served : Served) (gates₀ gates₁ : List G) (history : List Entry) (status : ℕ) (out₀ out₁ : Option (List ℕ)) : Type 0 where
+    pub answered : List (List Answered)
+    pub makes : MakesHistory served.frame served.phases answered history
+    pub laws : KeepsLaws served.frame history
+    pub work : WorksEach (shelf_of options served) history gates₀ gates₁
+    pub text : List ℕ
+    pub prints : text ≡ phases_text answered ++ journal_of options.journal served.frame history
+    -- at 0 all of it was written, and no line was answered for want of memory
+    pub all : status ≡ 0 → Appends out₀ out₁ text × All (All IsNoWant) answered
+    -- at 4 and 6 a front of it was written
+    pub front : AppendsFront out₀ out₁ text

@@ -1,0 +1,195 @@
+//! The run of a script that is served, and what is written of it.
+
+ghost use Rattle.std.specs.Prelude.{◌≡◌, ◌≢◌, [], All, List as Seq, Err, IfOk, None, Some, length, false};
+ghost use Rattle.cm_io.specs.Outside.{Rose};
+ghost use Rattle.cm_reply.specs.Journal as journal;
+ghost use Rattle.cm_lanes.specs.declared.said.Said.{Said as TheSaid};
+ghost use Rattle.cm_lanes.specs.Script.{IsFit};
+ghost use Rattle.component_manager.specs.Headline.{RunsScript};
+ghost use Rattle.component_manager.specs.Printed.{IsPrinted, printed_text};
+ghost use Rattle.component_manager.specs.Run.{IsScriptRun};
+ghost use Rattle.component_manager.specs.Written.{AppendsFront};
+
+use crate::answers::{push_answers, push_entries};
+use crate::call::RunOptions;
+use crate::performing::{Performed, perform};
+use crate::ran::{Ran, ended, want_of_memory};
+use crate::stock::Served;
+use cm_command::Line;
+use cm_gate::Gates;
+use cm_io::{Put, Sink, put_all};
+use cm_lanes::Said;
+use cm_names::{List, Memory, Text};
+use cm_reply::header_text;
+use cm_steps::Realm;
+use cm_world::{Entry, Frame, Refusal};
+use std::alloc::Global;
+use std::sync::Wait;
+use std::thread::Threads;
+
+/// What is printed behind the answers.
+#[derive(Clone, Copy)]
+struct Journal<'a> {
+    /// Whether the journal is wanted.
+    wanted: bool,
+    /// Its first lines.
+    head: &'a Text,
+    /// The history.
+    entries: &'a [Entry],
+}
+
+/// The head of the journal of a realm, and the realm.
+fn new_realm(alloc: Global, frame: Frame) -> Result<(Text, Realm), Memory>
+    ensures { IfOk result (λ made. (made.0 ≡ journal.header_text frame)
+        × (made.1 ≡ record { frame = frame; entries = [] })) }
+{
+    let head = header_text(alloc, &frame)?;
+    let Frame {
+        root,
+        builtins,
+        limits,
+    } = frame;
+    let realm = Realm::new(alloc, root, builtins, limits)?;
+    Ok((head, realm))
+}
+
+/// Whether memory ran out for one of the answers.
+fn is_wanting(said: &[Said]) -> bool
+    ensures { result ≡ false → All (λ s. s.result ≢ Err Refusal.Memory) said.now }
+{
+    said.iter()
+        .any(|s| matches!(s.result, Err(Refusal::Memory)))
+}
+
+/// All that is printed.
+fn text_of(
+    alloc: Global,
+    phases: &[List<Line>],
+    said: &[Said],
+    journal: &Journal<'_>,
+) -> Result<Text, Memory>
+    ensures { IfOk result (λ text. text ≡ printed_text phases.now said.now
+        journal.now.wanted journal.now.head.now journal.now.entries.now) }
+{
+    let mut text = Text::new(alloc);
+    push_answers(alloc, &mut text, phases, said)?;
+    if !journal.wanted {
+        return Ok(text);
+    }
+    text.push_str(journal.head.as_str())?;
+    push_entries(alloc, &mut text, journal.entries)?;
+    Ok(text)
+}
+
+/// Writes all that is printed. The result is the status: 0; 4 where `out` failed; or 6 where memory
+/// ran out, for the text or for an answer.
+fn print<R: Threads + Wait + Sync, K: Sink>(
+    rt: &R,
+    alloc: Global,
+    out: &mut K,
+    phases: &[List<Line>],
+    said: &[Said],
+    journal: &Journal<'_>,
+) -> u8
+    ensures printed { IsPrinted (printed_text phases.now said.now journal.now.wanted
+        journal.now.head.now journal.now.entries.now) said.now result (K.written out.old)
+        (K.written out.new) }
+    ensures cause { result ≡ 4 → Rose (K.faults out.old) (K.faults out.new) }
+    ensures others { IsScriptRun result }
+{
+    let Ok(text) = text_of(alloc, phases, said, journal) else {
+        return 6;
+    };
+    let put = put_all(rt, out, text.as_str().as_bytes());
+    if is_wanting(said) {
+        return 6;
+    }
+    match put {
+        Put::Done => 0,
+        Put::WriteFault(_) => 4,
+    }
+}
+
+/// Says on the error stream what the status is for, where it is want of memory.
+fn report<R: Threads + Wait + Sync, E: Sink>(rt: &R, err: &mut E, status: u8) {
+    if status == 6 {
+        want_of_memory(rt, err);
+    }
+}
+
+/// Writes what was made of a script.
+fn print_performed<R: Threads + Wait + Sync, K: Sink, E: Sink, G>(
+    rt: &R,
+    alloc: Global,
+    out: &mut K,
+    err: &mut E,
+    phases: &[List<Line>],
+    head: &Text,
+    wanted: bool,
+    done: Performed<G>,
+) -> Ran<G>
+    ensures said { (said : Seq TheSaid) → done.said ≡ Some said
+        → IsPrinted (printed_text phases.now said wanted head.now done.book.entries) said
+        result.status (K.written out.old) (K.written out.new) }
+    ensures unsaid { done.said ≡ None
+        → (result.status ≡ 6) × AppendsFront (K.written out.old) (K.written out.new) [] }
+    ensures book { result.book ≡ done.book }
+    ensures gates { result.gates ≡ done.gates }
+    ensures cause { result.status ≡ 4 → Rose (K.faults out.old) (K.faults out.new) }
+    ensures others { IsScriptRun result.status }
+{
+    let Performed { book, gates, said } = done;
+    let Some(said) = said else {
+        return Ran {
+            status: want_of_memory(rt, err),
+            book,
+            gates,
+        };
+    };
+    let journal = Journal {
+        wanted,
+        head,
+        entries: book.entries(),
+    };
+    let status = print(rt, alloc, out, phases, said.as_slice(), &journal);
+    report(rt, err, status);
+    Ran {
+        status,
+        book,
+        gates,
+    }
+}
+
+/// Runs a script that is served, and writes the answers and, if it is wanted, the journal.
+pub fn run_served<R: Threads + Wait + Sync, K: Sink, E: Sink, G: Gates + Send + Drop>(
+    rt: &R,
+    alloc: Global,
+    options: RunOptions,
+    served: Served,
+    out: &mut K,
+    err: &mut E,
+    gates: List<G>,
+) -> Ran<G>
+    requires gates { length gates ≡ 16 }
+    requires fit { All (λ lines. All IsFit lines) served.phases }
+    ensures gates { length result.gates ≡ 16 }
+    ensures runs { RunsScript G.log G.faults options served gates result.gates
+        result.book.entries result.status (K.written out.old) (K.written out.new) }
+    ensures cause { result.status ≡ 4 → Rose (K.faults out.old) (K.faults out.new) }
+    ensures others { IsScriptRun result.status }
+{
+    let RunOptions {
+        journal,
+        repository: repo,
+    } = options;
+    let Served {
+        repository,
+        frame,
+        phases,
+    } = served;
+    let Ok((head, realm)) = new_realm(alloc, frame) else {
+        return ended(alloc, want_of_memory(rt, err), gates);
+    };
+    let done = perform(rt, alloc, realm, repository, repo, phases.as_slice(), gates);
+    print_performed(rt, alloc, out, err, phases.as_slice(), &head, journal, done)
+}
