@@ -9,6 +9,7 @@ use Rattle.cm_turn.specs.History.{StartsWith}
 use Rattle.cm_turn.specs.Passes.{LockView, seen_up_to}
 use Rattle.cm_world.specs.declared.frame.Frame.{Frame}
 use Rattle.cm_world.specs.declared.reply.Entry.{Entry}
+use Rattle.cm_world.proofs.Finding.{some_same}
 use Rattle.cm_command.specs.declared.script.Line.{Line}
 use Rattle.cm_gate.specs.declared.asked.Asked.{Asked}
 use Rattle.cm_manager.specs.Asking.{no_frame, frame_of, frame_in}
@@ -21,7 +22,6 @@ use Rattle.cm_lanes.specs.Kept.{Keeps, gates_view}
 use Rattle.cm_lanes.specs.Lane.{IsReady, Met, MetAll, GrewUnless}
 use Rattle.cm_lanes.specs.Phases.{told_to, IsLaneOf, AreLanes, frame_in_lane, lane_frames, Passed, PassedAll, LaneRan, LanesRan}
 use Rattle.cm_lanes.proofs.Keeping.{keeps_learns, keeps_trans}
-use Rattle.cm_lanes.proofs.Rounds.{some_same}
 use Rattle.cm_lanes.proofs.Weaving.{Parts, Woven, weave}
 
 -- one phase behind others

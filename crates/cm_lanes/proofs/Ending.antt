@@ -7,6 +7,7 @@ use Rattle.std.proofs.lemmas.Option.{slice_get-get_or, slice_get_within, get_or_
 use Rattle.cm_turn.specs.Passes.{LockView}
 use Rattle.cm_world.specs.declared.frame.Frame.{Frame}
 use Rattle.cm_world.specs.declared.reply.Entry.{Entry}
+use Rattle.cm_world.proofs.Finding.{some_same}
 use Rattle.cm_command.specs.declared.script.Line.{Line}
 use Rattle.cm_gate.specs.declared.asked.Asked.{Asked}
 use Rattle.cm_manager.specs.Asking.{no_frame, frame_of}
@@ -24,7 +25,6 @@ use Rattle.cm_lanes.specs.Lanes.{Ran, RanOrNot}
 use Rattle.cm_lanes.specs.Phases.{told_to, AreLanes, lane_frames, frame_in_lane, LanesRan}
 use Rattle.cm_lanes.specs.Parts.{AreParts, HasPassIn, IsNew}
 use Rattle.cm_lanes.specs.Weave.{Queue}
-use Rattle.cm_lanes.proofs.Rounds.{some_same}
 
 -- a slice that took the place of a whole vector
 pub whole_slice : {A : Type 0} (xs ys : List A) (n : ℕ) → n ≡ length xs → length ys ≡ length xs → take n (ys ++ drop (length ys) xs) ≡ ys
@@ -35,7 +35,7 @@ whole_slice xs ys n is_n long =
 phase_same : (f g : ℕ → Frame) (a : List Answered) (h₀ h₁ : List Entry) → ((c : ℕ) → c < 16 → f c ≡ g c) → IsPhase f a h₀ h₁ → IsPhase g a h₀ h₁
 phase_same f g a h₀ h₁ same is = record { grows = is.grows; lanes = λ c lt. subst (λ (x : Frame). Follows x c (answers_of c a) h₀ h₁) (same c lt) (is.lanes c lt) }
 
-phases_same : (f g : ℕ → Frame) (all : List (List Answered)) (h₀ h₁ : List Entry) → ((c : ℕ) → c < 16 → f c ≡ g c) → ArePhases f all h₀ h₁ → ArePhases g all h₀ h₁
+pub phases_same : (f g : ℕ → Frame) (all : List (List Answered)) (h₀ h₁ : List Entry) → ((c : ℕ) → c < 16 → f c ≡ g c) → ArePhases f all h₀ h₁ → ArePhases g all h₀ h₁
 phases_same f g [] h₀ h₁ same none_left = ArePhases.none_left
 phases_same f g (a ∷ rest_of) h₀ h₁ same (one_first {h₁ = h} first rest) = ArePhases.one_first (phase_same f g a h₀ h same first) (phases_same f g rest_of h h₁ same rest)
 

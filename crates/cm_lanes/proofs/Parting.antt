@@ -60,10 +60,12 @@ calls_grow : (f : Frame) (c : ℕ) (cmd : Command) (a b : List Entry) (r : Resul
 calls_grow f c (command.Resolve t) a b r is = on_row_grows f c t _ a b r (acted_grows f c _ _) is
 calls_grow f c (command.Start t) a b r is = on_row_grows f c t _ a b r (acted_grows f c _ _) is
 calls_grow f c (command.Stop t) a b r is = on_row_grows f c t _ a b r (acted_grows f c _ _) is
+calls_grow f c (command.ListChildren t coll) a b r is = on_row_grows f c t _ a b r (tried_grows f c _) is
 calls_grow f c (command.OpenUse t path) a b r is = on_row_grows f c t _ a b r (tried_grows f c _) is
 calls_grow f c (command.OpenExposed t name) a b r is = on_row_grows f c t _ a b r (tried_grows f c _) is
 calls_grow f c (command.RouteOf t path) a b r is = on_row_grows f c t _ a b r (tried_grows f c _) is
 calls_grow f c (command.Show t) a b r is = on_row_grows f c t _ a b r (tried_grows f c _) is
+calls_grow f c (command.Survey t) a b r is = on_row_grows f c t _ a b r (tried_grows f c _) is
 calls_grow f c (command.Exited t) a b r is = on_row_grows f c t _ a b r (tried_grows f c _) is
 calls_grow f c _ a b r is = absurd is
 
@@ -127,10 +129,12 @@ calls_lost : (f : Frame) (c : ℕ) (cmd : Command) (h : List Entry) → IsTrue (
 calls_lost f c (command.Resolve t) h built = on_row_lost f c t _ h (acted_lost f c _ _ h refl)
 calls_lost f c (command.Start t) h built = on_row_lost f c t _ h (acted_lost f c _ _ h refl)
 calls_lost f c (command.Stop t) h built = on_row_lost f c t _ h (acted_lost f c _ _ h refl)
+calls_lost f c (command.ListChildren t coll) h built = on_row_lost f c t _ h (tried_lost f c _ h)
 calls_lost f c (command.OpenUse t path) h built = on_row_lost f c t _ h (tried_lost f c _ h)
 calls_lost f c (command.OpenExposed t name) h built = on_row_lost f c t _ h (tried_lost f c _ h)
 calls_lost f c (command.RouteOf t path) h built = on_row_lost f c t _ h (tried_lost f c _ h)
 calls_lost f c (command.Show t) h built = on_row_lost f c t _ h (tried_lost f c _ h)
+calls_lost f c (command.Survey t) h built = on_row_lost f c t _ h (tried_lost f c _ h)
 calls_lost f c (command.Exited t) h built = on_row_lost f c t _ h (tried_lost f c _ h)
 calls_lost f c _ h built = absurd (cc built)
 

@@ -4,15 +4,13 @@ use Rattle.std.proofs.lemmas.List.{get_or_default}
 use Rattle.cm_turn.specs.History.{StartsWith}
 use Rattle.cm_turn.specs.Passes.{LockView, seen_up_to}
 use Rattle.cm_world.specs.declared.reply.Entry.{Entry}
+use Rattle.cm_world.proofs.Finding.{some_same}
 use Rattle.cm_manager.specs.Contract.{RealmPass}
 use Rattle.cm_manager.proofs.Joining.{starts-trans}
 use Rattle.cm_lanes.specs.declared.lane.Lane.{Lane}
 use Rattle.cm_lanes.specs.Lane.{IsOwnPass, HasPass, Met, MetBoth, MetAll}
 use Rattle.cm_lanes.specs.Meeting.{MetWithin, HasSeenWithin, MeetsEach}
 use Rattle.cm_lanes.proofs.Keeping.{starts_same}
-
-pub some_same : {A : Type 0} (x y : A) → Some x ≡ Some y → x ≡ y
-some_same x y e = cc e
 
 -- two lists that begin with each other are one
 no_more : (xs ys : List Entry) → xs ++ ys ≡ xs → ys ≡ []

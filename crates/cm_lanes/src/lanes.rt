@@ -12,7 +12,7 @@ use crate::Lanes;
 use crate::parts::{Parts, Room, make_lanes, room_for, take_apart};
 use crate::phase::run_all;
 use crate::weave::weave;
-use cm_command::{Line, Script};
+use cm_command::Line;
 use cm_gate::Gates;
 use cm_manager::Manager;
 use cm_names::List;
@@ -33,7 +33,7 @@ use std::thread::Threads;
 /// What is said to the lines stands in the order of the script. `None` means that memory ran out
 /// for the list itself: either before anything was done, and then passes and gates are as before;
 /// or later, and then all lines were performed, though what was said to them isn't handed back.
-pub fn run_phases<R: Threads + Wait + Sync, G: Gates + Send + Drop>(
+pub fn run_lanes<R: Threads + Wait + Sync, G: Gates + Send + Drop>(
     rt: &R,
     alloc: Global,
     manager: &Manager,
@@ -61,26 +61,6 @@ pub fn run_phases<R: Threads + Wait + Sync, G: Gates + Send + Drop>(
     let lanes = run_all(rt, alloc, manager, lanes, phases);
     let parts = take_apart(lanes, parts);
     hand_back(alloc, phases, parts)
-}
-
-/// Runs all phases of a script, as [`run_phases`] does.
-pub fn run_lanes<R: Threads + Wait + Sync, G: Gates + Send + Drop>(
-    rt: &R,
-    alloc: Global,
-    manager: &Manager,
-    passes: List<Pass<Entry, Frame>>,
-    gates: List<G>,
-    script: &Script,
-) -> Lanes<G>
-    requires passes { AreSixteen manager.now.turn passes }
-    requires gates { length gates ≡ 16 }
-    requires fit { All (λ lines. All IsFit lines) script.now.phases }
-    ensures ran { RanOrNot G.log G.faults manager.now.shelf script.now.phases passes gates result }
-    ensures passes { AreSixteen manager.now.turn result.passes }
-    ensures gates { length result.gates ≡ 16 }
-    ensures ended { All (λ p. HasEnds p.mine) passes → All (λ p. HasEnds p.mine) result.passes }
-{
-    run_phases(rt, alloc, manager, passes, gates, script.phases.as_slice())
 }
 
 /// Hands back what lanes were taken apart into, with what was said to them in the order of the

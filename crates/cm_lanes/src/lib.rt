@@ -23,5 +23,5 @@ mod phase;
 pub mod said;
 mod weave;
 
-pub use lanes::{run_lanes, run_phases};
+pub use lanes::run_lanes;
 pub use said::{Lanes, Said};

@@ -1,5 +1,6 @@
 -- Why the work of an action is what it is said to be.
-use Rattle.std.proofs.Common.{◌≡◌, ◌≢◌, inl, inr, ℕ, ◌≤◌, List, [], ◌∷◌, Option, Some, None, Result, Ok, Err, Bool, true, false, refl, sym, ap, subst, ◌∙◌, arith}
+use Rattle.std.proofs.Common.{◌≡◌, ◌≢◌, inl, inr, ℕ, ◌≤◌, List, [], ◌∷◌, Option, Some, None, Result, Ok, Err, Bool, true, false, refl, sym, ap, subst, ◌∙◌}
+use Rattle.std.proofs.Math.Nat.{le_refl}
 use Rattle.cm_io.specs.Outside.{Rose}
 use Rattle.cm_decl.specs.declared.decl.Decl.{Decl}
 use Rattle.cm_decl.specs.declared.section.Section.{Section}
@@ -70,15 +71,12 @@ not_failed : (url : List ℕ) (judged : Result Decl FaultNote) → is_gate_failu
 not_failed url (Ok d) = refl
 not_failed url (Err note) = refl
 
-le_self : (n : ℕ) → n ≤ n
-le_self n = grind arith
-
 quiet : (shelf : Shelf) (w : Work) (k : ActKind) (end : Finish) (g : GatesView) → is_gate_failure end ≡ false → Does shelf w k end [] → Did shelf w k end g g
 quiet shelf w k end g none does = record {
   asked = [];
   does = does;
   log = grew_nothing g.log;
-  faults = subst (λ (b : Bool). RoseBy (failures_of b) g.faults g.faults) (sym none) (rose_nothing g.faults g.faults (le_self g.faults));
+  faults = subst (λ (b : Bool). RoseBy (failures_of b) g.faults g.faults) (sym none) (rose_nothing g.faults g.faults (le_refl g.faults));
 }
 
 pub did_kept : (shelf : Shelf) (w : Work) (url bytes : List ℕ) (end : Finish) (g : GatesView) → absolute_of w.base w.url ≡ Ok url → block_at shelf.blocks url ≡ Some bytes → EndsBy url bytes end → Did shelf w kind.Resolve end g g
@@ -135,7 +133,7 @@ pub did_fetch : (shelf : Shelf) (w : Work) (url bytes : List ℕ) (end : Finish)
 did_fetch shelf w url bytes end g h at none grew later (inl e) =
     subst (λ (end : Finish). Did shelf w kind.Resolve end g h) (sym e.2) (asked_well shelf w kind.Resolve (resolved_by url e.0) (fetch_of shelf url (fetched.Found bytes)) g h (not_failed url e.0) (Does.fetches at none (FetchEnds.found e.1)) grew later)
 did_fetch shelf w url bytes end g h at none grew later (inr e) =
-    subst (λ (end : Finish). Did shelf w kind.Resolve end g h) (sym e) (asked_well shelf w kind.Resolve (finish.Other outcome.NoMemory) (fetch_of shelf url (fetched.Found bytes)) g h refl (Does.wanting_behind at none) grew later)
+    subst (λ (end : Finish). Did shelf w kind.Resolve end g h) (sym e) (asked_well shelf w kind.Resolve (finish.Other outcome.NoMemory) (fetch_of shelf url (fetched.Found bytes)) g h refl (Does.fetches at none FetchEnds.unread) grew later)
 
 pub did_absent : (shelf : Shelf) (w : Work) (url : List ℕ) (g h : GatesView) → absolute_of w.base w.url ≡ Ok url → block_at shelf.blocks url ≡ None → Grew g.log h.log (fetch_of shelf url fetched.Absent ∷ []) → g.faults ≤ h.faults → Did shelf w kind.Resolve (finish.Other outcome.Absent) g h
 did_absent shelf w url g h at none grew later = asked_well shelf w kind.Resolve (finish.Other outcome.Absent) (fetch_of shelf url fetched.Absent) g h refl (Does.fetches at none FetchEnds.absent) grew later

@@ -101,7 +101,7 @@ grown_has_ends mine part whole ends closed is = subst HasEnds (sym is) (both_hav
 
 -- ---- histories
 
-own_caller : (c : ℕ) → (c == c) ≡ true
+pub own_caller : (c : ℕ) → (c == c) ≡ true
 own_caller c = search rules
 
 -- what each caller began has its end among that caller's entries, which stand in the history

@@ -1,5 +1,6 @@
 -- What helps of a call come to, one behind the other.
-use Rattle.std.proofs.Common.{◌≡◌, ℕ, ◌+◌, ◌≤◌, List, [], ◌∷◌, ◌++◌, length, filter, None, Bool, true, false, IsTrue, if◌then◌else◌, refl, sym, ap, subst, ◌∙◌, append_assoc, append-nil, arith}
+use Rattle.std.proofs.Common.{◌≡◌, ℕ, ◌+◌, List, [], ◌∷◌, ◌++◌, length, filter, None, Bool, true, false, IsTrue, if◌then◌else◌, refl, sym, ap, subst, ◌∙◌, append_assoc, append-nil}
+use Rattle.std.proofs.Math.Nat.{le_refl}
 use Rattle.std.proofs.lemmas.List.{length-append}
 use Rattle.std.proofs.lemmas.List.Elements.{filter-append}
 use Rattle.cm_world.specs.declared.frame.Frame.{Frame}
@@ -71,9 +72,6 @@ helps_as shelf f Way Other p q g h name help = record {
 
 -- ---- single turns
 
-le_self : (n : ℕ) → n ≤ n
-le_self n = grind arith
-
 -- no entry
 pub helps_nothing : (shelf : Shelf) (f : Frame) (Way : List Entry → List Entry → Type 0) (p q : RealmPass) (g : GatesView) → IsSamePass f p q → Way p.seen q.seen → q.mine ≡ p.mine → Helps shelf f Way p q g g
 helps_nothing shelf f Way p q g same way mine = record {
@@ -82,7 +80,7 @@ helps_nothing shelf f Way p q g same way mine = record {
   part = [];
   mine = mine ∙ sym (append-nil p.mine);
   closed = empty;
-  work = record { asked = []; works = nothing; log = grew_nothing g.log; faults = rose_nothing g.faults g.faults (le_self g.faults) };
+  work = record { asked = []; works = nothing; log = grew_nothing g.log; faults = rose_nothing g.faults g.faults (le_refl g.faults) };
 }
 
 -- an entry that is no end of an action
@@ -109,7 +107,7 @@ helps_plain shelf f Way p q g e r no_end apart none same way mine = record {
     asked = [];
     works = passes apart nothing;
     log = grew_nothing g.log;
-    faults = subst (λ (n : ℕ). RoseBy n g.faults g.faults) (sym (no_failure p.caller e r no_end)) (rose_nothing g.faults g.faults (le_self g.faults));
+    faults = subst (λ (n : ℕ). RoseBy n g.faults g.faults) (sym (no_failure p.caller e r no_end)) (rose_nothing g.faults g.faults (le_refl g.faults));
   };
 }
 
@@ -146,6 +144,6 @@ helps_joined shelf f Way p q r g k i a o first second way joined ended = record 
     asked = [];
     works = passes refl (passes refl nothing);
     log = grew_nothing g.log;
-    faults = rose_nothing g.faults g.faults (le_self g.faults);
+    faults = rose_nothing g.faults g.faults (le_refl g.faults);
   };
 }

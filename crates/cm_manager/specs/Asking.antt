@@ -39,7 +39,9 @@ is_asked (event.Begin kind i) = true
 is_asked (event.Route i path) = true
 is_asked (event.OpenUse i path) = true
 is_asked (event.OpenExposed i name) = true
+is_asked (event.Listing i coll) = true
 is_asked (event.Show i) = true
+is_asked (event.Survey i) = true
 is_asked (event.Exited i) = true
 is_asked _ = false
 

@@ -56,10 +56,12 @@ abbrev pub is_built : Command → Bool
 is_built (command.Resolve t) = true
 is_built (command.Start t) = true
 is_built (command.Stop t) = true
+is_built (command.ListChildren t coll) = true
 is_built (command.OpenUse t path) = true
 is_built (command.OpenExposed t name) = true
 is_built (command.RouteOf t path) = true
 is_built (command.Show t) = true
+is_built (command.Survey t) = true
 is_built (command.Exited t) = true
 is_built _ = false
 
@@ -68,10 +70,12 @@ abbrev pub Calls : Frame → ℕ → Command → Way (Result Answer Refusal)
 Calls f c (command.Resolve t) = OnRow f c t (ActedOn f c kind.Resolve resolved_answer)
 Calls f c (command.Start t) = OnRow f c t (ActedOn f c kind.Start started_answer)
 Calls f c (command.Stop t) = OnRow f c t (ActedOn f c kind.Stop stopped_answer)
+Calls f c (command.ListChildren t coll) = OnRow f c t (Tried f c (λ i. event.Listing i coll))
 Calls f c (command.OpenUse t path) = OnRow f c t (Tried f c (λ i. event.OpenUse i path))
 Calls f c (command.OpenExposed t name) = OnRow f c t (Tried f c (λ i. event.OpenExposed i name))
 Calls f c (command.RouteOf t path) = OnRow f c t (Tried f c (λ i. event.Route i path))
 Calls f c (command.Show t) = OnRow f c t (Tried f c event.Show)
+Calls f c (command.Survey t) = OnRow f c t (Tried f c event.Survey)
 Calls f c (command.Exited t) = OnRow f c t (Tried f c event.Exited)
 Calls f c _ = λ h₀ h₁ a. ⊥
 

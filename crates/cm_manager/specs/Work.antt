@@ -57,9 +57,10 @@ pub record Shelf : Type 0 where
   pub repo : Option (List ℕ)
   pub blocks : Blocks
 
--- the end of a resolve by what the gates fetched for its URL
+-- the end of a resolve by what the gates fetched for its URL; memory may be wanting to read what was found
 pub data FetchEnds (url : List ℕ) : Fetched → Finish → Type 0 where
   found : {bytes : List ℕ} {judged : Result Decl FaultNote} → Judges bytes judged → FetchEnds url (fetched.Found bytes) (resolved_by url judged)
+  unread : {bytes : List ℕ} → FetchEnds url (fetched.Found bytes) (finish.Other outcome.NoMemory)
   absent : FetchEnds url fetched.Absent (finish.Other outcome.Absent)
   failed : FetchEnds url fetched.Failed (finish.Other outcome.GateFailed)
   no_memory : FetchEnds url fetched.Memory (finish.Other outcome.NoMemory)
@@ -84,9 +85,8 @@ pub data Does (shelf : Shelf) (w : Work) : ActKind → Finish → List Asked →
   no_url : {fault : UrlFault} → absolute_of w.base w.url ≡ Err fault → Does shelf w kind.Resolve (finish.Other outcome.BadUrl) []
   kept : {url bytes : List ℕ} {judged : Result Decl FaultNote} → absolute_of w.base w.url ≡ Ok url → block_at shelf.blocks url ≡ Some bytes → Judges bytes judged → Does shelf w kind.Resolve (resolved_by url judged) []
   fetches : {url : List ℕ} {answer : Fetched} {end : Finish} → absolute_of w.base w.url ≡ Ok url → block_at shelf.blocks url ≡ None → FetchEnds url answer end → Does shelf w kind.Resolve end (Fetch (record { repo = shelf.repo; url = url }) answer ∷ [])
-  -- memory is wanting before the question or behind it
+  -- memory is wanting before a question
   wanting : Does shelf w kind.Resolve (finish.Other outcome.NoMemory) []
-  wanting_behind : {url : List ℕ} {answer : Fetched} → absolute_of w.base w.url ≡ Ok url → block_at shelf.blocks url ≡ None → Does shelf w kind.Resolve (finish.Other outcome.NoMemory) (Fetch (record { repo = shelf.repo; url = url }) answer ∷ [])
   -- an instance without a program starts and stops without a question
   starts : w.runner ≡ None → Does shelf w kind.Start (finish.Other outcome.Started) []
   launches : {runner : List ℕ} {answer : Launched} → w.runner ≡ Some runner → Does shelf w kind.Start (launch_ends answer) (Launch (job_of w runner) answer ∷ [])

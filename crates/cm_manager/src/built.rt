@@ -13,10 +13,12 @@ pub fn is_built(command: &Command) -> bool
         Command::Resolve(_)
         | Command::Start(_)
         | Command::Stop(_)
+        | Command::ListChildren { .. }
         | Command::OpenUse { .. }
         | Command::OpenExposed { .. }
         | Command::RouteOf { .. }
         | Command::Show(_)
+        | Command::Survey(_)
         | Command::Exited(_) => true,
         _ => false,
     }

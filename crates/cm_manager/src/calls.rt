@@ -129,6 +129,38 @@ impl Manager {
         }
     }
 
+    /// Lists the children that an instance has in a collection and that aren't being destroyed,
+    /// as `ListChildren` of `fuchsia.component.Realm` does: `Children`, by their incarnations.
+    ///
+    /// - `NotFound` with the part of the moniker that was found, where nothing stands there;
+    /// - `Gone` or `Shut` where an instance doesn't live, or can't be resolved any more;
+    /// - `CollectionNotFound` where the instance declares no such collection;
+    /// - `CannotResolve` with the action and its outcome, where a resolve failed;
+    /// - `HistoryFull` where the history has no room for what is needed, `Memory` where memory
+    ///   runs out.
+    pub fn list_children<R: Threads + Wait + Sync, G: Gates>(
+        &self,
+        rt: &R,
+        alloc: Global,
+        pass: Pass<Entry, Frame>,
+        gates: &mut G,
+        target: &Target,
+        coll: &Name,
+    ) -> (Pass<Entry, Frame>, Result<Answer, Refusal>)
+        requires lock { pass.lock ≡ self.now.turn.lock }
+        ensures performs { let f = frame_of pass in
+            Performs self.now.shelf f (command.ListChildren target.now coll.now) pass result.0
+            (record { log = G.log gates.old; faults = G.faults gates.old })
+            (record { log = G.log gates.new; faults = G.faults gates.new })
+            result.1 }
+    {
+        let (pass, row) = self.find_row(rt, alloc, pass, gates, target);
+        match row {
+            Ok(inc) => self.list_at(rt, alloc, pass, gates, inc, coll),
+            Err(refusal) => (pass, Err(refusal)),
+        }
+    }
+
     /// Opens what an instance uses at a path, and starts the provider first where it is off:
     /// `Opened` with the route.
     ///
@@ -261,6 +293,39 @@ impl Manager {
         }
     }
 
+    /// Tells how an instance and all below it are: `Surveyed` with those that aren't being
+    /// destroyed, by their incarnations, each with where it stands and the paths that it uses.
+    ///
+    /// - `NotFound` with the part of the moniker that was found, where nothing stands there;
+    /// - `Gone` or `Shut` where an instance doesn't live, or can't be resolved any more;
+    /// - `CannotResolve` with the action and its outcome, where a resolve on the way failed;
+    /// - `HistoryFull` where the history has no room for what is needed, `Memory` where memory
+    ///   runs out.
+    pub fn survey<R: Threads + Wait + Sync, G: Gates>(
+        &self,
+        rt: &R,
+        alloc: Global,
+        pass: Pass<Entry, Frame>,
+        gates: &mut G,
+        target: &Target,
+    ) -> (Pass<Entry, Frame>, Result<Answer, Refusal>)
+        requires lock { pass.lock ≡ self.now.turn.lock }
+        ensures performs { let f = frame_of pass in
+            Performs self.now.shelf f (command.Survey target.now) pass result.0
+            (record { log = G.log gates.old; faults = G.faults gates.old })
+            (record { log = G.log gates.new; faults = G.faults gates.new })
+            result.1 }
+    {
+        let (pass, row) = self.find_row(rt, alloc, pass, gates, target);
+        match row {
+            Ok(inc) => {
+                let event = Event::Survey(inc);
+                self.settle(rt, alloc, pass, gates, &event)
+            }
+            Err(refusal) => (pass, Err(refusal)),
+        }
+    }
+
     /// Tells that the program of an instance has ended by itself: `Left`, and whether it was on.
     /// It waits while an action is pending at the instance.
     ///
@@ -315,6 +380,9 @@ impl Manager {
             Command::Resolve(target) => self.resolve(rt, alloc, pass, gates, target),
             Command::Start(target) => self.start(rt, alloc, pass, gates, target),
             Command::Stop(target) => self.stop(rt, alloc, pass, gates, target),
+            Command::ListChildren { target, coll } => {
+                self.list_children(rt, alloc, pass, gates, target, coll)
+            }
             Command::OpenUse { target, path } => {
                 self.open_use(rt, alloc, pass, gates, target, path)
             }
@@ -325,6 +393,7 @@ impl Manager {
                 self.route(rt, alloc, pass, gates, target, path)
             }
             Command::Show(target) => self.show(rt, alloc, pass, gates, target),
+            Command::Survey(target) => self.survey(rt, alloc, pass, gates, target),
             Command::Exited(target) => self.exited(rt, alloc, pass, gates, target),
             _ => unreachable!(),
         }

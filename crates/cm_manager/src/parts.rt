@@ -184,4 +184,31 @@ impl Manager {
             Err(_) => (self.catch_up(rt, pass), Err(Refusal::Memory)),
         }
     }
+
+    /// Lists the children that the instance of this incarnation has in the collection.
+    pub(crate) fn list_at<R: Threads + Wait + Sync, G: Gates>(
+        &self,
+        rt: &R,
+        alloc: Global,
+        pass: Pass<Entry, Frame>,
+        gates: &mut G,
+        inc: u64,
+        coll: &Name,
+    ) -> (Pass<Entry, Frame>, Result<Answer, Refusal>)
+        requires lock { pass.lock ≡ self.now.turn.lock }
+        ensures helps { let f = frame_of pass in
+            Helps self.now.shelf f
+            (λ a b. Settles f pass.caller (event.Listing inc coll.now) a b result.1)
+            pass result.0
+            (record { log = G.log gates.old; faults = G.faults gates.old })
+            (record { log = G.log gates.new; faults = G.faults gates.new }) }
+    {
+        match coll.clone() {
+            Ok(coll) => {
+                let event = Event::Listing(inc, coll);
+                self.settle(rt, alloc, pass, gates, &event)
+            }
+            Err(_) => (self.catch_up(rt, pass), Err(Refusal::Memory)),
+        }
+    }
 }

@@ -46,7 +46,12 @@ fn tell(realm: &mut Realm, alloc: Global, caller: u32, event: &Event) -> Result<
             let name = name.clone()?;
             realm.open_exposed(alloc, caller, *inc, name)
         }
+        Event::Listing(inc, coll) => {
+            let coll = coll.clone()?;
+            realm.list(alloc, caller, *inc, coll)
+        }
         Event::Show(inc) => realm.show(alloc, caller, *inc),
+        Event::Survey(inc) => realm.survey(alloc, caller, *inc),
         Event::Exited(inc) => realm.exited(alloc, caller, *inc),
         _ => unreachable!(),
     }

@@ -1,6 +1,7 @@
-pub mod Up
 pub mod Kids
 pub mod Reading
+pub mod Behind
+pub mod Reporting
 pub mod Tasks
 pub mod Numbers
 pub mod Counts

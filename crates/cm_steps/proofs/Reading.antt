@@ -23,7 +23,7 @@ use Rattle.cm_steps.specs.Answers.{AnswersBegin, AnswersIdle}
 use Rattle.cm_steps.specs.Eager.{eager_by, eager_kids, above_url}
 use Rattle.cm_steps.specs.declared.replies.beginning.BeginAnswer.{BeginAnswer}
 use Rattle.cm_steps.specs.declared.replies.beginning.BeginAnswer.TheVariants as answer
-use Rattle.cm_steps.proofs.Up.{Told, told}
+use Rattle.cm_walk.proofs.Up.{Told, told}
 
 -- what is told of a row that lives
 pub told_of : (rows : List Row) (i : ℕ) (f : Facts) (r : Row) → Some f ≡ option_map facts_of (row_of rows i) → row_of rows i ≡ Some r → f ≡ facts_of r

@@ -4,7 +4,7 @@ pub mod Inside
 pub mod Rooms
 pub mod Steps
 pub mod Eager
-pub mod Marks
+pub mod Reporting
 pub mod Answers
 pub mod Ends
 pub mod Laws

@@ -15,8 +15,10 @@ mod ends;
 use crate::nostep::NoStep;
 use crate::replies::beginning::{BeginAnswer, begin_answer};
 use crate::replies::finding::found;
+use crate::replies::listing::listed;
 use crate::replies::opening::{open_exposed_reply, open_use_reply, route_reply};
-use crate::replies::showing::{ExitAnswer, exit_answer, shown};
+use crate::replies::showing::{ExitAnswer, exit_answer, shown, tailed};
+use crate::replies::surveying::surveyed;
 use crate::rooms::{add_join, make_room, next_action};
 use cm_book::Book;
 use cm_names::{CapPath, List, Memory, Moniker, Name, Plain, Text};
@@ -186,6 +188,64 @@ impl Realm {
     {
         let reply = shown(alloc, &self.table, inc)?;
         self.tell(caller, Event::Show(inc), reply)
+    }
+
+    /// Which children an instance has in the collection: `Listed` with those that aren't being
+    /// destroyed, by their incarnations; `NoCollection` where it declares no such collection;
+    /// `Gone`, `Need` or `Shut` of the instance itself. This is `ListChildren` of
+    /// `fuchsia.component.Realm`.
+    ///
+    /// - `HistoryFull` where one entry more doesn't fit;
+    /// - `Memory` where memory runs out.
+    pub fn list(
+        &mut self,
+        alloc: Global,
+        caller: u32,
+        inc: u64,
+        coll: Name,
+    ) -> Result<Reply, NoStep>
+        ensures step { IfOk result (λ reply.
+            Tells self.old self.new caller (Event.Listing inc coll) reply) }
+        ensures room { OnOk result (HasRoom self.old 1) }
+        ensures refused { IfErr result (RefusesQuiet self.old) }
+        ensures err { OnErr result (self.new ≡ self.old) }
+    {
+        let reply = listed(alloc, &self.table, inc, &coll)?;
+        self.tell(caller, Event::Listing(inc, coll), reply)
+    }
+
+    /// How an instance and all below it are: `Surveyed` with those that aren't being destroyed,
+    /// by their incarnations, each with its moniker and the paths that it uses; `Gone` of the
+    /// instance itself.
+    ///
+    /// - `HistoryFull` where one entry more doesn't fit;
+    /// - `Memory` where memory runs out.
+    pub fn survey(&mut self, alloc: Global, caller: u32, inc: u64) -> Result<Reply, NoStep>
+        ensures step { IfOk result (λ reply.
+            Tells self.old self.new caller (Event.Survey inc) reply) }
+        ensures room { OnOk result (HasRoom self.old 1) }
+        ensures refused { IfErr result (RefusesQuiet self.old) }
+        ensures err { OnErr result (self.new ≡ self.old) }
+    {
+        let reply = surveyed(alloc, &self.table, inc)?;
+        self.tell(caller, Event::Survey(inc), reply)
+    }
+
+    /// How long the history is: `Tailed` with the number of entries before this one, or `Gone`
+    /// of the instance. The place that the caller reads the history from is kept with the event.
+    ///
+    /// - `HistoryFull` where one entry more doesn't fit;
+    /// - `Memory` where memory runs out.
+    pub fn tail(&mut self, caller: u32, inc: u64, from: u64) -> Result<Reply, NoStep>
+        ensures step { IfOk result (λ reply.
+            Tells self.old self.new caller (Event.Tail inc from) reply) }
+        ensures room { OnOk result (HasRoom self.old 1) }
+        ensures refused { IfErr result (RefusesQuiet self.old) }
+        ensures err { OnErr result (self.new ≡ self.old) }
+    {
+        let entries = self.book.entries().len() as u64;
+        let reply = tailed(&self.table, inc, entries);
+        self.tell(caller, Event::Tail(inc, from), reply)
     }
 
     /// Where what an instance uses at the path comes from: `Given` with the route, `Void`,

@@ -1,8 +1,9 @@
 //! What a tree is asked before a step: the reply to each event, read of a tree that stays as it
 //! is.
 
-pub mod above;
 pub mod beginning;
 pub mod finding;
+pub mod listing;
 pub mod opening;
 pub mod showing;
+pub mod surveying;

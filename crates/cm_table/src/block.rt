@@ -4,14 +4,14 @@ ghost use Rattle.std.specs.Prelude.{◌≡◌, ◌≤◌, ◌<◌, ◌==◌, fal
 ghost use Rattle.std.specs.Vec.{vec_capacity};
 ghost use Rattle.std.specs.Option.{option_copied};
 ghost use Rattle.cm_world.specs.Edits.{drop_first};
-ghost use Rattle.cm_world.specs.Rows.{row_of};
+ghost use Rattle.cm_world.specs.Rows.{row_of, is_behind};
 ghost use Rattle.cm_world.specs.End.{changed};
 ghost use Rattle.cm_table.specs.Change.{change_row};
 ghost use Rattle.cm_table.specs.Blocks.{flat, has_row};
 ghost use Rattle.cm_table.specs.Reading.{is_there, follows};
 
 use crate::change::{Change, apply};
-use crate::reading::{is_child, is_next};
+use crate::reading::{is_child, is_later, is_next};
 use cm_names::ChildName;
 use cm_world::Row;
 use std::marker::Model;
@@ -170,4 +170,14 @@ pub fn next_in(blocks: &[Block], parent: u64, after: Option<u64>) -> Option<&Row
         .iter()
         .flat_map(|block| block.rows().iter())
         .find(|row| is_next(row, parent, after))
+}
+
+/// The first row that was made after the given one.
+pub fn later_in(blocks: &[Block], after: Option<u64>) -> Option<&Row>
+    ensures { option_copied result ≡ find (λ r. is_behind after r.inc) (flat blocks.now) }
+{
+    blocks
+        .iter()
+        .flat_map(|block| block.rows().iter())
+        .find(|row| is_later(row, after))
 }

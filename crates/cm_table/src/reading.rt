@@ -44,9 +44,16 @@ pub fn is_child(row: &Row, parent: u64, name: &ChildName) -> bool
 pub fn is_next(row: &Row, parent: u64, after: Option<u64>) -> bool
     ensures { result ≡ follows parent after row.now }
 {
+    has_that_parent(row, parent) && is_later(row, after)
+}
+
+/// Whether the row was made after the given one.
+pub fn is_later(row: &Row, after: Option<u64>) -> bool
+    ensures { result ≡ is_behind after row.now.inc }
+{
     match after {
-        None => has_that_parent(row, parent),
-        Some(inc) => has_that_parent(row, parent) && inc < row.inc,
+        None => true,
+        Some(inc) => inc < row.inc,
     }
 }
 

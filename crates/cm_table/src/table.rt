@@ -1,9 +1,10 @@
 //! Tables.
 
-ghost use Rattle.std.specs.Prelude.{◌≡◌, ◌+◌, ◌-◌, ◌≤◌, ◌<◌, ◌∷◌, ◌++◌, ◌↔◌, [], ℕ, length, true, false, IfOk, IfErr, IfSome, IfNone, OnOk, OnErr, IsTrue, option_map, option_and_then};
+ghost use Rattle.std.specs.Prelude.{◌≡◌, ◌+◌, ◌-◌, ◌≤◌, ◌<◌, ◌∷◌, ◌++◌, ◌↔◌, [], ℕ, length, true, false, IfOk, IfErr, IfSome, IfNone, OnOk, OnErr, IsTrue, find, option_map, option_and_then};
 ghost use Rattle.std.specs.Option.{option_copied};
 ghost use Rattle.std.specs.Vec.{vec_capacity};
-ghost use Rattle.cm_world.specs.Rows.{row_of, is_live, is_resolved, decl_of, child_of};
+ghost use Rattle.cm_world.specs.Rows.{row_of, is_live, is_resolved, is_behind, decl_of, child_of};
+ghost use Rattle.cm_world.specs.Sound.{IsOrderly};
 ghost use Rattle.cm_world.specs.World.{root_row, new_row};
 ghost use Rattle.cm_world.specs.End.{set_on, set_pending, set_closing, set_doomed, set_shut, end_row, rows_by, outcome_by};
 ghost use Rattle.cm_world.specs.After.{others_than};
@@ -12,7 +13,7 @@ ghost use Rattle.cm_table.specs.Change.{change_row, IsSafe, resolved, next_by, w
 ghost use Rattle.cm_table.specs.Leaf.{IsLeaf, HaveSameOthers};
 ghost use Rattle.cm_table.specs.Refusal.{RefusesRow};
 
-use crate::block::{Block, change_in, next_in, remove_in, row_in};
+use crate::block::{Block, change_in, later_in, next_in, remove_in, row_in};
 use crate::change::Change;
 use crate::prepared::{Parts, Prepared};
 use cm_decl::Give;
@@ -110,6 +111,19 @@ impl Table {
         match self.row(inc) {
             None => None,
             Some(row) => row.absolute.as_ref(),
+        }
+    }
+
+    /// The first instance, or the one that was made next after the given one, or `None` where
+    /// there is no other. Instances that are being destroyed are among them.
+    pub fn next_instance(&self, after: Option<u64>) -> Option<u64>
+        ensures next { let later = find (λ r. is_behind after r.inc) self.now.rows in
+            result ≡ option_map (λ r. r.inc) later }
+        ensures orderly { IsOrderly self.now.rows self.now.next_inc }
+    {
+        match later_in(self.blocks.as_slice(), after) {
+            None => None,
+            Some(row) => Some(row.inc),
         }
     }
 

@@ -1,4 +1,5 @@
 pub mod Monikers
+pub mod Up
 pub mod NoUse
 pub mod Sources
 pub mod Steps

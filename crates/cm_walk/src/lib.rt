@@ -10,6 +10,7 @@
 //! choice.
 #![tactic(auto)]
 
+pub mod above;
 pub(crate) mod find;
 pub mod hop;
 pub mod laws;

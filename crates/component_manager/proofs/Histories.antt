@@ -1,5 +1,5 @@
 -- What the lanes made of a script, once the manager is closed.
-use Rattle.std.proofs.Common.{◌≡◌, ℕ, ◌<◌, List, [], ◌∷◌, ◌++◌, All, length, get_or, Option, Some, None, refl, sym, ap, subst, ◌∙◌, append-nil, arith}
+use Rattle.std.proofs.Common.{◌≡◌, ℕ, ◌<◌, List, [], ◌∷◌, ◌++◌, All, length, get_or, Option, Some, None, sym, ap, subst, ◌∙◌, append-nil, arith}
 use Rattle.std.specs.List.{slice_get}
 use Rattle.std.proofs.lemmas.List.Elements.{All-weaker}
 use Rattle.std.proofs.lemmas.Option.{slice_get_within, slice_get-get_or}
@@ -9,6 +9,7 @@ use Rattle.cm_world.specs.declared.frame.Frame.{Frame}
 use Rattle.cm_world.specs.declared.reply.Entry.{Entry}
 use Rattle.cm_world.specs.World.{start}
 use Rattle.cm_world.specs.Legal.{Legal}
+use Rattle.cm_world.proofs.Finding.{some_same}
 use Rattle.cm_command.specs.declared.script.Line.{Line}
 use Rattle.cm_gate.specs.declared.asked.Asked.{Asked}
 use Rattle.cm_steps.specs.Story.{Story}
@@ -20,24 +21,18 @@ use Rattle.cm_manager.specs.Work.{Shelf, WorksWith}
 use Rattle.cm_manager.proofs.Joining.{starts-trans}
 use Rattle.cm_manager.proofs.Standing.{rest_of_others}
 use Rattle.cm_lanes.specs.declared.said.Lanes.{Lanes}
-use Rattle.cm_lanes.specs.Script.{Answered, answers_of, Follows, ArePhases, none_left, one_first}
+use Rattle.cm_lanes.specs.Script.{Answered, ArePhases, none_left, one_first}
 use Rattle.cm_lanes.specs.Kept.{AreSixteen, frame_at, GoesOn, Keeps, KeepsEach, gates_view}
 use Rattle.cm_lanes.specs.Lanes.{Ran}
+use Rattle.cm_lanes.proofs.Ending.{phases_same}
 use Rattle.component_manager.specs.Headline.{MakesHistory, WorksEach}
-use Rattle.component_manager.proofs.Sixteen.{all_at, some_same, no_entries, all_front, all_behind, pass_of, caller_low, sixteen_new, IsNew, all_new}
+use Rattle.component_manager.proofs.Sixteen.{all_at, no_entries, all_front, all_behind, pass_of, caller_low, sixteen_new, IsNew, all_new}
 
 -- ---- phases
 
 pub phases_grow : {frames : ℕ → Frame} {answered : List (List Answered)} {a b : List Entry} → ArePhases frames answered a b → StartsWith b a
 phases_grow {a = a} none_left = ([], sym (append-nil a))
 phases_grow {a = a} {b = b} (one_first {h₁ = m} phase rest) = starts-trans a m b phase.grows (phases_grow rest)
-
--- the same under frames that are those of the sixteen lanes
-pub phases_as : (frames other : ℕ → Frame) → ((c : ℕ) → c < 16 → frames c ≡ other c) → {answered : List (List Answered)} {a b : List Entry} → ArePhases frames answered a b → ArePhases other answered a b
-phases_as frames other same none_left = none_left
-phases_as frames other same (one_first {answered = now} {h₀ = a} {h₁ = m} phase rest) = one_first
-    (record { grows = phase.grows; lanes = λ c low. subst (λ (f : Frame). Follows f c (answers_of c now) a m) (same c low) (phase.lanes c low) })
-    (phases_as frames other same rest)
 
 -- ---- the history
 
@@ -129,7 +124,7 @@ module _ {G : Type 0} (log_of : G → Option (List Asked)) (faults_of : G → �
       legal = (let q = new_of 0 (omega arith) in legal_by q.0 q.1 ((kept_of 0 (omega arith)).2.frame ∙ (fresh 0 (old_of 0 (omega arith)).0 (old_of 0 (omega arith)).1).frame));
       performed = subst (λ (l : List Entry). ArePhases (λ c. f) ran.answered [] l) (sym is_last)
           (subst (λ (l : List Entry). ArePhases (λ c. f) ran.answered l ran.last) is_first
-          (phases_as (frame_at passes) (λ c. f) (frames_new turn f passes new) ran.performed));
+          (phases_same (frame_at passes) (λ c. f) ran.answered ran.first ran.last (frames_new turn f passes new) ran.performed));
       callers = low;
     }
 

@@ -1,5 +1,6 @@
 -- What a run of a script promises, from what its parts did.
-use Rattle.std.proofs.Common.{◌≡◌, ◌≢◌, ◌⊎◌, inl, inr, ⊎_elim, ℕ, ◌≤◌, List, [], ◌∷◌, ◌++◌, All, map, flat_map, length, Bool, Option, Some, None, IfSome, Err, refl, sym, ap, subst, ◌∙◌, arith}
+use Rattle.std.proofs.Common.{◌≡◌, ◌≢◌, inl, inr, ℕ, List, [], ◌++◌, All, map, flat_map, length, Option, Some, None, IfSome, Err, refl, sym, ap, subst, ◌∙◌}
+use Rattle.std.proofs.Math.Nat.{le_refl}
 use Rattle.std.specs.List.{slice_get}
 use Rattle.cm_turn.specs.Passes.{LockView, new_passes}
 use Rattle.cm_world.specs.declared.answer.Refusal.TheVariants as refusal
@@ -7,6 +8,7 @@ use Rattle.cm_world.specs.declared.frame.Frame.{Frame}
 use Rattle.cm_world.specs.declared.reply.Entry.{Entry}
 use Rattle.cm_world.specs.World.{start}
 use Rattle.cm_world.specs.Legal.{Legal}
+use Rattle.cm_world.proofs.Finding.{some_same}
 use Rattle.cm_book.specs.History.{History}
 use Rattle.cm_command.specs.declared.script.Line.{Line}
 use Rattle.cm_gate.specs.declared.asked.Asked.{Asked}
@@ -39,7 +41,6 @@ use Rattle.component_manager.specs.declared.stock.Served.{Served}
 use Rattle.component_manager.proofs.Histories.{makes_by, works_by, nothing_happened, legal_nothing}
 use Rattle.component_manager.proofs.Printing.{texts_all, no_want_all, nothing_written, front_of_nothing}
 use Rattle.component_manager.proofs.ScriptLaws.{one_script, served_faultless}
-use Rattle.component_manager.proofs.Sixteen.{some_same}
 use Rattle.component_manager.proofs.StockLemmas.{served_fit}
 use Rattle.component_manager.proofs.Wanting.{all_wanting, makes_nothing}
 
@@ -73,16 +74,13 @@ kept_laws : (f : Frame) (history : List Entry) → Legal (start f) history → H
 kept_laws f history legal ends = record { routes = routes_are_stable f history legal; outcomes = outcomes_are_one f history legal; ends = ends }
 
 module _ {G : Type 0} (log_of : G → Option (List Asked)) (faults_of : G → ℕ) where
-  le_self : (n : ℕ) → n ≤ n
-  le_self n = omega arith
-
   -- gates that were asked nothing
   works_nothing : (shelf : Shelf) (history : List Entry) (gates₀ gates₁ : List G) → history ≡ [] → gates₁ ≡ gates₀ → WorksEach log_of faults_of shelf history gates₀ gates₁
   works_nothing shelf history gates₀ gates₁ none same k g h at now =
       let is : g ≡ h = some_same g h (sym at ∙ ap (λ (l : List G). slice_get l k) (sym same) ∙ now) in
       subst (λ (x : G). WorksWith shelf (own_entries k history) (log_of g) (log_of x) (faults_of g) (faults_of x)) is
       (subst (λ (l : List Entry). WorksWith shelf (own_entries k l) (log_of g) (log_of g) (faults_of g) (faults_of g)) (sym none)
-      (record { asked = []; works = nothing; log = grew_nothing (log_of g); faults = rose_nothing (faults_of g) (faults_of g) (le_self (faults_of g)) }))
+      (record { asked = []; works = nothing; log = grew_nothing (log_of g); faults = rose_nothing (faults_of g) (faults_of g) (le_refl (faults_of g)) }))
 
   -- a realm that was made and closed without a manager
   pub performs_nothing : (shelf : Shelf) (f : Frame) (phases : List (List Line)) (gates : List G) (book : History) → All (λ lines. All IsFit lines) phases → book.entries ≡ [] → Performs log_of faults_of shelf f phases gates (record { book = book; gates = gates; said = None })

@@ -1,6 +1,5 @@
 -- The passes of sixteen callers, and what entries of theirs are.
-use Rattle.std.proofs.Common.{◌≡◌, ℕ, zero, suc, ◌+◌, ◌<◌, ◌==◌, List, [], ◌∷◌, ◌++◌, All, map, filter, length, get_or, Bool, true, Option, Some, None, refl, sym, ap, subst, ◌∙◌, arith, rules}
-use Rattle.std.specs.List.{range_with_len}
+use Rattle.std.proofs.Common.{◌≡◌, ℕ, zero, suc, ◌+◌, ◌<◌, ◌==◌, List, [], ◌∷◌, ◌++◌, All, map, filter, length, get_or, Bool, true, Some, None, refl, sym, ap, subst, ◌∙◌, arith}
 use Rattle.std.specs.List.{slice_get}
 use Rattle.std.proofs.lemmas.List.{length-map, get_or-map}
 use Rattle.std.proofs.lemmas.List.Elements.{All-nil, All-cons, All-append, All-head, All-tail}
@@ -12,14 +11,12 @@ use Rattle.cm_world.specs.declared.frame.Frame.{Frame}
 use Rattle.cm_world.specs.declared.reply.Entry.{Entry}
 use Rattle.cm_manager.specs.Turns.{own_entries}
 use Rattle.cm_manager.specs.Contract.{RealmPass}
+use Rattle.cm_manager.proofs.HavingEnds.{own_caller}
 use Rattle.cm_lanes.specs.Kept.{AreSixteen}
 
 module _ {X : Type 0} where
   pub all_at : (P : X → Type 0) (xs : List X) (k : ℕ) (x : X) → All P xs → slice_get xs k ≡ Some x → P x
   all_at P xs k x all at = subst P (get_or_from_slice_get xs k x x at) (all k x (slice_get_within xs k x at))
-
-  pub some_same : (x y : X) → Some x ≡ Some y → x ≡ y
-  some_same x y e = cc e
 
   pub all_front : (P : X → Type 0) (xs ys : List X) → All P (xs ++ ys) → All P xs
   all_front P [] ys all = All-nil P
@@ -30,9 +27,6 @@ module _ {X : Type 0} where
   all_behind P (x ∷ xs) ys all = all_behind P xs ys (All-tail P x (xs ++ ys) all)
 
 -- ---- entries
-
-own_caller : (c : ℕ) → (c == c) ≡ true
-own_caller c = search rules
 
 kept_first : (p : Entry → Bool) (e : Entry) (es : List Entry) → p e ≡ true → filter p (e ∷ es) ≡ e ∷ filter p es
 kept_first p e es is = rw is refl

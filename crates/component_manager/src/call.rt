@@ -15,9 +15,9 @@ use std::alloc::{AllocError, Global};
 /// What `run` is asked for besides the script.
 #[derive(Debug, Drop)]
 pub struct RunOptions {
-    /// `--journal`: the journal is to follow the replies. It is read, and has no effect yet.
+    /// `--journal`: the journal is to follow the answers.
     pub journal: bool,
-    /// `--repo DIR`: the folder of further manifests. It is read, and has no effect yet.
+    /// `--repo DIR`: the folder of the manifests that the script doesn't bring along.
     pub repository: Option<Text>,
 }
 

@@ -11,7 +11,7 @@ pub enum Problem {
     BadManifestUrl,
     /// 78: an earlier block has the URL.
     RepeatedManifest,
-    /// 79: a command or a manifest that this version doesn't serve yet.
+    /// 79: a line whose command this version has no call for yet.
     LaterForm,
 }
 
@@ -31,7 +31,7 @@ impl fmt::Display for Problem {
 }
 
 /// Why a script is refused: its first fault by [`read_script`](cm_command::read_script), or else
-/// its first block, or command, that isn't served yet, or else its first block that the repository
+/// its first line whose command has no call yet, or else its first block that the repository
 /// refuses.
 #[derive(Debug, Clone, Copy, PartialEq, Eq)]
 pub enum Fault {

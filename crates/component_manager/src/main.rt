@@ -24,12 +24,23 @@ use cm_gate::FolderGates;
 use cm_io::{Reading, Writing};
 use cm_names::{List, Memory, Text};
 use std::alloc::Global;
+use std::io::ErrorKind;
 use std::process::ExitCode;
 use std::rt::Files;
 use std::{env, io};
 
-/// The words behind the program's name.
-fn words<R: env::Env + Alloc<A = Global>>(rt: &R) -> io::Result<List<Text>> {
+/// The words behind the program's name. Words that can't be read are no words of a command.
+fn words<R: env::Env + Alloc<A = Global>>(rt: &R) -> Result<List<Text>, Memory> {
+    match read_words(rt) {
+        Ok(words) => Ok(words),
+        Err(fault) => match fault.kind() {
+            ErrorKind::OutOfMemory => Err(Memory),
+            _ => Ok(List::new(rt.alloc())),
+        },
+    }
+}
+
+fn read_words<R: env::Env + Alloc<A = Global>>(rt: &R) -> io::Result<List<Text>> {
     let mut words = Vec::new(rt.alloc());
     for word in env::args(rt)?.skip(1) {
         words.push(Text::from_string(word))?;
@@ -53,16 +64,14 @@ fn folder_gates<F: Files + Copy + Drop>(
 }
 
 fn main(rt: HostRuntime) -> ExitCode {
-    // Words that can't be read are no words of a command.
-    let words = match words(&rt) {
-        Ok(words) => words,
-        Err(_) => List::new(rt.alloc()),
-    };
     let mut input = Reading::new(rt.stdin());
     let output = rt.stdout();
     let error = rt.stderr();
     let mut out = Writing::new(io::writer(&output));
     let mut err = Writing::new(io::writer(&error));
+    let Ok(words) = words(&rt) else {
+        return ExitCode::from(want_of_memory(&rt, &mut err));
+    };
     let Ok(gates) = folder_gates(rt.alloc(), rt) else {
         return ExitCode::from(want_of_memory(&rt, &mut err));
     };

@@ -10,7 +10,7 @@ ghost use Rattle.component_manager.specs.Performing.{Performs};
 use cm_book::Book;
 use cm_command::Line;
 use cm_gate::Gates;
-use cm_lanes::{Lanes, Said, run_phases};
+use cm_lanes::{Lanes, Said, run_lanes};
 use cm_manager::Manager;
 use cm_names::{List, Text};
 use cm_repo::Repository;
@@ -53,7 +53,7 @@ fn perform_under<R: Threads + Wait + Sync, G: Gates + Send + Drop>(
         passes,
         gates,
         said,
-    } = run_phases(rt, alloc, &manager, passes, gates, phases);
+    } = run_lanes(rt, alloc, &manager, passes, gates, phases);
     let book = manager.close(passes);
     Performed { book, gates, said }
 }

@@ -2,8 +2,10 @@
 
 ghost use Rattle.std.specs.Prelude.{◌≡◌, IfOk, length};
 
+mod gates;
+
 use crate::run::run;
-use cm_gate::QuietGates;
+use cm_gate::{Gates, QuietGates};
 use cm_io::{MemorySink, MemorySource, Plan};
 use cm_names::{List, Text};
 use std::alloc::{AllocError, Global};
@@ -16,6 +18,9 @@ const ROOT: &str =
 
 const ROOT_WITHOUT_OFFER: &str =
     "manifest fuchsia-pkg://t/a#meta/root.cm\n{\"children\":[{\"name\":\"logger\",\"url\":\"#meta/logger.cm\"},{\"name\":\"client\",\"url\":\"#meta/client.cm\"}]}\n%%\n";
+
+const ROOT_WITH_COLLECTION: &str =
+    "manifest fuchsia-pkg://t/a#meta/root.cm\n{\"collections\":[{\"name\":\"coll\",\"durability\":\"transient\"}]}\n%%\n";
 
 const LOGGER: &str =
     "manifest fuchsia-pkg://t/a#meta/logger.cm\n{\"program\":{\"runner\":\"elf\"},\"capabilities\":[{\"protocol\":\"fuchsia.logger.LogSink\"}],\"expose\":[{\"protocol\":\"fuchsia.logger.LogSink\",\"from\":\"self\"}]}\n%%\n";
@@ -49,7 +54,7 @@ const USAGE: &str = "usage: run, check, serve, audit, generate\n";
 const REPLY: &str =
     "0 route /svc/fuchsia.logger.LogSink at logger incarnation 1 through use client, offer ., expose logger, capability logger\n";
 
-const CASES: [Case; 44] = [
+const CASES: [Case; 48] = [
     Case {
         words: &["run"],
         input: &[ROOT, LOGGER, CLIENT, ASK],
@@ -76,6 +81,18 @@ const CASES: [Case; 44] = [
         input: &[ROOT, CLIENT, ASK],
         status: 0,
         out: "0 refused 83 cannot-resolve action 3 absent\n",
+        err: "",
+    },
+    Case {
+        words: &["run"],
+        input: &[
+            ROOT,
+            LOGGER,
+            "manifest fuchsia-pkg://t/a#meta/client.cm\n{\"program\":{\"runner\"\n%%\n",
+            ASK,
+        ],
+        status: 0,
+        out: "0 refused 83 cannot-resolve action 2 invalid 31 manifest 0\n",
         err: "",
     },
     Case {
@@ -219,7 +236,7 @@ const CASES: [Case; 44] = [
     },
     Case {
         words: &["run"],
-        input: &[ROOT, ASK, "sync\n0 survey @0\n"],
+        input: &[ROOT, ASK, "sync\n0 destroy @0\n"],
         status: 7,
         out: "",
         err: "line 7: 79 later-form\n",
@@ -233,7 +250,7 @@ const CASES: [Case; 44] = [
     },
     Case {
         words: &["run"],
-        input: &[ROOT, ASK, "0 list . coll\n"],
+        input: &[ROOT, ASK, "0 create . coll x #meta/x.cm\n"],
         status: 7,
         out: "",
         err: "line 6: 79 later-form\n",
@@ -379,6 +396,39 @@ const CASES: [Case; 44] = [
         err: "",
     },
     Case {
+        words: &["run"],
+        input: &[
+            ROOT,
+            LOGGER,
+            CLIENT,
+            "root fuchsia-pkg://t/a#meta/root.cm\n0 start logger\n0 show logger\n0 exited logger\n0 exited logger\n0 stop logger\n0 survey logger\n",
+        ],
+        status: 0,
+        out: "0 started logger action 3\n0 shown logger incarnation 1 url #meta/logger.cm resolved on\n0 exited logger\n0 exited logger already\n0 stopped logger already\n0 survey logger 1\n  logger incarnation 1 resolved off\n",
+        err: "",
+    },
+    Case {
+        words: &["run"],
+        input: &[
+            ROOT,
+            LOGGER,
+            "root fuchsia-pkg://t/a#meta/root.cm\n0 survey .\n0 start logger\n0 survey .\n0 survey @9\n",
+        ],
+        status: 0,
+        out: "0 survey . 1\n  . incarnation 0 unresolved off\n0 started logger action 3\n0 survey . 3\n  . incarnation 0 resolved off\n  logger incarnation 1 resolved on\n  client incarnation 2 unresolved off\n0 refused 81 gone incarnation 9\n",
+        err: "",
+    },
+    Case {
+        words: &["run"],
+        input: &[
+            ROOT_WITH_COLLECTION,
+            "root fuchsia-pkg://t/a#meta/root.cm\n0 list . coll\n0 list . other\n0 list x coll\n",
+        ],
+        status: 0,
+        out: "0 children . coll 0\n0 refused 60 collection-not-found\n0 refused 80 not-found in .\n",
+        err: "",
+    },
+    Case {
         words: &["run", "--journal"],
         input: &[
             "manifest fuchsia-pkg://t/a#meta/root.cm\n{\"children\":[{\"name\":\"logger\",\"url\":\"#meta/logger.cm\"},{\"name\":\"client\",\"url\":\"#meta/client.cm\"}],\"offer\":[{\"protocol\":\"fuchsia.logger.LogSink\",\"from\":\"#logger\",\"to\":\"#client\"}]}\n%%\nmanifest fuchsia-pkg://t/a#meta/logger.cm\n{\"program\":{\"runner\":\"elf\"},\"capabilities\":[{\"protocol\":\"fuchsia.logger.LogSink\"}],\"expose\":[{\"protocol\":\"fuchsia.logger.LogSink\",\"from\":\"self\"}]}\n%%\nmanifest fuchsia-pkg://t/a#meta/client.cm\n{\"program\":{\"runner\":\"elf\"},\"use\":[{\"protocol\":\"fuchsia.logger.LogSink\"}]}\n%%\nroot fuchsia-pkg://t/a#meta/root.cm\n0 route client /svc/fuchsia.logger.LogSink\n",
@@ -443,138 +493,166 @@ const OUTSIDES: [Outside; 5] = [
     },
 ];
 
-/// The word, an input of a front, a byte so many times, and a back, and what must come of it.
+/// The word, an input of a front, a byte so many times and a back, and what must come of it.
 #[derive(Clone, Copy)]
 struct Large {
     word: &'static str,
-    front: &'static str,
+    front: &'static [&'static str],
     byte: u8,
     count: usize,
-    back: &'static str,
+    back: &'static [&'static str],
     status: u8,
     out: &'static str,
     err: &'static str,
 }
 
-const LARGE: [Large; 11] = [
+const LARGE: [Large; 13] = [
     Large {
         word: "check",
-        front: "{children:[{name:'",
+        front: &["{children:[{name:'"],
         byte: b'n',
         count: 255,
-        back: "',url:'#a'}]}",
+        back: &["',url:'#a'}]}"],
         status: 0,
         out: "valid\n",
         err: "",
     },
     Large {
         word: "check",
-        front: "{children:[{name:'",
+        front: &["{children:[{name:'"],
         byte: b'n',
         count: 256,
-        back: "',url:'#a'}]}",
+        back: &["',url:'#a'}]}"],
         status: 1,
         out: "invalid 36 children 0 name\n",
         err: "",
     },
     Large {
         word: "check",
-        front: "{facets:",
+        front: &["{facets:"],
         byte: b'[',
         count: 200,
-        back: "",
+        back: &[],
         status: 1,
         out: "invalid 31 manifest 0\n",
         err: "",
     },
     Large {
         word: "check",
-        front: "",
+        front: &[],
         byte: b'[',
         count: 1_048_576,
-        back: "",
+        back: &[],
         status: 1,
         out: "invalid 31 manifest 0\n",
         err: "",
     },
     Large {
         word: "check",
-        front: "{}",
+        front: &["{}"],
         byte: b' ',
         count: 1_048_575,
-        back: "",
+        back: &[],
         status: 1,
         out: "invalid 41 manifest 0\n",
         err: "",
     },
     Large {
         word: "check",
-        front: "",
+        front: &[],
         byte: 255,
         count: 1,
-        back: "",
+        back: &[],
         status: 1,
         out: "invalid 30 manifest 0\n",
         err: "",
     },
     Large {
         word: "run",
-        front: "",
+        front: &[],
         byte: b'#',
         count: 65_536,
-        back: "\n",
+        back: &["\n"],
         status: 7,
         out: "",
         err: "line 2: 72 no-root\n",
     },
     Large {
         word: "run",
-        front: "\n",
+        front: &["\n"],
         byte: b'#',
         count: 65_537,
-        back: "",
+        back: &[],
         status: 7,
         out: "",
         err: "line 2: 75 line-too-long\n",
     },
     Large {
         word: "run",
-        front: "manifest a\n",
+        front: &["manifest a\n"],
         byte: b' ',
         count: 65_537,
-        back: "\n",
+        back: &["\n"],
         status: 7,
         out: "",
         err: "line 2: 75 line-too-long\n",
     },
     Large {
         word: "run",
-        front: "",
+        front: &[],
         byte: b'\n',
         count: 67_108_864,
-        back: "",
+        back: &[],
         status: 7,
         out: "",
         err: "line 67108865: 72 no-root\n",
     },
     Large {
         word: "run",
-        front: "",
+        front: &[],
         byte: b'\n',
         count: 67_108_864,
-        back: "\n",
+        back: &["\n"],
         status: 7,
         out: "",
         err: "line 67108865: 76 too-large\n",
+    },
+    Large {
+        word: "run",
+        front: &[ROOT, LOGGER, "manifest fuchsia-pkg://t/a#meta/client.cm\n"],
+        byte: 255,
+        count: 1,
+        back: &["\n%%\n", ASK],
+        status: 0,
+        out: "0 refused 83 cannot-resolve action 2 invalid 30 manifest 0\n",
+        err: "",
+    },
+    Large {
+        word: "run",
+        front: &[
+            ROOT,
+            LOGGER,
+            "manifest fuchsia-pkg://t/a#meta/client.cm\n{\"facets\":",
+        ],
+        byte: b'[',
+        count: 200,
+        back: &[
+            "]]]]]]]]]]]]]]]]]]]]]]]]]]]]]]]]]]]]]]]]]]]]]]]]]]]]]]]]]]]]]]]]]]]]]]]]]]]]]]]]]]]]]]]]]]]]]]]]]]]]]]]]]]]]]]]]]]]]]]]]]]]]]]]]]]]]]]]]]]]]]]]]]]]]]]]]]]]]]]]]]]]]]]]]]]]]]]]]]]]]]]]]]]]]]]]]]]]]]]]]}\n%%\n",
+            ASK,
+        ],
+        status: 0,
+        out: "0 refused 83 cannot-resolve action 2 invalid 31 manifest 0\n",
+        err: "",
     },
 ];
 
 /// What came of a run.
 #[derive(Drop)]
-struct Came {
+struct Came<G> {
     status: u8,
     out: MemorySink,
     err: MemorySink,
+    gates: List<G>,
 }
 
 fn joined(alloc: Global, parts: &[&str]) -> Result<Vec<u8>, AllocError> {
@@ -593,12 +671,19 @@ fn texts(alloc: Global, words: &[&str]) -> Result<Vec<Text>, AllocError> {
     Ok(texts)
 }
 
-fn filled(alloc: Global, large: Large) -> Result<Vec<u8>, AllocError> {
-    let mut bytes = joined(alloc, &[large.front])?;
-    for _ in 0..large.count {
-        bytes.push(large.byte)?;
+/// A front, a byte so many times, and a back.
+fn filled(
+    alloc: Global,
+    front: &[&str],
+    byte: u8,
+    count: usize,
+    back: &[&str],
+) -> Result<Vec<u8>, AllocError> {
+    let mut bytes = joined(alloc, front)?;
+    for _ in 0..count {
+        bytes.push(byte)?;
     }
-    bytes.extend_from_slice(large.back.as_bytes())?;
+    bytes.extend_from_slice(joined(alloc, back)?.as_slice())?;
     Ok(bytes)
 }
 
@@ -626,13 +711,17 @@ fn quiet_gates(alloc: Global) -> Result<List<QuietGates>, AllocError>
     Ok(List::from_vec(gates))
 }
 
-fn come<R: Threads + Wait + Sync>(
+/// What comes of these words and this input, over sixteen gates.
+fn come_over<R: Threads + Wait + Sync, G: Gates + Send + Drop>(
     rt: &R,
     alloc: Global,
     words: &[&str],
     mut input: MemorySource,
     mut out: MemorySink,
-) -> Result<Came, AllocError> {
+    gates: List<G>,
+) -> Result<Came<G>, AllocError>
+    requires { length gates ≡ 16 }
+{
     let words = texts(alloc, words)?;
     let mut err = MemorySink::new(alloc, Plan::quiet(alloc));
     let ran = run(
@@ -642,13 +731,25 @@ fn come<R: Threads + Wait + Sync>(
         &mut input,
         &mut out,
         &mut err,
-        quiet_gates(alloc)?,
+        gates,
     );
     Ok(Came {
         status: ran.status,
         out,
         err,
+        gates: ran.gates,
     })
+}
+
+/// What comes of these words and this input, over gates that never fail.
+fn come<R: Threads + Wait + Sync>(
+    rt: &R,
+    alloc: Global,
+    words: &[&str],
+    input: MemorySource,
+    out: MemorySink,
+) -> Result<Came<QuietGates>, AllocError> {
+    come_over(rt, alloc, words, input, out, quiet_gates(alloc)?)
 }
 
 #[test]
@@ -685,7 +786,7 @@ fn the_outside_may_fail(rt: HostRuntime) -> Result<(), Fail> {
 fn large_inputs_are_answered(rt: HostRuntime) -> Result<(), Fail> {
     let alloc = rt.alloc();
     for case in LARGE {
-        let bytes = List::from_vec(filled(alloc, case)?);
+        let bytes = List::from_vec(filled(alloc, case.front, case.byte, case.count, case.back)?);
         let input = MemorySource::new(bytes, Plan::quiet(alloc));
         let out = MemorySink::new(alloc, Plan::quiet(alloc));
         let came = come(&rt, alloc, &[case.word], input, out)?;

@@ -11,10 +11,10 @@ ghost use Rattle.cm_world.specs.Work.{work_of};
 ghost use Rattle.cm_steps.specs.Answers.{AnswersBegin, AnswersIdle};
 ghost use Rattle.cm_steps.specs.Eager.{eager_by, eager_child, eager_kids, above_url};
 
-use crate::replies::above::{closed, gone, resolved};
 use cm_decl::Child;
 use cm_names::{ChildName, List, Memory, Name, Text};
 use cm_table::Table;
+use cm_walk::above::{closed, gone, resolved};
 use cm_walk::hop::moniker;
 use cm_world::{ActKind, Facts, Reply, View, Work};
 use std::alloc::Global;
@@ -257,12 +257,12 @@ fn eager_kid<V: View>(view: &V, inc: u64, child: &Child) -> Result<Option<u64>, 
     Ok(view.child(inc, &name))
 }
 
-/// Puts the number at the end, if there is one.
-fn push_found(list: &mut List<u64>, found: Option<u64>) -> Result<(), Memory>
+/// Puts the item at the end, if there is one.
+pub fn push_found<T: Drop>(list: &mut List<T>, found: Option<T>) -> Result<(), Memory>
     ensures { OnOk result (list.new ≡ list.old ++ option_to_list found) }
 {
     match found {
         None => Ok(()),
-        Some(inc) => list.push(inc),
+        Some(item) => list.push(item),
     }
 }

@@ -4,8 +4,8 @@ ghost use Rattle.std.specs.Prelude.{◌≡◌, [], IfOk, if◌then◌else◌};
 ghost use Rattle.cm_world.specs.Rows.{is_closed};
 ghost use Rattle.cm_world.specs.Find.{found_from};
 
-use crate::replies::above::{closed, resolved};
 use cm_names::{ChildName, List, Memory, Moniker};
+use cm_walk::above::{closed, resolved};
 use cm_world::{Reply, View};
 use std::alloc::Global;
 

@@ -3,9 +3,9 @@
 ghost use Rattle.std.specs.Prelude.{◌≡◌, IfOk};
 ghost use Rattle.cm_world.specs.Openings as openings;
 
-use crate::replies::above::{closed, gone, on, resolved, shut};
 use crate::replies::finding::unresolved;
 use cm_names::{CapPath, Memory, Name};
+use cm_walk::above::{closed, gone, on, resolved, shut};
 use cm_walk::walk;
 use cm_world::{Provider, Reply, Route, Start, View, Walked};
 use std::alloc::Global;

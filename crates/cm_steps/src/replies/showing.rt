@@ -1,15 +1,16 @@
-//! The replies that tell how an instance is, and to the exit of its program.
+//! The replies that tell how an instance is and how long the history is, and to the exit of a
+//! program.
 
 ghost use Rattle.std.specs.Prelude.{◌≡◌, IfOk, Some, is_some};
 ghost use Rattle.cm_world.specs.declared.row.Row.{Row};
 ghost use Rattle.cm_world.specs.Rows.{row_of, facts_of};
-ghost use Rattle.cm_world.specs.Reports.{show_reply, look_at};
+ghost use Rattle.cm_world.specs.Reports.{show_reply, look_at, tail_reply};
 ghost use Rattle.cm_steps.specs.Answers.{AnswersExit};
 
-use crate::replies::above::{gone, resolved};
 use crate::replies::beginning::text_or_empty;
 use cm_names::{Memory, Moniker, Text};
 use cm_table::Table;
+use cm_walk::above::{gone, resolved};
 use cm_walk::hop::moniker;
 use cm_world::{Facts, Look, Reply, View};
 use std::alloc::Global;
@@ -83,5 +84,16 @@ pub fn exit_answer<V: View>(alloc: Global, view: &V, inc: u64) -> Result<ExitAns
         Ok(ExitAnswer::Leaves(moniker))
     } else {
         Ok(ExitAnswer::Quiet(Reply::Already))
+    }
+}
+
+/// What is replied to who asks how long the history is.
+pub fn tailed<V: View>(view: &V, inc: u64, entries: u64) -> Reply
+    ensures { result ≡ tail_reply (V.rows view.now) entries inc }
+{
+    if gone(view, inc) {
+        Reply::Gone(inc)
+    } else {
+        Reply::Tailed(entries)
     }
 }

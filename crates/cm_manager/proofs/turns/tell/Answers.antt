@@ -20,3 +20,9 @@ returns-in_ok-name-in-OpenExposed-clause-steps c =
     let e = c.open_exposed.ensures in
     rw (c.in-OpenExposed.is ∙ ap (event.OpenExposed c.in-OpenExposed.inc) (sym c.in_ok-name-in-OpenExposed.ensures.cases))
     (steps_by _ _ _ _ (λ a. ⊥) _ e.step e.room e.refused e.err)
+
+pub returns-in_ok-coll-in-Listing-clause-steps : goal.returns-in_ok-coll-in-Listing-clause-steps
+returns-in_ok-coll-in-Listing-clause-steps c =
+    let e = c.list.ensures in
+    rw (c.in-Listing.is ∙ ap (event.Listing c.in-Listing.inc) (sym c.in_ok-coll-in-Listing.ensures.cases))
+    (steps_by _ _ _ _ (λ a. ⊥) _ e.step e.room e.refused e.err)

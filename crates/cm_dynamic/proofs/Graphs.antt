@@ -1,0 +1,40 @@
+-- What is said where the realm graph and the room alone decide.
+use Rattle.std.proofs.Common.{◌≡◌, ℕ, zero, suc, ◌+◌, ◌-◌, ◌≤◌, ◌^◌, List, length, Bool, true, false, true≢false, nat_le, refl, sym, ◌∙◌, arith, IsTrue}
+use Rattle.std.proofs.lemmas.Bool.{le-leb, lt-leb, and_from, and_left}
+use Rattle.cm_decl.specs.declared.decl.Decl.{Decl}
+use Rattle.cm_decl.specs.declared.node.DynChild.{DynChild}
+use Rattle.cm_decl.specs.declared.node.Node.{Node}
+use Rattle.cm_deps.specs.Outcome.{IsOutcome}
+use Rattle.cm_deps.specs.declared.outcome.Order.TheVariants.{Ordered}
+use Rattle.cm_deps.proofs.Outcomes.{ordered_acyclic}
+use Rattle.cm_world.specs.declared.row.Row.{Row}
+use Rattle.cm_world.specs.World.{rows_fit}
+use Rattle.cm_dynamic.specs.Replies.{AnswersGraph}
+use Rattle.cm_dynamic.specs.Laws.{EachRoomIsOfSomeLimit}
+use Rattle.cm_dynamic.specs.declared.create.MayCreate.TheVariants.{Yes, Full}
+
+no_room : (b : Bool) (free : ℕ) → (IsTrue b → 1 ≤ free) → free ≡ 0 → b ≡ false
+no_room false free tells none = refl
+no_room true free tells none = let some : 1 ≤ free = tells refl in absurd (omega arith)
+
+-- an order, and no row is free
+pub is_full : (d : Decl) (dynamic : List DynChild) (order : List Node) (free : ℕ) → IsOutcome d dynamic (Ordered order) → free ≡ 0 → AnswersGraph d dynamic free Full
+is_full d dynamic order free outcome none = λ limit next rows tells.
+    (ordered_acyclic d dynamic order outcome, no_room (rows_fit limit rows next 1) free tells.0 none)
+
+-- an order, and some rows are free
+pub may_be : (d : Decl) (dynamic : List DynChild) (order : List Node) (free : ℕ) → IsOutcome d dynamic (Ordered order) → 1 ≤ free → AnswersGraph d dynamic free Yes
+may_be d dynamic order free outcome some = λ limit next rows tells.
+    (ordered_acyclic d dynamic order outcome, tells.1 some, refl)
+
+-- ---- a limit for each room
+
+none_fit : (rows : List Row) → rows_fit 0 rows 0 1 ≡ false
+none_fit rows = and_left (nat_le (length rows + 1) 0) (nat_le (0 + 1) (2 ^ 64 - 1)) (lt-leb (length rows + 1) 0 (omega arith))
+
+one_fits : (rows : List Row) → rows_fit (length rows + 1) rows 0 1 ≡ true
+one_fits rows = and_from (nat_le (length rows + 1) (length rows + 1)) (nat_le (0 + 1) (2 ^ 64 - 1)) (le-leb (length rows + 1) (length rows + 1) (omega arith)) refl
+
+pub some_limit : EachRoomIsOfSomeLimit
+some_limit rows zero = (0, 0, (λ fits. absurd (true≢false (sym fits ∙ none_fit rows)), λ some. absurd (omega arith)))
+some_limit rows (suc free) = (length rows + 1, 0, (λ fits. omega arith, λ some. one_fits rows))

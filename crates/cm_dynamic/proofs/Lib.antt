@@ -1,0 +1,5 @@
+pub mod Following
+pub mod Bad
+pub mod Graphs
+pub mod Refusing
+pub mod Taking

@@ -1,0 +1,25 @@
+use Rattle.std.proofs.Common.{Option, None, sym, subst}
+use Rattle.cm_world.specs.Create.{refused_create}
+use Rattle.cm_dynamic.specs.Replies.{AnswersCreate, AnswersGraph, Refuses}
+use Rattle.cm_dynamic.specs.declared.create.MayCreate.{MayCreate}
+use Rattle.cm_dynamic.proofs.Refusing.{is_refused, is_resolved, is_by_graph, if_ok}
+use Rattle.cm_dynamic.proofs.create.may_create.Goals as goal
+
+pub returns-in-Some : goal.returns-in-Some
+returns-in-Some g c =
+    let rows = g.V.View.rows c.args.view.now in
+    is_refused rows c.args.free c.args.parent c.args.coll.now c.args.child.now c.args.gives.now c.in-Some.refusal
+    (subst (λ (o : Option MayCreate). Refuses o (refused_create rows c.args.parent c.args.coll.now c.args.child.now c.args.gives.now)) c.in-Some.is c.in_ok-refusal.ensures)
+
+pub returns-in_default-decl : goal.returns-in_default-decl
+returns-in_default-decl g c =
+    let rows = g.V.View.rows c.args.view.now in
+    let refuses : Refuses None (refused_create rows c.args.parent c.args.coll.now c.args.child.now c.args.gives.now) = subst (λ (o : Option MayCreate). Refuses o (refused_create rows c.args.parent c.args.coll.now c.args.child.now c.args.gives.now)) c.in_default.is c.in_ok-refusal.ensures in
+    absurd (is_resolved rows c.args.parent c.args.coll.now c.args.child.now c.args.gives.now refuses (sym c.in_default-decl.ensures.decl))
+
+pub returns : goal.returns
+returns g c =
+    let rows = g.V.View.rows c.args.view.now in
+    let refuses : Refuses None (refused_create rows c.args.parent c.args.coll.now c.args.child.now c.args.gives.now) = subst (λ (o : Option MayCreate). Refuses o (refused_create rows c.args.parent c.args.coll.now c.args.child.now c.args.gives.now)) c.in_default.is c.in_ok-refusal.ensures in
+    if_ok (AnswersGraph c.in-Some-decl.decl.now c.as_slice.result.now c.args.free) (AnswersCreate rows c.args.free c.args.parent c.args.coll.now c.args.child.now c.args.gives.now) c.by_graph.result
+    (λ answer by_graph. is_by_graph rows c.args.free c.args.parent c.args.coll.now c.args.child.now c.args.gives.now c.in-Some-decl.decl.now c.in_ok-name.name c.in_ok-children.children.items c.as_slice.result.now answer refuses (sym c.in-Some-decl.ensures.decl) c.in_ok-name.ensures c.in_ok-children.ensures c.as_slice.ensures.value by_graph) c.by_graph.ensures

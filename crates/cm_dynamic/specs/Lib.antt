@@ -1,0 +1,4 @@
+pub mod Siblings
+pub mod Offers
+pub mod Replies
+pub mod Laws

@@ -1,0 +1,17 @@
+pub mod Trees
+pub mod Kids
+pub mod Weights
+pub mod Tops
+pub mod Climbs
+pub mod Turns
+pub mod Gathering
+pub mod Listing
+pub mod Naming
+pub mod Edges
+pub mod Leaving
+pub mod Leading
+pub mod Paths
+pub mod Searching
+pub mod Graphs
+pub mod Ending
+pub mod Answering

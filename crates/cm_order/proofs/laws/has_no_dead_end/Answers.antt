@@ -1,0 +1,5 @@
+use Rattle.cm_order.proofs.Ending.{no_dead_end}
+use Rattle.cm_order.proofs.laws.has_no_dead_end.Goals as goal
+
+pub returns : goal.returns
+returns c = no_dead_end

@@ -1,0 +1,14 @@
+-- The children of a row, one behind another.
+use Rattle.std.specs.Prelude.{◌≡◌, ℕ, List, ◌&&◌, Option, Some, filter}
+use Rattle.cm_world.specs.declared.row.Row.{Row}
+use Rattle.cm_world.specs.Rows.{row_of, has_parent, is_behind}
+
+-- the children of a row behind one of them, or all
+abbrev pub kids : List Row → ℕ → Option ℕ → List Row
+kids rows p after = filter (λ r. has_parent p r && is_behind after r.inc) rows
+
+-- a row whose parent is this one
+pub record IsKid (rows : List Row) (p c : ℕ) : Type 0 where
+  pub row : Row
+  pub lives : row_of rows c ≡ Some row
+  pub parent : row.parent ≡ Some p

@@ -1,0 +1,7 @@
+pub mod Spots
+pub mod Kids
+pub mod Names
+pub mod Levels
+pub mod Search
+pub mod Picking
+pub mod Laws

@@ -1,0 +1,41 @@
+-- What a pick comes to.
+use Rattle.std.specs.Prelude.{◌≡◌, ℕ, List, Bool, true, false, Some, IsTrue}
+use Rattle.cm_world.specs.declared.row.Row.{Row}
+use Rattle.cm_world.specs.declared.action.ActKind.{ActKind}
+use Rattle.cm_world.specs.Rows.{row_of, is_below, is_subtree_shut}
+use Rattle.cm_world.specs.Stopping.{outermost, MayStop, MayPick, CanPick}
+use Rattle.cm_order.specs.declared.picking.Picked.{Picked}
+use Rattle.cm_order.specs.declared.picking.Picked.TheVariants.{StopNow, ShutNow, Waits, Done}
+
+-- not all is shut, and this row may be picked; it is on, or off
+pub record PicksNow (rows : List Row) (target y : ℕ) (on : Bool) : Type 0 where
+  pub undone : is_subtree_shut rows target ≡ false
+  pub row : Row
+  pub may : MayPick rows target y row
+  pub state : row.on ≡ on
+
+-- an action is pending at a row at or below the target's outermost closing row that isn't shut and may stop
+pub record BlockedBy (rows : List Row) (target a : ℕ) : Type 0 where
+  pub inc : ℕ
+  pub row : Row
+  pub lives : row_of rows inc ≡ Some row
+  pub top : ℕ
+  pub outermost : outermost rows target ≡ Some top
+  pub below : IsTrue (is_below rows top inc)
+  pub unshut : row.shut ≡ false
+  pub kind : ActKind
+  pub pending : row.pending ≡ Some (kind, a)
+  pub may_stop : MayStop rows inc
+
+-- not all is shut, no row may be picked, and this action is what is waited for
+pub record WaitsFor (rows : List Row) (target a : ℕ) : Type 0 where
+  pub undone : is_subtree_shut rows target ≡ false
+  pub stuck : CanPick rows target → ⊥
+  pub blocked : BlockedBy rows target a
+
+-- done where all at and below the target is shut; else a row that may be picked, by whether it is on; else what to wait for
+abbrev pub IsPicked : List Row → ℕ → Picked → Type 0
+IsPicked rows target Done = IsTrue (is_subtree_shut rows target)
+IsPicked rows target (StopNow y) = PicksNow rows target y true
+IsPicked rows target (ShutNow y) = PicksNow rows target y false
+IsPicked rows target (Waits a) = WaitsFor rows target a

@@ -1,0 +1,29 @@
+//! The order of a shutdown: which instance may stop next.
+//!
+//! A shutdown works on what stands at or below one instance that is being shut down, the
+//! outermost one above its target. An instance there may stop once all that depends on it, at
+//! each level from there down to itself, is shut. [`pick`] finds one.
+//!
+//! | module | says |
+//! |---|---|
+//! | `above` | what the facts of one instance and those above it say |
+//! | `below` | whether all at and below an instance is shut |
+//! | `members` | the instances of one level, and their nodes in its graph |
+//! | `level` | which of them nothing binds any more |
+//! | `search` | an instance that may stop, below another |
+//! | `picking` | what a pick comes to |
+//! | `laws` | that a shutdown never comes to a dead end |
+//!
+//! That clients stop before what they depend on is the rule of Fuchsia's component lifecycle
+//! documentation (fuchsia.dev); how the rule reaches over several levels is this project's own.
+#![tactic(auto)]
+
+pub(crate) mod above;
+pub(crate) mod below;
+pub mod laws;
+pub(crate) mod level;
+pub(crate) mod members;
+pub mod picking;
+pub(crate) mod search;
+
+pub use picking::{Picked, pick};

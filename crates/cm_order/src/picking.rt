@@ -1,0 +1,113 @@
+//! What a pick comes to.
+
+ghost use Rattle.std.specs.Prelude.{◌≡◌, false, Some, IsTrue, IfOk, if◌then◌else◌, option_map, option_and_then};
+ghost use Rattle.cm_world.specs.Rows.{row_of, is_subtree_shut, is_on};
+ghost use Rattle.cm_world.specs.Sound.{IsSound};
+ghost use Rattle.cm_world.specs.Stopping as spec;
+ghost use Rattle.cm_world.specs.Step.{may_close};
+ghost use Rattle.cm_order.specs.declared.search.Wanted.TheVariants as wanted;
+ghost use Rattle.cm_order.specs.Search.{NoneIs};
+ghost use Rattle.cm_order.specs.Picking.{IsPicked, WaitsFor};
+
+use crate::above::outermost;
+use crate::below::all_shut;
+use crate::search::{Wanted, search};
+use cm_names::Memory;
+use cm_walk::above::on;
+use cm_world::View;
+use std::alloc::Global;
+
+/// What a pick comes to.
+#[derive(Debug, Clone, Copy, PartialEq, Eq)]
+pub enum Picked {
+    /// The instance may stop now, and its program runs.
+    StopNow(u64),
+    /// The instance may be shut now, since its program doesn't run.
+    ShutNow(u64),
+    /// No instance may be picked before the action of this number has ended.
+    Waits(u64),
+    /// All instances at and below the target are shut, if any lives.
+    Done,
+}
+
+/// Which instance may stop next in the shutdown of a target.
+///
+/// The target doesn't live, or it or one above it is being shut down. The shutdown works on all
+/// at and below the outermost instance that is being shut down itself, among the target and those
+/// above it.
+///
+/// `Done` comes exactly where each instance at and below the target is shut. Otherwise an instance
+/// may be picked where it stands at or below that outermost one, isn't shut, has no pending action
+/// and may stop: at each level from the outermost one down to itself, all that depends on the
+/// node that leads to it, directly or through others, is shut, a child with all below it. Where
+/// there are such instances, one of them is answered, as `StopNow` where its program runs, else as
+/// `ShutNow`. Where there is none, `Waits` tells a pending action of an instance there that isn't
+/// shut and may stop: a shutdown is never at a dead end. `Err` comes where memory runs out, and
+/// there alone.
+///
+/// It goes down from the outermost one, at each level into the first child that may be next. So
+/// the graph of each level on the way is made once, and once more for each child on the way below
+/// which all instances that may stop have a pending action; and of each child of these levels what
+/// stands below it is looked at, up to the first instance that isn't shut. The memory is that of
+/// one level and its graph at a time, and of a place for each level of the way. Where no instance
+/// may be picked, the search is made twice.
+///
+/// That clients stop before what they depend on is the rule of Fuchsia's component lifecycle
+/// documentation (fuchsia.dev); how it reaches over several levels is this project's own.
+pub fn pick<V: View>(alloc: Global, view: &V, target: u64) -> Result<Picked, Memory>
+    requires sound { IsSound (V.rows view.now) (V.next_inc view.now) }
+    requires closing { IsTrue (may_close (V.rows view.now) target) }
+    ensures { IfOk result (IsPicked (V.rows view.now) target) }
+{
+    let Some(top) = outermost(view, target) else {
+        return Ok(Picked::Done);
+    };
+    if all_shut(alloc, view, target)? {
+        return Ok(Picked::Done);
+    }
+    match search(alloc, view, top, Wanted::Idle)? {
+        Some(inc) => Ok(stop_or_shut(view, inc)),
+        None => Ok(Picked::Waits(action_at(alloc, view, target, top)?)),
+    }
+}
+
+/// How an instance that may be picked is told.
+fn stop_or_shut<V: View>(view: &V, inc: u64) -> Picked
+    ensures { result ≡ (if is_on (V.rows view.now) inc then Picked.StopNow inc
+        else Picked.ShutNow inc) }
+{
+    if on(view, inc) {
+        Picked::StopNow(inc)
+    } else {
+        Picked::ShutNow(inc)
+    }
+}
+
+/// The pending action that is waited for, where none of the instances that may stop is idle, and
+/// not all is shut.
+fn action_at<V: View>(alloc: Global, view: &V, target: u64, top: u64) -> Result<u64, Memory>
+    requires sound { IsSound (V.rows view.now) (V.next_inc view.now) }
+    requires top { spec.outermost (V.rows view.now) target ≡ Some top }
+    requires undone { is_subtree_shut (V.rows view.now) target ≡ false }
+    requires stuck { NoneIs (V.rows view.now) top wanted.Idle }
+    ensures { IfOk result (WaitsFor (V.rows view.now) target) }
+{
+    let Some(inc) = search(alloc, view, top, Wanted::Pending)? else {
+        unreachable!();
+    };
+    match pending(view, inc) {
+        Some(action) => Ok(action),
+        None => unreachable!(),
+    }
+}
+
+/// The number of the instance's pending action, if there is one.
+fn pending<V: View>(view: &V, inc: u64) -> Option<u64>
+    ensures { result ≡ option_map (λ p. p.1)
+        (option_and_then (λ r. r.pending) (row_of (V.rows view.now) inc)) }
+{
+    match view.facts(inc)?.pending {
+        Some((_kind, action)) => Some(action),
+        None => None,
+    }
+}

@@ -1,0 +1,28 @@
+-- What a list of children and a survey take from one row.
+use Rattle.std.specs.Prelude.{ℕ, List, [], Bool, not, ◌&&◌, Option, Some, None, map, option_and_then, if◌then◌else◌}
+use Rattle.std.specs.Str.{bytes_eq}
+use Rattle.std.specs.Option.{option_eq}
+use Rattle.cm_names.specs.declared.child.ChildName.{ChildName}
+use Rattle.cm_decl.specs.declared.decl.Decl.{Decl}
+use Rattle.cm_world.specs.declared.row.Row.{Row}
+use Rattle.cm_world.specs.declared.report.Kid.{Kid}
+use Rattle.cm_world.specs.declared.report.SurveyRow.{SurveyRow}
+use Rattle.cm_world.specs.Rows.{is_gone, is_below}
+use Rattle.cm_world.specs.Reports.{survey_row}
+
+-- row i as a child in a collection, by its name and whether it is doomed
+abbrev pub kid_as : List ℕ → ℕ → Bool → ChildName → Option Kid
+kid_as coll i doomed c = if option_eq bytes_eq c.coll (Some coll) && not doomed then Some (record { name = c.name; inc = i }) else None
+
+-- a row as a child in a collection of its parent, if it is in it and isn't doomed
+abbrev pub kid_in : List ℕ → Row → Option Kid
+kid_in coll r = option_and_then (kid_as coll r.inc r.doomed) r.name
+
+-- the paths that a declaration uses, if there is one
+abbrev pub paths_by : Option Decl → List (List ℕ)
+paths_by None = []
+paths_by (Some d) = map (λ u. u.path) d.uses
+
+-- a row in the survey of another, if it is at or below that one and isn't gone
+abbrev pub surveyed_row : List Row → ℕ → Row → Option SurveyRow
+surveyed_row rows top r = if is_below rows top r.inc && not (is_gone rows r.inc) then Some (survey_row rows r) else None

@@ -1,0 +1,104 @@
+//! The reply to who asks how an instance and all below it are.
+
+ghost use Rattle.std.specs.Prelude.{◌≡◌, IfOk, Some, map};
+ghost use Rattle.std.specs.List.{filter_map};
+ghost use Rattle.cm_world.specs.declared.row.Row.{Row};
+ghost use Rattle.cm_world.specs.Rows.{row_of, decl_of};
+ghost use Rattle.cm_world.specs.Reports as reports;
+ghost use Rattle.cm_steps.specs.Reporting as spec;
+
+use crate::replies::beginning::push_found;
+use cm_decl::Usage;
+use cm_names::{CapPath, List, Memory};
+use cm_table::Table;
+use cm_walk::above::{below, gone, on, resolved, shut};
+use cm_walk::hop::moniker;
+use cm_world::{Reply, SurveyRow, View};
+use std::alloc::Global;
+
+/// What is replied to who asks how an instance and all below it are.
+pub fn surveyed(alloc: Global, table: &Table, inc: u64) -> Result<Reply, Memory>
+    ensures { IfOk result (λ reply. reply ≡ reports.survey_reply table.now.rows inc) }
+{
+    if gone(table, inc) {
+        return Ok(Reply::Gone(inc));
+    }
+    let rows = survey_rows(alloc, table, inc)?;
+    Ok(Reply::Surveyed(rows))
+}
+
+/// The instances at and below the given one that aren't gone, by their incarnations.
+fn survey_rows(alloc: Global, table: &Table, top: u64) -> Result<List<SurveyRow>, Memory>
+    ensures { let rows = table.now.rows in
+        IfOk result (λ told. told ≡ filter_map (spec.surveyed_row rows top) rows) }
+{
+    let mut told = List::new(alloc);
+    let mut after = None;
+    'next: while let Some(inc) = table.next_instance(after) {
+        let found = surveyed_row(alloc, table, top, inc)?;
+        push_found(&mut told, found)?;
+        after = Some(inc);
+    }
+    Ok(told)
+}
+
+/// An instance in the survey of another, if it is at or below that one and isn't gone.
+fn surveyed_row<V: View>(
+    alloc: Global,
+    view: &V,
+    top: u64,
+    inc: u64,
+) -> Result<Option<SurveyRow>, Memory>
+    ensures { let rows = V.rows view.now in
+        IfOk result (λ found. (r : Row) → row_of rows inc ≡ Some r
+        → found ≡ spec.surveyed_row rows top r) }
+{
+    if !below(view, top, inc) {
+        return Ok(None);
+    }
+    if gone(view, inc) {
+        return Ok(None);
+    }
+    let row = survey_row(alloc, view, inc)?;
+    Ok(Some(row))
+}
+
+/// How an instance is, with the paths that it uses.
+fn survey_row<V: View>(alloc: Global, view: &V, inc: u64) -> Result<SurveyRow, Memory>
+    ensures { let rows = V.rows view.now in
+        IfOk result (λ row. (r : Row) → row_of rows inc ≡ Some r
+        → row ≡ reports.survey_row rows r) }
+{
+    let moniker = moniker(alloc, view, inc)?;
+    let paths = paths(alloc, view, inc)?;
+    Ok(SurveyRow {
+        inc,
+        moniker,
+        resolved: resolved(view, inc),
+        on: on(view, inc),
+        shut: shut(view, inc),
+        paths,
+    })
+}
+
+/// The paths that an instance uses; none where it isn't resolved.
+fn paths<V: View>(alloc: Global, view: &V, inc: u64) -> Result<List<CapPath>, Memory>
+    ensures { let decl = decl_of (V.rows view.now) inc in
+        IfOk result (λ paths. paths ≡ spec.paths_by decl) }
+{
+    match view.decl(inc) {
+        None => Ok(List::new(alloc)),
+        Some(decl) => paths_of(alloc, decl.uses.as_slice()),
+    }
+}
+
+/// The paths of these uses.
+fn paths_of(alloc: Global, uses: &[Usage]) -> Result<List<CapPath>, Memory>
+    ensures { IfOk result (λ paths. paths ≡ map (λ u. u.path) uses.now) }
+{
+    let mut paths = List::new(alloc);
+    for usage in uses {
+        paths.push(usage.path.clone()?)?;
+    }
+    Ok(paths)
+}

@@ -1,0 +1,72 @@
+-- Up the tree.
+use Rattle.std.proofs.Common.{◌≡◌, ℕ, zero, suc, ◌||◌, ◌==◌, List, Bool, true, false, true≢false, Option, Some, None, length, option_map, option_and_then, refl, sym, ◌∙◌, ap}
+use Rattle.std.specs.Option.{option_map_or}
+use Rattle.cm_world.specs.declared.row.Row.{Row}
+use Rattle.cm_world.specs.declared.view.Facts.{Facts}
+use Rattle.cm_world.specs.Rows.{row_of, facts_of, at_or_above, some_above}
+use Rattle.cm_world.specs.Sound.{IsOrderly}
+use Rattle.cm_world.proofs.Climbing.{some_above-step, above_root}
+use Rattle.cm_world.proofs.Finding.{none_some, some_same, row_of-inc}
+use Rattle.cm_walk.specs.declared.above.Mark.{Mark}
+use Rattle.cm_walk.specs.declared.above.Mark.TheVariants.{Number}
+use Rattle.cm_walk.specs.Marks.{has_mark}
+
+-- the row that facts were told of
+pub record Told (o : Option Row) (f : Facts) : Type 0 where
+  pub row : Row
+  pub lives : o ≡ Some row
+  pub facts : f ≡ facts_of row
+
+told_by : (o : Option Row) (f : Facts) → Some f ≡ option_map facts_of o → Told o f
+told_by None f e = absurd (none_some f (sym e))
+told_by (Some r) f e = record { row = r; lives = refl; facts = some_same f (facts_of r) e }
+
+pub told : (rows : List Row) (i : ℕ) (f : Facts) → Some f ≡ option_map facts_of (row_of rows i) → Told (row_of rows i) f
+told rows i f e = told_by (row_of rows i) f e
+
+-- ---- a mark at a row or above it
+
+nothing_above : (n : ℕ) (p : Row → Bool) (rows : List Row) (i : ℕ) → row_of rows i ≡ None → at_or_above n p rows (Some i) ≡ false
+nothing_above zero p rows i none = refl
+nothing_above (suc n) p rows i none = rw (none, at_or_above) refl
+
+or_by : (b c : Bool) → b ≡ false → (b || c) ≡ c
+or_by b c e = rw e refl
+
+step_by : (p : Row → Bool) (rows : List Row) (next i : ℕ) (o : Option Row) → IsOrderly rows next → row_of rows i ≡ o → option_map_or p o false ≡ false → some_above p rows i ≡ at_or_above (length rows) p rows (option_and_then (λ r. r.parent) o)
+step_by p rows next i None orderly lives misses = nothing_above (length rows) p rows i lives ∙ sym (above_root (length rows) p rows)
+step_by p rows next i (Some r) orderly lives misses =
+    some_above-step p rows next i r orderly lives ∙ or_by (p r) (at_or_above (length rows) p rows r.parent) misses
+
+-- where a row doesn't have it, the rows above it decide
+pub no_mark_here : (all : Bool) (p : Row → Bool) (rows : List Row) (next i : ℕ) (at above : Option ℕ) → IsOrderly rows next → at ≡ Some i → above ≡ option_and_then (λ r. r.parent) (row_of rows i) → option_map_or p (row_of rows i) false ≡ false → all ≡ at_or_above (length rows) p rows at → all ≡ at_or_above (length rows) p rows above
+no_mark_here all p rows next i at above orderly here up misses so_far =
+    so_far
+    ∙ ap (at_or_above (length rows) p rows) here
+    ∙ step_by p rows next i (row_of rows i) orderly refl misses
+    ∙ sym (ap (at_or_above (length rows) p rows) up)
+
+found_by : (p : Row → Bool) (rows : List Row) (next i : ℕ) (o : Option Row) → IsOrderly rows next → row_of rows i ≡ o → option_map_or p o false ≡ true → some_above p rows i ≡ true
+found_by p rows next i None orderly lives hits = absurd (true≢false (sym hits))
+found_by p rows next i (Some r) orderly lives hits =
+    some_above-step p rows next i r orderly lives ∙ ap (λ b. b || at_or_above (length rows) p rows r.parent) hits
+
+-- where a row has it, that is decided
+pub mark_found : (all : Bool) (p : Row → Bool) (rows : List Row) (next i : ℕ) (at : Option ℕ) → all ≡ at_or_above (length rows) p rows at → IsOrderly rows next → at ≡ Some i → option_map_or p (row_of rows i) false ≡ true → true ≡ all
+mark_found all p rows next i at so_far orderly here hits =
+    sym (so_far ∙ ap (at_or_above (length rows) p rows) here ∙ found_by p rows next i (row_of rows i) orderly refl hits)
+
+-- at the root it ends
+pub no_mark : (all : Bool) (p : Row → Bool) (rows : List Row) (at : Option ℕ) → all ≡ at_or_above (length rows) p rows at → at ≡ None → false ≡ all
+no_mark all p rows at so_far top = sym (so_far ∙ ap (at_or_above (length rows) p rows) top ∙ above_root (length rows) p rows)
+
+-- ---- the mark of an incarnation
+
+-- whether a row has an incarnation
+number_is : (rows : List Row) (i top : ℕ) (f : Facts) → Some f ≡ option_map facts_of (row_of rows i) → (i == top) ≡ option_map_or (λ r. r.inc == top) (row_of rows i) false
+number_is rows i top f e =
+    let t : Told (row_of rows i) f = told rows i f e in
+    ap (λ j. j == top) (sym (row_of-inc rows i t.row t.lives)) ∙ sym (ap (λ o. option_map_or (λ r. r.inc == top) o false) t.lives)
+
+pub number_counts : (rows : List Row) (i top : ℕ) (mark : Mark) (f : Facts) → mark ≡ Number top → Some f ≡ option_map facts_of (row_of rows i) → (i == top) ≡ option_map_or (has_mark mark) (row_of rows i) false
+number_counts rows i top mark f is e = number_is rows i top f e ∙ sym (ap (λ m. option_map_or (has_mark m) (row_of rows i) false) is)

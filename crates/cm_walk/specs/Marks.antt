@@ -1,0 +1,11 @@
+-- What counts for all below the row that has it.
+use Rattle.std.specs.Prelude.{Bool, ◌==◌}
+use Rattle.cm_world.specs.declared.row.Row.{Row}
+use Rattle.cm_walk.specs.declared.above.Mark.{Mark}
+use Rattle.cm_walk.specs.declared.above.Mark.TheVariants.{Doomed, Closing, Number}
+
+-- whether a row itself has the mark
+abbrev pub has_mark : Mark → Row → Bool
+has_mark Doomed = λ r. r.doomed
+has_mark Closing = λ r. r.closing
+has_mark (Number top) = λ r. r.inc == top
