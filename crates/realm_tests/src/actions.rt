@@ -99,6 +99,80 @@ fn finds_instances(rt: HostRuntime) -> Result<(), Fail> {
 }
 
 #[test]
+fn lists_children(rt: HostRuntime) -> Result<(), Fail> {
+    let calls = [
+        (0, Call::List(0, "coll")),
+        (
+            0,
+            Call::Resolve(
+                0,
+                "{children:[{name:'a',url:'#a'}],\
+                 collections:[{name:'coll',durability:'transient'}]}",
+            ),
+        ),
+        (0, Call::List(0, "coll")),
+        (0, Call::List(0, "other")),
+        (0, Call::List(1, "coll")),
+        (0, Call::List(7, "coll")),
+    ];
+    assert_eq!(rt;
+        new_tells(rt.alloc(), 9, 99, calls.as_slice())?.as_str(),
+        "1 0 list 0 coll => need 0\n\
+         3 0 end 1 resolved fuchsia-pkg://t/a#x {\"capabilities\":[],\
+         \"children\":[{\"name\":\"a\",\"startup\":\"lazy\",\"url\":\"#a\"}],\
+         \"collections\":[{\"allowed_offers\":\"static_only\",\"durability\":\"transient\",\
+         \"name\":\"coll\"}],\"expose\":[],\"offer\":[],\"use\":[]} => ended resolved\n\
+         4 0 list 0 coll => listed 0\n\
+         5 0 list 0 other => no-collection\n\
+         6 0 list 1 coll => need 1\n\
+         7 0 list 7 coll => gone 7\n"
+    );
+    Ok(())
+}
+
+#[test]
+fn surveys_realms(rt: HostRuntime) -> Result<(), Fail> {
+    let calls = [(3, Call::Survey(0)), (3, Call::Survey(7))];
+    assert_eq!(rt;
+        new_tells(rt.alloc(), 9, 99, calls.as_slice())?.as_str(),
+        "1 3 survey 0 => surveyed 1 [. incarnation 0 unresolved off]\n\
+         2 3 survey 7 => gone 7\n"
+    );
+    let calls = [
+        (0, Call::Run(ActKind::Start, 1, Outcome::Started)),
+        (3, Call::Survey(0)),
+        (3, Call::Survey(2)),
+    ];
+    assert_eq!(rt;
+        resolved_tells(rt.alloc(), calls.as_slice())?.as_str(),
+        "8 0 end 4 started => ended started\n\
+         9 3 survey 0 => surveyed 3 [. incarnation 0 resolved off] \
+         [store incarnation 1 resolved on] [client incarnation 2 resolved off]\n\
+         10 3 survey 2 => surveyed 1 [client incarnation 2 resolved off]\n"
+    );
+    Ok(())
+}
+
+#[test]
+fn tells_the_length_of_the_history(rt: HostRuntime) -> Result<(), Fail> {
+    let calls = [
+        (2, Call::Tail(7, 0)),
+        (0, Call::Resolve(0, "{}")),
+        (2, Call::Tail(0, 0)),
+        (2, Call::Tail(0, 3)),
+    ];
+    assert_eq!(rt;
+        new_tells(rt.alloc(), 1, 4, calls.as_slice())?.as_str(),
+        "1 2 tail 7 0 => gone 7\n\
+         3 0 end 1 resolved fuchsia-pkg://t/a#x {\"capabilities\":[],\"children\":[],\
+         \"collections\":[],\"expose\":[],\"offer\":[],\"use\":[]} => ended resolved\n\
+         4 2 tail 0 0 => tailed 3\n\
+         history full\n"
+    );
+    Ok(())
+}
+
+#[test]
 fn tells_what_is_gone(rt: HostRuntime) -> Result<(), Fail> {
     let calls = [
         (0, Call::Begin(ActKind::Stop, 0)),

@@ -47,6 +47,9 @@ const CLIENT: &str = "{
 pub enum Call {
     Find(&'static str),
     Show(u64),
+    List(u64, &'static str),
+    Survey(u64),
+    Tail(u64, u64),
     Route(u64, &'static str),
     OpenUse(u64, &'static str),
     OpenExposed(u64, &'static str),
@@ -103,6 +106,9 @@ fn tell(realm: &mut Realm, alloc: Global, caller: u32, call: &Call) -> Result<Te
     match call {
         Call::Find(moniker) => find(realm, alloc, caller, moniker),
         Call::Show(inc) => show(realm, alloc, caller, *inc),
+        Call::List(inc, coll) => list(realm, alloc, caller, *inc, coll),
+        Call::Survey(inc) => survey(realm, alloc, caller, *inc),
+        Call::Tail(inc, from) => tail(realm, alloc, caller, *inc, *from),
         Call::Route(inc, path) => route(realm, alloc, caller, *inc, path),
         Call::OpenUse(inc, path) => open_use(realm, alloc, caller, *inc, path),
         Call::OpenExposed(inc, name) => open_exposed(realm, alloc, caller, *inc, name),
@@ -121,6 +127,22 @@ fn find(realm: &mut Realm, alloc: Global, caller: u32, moniker: &str) -> Result<
 
 fn show(realm: &mut Realm, alloc: Global, caller: u32, inc: u64) -> Result<Text, Fail> {
     let made = realm.show(alloc, caller, inc);
+    told(realm, alloc, made)
+}
+
+fn list(realm: &mut Realm, alloc: Global, caller: u32, inc: u64, coll: &str) -> Result<Text, Fail> {
+    let coll = Name::read(alloc, coll)?;
+    let made = realm.list(alloc, caller, inc, coll);
+    told(realm, alloc, made)
+}
+
+fn survey(realm: &mut Realm, alloc: Global, caller: u32, inc: u64) -> Result<Text, Fail> {
+    let made = realm.survey(alloc, caller, inc);
+    told(realm, alloc, made)
+}
+
+fn tail(realm: &mut Realm, alloc: Global, caller: u32, inc: u64, from: u64) -> Result<Text, Fail> {
+    let made = realm.tail(caller, inc, from);
     told(realm, alloc, made)
 }
 
