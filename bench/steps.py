@@ -1,7 +1,8 @@
 #!/usr/bin/env python3
-"""Prints the time of a step of a realm, as it grows with the realm: of 10,000 commands that show an instance among 250, 1,000 and 4,000, and of 100 commands that walk a route of 250, 500 and 1,000 hops.
+"""Prints the time of a step of a realm, as it grows with the realm: of 10,000 commands that show an instance among 250, 1,000 and 4,000, of 100 commands that walk a route of 250, 500 and 1,000 hops, and of the picks of a shutdown of 50, 100 and 200 instances.
 
-Each command makes two entries of the history: it looks for the instance, and then makes its own event. What the realm takes to be made is measured by a run with one such command, and taken off.
+Each command that shows or routes makes two entries of the history: it looks for the instance, and then makes its own event. What the realm takes to be made is measured by a run with one such command, and taken off.
+In a shutdown each instance is off, and is shut by one pick.
 Run it from anywhere: bench/steps.py [PROGRAM]
 """
 import os
@@ -29,6 +30,14 @@ def deep(hops, commands):
     client = "/".join(["c"] * (hops - 2))
     for _ in range(commands):
         yield "0 route %s /svc/p\n" % client
+
+
+def closing(instances, shutdowns):
+    """A root with so many instances below it, which is shut down, or not."""
+    for line in wide(instances, 1):
+        yield line
+    for _ in range(shutdowns):
+        yield "0 shutdown .\n"
 
 
 def seconds(lines):
@@ -67,6 +76,13 @@ def main():
         if told != hops:
             sys.exit("%d hops are told, and not %d" % (told, hops))
         print("%d, %.1f" % (hops, micros))
+    print("instances, microseconds for each pick of a shutdown")
+    for instances in (50, 100, 200):
+        base, _ = seconds(closing(instances, 0))
+        whole, answer = seconds(closing(instances, 1))
+        if answer != "0 shut .\n":
+            sys.exit("told is: " + answer)
+        print("%d, %.1f" % (instances, (whole - base) / instances * 1e6))
 
 
 if __name__ == "__main__":

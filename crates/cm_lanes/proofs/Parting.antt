@@ -1,9 +1,11 @@
 -- The parts of a caller's lines, and lines that are lost.
-use Rattle.std.proofs.Common.{◌≡◌, ℕ, ◌==◌, List, [], ◌∷◌, ◌++◌, All, map, flat_map, cond, Bool, true, false, Result, Ok, Err, IsTrue, refl, sym, ap, ◌∙◌, subst, inl, inr, append-nil, append_assoc, suc, arith}
+use Rattle.std.proofs.Common.{◌≡◌, ℕ, ◌==◌, List, [], ◌∷◌, ◌++◌, All, map, flat_map, cond, Bool, true, false, Some, Result, Ok, Err, IsTrue, refl, sym, ap, ◌∙◌, subst, inl, inr, append-nil, append_assoc, suc, arith}
 use Rattle.std.proofs.lemmas.List.Elements.{filter-append}
 use Rattle.cm_turn.specs.History.{StartsWith}
 use Rattle.cm_world.specs.declared.action.ActKind.{ActKind}
 use Rattle.cm_world.specs.declared.answer.Answer.{Answer}
+use Rattle.cm_world.specs.declared.answer.Checked.{Checked}
+use Rattle.cm_world.specs.declared.answer.Answer.TheVariants as answer
 use Rattle.cm_world.specs.declared.answer.Refusal.{Refusal}
 use Rattle.cm_world.specs.declared.answer.Refusal.TheVariants as refusal
 use Rattle.cm_world.specs.declared.event.Event.{Event}
@@ -12,6 +14,7 @@ use Rattle.cm_world.specs.declared.event.Target.TheVariants as target
 use Rattle.cm_world.specs.declared.frame.Frame.{Frame}
 use Rattle.cm_world.specs.declared.reply.Entry.{Entry}
 use Rattle.cm_world.specs.declared.reply.Reply.{Reply}
+use Rattle.cm_world.specs.declared.report.SurveyRow.{SurveyRow}
 use Rattle.cm_world.specs.World.{start}
 use Rattle.cm_world.specs.Legal.{Legal}
 use Rattle.cm_command.specs.declared.command.Command.{Command}
@@ -20,10 +23,13 @@ use Rattle.cm_command.specs.declared.script.Line.{Line}
 use Rattle.cm_manager.specs.declared.acted.Acted.{Acted}
 use Rattle.cm_manager.specs.Turns.{own_entries, Later}
 use Rattle.cm_manager.specs.Runs.{Acts, Tries, decided, needs, failed, cut_try, lost_try}
-use Rattle.cm_manager.specs.Calls.{Way, Finding, Behind, OnRow, Tried, ActedOn, Calls, Goes, is_built}
+use Rattle.cm_manager.specs.Calls.{Way, Finding, Behind, OnRow, Tried, ActedOn, Reaches, Calls, Goes}
+use Rattle.cm_manager.specs.Shutdowns.{Shuts, Destroys}
+use Rattle.cm_manager.specs.Doctor.{Checks, Each, OfPath, OfRow, Doctors}
 use Rattle.cm_manager.proofs.Joining.{starts-trans}
 use Rattle.cm_manager.proofs.Closing.{makes-own, cut-later, acts-close}
-use Rattle.cm_lanes.specs.Script.{Answered, answers_of, IsFit, Follows, rests, performs, IsPhase, ArePhases}
+use Rattle.cm_manager.proofs.ShuttingDown.{shuts_close, destroys_close}
+use Rattle.cm_lanes.specs.Script.{Answered, answers_of, Follows, rests, performs, IsPhase, ArePhases}
 use Rattle.cm_lanes.specs.Laws.{FallsIntoRuns, no_answer}
 use Rattle.cm_lanes.proofs.Keeping.{starts_same}
 
@@ -56,18 +62,35 @@ tried_grows f c e i a b r is = tries_grow f c (e i) is.1
 acted_grows : (f : Frame) (c : ℕ) (k : ActKind) (value : Result Acted Refusal → Result Answer Refusal) → Growing (ActedOn f c k value)
 acted_grows f c k value i a b r is = (acts-close f c is.1).grows
 
+each_grows : {A : Type 0} (Item : A → Checks) → ((x : A) (a b : List Entry) (end : Result (List Checked) Refusal) → Item x a b end → StartsWith b a) → {xs : List A} {a b : List Entry} {end : Result (List Checked) Refusal} → Each Item xs a b end → StartsWith b a
+each_grows Item grows Each.no_item = starts_same _
+each_grows Item grows (Each.next_item item rest) = starts-trans _ _ _ (grows _ _ _ _ item) (each_grows Item grows rest)
+each_grows Item grows (Each.cut_item item) = grows _ _ _ _ item
+each_grows Item grows (Each.lost_item item) = grows _ _ _ _ item
+
+row_grows : (f : Frame) (c : ℕ) (row : SurveyRow) (a b : List Entry) (end : Result (List Checked) Refusal) → OfRow f c row a b end → StartsWith b a
+row_grows f c row a b end (OfRow.unresolved is) = starts_same _
+row_grows f c row a b end (OfRow.resolved is paths) = each_grows (OfPath f c row) (λ p a b end way. tries_grow f c _ way.1) paths
+
+doctors_grow : (f : Frame) (c : ℕ) → Growing (Doctors f c)
+doctors_grow f c i a b r (Doctors.surveyed survey is rows) = starts-trans _ _ _ (tries_grow f c _ survey) (each_grows (OfRow f c) (row_grows f c) rows)
+doctors_grow f c i a b r (Doctors.not_surveyed survey is) = tries_grow f c _ survey
+
 calls_grow : (f : Frame) (c : ℕ) (cmd : Command) (a b : List Entry) (r : Result Answer Refusal) → Calls f c cmd a b r → StartsWith b a
 calls_grow f c (command.Resolve t) a b r is = on_row_grows f c t _ a b r (acted_grows f c _ _) is
 calls_grow f c (command.Start t) a b r is = on_row_grows f c t _ a b r (acted_grows f c _ _) is
 calls_grow f c (command.Stop t) a b r is = on_row_grows f c t _ a b r (acted_grows f c _ _) is
+calls_grow f c (command.Shutdown t) a b r is = on_row_grows f c t _ a b r (λ i a b r is. (shuts_close f c false i is.1).grows) is
+calls_grow f c (command.Create t coll name url gives) a b r is = on_row_grows f c t _ a b r (tried_grows f c _) is
+calls_grow f c (command.Destroy t) a b r is = on_row_grows f c t _ a b r (λ i a b r is. (destroys_close f c i is.1).grows) is
 calls_grow f c (command.ListChildren t coll) a b r is = on_row_grows f c t _ a b r (tried_grows f c _) is
 calls_grow f c (command.OpenUse t path) a b r is = on_row_grows f c t _ a b r (tried_grows f c _) is
 calls_grow f c (command.OpenExposed t name) a b r is = on_row_grows f c t _ a b r (tried_grows f c _) is
 calls_grow f c (command.RouteOf t path) a b r is = on_row_grows f c t _ a b r (tried_grows f c _) is
+calls_grow f c (command.Doctor t) a b r is = on_row_grows f c t _ a b r (doctors_grow f c) is
 calls_grow f c (command.Show t) a b r is = on_row_grows f c t _ a b r (tried_grows f c _) is
 calls_grow f c (command.Survey t) a b r is = on_row_grows f c t _ a b r (tried_grows f c _) is
 calls_grow f c (command.Exited t) a b r is = on_row_grows f c t _ a b r (tried_grows f c _) is
-calls_grow f c _ a b r is = absurd is
 
 goes_grows : (f : Frame) (c : ℕ) (cmd : Command) (a b : List Entry) (r : Result Answer Refusal) → Goes f c cmd a b r → StartsWith b a
 goes_grows f c cmd a b r (inl is) = calls_grow f c cmd a b r is
@@ -125,29 +148,41 @@ tried_lost f c e h i = (Err refusal.Memory, tries_lost f c (e i) h, refl)
 acted_lost : (f : Frame) (c : ℕ) (k : ActKind) (value : Result Acted Refusal → Result Answer Refusal) (h : List Entry) → Err refusal.Memory ≡ value (Err refusal.Memory) → Losing h (ActedOn f c k value)
 acted_lost f c k value h same i = (Err refusal.Memory, Acts.cut (no_later c h), same)
 
-calls_lost : (f : Frame) (c : ℕ) (cmd : Command) (h : List Entry) → IsTrue (is_built cmd) → Calls f c cmd h h (Err refusal.Memory)
-calls_lost f c (command.Resolve t) h built = on_row_lost f c t _ h (acted_lost f c _ _ h refl)
-calls_lost f c (command.Start t) h built = on_row_lost f c t _ h (acted_lost f c _ _ h refl)
-calls_lost f c (command.Stop t) h built = on_row_lost f c t _ h (acted_lost f c _ _ h refl)
-calls_lost f c (command.ListChildren t coll) h built = on_row_lost f c t _ h (tried_lost f c _ h)
-calls_lost f c (command.OpenUse t path) h built = on_row_lost f c t _ h (tried_lost f c _ h)
-calls_lost f c (command.OpenExposed t name) h built = on_row_lost f c t _ h (tried_lost f c _ h)
-calls_lost f c (command.RouteOf t path) h built = on_row_lost f c t _ h (tried_lost f c _ h)
-calls_lost f c (command.Show t) h built = on_row_lost f c t _ h (tried_lost f c _ h)
-calls_lost f c (command.Survey t) h built = on_row_lost f c t _ h (tried_lost f c _ h)
-calls_lost f c (command.Exited t) h built = on_row_lost f c t _ h (tried_lost f c _ h)
-calls_lost f c _ h built = absurd (cc built)
+shut_lost : (f : Frame) (c : ℕ) (h : List Entry) → Losing h (λ i. Reaches answer.Shut (Shuts f c false i))
+shut_lost f c h i = (Some refusal.Memory, Shuts.cut_mark (no_later c h), refl)
 
-follows_lost : (f : Frame) (c : ℕ) (lines : List Line) (h : List Entry) → All IsFit lines → Follows f c (answers_of c (map no_answer lines)) h h
-follows_lost f c [] h fit = Follows.rests (no_later c h)
-follows_lost f c (l ∷ ls) h fit = first (l.lane == c) (follows_lost f c ls h (λ k d lt. fit (suc k) d (grind (arith, lt)))) where
+destroyed_lost : (f : Frame) (c : ℕ) (h : List Entry) → Losing h (λ i. Reaches answer.Destroyed (Destroys f c i))
+destroyed_lost f c h i = (Some refusal.Memory, Destroys.unshut (Shuts.cut_mark (no_later c h)), refl)
+
+doctored_lost : (f : Frame) (c : ℕ) (h : List Entry) → Losing h (Doctors f c)
+doctored_lost f c h i = Doctors.not_surveyed (tries_lost f c _ h) refl
+
+calls_lost : (f : Frame) (c : ℕ) (cmd : Command) (h : List Entry) → Calls f c cmd h h (Err refusal.Memory)
+calls_lost f c (command.Resolve t) h = on_row_lost f c t _ h (acted_lost f c _ _ h refl)
+calls_lost f c (command.Start t) h = on_row_lost f c t _ h (acted_lost f c _ _ h refl)
+calls_lost f c (command.Stop t) h = on_row_lost f c t _ h (acted_lost f c _ _ h refl)
+calls_lost f c (command.Shutdown t) h = on_row_lost f c t _ h (shut_lost f c h)
+calls_lost f c (command.Create t coll name url gives) h = on_row_lost f c t _ h (tried_lost f c _ h)
+calls_lost f c (command.Destroy t) h = on_row_lost f c t _ h (destroyed_lost f c h)
+calls_lost f c (command.ListChildren t coll) h = on_row_lost f c t _ h (tried_lost f c _ h)
+calls_lost f c (command.OpenUse t path) h = on_row_lost f c t _ h (tried_lost f c _ h)
+calls_lost f c (command.OpenExposed t name) h = on_row_lost f c t _ h (tried_lost f c _ h)
+calls_lost f c (command.RouteOf t path) h = on_row_lost f c t _ h (tried_lost f c _ h)
+calls_lost f c (command.Doctor t) h = on_row_lost f c t _ h (doctored_lost f c h)
+calls_lost f c (command.Show t) h = on_row_lost f c t _ h (tried_lost f c _ h)
+calls_lost f c (command.Survey t) h = on_row_lost f c t _ h (tried_lost f c _ h)
+calls_lost f c (command.Exited t) h = on_row_lost f c t _ h (tried_lost f c _ h)
+
+follows_lost : (f : Frame) (c : ℕ) (lines : List Line) (h : List Entry) → Follows f c (answers_of c (map no_answer lines)) h h
+follows_lost f c [] h = Follows.rests (no_later c h)
+follows_lost f c (l ∷ ls) h = first (l.lane == c) (follows_lost f c ls h) where
   first : (b : Bool) → Follows f c (answers_of c (map no_answer ls)) h h → Follows f c (cond b (no_answer l ∷ answers_of c (map no_answer ls)) (answers_of c (map no_answer ls))) h h
-  first true rest = Follows.performs (inl (calls_lost f c l.command h (fit 0 l (grind arith)).built)) rest
+  first true rest = Follows.performs (inl (calls_lost f c l.command h)) rest
   first false rest = rest
 
-phase_lost : (frames : ℕ → Frame) (lines : List Line) (h : List Entry) → All IsFit lines → IsPhase frames (map no_answer lines) h h
-phase_lost frames lines h fit = record { grows = starts_same h; lanes = λ c lt. follows_lost (frames c) c lines h fit }
+phase_lost : (frames : ℕ → Frame) (lines : List Line) (h : List Entry) → IsPhase frames (map no_answer lines) h h
+phase_lost frames lines h = record { grows = starts_same h; lanes = λ c lt. follows_lost (frames c) c lines h }
 
-pub phases_lost : (frames : ℕ → Frame) (phases : List (List Line)) (h : List Entry) → All (All IsFit) phases → ArePhases frames (map (λ p. map no_answer p) phases) h h
-phases_lost frames [] h fit = ArePhases.none_left
-phases_lost frames (p ∷ ps) h fit = ArePhases.one_first (phase_lost frames p h (fit 0 p (grind arith))) (phases_lost frames ps h (λ k d lt. fit (suc k) d (grind (arith, lt))))
+pub phases_lost : (frames : ℕ → Frame) (phases : List (List Line)) (h : List Entry) → ArePhases frames (map (λ p. map no_answer p) phases) h h
+phases_lost frames [] h = ArePhases.none_left
+phases_lost frames (p ∷ ps) h = ArePhases.one_first (phase_lost frames p h) (phases_lost frames ps h)

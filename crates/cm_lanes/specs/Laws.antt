@@ -10,7 +10,7 @@ use Rattle.cm_world.specs.Legal.{Legal}
 use Rattle.cm_manager.specs.Turns.{own_entries}
 use Rattle.cm_manager.specs.Calls.{Runs}
 use Rattle.cm_command.specs.declared.script.Line.{Line}
-use Rattle.cm_lanes.specs.Script.{Answered, IsFit, Follows, ArePhases}
+use Rattle.cm_lanes.specs.Script.{Answered, Follows, ArePhases}
 
 -- what a caller did between two places of a history falls into parts, one for each line, in order and with nothing left over, each of them the run of its line with that answer
 pub record FallsIntoRuns (f : Frame) (history : List Entry) (c : ℕ) (answered : List Answered) (before after : List Entry) : Type 0 where
@@ -33,4 +33,4 @@ no_answer l = record { line = l; result = Err refusal.Memory }
 abbrev pub LinesMayBeLost : Type 0
 LinesMayBeLost =
     (frames : ℕ → Frame) (phases : List (List Line)) (history : List Entry)
-    → All (All IsFit) phases → ArePhases frames (map (λ p. map no_answer p) phases) history history
+    → ArePhases frames (map (λ p. map no_answer p) phases) history history

@@ -7,7 +7,7 @@ use Rattle.cm_world.specs.declared.frame.Frame.{Frame}
 use Rattle.cm_world.specs.declared.reply.Entry.{Entry}
 use Rattle.cm_command.specs.declared.script.Line.{Line}
 use Rattle.cm_manager.specs.Turns.{Later}
-use Rattle.cm_manager.specs.Calls.{Goes, is_built}
+use Rattle.cm_manager.specs.Calls.{Goes}
 use Rattle.cm_lanes.specs.declared.said.Said.{Said}
 
 -- a line with its answer
@@ -31,10 +31,9 @@ lines_of c lines = filter (λ l. l.lane == c) lines
 abbrev pub answers_of : ℕ → List Answered → List Answered
 answers_of c answered = filter (λ a. a.line.lane == c) answered
 
--- a line of one of the sixteen lanes, whose call there is
+-- a line of one of the sixteen lanes
 pub record IsFit (l : Line) : Type 0 where
   pub lane : l.lane < 16
-  pub built : IsTrue (is_built l.command)
 
 -- a caller performs these lines in order, each by one call, and makes no entry besides
 pub data Follows (f : Frame) (c : ℕ) : List Answered → List Entry → List Entry → Type 0 where

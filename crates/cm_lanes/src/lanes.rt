@@ -26,9 +26,8 @@ use std::thread::Threads;
 /// and the gates at its place, the lanes side by side. Before the first phase and behind each, all
 /// passes meet.
 ///
-/// Every line is one of lanes 0 to 15, and of a command whose call there is. The passes are the
-/// manager's of callers 0 to 15, in this order, and there are 16 gates; both come back in their
-/// order in every case.
+/// Every line is one of lanes 0 to 15. The passes are the manager's of callers 0 to 15, in this
+/// order, and there are 16 gates; both come back in their order in every case.
 ///
 /// What is said to the lines stands in the order of the script. `None` means that memory ran out
 /// for the list itself: either before anything was done, and then passes and gates are as before;

@@ -90,7 +90,7 @@ begun_help shelf k i w end o eager p q r g h first asked did fits children secon
     let c = p.caller in
     let last = behind p q r first second in
     let makes = subst (λ (c : ℕ). Makes c q.seen (event.End w.action end) (reply.Ended o) r.seen) first.caller told.makes in
-    helps_acted shelf f (λ a b. BeginsBy f c k i (Ok (began.Ended w.action o eager)) a b) p q r g h k i w end o first last
+    helps_acted shelf f (λ a b. BeginsBy f c k i (Ok (began.Ended w.action o eager)) a b) p q r g h (event.Begin k i) (reply.Begun w) k w end o refl refl first last
     (record {
       work = w;
       finish = end;

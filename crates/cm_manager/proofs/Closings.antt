@@ -5,8 +5,7 @@ use Rattle.cm_world.specs.declared.reply.Entry.{Entry}
 use Rattle.cm_world.specs.World.{start}
 use Rattle.cm_world.specs.Legal.{Legal}
 use Rattle.cm_steps.specs.Story.{Story, IsLegal}
-use Rattle.cm_steps.proofs.Stable.{routes_are_stable}
-use Rattle.cm_steps.proofs.Outcomes.{outcomes_are_one}
+use Rattle.cm_steps.proofs.AllLaws.{histories_keep_laws}
 use Rattle.cm_manager.specs.Contract.{RealmPass}
 use Rattle.cm_manager.specs.Managers.{Closes}
 
@@ -18,6 +17,5 @@ closes_by history passes s is legal known callers = record {
   legal = subst (Legal (start s.frame)) (sym is) legal;
   known = known;
   callers = subst (All (λ (e : Entry). HasCaller passes e.caller)) (sym is) callers;
-  routes = routes_are_stable s.frame history (subst (Legal (start s.frame)) (sym is) legal);
-  outcomes = outcomes_are_one s.frame history (subst (Legal (start s.frame)) (sym is) legal);
+  laws = histories_keep_laws s.frame history (subst (Legal (start s.frame)) (sym is) legal);
 }

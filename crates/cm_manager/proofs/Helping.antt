@@ -1,5 +1,5 @@
 -- What helps of a call come to, one behind the other.
-use Rattle.std.proofs.Common.{◌≡◌, ℕ, ◌+◌, List, [], ◌∷◌, ◌++◌, length, filter, None, Bool, true, false, IsTrue, if◌then◌else◌, refl, sym, ap, subst, ◌∙◌, append_assoc, append-nil}
+use Rattle.std.proofs.Common.{◌≡◌, ℕ, ◌+◌, List, [], ◌∷◌, ◌++◌, length, filter, Some, None, Bool, true, false, IsTrue, if◌then◌else◌, refl, sym, ap, subst, ◌∙◌, append_assoc, append-nil, arith}
 use Rattle.std.proofs.Math.Nat.{le_refl}
 use Rattle.std.proofs.lemmas.List.{length-append}
 use Rattle.std.proofs.lemmas.List.Elements.{filter-append}
@@ -111,24 +111,33 @@ helps_plain shelf f Way p q g e r no_end apart none same way mine = record {
   };
 }
 
--- how often a begin and its end tell of a failure
-acted_failures : (c d : ℕ) (k : ActKind) (i : ℕ) (w : Work) (a : ℕ) (end : Finish) (o : Outcome) (b : Bool) → is_gate_failure end ≡ b → failures_of b ≡ failures (entry_of c (event.Begin k i) (reply.Begun w) ∷ entry_of d (event.End a end) (reply.Ended o) ∷ [])
-acted_failures c d k i w a end o true is = ap (λ (b : Bool). length (if b then entry_of d (event.End a end) (reply.Ended o) ∷ [] else [])) (sym is)
-acted_failures c d k i w a end o false is = ap (λ (b : Bool). length (if b then entry_of d (event.End a end) (reply.Ended o) ∷ [] else [])) (sym is)
+-- how often an end tells of a failure
+end_failures : (c a : ℕ) (end : Finish) (o : Outcome) (b : Bool) → is_gate_failure end ≡ b → failures_of b ≡ failures (entry_of c (event.End a end) (reply.Ended o) ∷ [])
+end_failures c a end o true is = ap (λ (b : Bool). length (if b then entry_of c (event.End a end) (reply.Ended o) ∷ [] else [])) (sym is)
+end_failures c a end o false is = ap (λ (b : Bool). length (if b then entry_of c (event.End a end) (reply.Ended o) ∷ [] else [])) (sym is)
 
--- a begin, its work and its end
-pub helps_acted : (shelf : Shelf) (f : Frame) (Way : List Entry → List Entry → Type 0) (p q r : RealmPass) (g h : GatesView) (k : ActKind) (i : ℕ) (w : Work) (end : Finish) (o : Outcome) → IsSamePass f p q → IsSamePass f q r → Way p.seen r.seen → q.mine ≡ p.mine ++ entry_of p.caller (event.Begin k i) (reply.Begun w) ∷ [] → r.mine ≡ q.mine ++ entry_of q.caller (event.End w.action end) (reply.Ended o) ∷ [] → Did shelf w k end g h → Helps shelf f Way p r g h
-helps_acted shelf f Way p q r g h k i w end o first second way begun ended did = record {
-  same = same_trans f p q r first second;
+none_more : (n : ℕ) → 0 + n ≡ n
+none_more n = omega arith
+
+-- how often an entry that begins an action, and its end, do
+acted_failures : (c d : ℕ) (e : Event) (r : Reply) (a : ℕ) (end : Finish) (o : Outcome) → IsTrue (is_no_end e) → failures_of (is_gate_failure end) ≡ failures (entry_of c e r ∷ entry_of d (event.End a end) (reply.Ended o) ∷ [])
+acted_failures c d e r a end o no_end =
+    end_failures d a end o (is_gate_failure end) refl
+    ∙ sym (failures-append (entry_of c e r ∷ []) (entry_of d (event.End a end) (reply.Ended o) ∷ []) ∙ ap (λ (n : ℕ). n + failures (entry_of d (event.End a end) (reply.Ended o) ∷ [])) (no_failure c e r no_end) ∙ none_more (failures (entry_of d (event.End a end) (reply.Ended o) ∷ [])))
+
+-- an entry that begins an action, its work and its end
+pub helps_acted : (shelf : Shelf) (f : Frame) (Way : List Entry → List Entry → Type 0) (p q t : RealmPass) (g h : GatesView) (e : Event) (r : Reply) (k : ActKind) (w : Work) (end : Finish) (o : Outcome) → IsTrue (is_no_end e) → begins e r ≡ Some (k, w) → IsSamePass f p q → IsSamePass f q t → Way p.seen t.seen → q.mine ≡ p.mine ++ entry_of p.caller e r ∷ [] → t.mine ≡ q.mine ++ entry_of q.caller (event.End w.action end) (reply.Ended o) ∷ [] → Did shelf w k end g h → Helps shelf f Way p t g h
+helps_acted shelf f Way p q t g h e r k w end o no_end begins first second way begun ended did = record {
+  same = same_trans f p q t first second;
   way = way;
-  part = entry_of p.caller (event.Begin k i) (reply.Begun w) ∷ entry_of q.caller (event.End w.action end) (reply.Ended o) ∷ [];
-  mine = ended ∙ ap (λ (l : List Entry). l ++ entry_of q.caller (event.End w.action end) (reply.Ended o) ∷ []) begun ∙ append_assoc p.mine (entry_of p.caller (event.Begin k i) (reply.Begun w) ∷ []) (entry_of q.caller (event.End w.action end) (reply.Ended o) ∷ []);
-  closed = acted refl refl empty;
+  part = entry_of p.caller e r ∷ entry_of q.caller (event.End w.action end) (reply.Ended o) ∷ [];
+  mine = ended ∙ ap (λ (l : List Entry). l ++ entry_of q.caller (event.End w.action end) (reply.Ended o) ∷ []) begun ∙ append_assoc p.mine (entry_of p.caller e r ∷ []) (entry_of q.caller (event.End w.action end) (reply.Ended o) ∷ []);
+  closed = acted begins refl empty;
   work = record {
     asked = did.asked ++ [];
-    works = ends refl (end, refl, did.does) nothing;
+    works = ends begins (end, refl, did.does) nothing;
     log = subst (Grew g.log h.log) (sym (append-nil did.asked)) did.log;
-    faults = subst (λ (n : ℕ). RoseBy n g.faults h.faults) (acted_failures p.caller q.caller k i w w.action end o (is_gate_failure end) refl) did.faults;
+    faults = subst (λ (n : ℕ). RoseBy n g.faults h.faults) (acted_failures p.caller q.caller e r w.action end o no_end) did.faults;
   };
 }
 

@@ -8,6 +8,8 @@ pub mod Closings
 pub mod HavingEnds
 pub mod Turning
 pub mod Helping
+pub mod Due
+pub mod ShuttingDown
 pub mod BeginReplies
 pub mod Onward
 pub mod Begins
@@ -15,3 +17,4 @@ pub mod Launches
 pub mod Starts
 pub mod Tryings
 pub mod Calling
+pub mod DoctorLines

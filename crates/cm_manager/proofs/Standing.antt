@@ -52,7 +52,7 @@ pub last_step : (f : Frame) (c : ℕ) (old : List Entry) (e : Event) (r : Reply)
 last_step f c old e r new legal m = (Legal-split (start f) m.found (entry_of c e r ∷ []) (subst (Legal (start f)) m.entries legal)).1.0
 
 -- as a step of a realm
-told : (f : Frame) (c : ℕ) (old : List Entry) (e : Event) (r : Reply) (new : List Entry) → Legal (start f) new → (m : Makes c old e r new) → Tells (record { frame = f; entries = m.found }) (record { frame = f; entries = new }) c e r
+pub told : (f : Frame) (c : ℕ) (old : List Entry) (e : Event) (r : Reply) (new : List Entry) → Legal (start f) new → (m : Makes c old e r new) → Tells (record { frame = f; entries = m.found }) (record { frame = f; entries = new }) c e r
 unfolding world_of
 told f c old e r new legal m = record { entries = m.entries; frame = refl; step = last_step f c old e r new legal m }
 

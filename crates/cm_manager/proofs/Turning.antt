@@ -253,6 +253,17 @@ waits_more first idle after w same is = record {
   mine = is.1 ∙ w.mine;
 }
 
+-- a turn without an entry leaves a later history
+turned_later : (idle after : RealmPass) (e : Event) (x : NoStep) → Turned e idle after (Err x) → Later idle.caller idle.seen after.seen × (after.mine ≡ idle.mine)
+turned_later idle after e (nostep.Busy a) turned = turned
+turned_later idle after e nostep.HistoryFull turned = (turned.0.0, turned.1)
+turned_later idle after e nostep.Memory turned = turned
+
+-- so that its caller may go on waiting
+pub waits_turned : (first idle after : RealmPass) (e : Event) (r : Result Reply NoStep) (x : NoStep) → Waits first idle → IsSamePass (frame_of idle) idle after → r ≡ Err x → Turned e idle after r → Waits first after
+waits_turned first idle after e r x waits same fails turned =
+    waits_more first idle after waits same (turned_later idle after e x (subst (λ (s : Result Reply NoStep). Turned e idle after s) fails turned))
+
 pub waits_same : (first idle after : RealmPass) → Waits first idle → IsSamePass (frame_of idle) idle after → IsSamePass (frame_of first) first after
 waits_same first idle after w same = record {
   lock = same.lock ∙ w.lock;

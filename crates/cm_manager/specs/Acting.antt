@@ -14,12 +14,15 @@ use Rattle.cm_world.specs.declared.reply.Reply.TheVariants as reply
 use Rattle.cm_world.specs.declared.answer.Refusal.{Refusal}
 use Rattle.cm_manager.specs.Turns.{Makes, Asks, IsCut}
 use Rattle.cm_manager.specs.Runs.{Acts, Eagers, is_quiet, is_started, needed, ends_call}
+use Rattle.cm_manager.specs.Shutdowns.{Stops}
 use Rattle.cm_manager.specs.declared.acted.Acted.{Acted}
 use Rattle.cm_manager.specs.declared.acted.Acted.TheVariants as acted
 use Rattle.cm_manager.specs.declared.began.Began.{Began}
 use Rattle.cm_manager.specs.declared.began.Began.TheVariants as began
 use Rattle.cm_manager.specs.declared.began.Launch.{Launch}
 use Rattle.cm_manager.specs.declared.began.Launch.TheVariants as launch
+use Rattle.cm_manager.specs.declared.began.Picked.{Picked}
+use Rattle.cm_manager.specs.declared.began.Picked.TheVariants as picked
 use Rattle.cm_manager.specs.declared.began.Demand.{Demand}
 use Rattle.cm_manager.specs.declared.began.Demand.TheVariants as demand
 
@@ -76,6 +79,13 @@ StartsBy f c i (launch.Children a eager) h₀ h₁ =
 abbrev pub LaunchesBy : Frame → ℕ → ℕ → Result Launch ℕ → List Entry → List Entry → Type 0
 LaunchesBy f c i (Ok started) h₀ h₁ = StartsBy f c i started h₀ h₁
 LaunchesBy f c i (Err j) h₀ h₁ = Asks f c h₀ (event.Begin kind.Start i) (reply.Need j) h₁
+
+-- what one pick came to: all is done, or the call is cut, or the stops are made whole by whatever the later picks come to
+abbrev pub PicksBy : Frame → ℕ → ℕ → Picked → List Entry → List Entry → Type 0
+PicksBy f c t picked.Done h₀ h₁ = Asks f c h₀ (event.Pick t) reply.Done h₁
+PicksBy f c t picked.Further h₀ h₁ =
+    (h₂ : List Entry) (end : Option Refusal) → Stops f c t h₁ h₂ end → Stops f c t h₀ h₂ end
+PicksBy f c t (picked.Cut x) h₀ h₁ = IsCut f c h₀ (event.Pick t) h₁ x
 
 -- how a reply is read: as the action that it asks for, or as what decides its event
 abbrev pub ReadsBy : Reply → Demand → Type 0

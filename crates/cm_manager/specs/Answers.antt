@@ -48,6 +48,11 @@ abbrev pub decided_by : Result Reply Refusal → Result Answer Refusal
 decided_by (Ok r) = decision r
 decided_by (Err x) = Err x
 
+-- the answer of a call that comes to this one unless something ends it before
+abbrev pub answer_unless : Answer → Option Refusal → Result Answer Refusal
+answer_unless a None = Ok a
+answer_unless a (Some x) = Err x
+
 -- the row that a finding gives
 abbrev pub found_by : Result Reply Refusal → Result ℕ Refusal
 found_by (Ok (reply.Found i)) = Ok i

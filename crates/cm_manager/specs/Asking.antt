@@ -1,5 +1,6 @@
 -- What a turn gives, whose event may get any reply.
-use Rattle.std.specs.Prelude.{◌≡◌, ℕ, List, [], ◌∷◌, ◌++◌, Bool, true, false, Option, Some, None, Result, Ok, Err}
+use Rattle.std.specs.Prelude.{◌≡◌, ℕ, List, [], ◌∷◌, ◌++◌, Bool, true, false, Option, Some, None, Result, Ok, Err, IsTrue}
+use Rattle.cm_turn.specs.History.{StartsWith}
 use Rattle.cm_world.specs.declared.action.Outcome.{Outcome}
 use Rattle.cm_world.specs.declared.event.Event.{Event}
 use Rattle.cm_world.specs.declared.event.Event.TheVariants as event
@@ -9,11 +10,15 @@ use Rattle.cm_world.specs.declared.reply.Reply.{Reply}
 use Rattle.cm_world.specs.declared.reply.Reply.TheVariants as reply
 use Rattle.cm_world.specs.declared.answer.Refusal.{Refusal}
 use Rattle.cm_world.specs.declared.answer.Refusal.TheVariants as refusal
+use Rattle.cm_world.specs.World.{World, start}
+use Rattle.cm_world.specs.Step.{may_close, may_purge}
+use Rattle.cm_world.specs.Legal.{Legal}
 use Rattle.cm_steps.specs.Story.{Story}
+use Rattle.cm_steps.specs.Shutdowns.{IsLeaving, IsMarked, IsOver}
 use Rattle.cm_steps.specs.Steps.{Tells, HasRoom, LacksRoom, entry_of}
 use Rattle.cm_steps.specs.declared.nostep.NoStep.{NoStep}
 use Rattle.cm_steps.specs.declared.nostep.NoStep.TheVariants as nostep
-use Rattle.cm_manager.specs.Turns.{Later, Makes, Asks, IsCut, need}
+use Rattle.cm_manager.specs.Turns.{Later, Makes, Asks, IsCut, need, world_after}
 use Rattle.cm_manager.specs.Contract.{RealmPass}
 
 -- ---- passes
@@ -36,6 +41,10 @@ frame_of p = frame_in p.frame
 abbrev pub is_asked : Event → Bool
 is_asked (event.Find m) = true
 is_asked (event.Begin kind i) = true
+is_asked (event.Create p coll name url gives) = true
+is_asked (event.Mark doom i) = true
+is_asked (event.Pick t) = true
+is_asked (event.Purge i) = true
 is_asked (event.Route i path) = true
 is_asked (event.OpenUse i path) = true
 is_asked (event.OpenExposed i name) = true
@@ -45,10 +54,34 @@ is_asked (event.Survey i) = true
 is_asked (event.Exited i) = true
 is_asked _ = false
 
--- and those of them that begin no action themselves
+-- and those of them that may come at any time and begin no action themselves
 abbrev pub is_plain : Event → Bool
 is_plain (event.Begin kind i) = false
+is_plain (event.Pick t) = false
+is_plain (event.Purge i) = false
 is_plain _ = true
+
+-- what a caller has to have seen before it makes an event: that the target of a pick is leaving, and that what it purges is to be destroyed, and shut with all below it
+abbrev pub IsDue : World → Event → Type 0
+IsDue w (event.Pick t) = IsLeaving w t
+IsDue w (event.Purge i) = IsMarked true w i × IsOver w i
+IsDue w _ = Unit {0}
+
+-- what the tree has to allow of it then
+abbrev pub IsOpen : World → Event → Type 0
+IsOpen w (event.Pick t) = IsTrue (may_close w.rows t)
+IsOpen w (event.Purge i) = IsTrue (may_purge w.rows i)
+IsOpen w _ = Unit {0}
+
+-- what is due stays due, whatever callers do
+abbrev pub DueStays : Type 0
+DueStays =
+    (f : Frame) (e : Event) (seen found : List Entry) → Legal (start f) found → StartsWith found seen
+    → IsDue (world_after f seen) e → IsDue (world_after f found) e
+
+-- and the tree allows it
+abbrev pub DueIsOpen : Type 0
+DueIsOpen = (w : World) (e : Event) → IsDue w e → IsOpen w e
 
 -- an event is only refused for want of room where the room is too small
 abbrev pub RefusesRoom : Story → ℕ → NoStep → Type 0

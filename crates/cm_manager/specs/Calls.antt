@@ -1,5 +1,5 @@
 -- The run of each call.
-use Rattle.std.specs.Prelude.{◌≡◌, ◌⊎◌, ℕ, List, ◌++◌, Bool, true, false, Result, Ok, Err}
+use Rattle.std.specs.Prelude.{◌≡◌, ◌⊎◌, ℕ, List, ◌++◌, Bool, true, false, Option, Result, Ok, Err}
 use Rattle.cm_turn.specs.History.{StartsWith}
 use Rattle.cm_world.specs.declared.frame.Frame.{Frame}
 use Rattle.cm_world.specs.declared.action.ActKind.{ActKind}
@@ -11,6 +11,7 @@ use Rattle.cm_world.specs.declared.event.Target.TheVariants as target
 use Rattle.cm_world.specs.declared.reply.Entry.{Entry}
 use Rattle.cm_world.specs.declared.reply.Reply.{Reply}
 use Rattle.cm_world.specs.declared.answer.Answer.{Answer}
+use Rattle.cm_world.specs.declared.answer.Answer.TheVariants as answer
 use Rattle.cm_world.specs.declared.answer.Refusal.{Refusal}
 use Rattle.cm_world.specs.declared.answer.Refusal.TheVariants as refusal
 use Rattle.cm_world.specs.World.{start}
@@ -20,7 +21,9 @@ use Rattle.cm_command.specs.declared.command.Command.TheVariants as command
 use Rattle.cm_manager.specs.declared.acted.Acted.{Acted}
 use Rattle.cm_manager.specs.Turns.{own_entries}
 use Rattle.cm_manager.specs.Runs.{Acts, Tries}
-use Rattle.cm_manager.specs.Answers.{decided_by, found_by, resolved_answer, started_answer, stopped_answer}
+use Rattle.cm_manager.specs.Doctor.{Doctors}
+use Rattle.cm_manager.specs.Answers.{answer_unless, decided_by, found_by, resolved_answer, started_answer, stopped_answer}
+use Rattle.cm_manager.specs.Shutdowns.{Shuts, Destroys}
 
 -- a way from one history to a later one, with what it ends in
 abbrev pub Way : Type 0 → Type 1
@@ -51,33 +54,26 @@ Tried f c e i h₀ h₁ a = (went : Result Reply Refusal) × Tries f c (e i) h�
 abbrev pub ActedOn : Frame → ℕ → ActKind → (Result Acted Refusal → Result Answer Refusal) → ℕ → Way (Result Answer Refusal)
 ActedOn f c k value i h₀ h₁ a = (went : Result Acted Refusal) × Acts f c k i h₀ h₁ went × (a ≡ value went)
 
--- the commands whose calls there are
-abbrev pub is_built : Command → Bool
-is_built (command.Resolve t) = true
-is_built (command.Start t) = true
-is_built (command.Stop t) = true
-is_built (command.ListChildren t coll) = true
-is_built (command.OpenUse t path) = true
-is_built (command.OpenExposed t name) = true
-is_built (command.RouteOf t path) = true
-is_built (command.Show t) = true
-is_built (command.Survey t) = true
-is_built (command.Exited t) = true
-is_built _ = false
+-- a call that comes to one answer unless something ends it before
+abbrev pub Reaches : Answer → Way (Option Refusal) → Way (Result Answer Refusal)
+Reaches answer way h₀ h₁ a = (end : Option Refusal) × way h₀ h₁ end × (a ≡ answer_unless answer end)
 
 -- the way of the call that a command names
 abbrev pub Calls : Frame → ℕ → Command → Way (Result Answer Refusal)
 Calls f c (command.Resolve t) = OnRow f c t (ActedOn f c kind.Resolve resolved_answer)
 Calls f c (command.Start t) = OnRow f c t (ActedOn f c kind.Start started_answer)
 Calls f c (command.Stop t) = OnRow f c t (ActedOn f c kind.Stop stopped_answer)
+Calls f c (command.Shutdown t) = OnRow f c t (λ i. Reaches answer.Shut (Shuts f c false i))
+Calls f c (command.Create t coll name url gives) = OnRow f c t (Tried f c (λ i. event.Create i coll name url gives))
+Calls f c (command.Destroy t) = OnRow f c t (λ i. Reaches answer.Destroyed (Destroys f c i))
 Calls f c (command.ListChildren t coll) = OnRow f c t (Tried f c (λ i. event.Listing i coll))
 Calls f c (command.OpenUse t path) = OnRow f c t (Tried f c (λ i. event.OpenUse i path))
 Calls f c (command.OpenExposed t name) = OnRow f c t (Tried f c (λ i. event.OpenExposed i name))
 Calls f c (command.RouteOf t path) = OnRow f c t (Tried f c (λ i. event.Route i path))
+Calls f c (command.Doctor t) = OnRow f c t (Doctors f c)
 Calls f c (command.Show t) = OnRow f c t (Tried f c event.Show)
 Calls f c (command.Survey t) = OnRow f c t (Tried f c event.Survey)
 Calls f c (command.Exited t) = OnRow f c t (Tried f c event.Exited)
-Calls f c _ = λ h₀ h₁ a. ⊥
 
 -- a call, whose answer may be lost for want of memory
 abbrev pub Goes : Frame → ℕ → Command → Way (Result Answer Refusal)

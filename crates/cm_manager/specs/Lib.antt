@@ -1,6 +1,7 @@
 pub mod Turns
 pub mod Runs
 pub mod Answers
+pub mod Shutdowns
 pub mod Calls
 pub mod Closed
 pub mod Work
@@ -10,3 +11,4 @@ pub mod Asking
 pub mod Doing
 pub mod Acting
 pub mod Parts
+pub mod Doctor

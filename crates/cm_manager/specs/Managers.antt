@@ -5,7 +5,7 @@ use Rattle.cm_world.specs.declared.reply.Entry.{Entry}
 use Rattle.cm_world.specs.World.{start}
 use Rattle.cm_world.specs.Legal.{Legal}
 use Rattle.cm_steps.specs.Story.{Story}
-use Rattle.cm_steps.specs.Lasting.{HasStableRoutes, HasOneOutcome}
+use Rattle.cm_steps.specs.Histories.{KeepsLaws}
 use Rattle.cm_manager.specs.Contract.{RealmPass}
 use Rattle.cm_manager.specs.Work.{Shelf}
 
@@ -14,12 +14,11 @@ pub record ManagerView : Type 0 where
   pub turn : LockView
   pub shelf : Shelf
 
--- a history that bears these passes out: it is legal in their frame, begins with what each has seen, has those entries of each caller that its pass has, and no entry of anybody else. The routes that were opened in it are stable, and each of its actions has one outcome
+-- a history that bears these passes out: it is legal in their frame, begins with what each has seen, has those entries of each caller that its pass has, and no entry of anybody else. It keeps the laws of every legal history
 pub record Closes (history : List Entry) (passes : List RealmPass) : Type 0 where
   pub story : Story
   pub entries : history ≡ story.entries
   pub legal : Legal (start story.frame) history
   pub known : All (IsKnown (λ (s : Story). s.entries) (λ s. s.frame) (λ (e : Entry). e.caller) story) passes
   pub callers : All (λ (e : Entry). HasCaller passes e.caller) history
-  pub routes : HasStableRoutes story.frame history
-  pub outcomes : HasOneOutcome history
+  pub laws : KeepsLaws story.frame history

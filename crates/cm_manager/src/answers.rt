@@ -2,7 +2,7 @@
 
 ghost use Rattle.std.specs.Prelude.{◌≡◌};
 ghost use Rattle.cm_manager.specs.Runs.{ends_call, failure};
-ghost use Rattle.cm_manager.specs.Answers.{found_by, decided_by, decision, refusal_of};
+ghost use Rattle.cm_manager.specs.Answers.{answer_unless, found_by, decided_by, decision, refusal_of};
 
 use crate::Acted;
 use cm_world::{ActKind, Answer, Outcome, Refusal, Reply};
@@ -67,6 +67,16 @@ pub(crate) fn decided(went: Result<Reply, Refusal>) -> Result<Answer, Refusal>
     match went {
         Err(refusal) => Err(refusal),
         Ok(reply) => deciding(reply),
+    }
+}
+
+/// The answer of a call that comes to this one unless something ended it before.
+pub(crate) fn unless_ended(answer: Answer, end: Option<Refusal>) -> Result<Answer, Refusal>
+    ensures { result ≡ answer_unless answer end }
+{
+    match end {
+        None => Ok(answer),
+        Some(refusal) => Err(refusal),
     }
 }
 

@@ -28,6 +28,17 @@ pub(crate) enum Launch {
     Children(u64, List<u64>),
 }
 
+/// What one pick of a shutdown came to.
+#[derive(Debug, Drop)]
+pub(crate) enum Picked {
+    /// All at and below the target is shut.
+    Done,
+    /// One instance was shut, or stopped; there may be more of them.
+    Further,
+    /// The call ends here.
+    Cut(Refusal),
+}
+
 /// What a reply asks of its caller.
 #[derive(Debug, Drop)]
 pub(crate) enum Demand {

@@ -13,14 +13,15 @@
 ghost use Rattle.std.specs.Prelude.{◌≡◌, IsTrue};
 ghost use Rattle.cm_command.specs.declared.command.Command.TheVariants as command;
 ghost use Rattle.cm_manager.specs.Asking.{frame_of};
-ghost use Rattle.cm_manager.specs.Calls.{is_built};
 ghost use Rattle.cm_manager.specs.Contract.{Performs};
 
 use crate::Manager;
+use crate::answers::unless_ended;
 use crate::ended::{resolved, started, stopped};
 use cm_command::Command;
+use cm_decl::Give;
 use cm_gate::Gates;
-use cm_names::{CapPath, Name};
+use cm_names::{CapPath, List, Name, Text};
 use cm_turn::Pass;
 use cm_world::{ActKind, Answer, Entry, Event, Frame, Refusal, Target};
 use std::alloc::Global;
@@ -124,6 +125,123 @@ impl Manager {
             Ok(inc) => {
                 let (pass, went) = self.act(rt, alloc, pass, gates, ActKind::Stop, inc);
                 (pass, stopped(went))
+            }
+            Err(refusal) => (pass, Err(refusal)),
+        }
+    }
+
+    /// Shuts an instance down, with all below it: they are stopped, each before what it uses, and
+    /// won't start again. `Shut`, also where all was shut before.
+    ///
+    /// A stop that has to be made by force counts as one. Where the call ends early, the instance
+    /// stays marked, and a later call goes on from there.
+    ///
+    /// - `NotFound` with the part of the moniker that was found, where nothing stands there;
+    /// - `Gone` where the instance doesn't live, or it or one above it is being destroyed;
+    /// - `Shut` where an instance on the way to it can't be resolved any more;
+    /// - `CannotResolve` with the action and its outcome, where a resolve on the way failed;
+    /// - `HistoryFull` where the history has no room for what is needed, `Memory` where memory
+    ///   runs out.
+    pub fn shutdown<R: Threads + Wait + Sync, G: Gates>(
+        &self,
+        rt: &R,
+        alloc: Global,
+        pass: Pass<Entry, Frame>,
+        gates: &mut G,
+        target: &Target,
+    ) -> (Pass<Entry, Frame>, Result<Answer, Refusal>)
+        requires lock { pass.lock ≡ self.now.turn.lock }
+        ensures performs { let f = frame_of pass in
+            Performs self.now.shelf f (command.Shutdown target.now) pass result.0
+            (record { log = G.log gates.old; faults = G.faults gates.old })
+            (record { log = G.log gates.new; faults = G.faults gates.new })
+            result.1 }
+    {
+        let (pass, row) = self.find_row(rt, alloc, pass, gates, target);
+        match row {
+            Ok(inc) => {
+                let (pass, end) = self.shut_row(rt, alloc, pass, gates, false, inc);
+                (pass, unless_ended(Answer::Shut, end))
+            }
+            Err(refusal) => (pass, Err(refusal)),
+        }
+    }
+
+    /// Creates a child of an instance in one of its collections, as `CreateChild` of
+    /// `fuchsia.component.Realm` does, and offers it alone what `gives` tells: `Created` with its
+    /// incarnation, which no instance had before.
+    ///
+    /// - `NotFound` with the part of the moniker that was found, where no parent stands there;
+    /// - `Gone` where the parent doesn't live, or it or one above it is being destroyed, and
+    ///   `ParentClosing` where it is being shut down;
+    /// - `CollectionNotFound` where the parent declares no such collection, and `AlreadyExists`
+    ///   with the incarnation of the child that has the name there;
+    /// - `DynamicOffersRefused` where the collection takes no such offers, `BadOffer` with the
+    ///   first one that breaks a rule, and `OfferCycle` with a ring of siblings that they close;
+    /// - `Full` where the realm has no room for one instance more;
+    /// - `Shut` where an instance on the way to the parent can't be resolved any more;
+    /// - `CannotResolve` with the action and its outcome, where a resolve failed;
+    /// - `HistoryFull` where the history has no room for what is needed, `Memory` where memory
+    ///   runs out.
+    pub fn create_child<R: Threads + Wait + Sync, G: Gates>(
+        &self,
+        rt: &R,
+        alloc: Global,
+        pass: Pass<Entry, Frame>,
+        gates: &mut G,
+        parent: &Target,
+        coll: &Name,
+        name: &Name,
+        url: &Text,
+        gives: &List<Give>,
+    ) -> (Pass<Entry, Frame>, Result<Answer, Refusal>)
+        requires lock { pass.lock ≡ self.now.turn.lock }
+        ensures performs { let f = frame_of pass in
+            Performs self.now.shelf f (command.Create parent.now coll.now name.now url.now gives.now) pass result.0
+            (record { log = G.log gates.old; faults = G.faults gates.old })
+            (record { log = G.log gates.new; faults = G.faults gates.new })
+            result.1 }
+    {
+        let (pass, row) = self.find_row(rt, alloc, pass, gates, parent);
+        match row {
+            Ok(inc) => self.create_at(rt, alloc, pass, gates, inc, coll, name, url, gives),
+            Err(refusal) => (pass, Err(refusal)),
+        }
+    }
+
+    /// Destroys a child in a collection, as `DestroyChild` of `fuchsia.component.Realm` does: it
+    /// is shut down with all below it, and then removed. `Destroyed`, by this call or by another.
+    ///
+    /// Where the call ends early, the child stays marked to be destroyed; its name is free, and a
+    /// later call that names its incarnation goes on from there.
+    ///
+    /// - `NotFound` with the part of the moniker that was found, where nothing stands there;
+    /// - `Gone` where the instance doesn't live, or one above it is being destroyed;
+    /// - `NotDynamic` where it is the root, or a child that its parent declares;
+    /// - `Shut` where an instance on the way to it can't be resolved any more;
+    /// - `CannotResolve` with the action and its outcome, where a resolve on the way failed;
+    /// - `HistoryFull` where the history has no room for what is needed, `Memory` where memory
+    ///   runs out.
+    pub fn destroy_child<R: Threads + Wait + Sync, G: Gates>(
+        &self,
+        rt: &R,
+        alloc: Global,
+        pass: Pass<Entry, Frame>,
+        gates: &mut G,
+        target: &Target,
+    ) -> (Pass<Entry, Frame>, Result<Answer, Refusal>)
+        requires lock { pass.lock ≡ self.now.turn.lock }
+        ensures performs { let f = frame_of pass in
+            Performs self.now.shelf f (command.Destroy target.now) pass result.0
+            (record { log = G.log gates.old; faults = G.faults gates.old })
+            (record { log = G.log gates.new; faults = G.faults gates.new })
+            result.1 }
+    {
+        let (pass, row) = self.find_row(rt, alloc, pass, gates, target);
+        match row {
+            Ok(inc) => {
+                let (pass, end) = self.destroy_row(rt, alloc, pass, gates, inc);
+                (pass, unless_ended(Answer::Destroyed, end))
             }
             Err(refusal) => (pass, Err(refusal)),
         }
@@ -359,7 +477,7 @@ impl Manager {
         }
     }
 
-    /// Makes the call that a command names, which is one of the calls above, and answers so.
+    /// Makes the call that a command names, and answers so.
     pub fn perform<R: Threads + Wait + Sync, G: Gates>(
         &self,
         rt: &R,
@@ -369,7 +487,6 @@ impl Manager {
         command: &Command,
     ) -> (Pass<Entry, Frame>, Result<Answer, Refusal>)
         requires lock { pass.lock ≡ self.now.turn.lock }
-        requires built { IsTrue (is_built command.now) }
         ensures performs { let f = frame_of pass in
             Performs self.now.shelf f command.now pass result.0
             (record { log = G.log gates.old; faults = G.faults gates.old })
@@ -380,6 +497,15 @@ impl Manager {
             Command::Resolve(target) => self.resolve(rt, alloc, pass, gates, target),
             Command::Start(target) => self.start(rt, alloc, pass, gates, target),
             Command::Stop(target) => self.stop(rt, alloc, pass, gates, target),
+            Command::Shutdown(target) => self.shutdown(rt, alloc, pass, gates, target),
+            Command::Create {
+                parent,
+                coll,
+                name,
+                url,
+                gives,
+            } => self.create_child(rt, alloc, pass, gates, parent, coll, name, url, gives),
+            Command::Destroy(target) => self.destroy_child(rt, alloc, pass, gates, target),
             Command::ListChildren { target, coll } => {
                 self.list_children(rt, alloc, pass, gates, target, coll)
             }
@@ -392,10 +518,10 @@ impl Manager {
             Command::RouteOf { target, path } => {
                 self.route(rt, alloc, pass, gates, target, path)
             }
+            Command::Doctor(target) => self.doctor(rt, alloc, pass, gates, target),
             Command::Show(target) => self.show(rt, alloc, pass, gates, target),
             Command::Survey(target) => self.survey(rt, alloc, pass, gates, target),
             Command::Exited(target) => self.exited(rt, alloc, pass, gates, target),
-            _ => unreachable!(),
         }
     }
 }

@@ -9,16 +9,16 @@ pub mod acted;
 mod acts;
 mod answers;
 mod began;
-pub mod built;
 mod calls;
+mod doctor;
 mod ended;
 pub mod manager;
 mod parts;
+mod shutting;
 mod starting;
 mod trying;
 mod turns;
 mod work;
 
 pub use acted::Acted;
-pub use built::is_built;
 pub use manager::Manager;

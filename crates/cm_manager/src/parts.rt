@@ -1,6 +1,6 @@
 //! The parts of a call: the search for the row of its target, and its one event.
 
-ghost use Rattle.std.specs.Prelude.{◌≡◌, IsTrue};
+ghost use Rattle.std.specs.Prelude.{◌≡◌, IfOk, IsTrue};
 ghost use Rattle.cm_world.specs.declared.event.Event.TheVariants as event;
 ghost use Rattle.cm_world.specs.declared.event.Target.TheVariants as target;
 ghost use Rattle.cm_manager.specs.Turns.{Later};
@@ -12,13 +12,32 @@ ghost use Rattle.cm_manager.specs.Parts.{Finds, Settles};
 use crate::Manager;
 use crate::answers::{decided, found};
 use crate::manager::check_history;
+use cm_decl::Give;
 use cm_gate::Gates;
-use cm_names::{CapPath, Moniker, Name};
+use cm_names::{CapPath, List, Memory, Moniker, Name, Text};
 use cm_turn::Pass;
 use cm_world::{Answer, Entry, Event, Frame, Refusal, Target};
 use std::alloc::Global;
 use std::sync::Wait;
 use std::thread::Threads;
+
+/// The event that creates a child of this parent. `Err` where memory runs out.
+fn creation(
+    parent: u64,
+    coll: &Name,
+    name: &Name,
+    url: &Text,
+    gives: &List<Give>,
+) -> Result<Event, Memory>
+    ensures { IfOk result (λ made.
+        made ≡ event.Create parent coll.now name.now url.now gives.now) }
+{
+    let coll = coll.clone()?;
+    let name = name.clone()?;
+    let url = url.clone()?;
+    let gives = gives.clone()?;
+    Ok(Event::Create(parent, coll, name, url, gives))
+}
 
 impl Manager {
     /// Takes one turn and makes no event in it: the pass has then seen the whole history.
@@ -181,6 +200,34 @@ impl Manager {
                 let event = Event::OpenExposed(inc, name);
                 self.settle(rt, alloc, pass, gates, &event)
             }
+            Err(_) => (self.catch_up(rt, pass), Err(Refusal::Memory)),
+        }
+    }
+
+    /// Creates a child of the instance of this incarnation, in the collection.
+    pub(crate) fn create_at<R: Threads + Wait + Sync, G: Gates>(
+        &self,
+        rt: &R,
+        alloc: Global,
+        pass: Pass<Entry, Frame>,
+        gates: &mut G,
+        parent: u64,
+        coll: &Name,
+        name: &Name,
+        url: &Text,
+        gives: &List<Give>,
+    ) -> (Pass<Entry, Frame>, Result<Answer, Refusal>)
+        requires lock { pass.lock ≡ self.now.turn.lock }
+        ensures helps { let f = frame_of pass in
+            Helps self.now.shelf f
+            (λ a b. Settles f pass.caller
+            (event.Create parent coll.now name.now url.now gives.now) a b result.1)
+            pass result.0
+            (record { log = G.log gates.old; faults = G.faults gates.old })
+            (record { log = G.log gates.new; faults = G.faults gates.new }) }
+    {
+        match creation(parent, coll, name, url, gives) {
+            Ok(event) => self.settle(rt, alloc, pass, gates, &event),
             Err(_) => (self.catch_up(rt, pass), Err(Refusal::Memory)),
         }
     }

@@ -11,19 +11,54 @@ ghost use Rattle.cm_steps.specs.Ends.{finish_of};
 ghost use Rattle.cm_manager.specs.Turns.{world_after};
 ghost use Rattle.cm_manager.specs.Contract.{IsSamePass};
 ghost use Rattle.cm_manager.specs.Asking as asking;
-ghost use Rattle.cm_manager.specs.Asking.{StepsBy, AwaitsBy, Turned, Awaited, Told, frame_of, is_asked};
+ghost use Rattle.cm_manager.specs.Asking.{StepsBy, AwaitsBy, Turned, Awaited, Told, DueStays, DueIsOpen, IsDue, IsOpen, frame_of, is_asked};
 
 use crate::Manager;
 use crate::manager::check_history;
+use cm_decl::Give;
+use cm_names::{List, Name, Text};
+use cm_steps::laws::{marks_stay, shutdowns_last};
 use cm_steps::{Ending, NoStep, Realm};
 use cm_turn::Pass;
 use cm_world::{Entry, Event, Frame, Outcome, Refusal, Reply};
 use std::alloc::Global;
 use std::sync::Wait;
 
+/// Does nothing: what is due in what a caller has seen stays due whatever callers do, and the
+/// tree allows it.
+fn due_events_stay()
+    ensures stays { DueStays }
+    ensures allowed { DueIsOpen }
+{
+    marks_stay();
+    shutdowns_last();
+}
+
+/// Creates a child at the realm, of an instance in a collection.
+fn tell_of_child(
+    realm: &mut Realm,
+    alloc: Global,
+    caller: u32,
+    parent: u64,
+    coll: &Name,
+    name: &Name,
+    url: &Text,
+    gives: &List<Give>,
+) -> Result<Reply, NoStep>
+    ensures { let event = event.Create parent coll.now name.now url.now gives.now in
+        StepsBy realm.old realm.new caller event result }
+{
+    let coll = coll.clone()?;
+    let name = name.clone()?;
+    let url = url.clone()?;
+    let gives = gives.clone()?;
+    realm.create(alloc, caller, parent, coll, name, url, gives)
+}
+
 /// Makes one event at the realm.
 fn tell(realm: &mut Realm, alloc: Global, caller: u32, event: &Event) -> Result<Reply, NoStep>
-    requires { IsTrue (is_asked event.now) }
+    requires asked { IsTrue (is_asked event.now) }
+    requires ready { IsLegal realm.old → IsOpen (world_of realm.old) event.now }
     ensures legal { IsLegal realm.old }
     ensures steps { StepsBy realm.old realm.new caller event.now result }
 {
@@ -34,6 +69,12 @@ fn tell(realm: &mut Realm, alloc: Global, caller: u32, event: &Event) -> Result<
             realm.find(alloc, caller, moniker)
         }
         Event::Begin(kind, inc) => realm.begin(alloc, caller, *kind, *inc),
+        Event::Create(parent, coll, name, url, gives) => {
+            tell_of_child(realm, alloc, caller, *parent, coll, name, url, gives)
+        }
+        Event::Mark(doom, inc) => realm.mark(caller, *doom, *inc),
+        Event::Pick(target) => realm.pick(alloc, caller, *target),
+        Event::Purge(inc) => realm.purge(alloc, caller, *inc),
         Event::Route(inc, path) => {
             let path = path.clone()?;
             realm.route(alloc, caller, *inc, path)
@@ -97,9 +138,11 @@ impl Manager {
     ) -> (Pass<Entry, Frame>, Result<Reply, NoStep>)
         requires lock { pass.lock ≡ self.now.turn.lock }
         requires asked { IsTrue (is_asked event.now) }
+        requires due { IsDue (world_after (frame_of pass) pass.seen) event.now }
         ensures same { IsSamePass (frame_of pass) pass result.0 }
         ensures turned { Turned event.now pass result.0 result.1 }
     {
+        due_events_stay();
         let caller = pass.caller();
         let mut held = self.turn.enter(rt, pass);
         let went = tell(held.state(), alloc, caller, event);
@@ -117,9 +160,11 @@ impl Manager {
     ) -> (Pass<Entry, Frame>, Result<Reply, Refusal>)
         requires lock { pass.lock ≡ self.now.turn.lock }
         requires asked { IsTrue (is_asked event.now) }
+        requires due { IsDue (world_after (frame_of pass) pass.seen) event.now }
         ensures same { IsSamePass (frame_of pass) pass result.0 }
         ensures asked { asking.Asked event.now pass result.0 result.1 }
     {
+        due_events_stay();
         let mut idle = pass;
         for _ in rt.forever() {
             let (after, went) = self.ask_once(rt, alloc, idle, event);

@@ -7,7 +7,7 @@ use Rattle.cm_world.specs.declared.action.Join.{Join}
 use Rattle.cm_world.specs.declared.action.ActKind.{ActKind}
 use Rattle.cm_world.specs.declared.action.Finish.{Finish}
 use Rattle.cm_world.specs.declared.event.Event.{Event}
-use Rattle.cm_world.specs.declared.event.Event.TheVariants.{Begin}
+use Rattle.cm_world.specs.declared.event.Event.TheVariants.{Begin, Pick}
 use Rattle.cm_world.specs.declared.reply.Reply.{Reply}
 use Rattle.cm_world.specs.declared.reply.Reply.TheVariants as reply
 use Rattle.cm_world.specs.declared.reply.Entry.{Entry}
@@ -19,13 +19,15 @@ use Rattle.cm_world.proofs.Histories.{replay-push}
 use Rattle.cm_steps.specs.Story.{Story, world_of}
 use Rattle.cm_steps.specs.Steps.{Tells, entry_of}
 use Rattle.cm_steps.specs.Laws.{AreOthers, IsJoined, BeginnersMayEnd, JoinersAreJoined, OthersLeaveEnds, OthersLeaveJoins}
+use Rattle.cm_steps.specs.Shutdowns.{PickersMayEnd}
 use Rattle.cm_steps.proofs.Numbers.{IsCounted, counted_history}
-use Rattle.cm_steps.proofs.Begun.{may_end_begun}
+use Rattle.cm_steps.proofs.Begun.{may_end_begun, may_end_picked}
 use Rattle.cm_steps.proofs.Others.{may_end_stays, join_stays}
 
 -- ---- one step
 
-told_world : (old new : Story) (caller : ℕ) (event : Event) (r : Reply) → Tells old new caller event r → world_of new ≡ after (world_of old) (entry_of caller event r)
+-- the tree behind it
+pub told_world : (old new : Story) (caller : ℕ) (event : Event) (r : Reply) → Tells old new caller event r → world_of new ≡ after (world_of old) (entry_of caller event r)
 unfolding world_of
 told_world old new caller event r tells =
     ap (λ f. replay (start f) new.entries) tells.frame
@@ -40,6 +42,12 @@ pub beginners_may_end : BeginnersMayEnd
 beginners_may_end old new caller i kind work finish tells fits valid =
     subst (λ (v : World). MayEnd v.acts caller work.action finish) (sym (told_world old new caller (Begin kind i) (reply.Begun work) tells))
     (may_end_begun (world_of old) caller i kind work finish (counted_of old) tells.step.allowed fits valid)
+
+-- who picked an instance to be stopped may end its stop
+pub pickers_may_end : PickersMayEnd
+pickers_may_end old new caller target work finish tells fits valid =
+    subst (λ (v : World). MayEnd v.acts caller work.action finish) (sym (told_world old new caller (Pick target) (reply.Stopping work) tells))
+    (may_end_picked (world_of old) caller target work finish (counted_of old) tells.step.allowed fits valid)
 
 joined_by : (b : Bool) (p : Join → Bool) (x : Join) (xs : List Join) → list_any p xs ≡ b → p x ≡ true → IsTrue (list_any p (cond b xs (xs ++ x ∷ [])))
 joined_by true p x xs e hits = e

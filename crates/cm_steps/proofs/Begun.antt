@@ -7,27 +7,28 @@ use Rattle.cm_world.specs.declared.action.ActKind.{ActKind}
 use Rattle.cm_world.specs.declared.action.ActKind.TheVariants.{Resolve, Start, Stop}
 use Rattle.cm_world.specs.declared.action.Finish.{Finish}
 use Rattle.cm_world.specs.declared.action.Work.{Work}
-use Rattle.cm_world.specs.declared.event.Event.TheVariants.{Begin}
+use Rattle.cm_world.specs.declared.event.Event.TheVariants.{Begin, Pick}
 use Rattle.cm_world.specs.declared.reply.Reply.{Reply}
-use Rattle.cm_world.specs.declared.reply.Reply.TheVariants.{Gone, Already, Joined, Shut, Need, Begun}
+use Rattle.cm_world.specs.declared.reply.Reply.TheVariants.{Gone, Already, Joined, Shut, Need, Begun, Stopping}
 use Rattle.cm_world.specs.Rows.{row_of, is_gone, is_closed}
 use Rattle.cm_world.specs.World.{World, act_of}
 use Rattle.cm_world.specs.Begin.{same_act, is_so, needs_decl, begin_idle, begin_at, begin_reply}
 use Rattle.cm_world.specs.Work.{work_of}
 use Rattle.cm_world.specs.End.{fits_kind, HasValid}
-use Rattle.cm_world.specs.Step.{MayEnd}
-use Rattle.cm_world.specs.After.{new_act, after}
+use Rattle.cm_world.specs.Step.{MayEnd, PicksOn}
+use Rattle.cm_world.specs.After.{new_act, with_action, after}
 use Rattle.cm_world.proofs.Finding.{some_same}
-use Rattle.cm_steps.specs.Tasks.{is_open_resolve}
+use Rattle.cm_steps.specs.Tasks.{is_open_resolve, IsIdleAt}
 use Rattle.cm_steps.specs.Steps.{entry_of}
 use Rattle.cm_steps.proofs.Tasks.{find_last, unused}
 use Rattle.cm_steps.proofs.Numbers.{IsCounted}
 
--- no action is pending at it, one that is to be resolved has no declaration, and this is the work there
+-- no action is pending at it, it isn't closed, one that is to be resolved has no declaration, and this is the work there
 pub record IsIdle (rows : List Row) (next : ℕ) (kind : ActKind) (work : Work) (o : Option Row) : Type 0 where
   pub row : Row
   pub lives : o ≡ Some row
   pub idle : row.pending ≡ None
+  pub unclosed : is_closed rows row.inc ≡ false
   pub unresolved : kind ≡ Resolve → row.decl ≡ None
   pub work_is : work_of rows next kind row ≡ work
 
@@ -44,12 +45,17 @@ module _ (rows : List Row) (next i : ℕ) (kind : ActKind) (work : Work) where
   shut_by false true i j v e = absurd (cc)
   shut_by false false i j v e = cc
 
+  closed_by : (b c : Bool) (i j : ℕ) (v : Work) → cond b (Shut i) (cond c (Need j) (Begun v)) ≡ Begun work → b ≡ false
+  closed_by true c i j v e = absurd (cc)
+  closed_by false c i j v e = refl
+
   so_by : (r : Row) (b : Bool) → is_so kind r ≡ b → r.pending ≡ None → cond b Already (cond (is_closed rows r.inc) (Shut r.inc) (cond (needs_decl kind r) (Need r.inc) (Begun (work_of rows next kind r)))) ≡ Begun work → IsIdle rows next kind work (Some r)
   so_by r true so idle e = absurd (cc)
   so_by r false so idle e = record {
     row = r;
     lives = refl;
     idle = idle;
+    unclosed = closed_by (is_closed rows r.inc) (needs_decl kind r) r.inc r.inc (work_of rows next kind r) e;
     unresolved = undeclared kind r so;
     work_is = shut_by (is_closed rows r.inc) (needs_decl kind r) r.inc r.inc (work_of rows next kind r) e;
   }
@@ -70,6 +76,16 @@ module _ (rows : List Row) (next i : ℕ) (kind : ActKind) (work : Work) where
   pub begun_row : begin_reply rows next kind i ≡ Some (Begun work) → IsIdle rows next kind work (row_of rows i)
   begun_row e = gone_by (is_gone rows i) (row_of rows i) e
 
+-- so that the action may begin there
+pub idle_begun : (rows : List Row) (next i : ℕ) (kind : ActKind) (work : Work) → begin_reply rows next kind i ≡ Some (Begun work) → IsIdleAt rows kind i
+idle_begun rows next i kind work e =
+    let it : IsIdle rows next kind work (row_of rows i) = begun_row rows next i kind work e in
+    record { row = it.row; lives = it.lives; idle = it.idle; unresolved = it.unresolved }
+
+-- and so may a stop of a row that is picked
+pub idle_picked : (rows : List Row) (next target : ℕ) (work : Work) → PicksOn rows next target work → IsIdleAt rows Stop work.inc
+idle_picked rows next target work picks = record { row = picks.row; lives = picks.may.row; idle = picks.may.idle; unresolved = λ e. absurd (cc) }
+
 -- a new action is an open resolve where it is a resolve
 pub new_resolve : (n i caller : ℕ) (kind : ActKind) → is_open_resolve (new_act n kind i caller) ≡ same_act kind Resolve
 new_resolve n i caller Resolve = refl
@@ -89,12 +105,10 @@ begun_action rows next i kind work e =
     let idle : IsIdle rows next kind work (row_of rows i) = begun_row rows next i kind work e in
     sym (ap (λ v. v.action) idle.work_is) ∙ work_action rows next kind idle.row
 
--- behind a begin its caller may end the action
-pub may_end_begun : (w : World) (caller i : ℕ) (kind : ActKind) (work : Work) (finish : Finish) → IsCounted w → begin_reply w.rows w.next_action kind i ≡ Some (Begun work) → IsTrue (fits_kind kind finish) → HasValid finish → MayEnd (after w (entry_of caller (Begin kind i) (Begun work))).acts caller work.action finish
-unfolding after
-may_end_begun w caller i kind work finish counted begins fits valid =
+-- a new action may be ended by its caller
+may_end_new : (w : World) (caller i a : ℕ) (kind : ActKind) (finish : Finish) → IsCounted w → a ≡ w.next_action → IsTrue (fits_kind kind finish) → HasValid finish → MayEnd (with_action w caller kind i).acts caller a finish
+may_end_new w caller i a kind finish counted same fits valid =
     let x : Act = new_act w.next_action kind i caller in
-    let same : work.action ≡ w.next_action = begun_action w.rows w.next_action i kind work begins in
     let next : w.next_action ≡ length w.acts + 1 = counted.next in
     record {
       act = x;
@@ -106,3 +120,15 @@ may_end_begun w caller i kind work finish counted begins fits valid =
       fitting = fits;
       valid = valid;
     }
+
+-- behind a begin its caller may end the action
+pub may_end_begun : (w : World) (caller i : ℕ) (kind : ActKind) (work : Work) (finish : Finish) → IsCounted w → begin_reply w.rows w.next_action kind i ≡ Some (Begun work) → IsTrue (fits_kind kind finish) → HasValid finish → MayEnd (after w (entry_of caller (Begin kind i) (Begun work))).acts caller work.action finish
+unfolding after
+may_end_begun w caller i kind work finish counted begins fits valid =
+    may_end_new w caller i work.action kind finish counted (begun_action w.rows w.next_action i kind work begins) fits valid
+
+-- and behind a pick that began a stop
+pub may_end_picked : (w : World) (caller target : ℕ) (work : Work) (finish : Finish) → IsCounted w → PicksOn w.rows w.next_action target work → IsTrue (fits_kind Stop finish) → HasValid finish → MayEnd (after w (entry_of caller (Pick target) (Stopping work))).acts caller work.action finish
+unfolding after
+may_end_picked w caller target work finish counted picks fits valid =
+    may_end_new w caller work.inc work.action Stop finish counted (ap (λ v. v.action) picks.same) fits valid

@@ -20,7 +20,7 @@ use Rattle.cm_world.proofs.Finding.{none_some, some_same}
 use Rattle.cm_steps.specs.Tasks.{is_open_resolve}
 
 -- the first is counted
-count-cons : {A : Type 0} (q : A → Bool) (x : A) (xs : List A) → count_by q (x ∷ xs) ≡ cond (q x) 1 0 + count_by q xs
+pub count-cons : {A : Type 0} (q : A → Bool) (x : A) (xs : List A) → count_by q (x ∷ xs) ≡ cond (q x) 1 0 + count_by q xs
 count-cons q x xs = sum_by-cons (λ z. cond (q z) 1 0) x xs
 
 swap_one : (t s : Bool) (n : ℕ) → t ≡ false → s ≡ true → (cond t 1 0 + n) + 1 ≡ cond s 1 0 + n

@@ -73,7 +73,7 @@ tasked_by rows acts caller a next (finish.Resolved url d) o may tasked = one_row
 
 -- ---- what the end of an action needs
 
-kind_of_resolve : (k : ActKind) (url : List ℕ) (d : Decl) → fits_kind k (finish.Resolved url d) ≡ true → k ≡ Resolve
+pub kind_of_resolve : (k : ActKind) (url : List ℕ) (d : Decl) → fits_kind k (finish.Resolved url d) ≡ true → k ≡ Resolve
 kind_of_resolve Resolve url d e = refl
 kind_of_resolve Start url d e = absurd (true≢false (sym e))
 kind_of_resolve Stop url d e = absurd (true≢false (sym e))

@@ -1,19 +1,37 @@
--- What the answers to a begin and to an exit say.
-use Rattle.std.specs.Prelude.{◌≡◌, ℕ, List, false, Some, None}
+-- What the answers to a begin, to an exit, and to the steps of creations and shutdowns say.
+use Rattle.std.specs.Prelude.{◌≡◌, ℕ, List, Bool, false, Some, None, map, IsTrue}
+use Rattle.cm_decl.specs.declared.rows.Give.{Give}
 use Rattle.cm_world.specs.declared.row.Row.{Row}
 use Rattle.cm_world.specs.declared.action.ActKind.{ActKind}
+use Rattle.cm_world.specs.declared.reply.Reply.{Reply}
 use Rattle.cm_world.specs.declared.reply.Reply.TheVariants as reply
-use Rattle.cm_world.specs.declared.event.Event.TheVariants.{Begin, Exited}
-use Rattle.cm_world.specs.Rows.{row_of}
+use Rattle.cm_world.specs.declared.event.Event.TheVariants.{Begin, Create, Mark, Exited}
+use Rattle.cm_world.specs.Rows.{row_of, is_live, subtree, is_subtree_shut}
 use Rattle.cm_world.specs.Begin.{begin_reply, begin_idle}
 use Rattle.cm_world.specs.Reports.{exit_reply}
+use Rattle.cm_world.specs.Create.{IsCreateReply}
+use Rattle.cm_world.specs.Marks.{lost_of, mark_reply}
+use Rattle.cm_world.specs.Step.{PicksOn, PicksOff}
 use Rattle.cm_world.specs.World.{World}
 use Rattle.cm_world.specs.After.{moves}
-use Rattle.cm_steps.specs.Steps.{WaitsToBegin, WaitsToExit}
+use Rattle.cm_order.specs.Picking.{WaitsFor}
+use Rattle.cm_dynamic.specs.Laws.{CanTake}
+use Rattle.cm_dynamic.specs.declared.create.MayCreate.{MayCreate}
+use Rattle.cm_dynamic.specs.declared.create.MayCreate.TheVariants.{Yes}
+use Rattle.cm_dynamic.specs.Replies.{create_reply}
+use Rattle.cm_steps.specs.Steps.{WaitsToBegin, WaitsToExit, WaitsToPick}
 use Rattle.cm_steps.specs.declared.replies.beginning.BeginAnswer.{BeginAnswer}
 use Rattle.cm_steps.specs.declared.replies.beginning.BeginAnswer.TheVariants as begin
 use Rattle.cm_steps.specs.declared.replies.showing.ExitAnswer.{ExitAnswer}
 use Rattle.cm_steps.specs.declared.replies.showing.ExitAnswer.TheVariants as exit
+use Rattle.cm_steps.specs.declared.replies.creating.CreateAnswer.{CreateAnswer}
+use Rattle.cm_steps.specs.declared.replies.creating.CreateAnswer.TheVariants as create
+use Rattle.cm_steps.specs.declared.replies.marking.MarkAnswer.{MarkAnswer}
+use Rattle.cm_steps.specs.declared.replies.marking.MarkAnswer.TheVariants as mark
+use Rattle.cm_steps.specs.declared.replies.purging.PurgeAnswer.{PurgeAnswer}
+use Rattle.cm_steps.specs.declared.replies.purging.PurgeAnswer.TheVariants as purge
+use Rattle.cm_steps.specs.declared.replies.picking.PickAnswer.{PickAnswer}
+use Rattle.cm_steps.specs.declared.replies.picking.PickAnswer.TheVariants as pick
 
 -- an action of some kind is pending at a row
 pub record IsAt (rows : List Row) (i a : ℕ) : Type 0 where
@@ -53,3 +71,48 @@ abbrev pub ExitsBy : World → ℕ → ExitAnswer → Type 0
 ExitsBy w i (exit.Busy a) = WaitsToExit w i a
 ExitsBy w i (exit.Quiet r) = (exit_reply w.rows i ≡ Some r) × (moves (Exited i) r ≡ false)
 ExitsBy w i (exit.Leaves m) = exit_reply w.rows i ≡ Some (reply.Left m)
+
+-- ---- creations
+
+-- a reply to a create that changes nothing
+abbrev pub IsQuietCreate : Reply → Type 0
+IsQuietCreate r = (p : ℕ) (coll name url : List ℕ) (gives : List Give) → moves (Create p coll name url gives) r ≡ false
+
+-- what a create comes to, by whether the child may be created
+abbrev pub IsAnswerOf : MayCreate → CreateAnswer → Type 0
+IsAnswerOf may create.Creates = may ≡ Yes
+IsAnswerOf may (create.Quiet r) = ((next : ℕ) → create_reply next may ≡ r) × IsQuietCreate r
+
+-- what a create comes to in a tree: a child with the next incarnation, whose row it can take, or another reply of the definition
+abbrev pub CreatesBy : ℕ → List Row → ℕ → ℕ → List ℕ → List ℕ → List Give → CreateAnswer → Type 0
+CreatesBy limit rows next p coll name gives create.Creates =
+    IsCreateReply limit rows next p coll name gives (reply.Created next) × CanTake rows p coll name
+CreatesBy limit rows next p coll name gives (create.Quiet r) = IsCreateReply limit rows next p coll name gives r × IsQuietCreate r
+
+-- ---- marks and purges
+
+-- an answer to a mark: the reply of the definition, which changes something where it is Marked
+abbrev pub AnswersMark : List Row → Bool → ℕ → MarkAnswer → Type 0
+AnswersMark rows doom i mark.Marks = mark_reply rows doom i ≡ reply.Marked
+AnswersMark rows doom i (mark.Quiet r) = (mark_reply rows doom i ≡ r) × (moves (Mark doom i) r ≡ false)
+
+-- an answer to a purge: whether the row lives, and then what is removed
+abbrev pub AnswersPurge : List Row → ℕ → PurgeAnswer → Type 0
+AnswersPurge rows i purge.Before = is_live rows i ≡ false
+AnswersPurge rows i (purge.Removes lost) = IsTrue (is_live rows i) × (lost ≡ map (lost_of rows) (subtree rows i))
+
+-- ---- picks
+
+-- an answer to a pick: what is waited for, or the reply of the definition
+abbrev pub AnswersPick : List Row → ℕ → ℕ → PickAnswer → Type 0
+AnswersPick rows next target (pick.Busy a) = WaitsFor rows target a
+AnswersPick rows next target pick.Done = IsTrue (is_subtree_shut rows target)
+AnswersPick rows next target (pick.Shuts i) = PicksOff rows target i
+AnswersPick rows next target (pick.Stops work) = PicksOn rows next target work
+
+-- what a pick comes to in a world
+abbrev pub PicksBy : World → ℕ → PickAnswer → Type 0
+PicksBy w target (pick.Busy a) = WaitsToPick w target a
+PicksBy w target pick.Done = IsTrue (is_subtree_shut w.rows target)
+PicksBy w target (pick.Shuts i) = PicksOff w.rows target i
+PicksBy w target (pick.Stops work) = PicksOn w.rows w.next_action target work

@@ -9,3 +9,7 @@ pub mod Answers
 pub mod Ends
 pub mod Laws
 pub mod Lasting
+pub mod Shutdowns
+pub mod Clients
+pub mod Destroying
+pub mod Histories

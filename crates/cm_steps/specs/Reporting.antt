@@ -1,4 +1,4 @@
--- What a list of children and a survey take from one row.
+-- What a list of children, a survey and a purge take from one row.
 use Rattle.std.specs.Prelude.{ℕ, List, [], Bool, not, ◌&&◌, Option, Some, None, map, option_and_then, if◌then◌else◌}
 use Rattle.std.specs.Str.{bytes_eq}
 use Rattle.std.specs.Option.{option_eq}
@@ -6,9 +6,11 @@ use Rattle.cm_names.specs.declared.child.ChildName.{ChildName}
 use Rattle.cm_decl.specs.declared.decl.Decl.{Decl}
 use Rattle.cm_world.specs.declared.row.Row.{Row}
 use Rattle.cm_world.specs.declared.report.Kid.{Kid}
+use Rattle.cm_world.specs.declared.report.Lost.{Lost}
 use Rattle.cm_world.specs.declared.report.SurveyRow.{SurveyRow}
 use Rattle.cm_world.specs.Rows.{is_gone, is_below}
 use Rattle.cm_world.specs.Reports.{survey_row}
+use Rattle.cm_world.specs.Marks.{lost_of}
 
 -- row i as a child in a collection, by its name and whether it is doomed
 abbrev pub kid_as : List ℕ → ℕ → Bool → ChildName → Option Kid
@@ -26,3 +28,7 @@ paths_by (Some d) = map (λ u. u.path) d.uses
 -- a row in the survey of another, if it is at or below that one and isn't gone
 abbrev pub surveyed_row : List Row → ℕ → Row → Option SurveyRow
 surveyed_row rows top r = if is_below rows top r.inc && not (is_gone rows r.inc) then Some (survey_row rows r) else None
+
+-- a row that is removed with another, if it is at or below that one
+abbrev pub lost_row : List Row → ℕ → Row → Option Lost
+lost_row rows top r = if is_below rows top r.inc then Some (lost_of rows r) else None

@@ -1,10 +1,12 @@
 -- What a step does to a realm, and when it is refused.
-use Rattle.std.specs.Prelude.{◌≡◌, ℕ, ◌+◌, ◌<◌, ◌≤◌, [], ◌∷◌, ◌++◌, length, None}
+use Rattle.std.specs.Prelude.{◌≡◌, ℕ, ◌+◌, ◌<◌, ◌≤◌, [], ◌∷◌, ◌++◌, false, length, None}
 use Rattle.cm_world.specs.declared.action.ActKind.{ActKind}
 use Rattle.cm_world.specs.declared.event.Event.{Event}
 use Rattle.cm_world.specs.declared.reply.Reply.{Reply}
 use Rattle.cm_world.specs.declared.reply.Entry.{Entry}
+use Rattle.cm_world.specs.Rows.{is_subtree_shut}
 use Rattle.cm_world.specs.World.{World}
+use Rattle.cm_world.specs.Stopping.{CanPick}
 use Rattle.cm_world.specs.Legal.{IsStep, owed_by}
 use Rattle.cm_world.specs.Begin.{begin_reply}
 use Rattle.cm_world.specs.Reports.{exit_reply}
@@ -49,3 +51,9 @@ WaitsToBegin w kind i a = (begin_reply w.rows w.next_action kind i ≡ None) × 
 
 abbrev pub WaitsToExit : World → ℕ → ℕ → Type 0
 WaitsToExit w i a = (exit_reply w.rows i ≡ None) × IsPending w.acts a
+
+-- a pick has no reply while not all is shut and no row may be picked: then another action is pending
+pub record WaitsToPick (w : World) (target a : ℕ) : Type 0 where
+  pub undone : is_subtree_shut w.rows target ≡ false
+  pub stuck : CanPick w.rows target → ⊥
+  pub pending : IsPending w.acts a

@@ -41,3 +41,10 @@ pub record HasRow (rows : List Row) (x : Act) : Type 0 where
 pub record IsTasked (rows : List Row) (acts : List Act) : Type 0 where
   pub rows_of : (a : ℕ) (x : Act) → act_of acts a ≡ Some x → x.outcome ≡ None → HasRow rows x
   pub acts_of : (i a : ℕ) (kind : ActKind) (r : Row) → row_of rows i ≡ Some r → r.pending ≡ Some (kind, a) → IsPendingAt acts i a
+
+-- a row at which an action may begin: none is pending, and one that is to be resolved has no declaration yet
+pub record IsIdleAt (rows : List Row) (kind : ActKind) (i : ℕ) : Type 0 where
+  pub row : Row
+  pub lives : row_of rows i ≡ Some row
+  pub idle : row.pending ≡ None
+  pub unresolved : kind ≡ Resolve → row.decl ≡ None

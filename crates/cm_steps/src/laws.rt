@@ -1,11 +1,15 @@
-//! Laws of begins, ends and awaits, and of openings.
+//! Laws of begins, ends and awaits, of openings, of shutdowns, and of what is destroyed.
 //!
 //! These functions do nothing: what each of them promises is a fact about histories, which its
 //! proof shows. Callers that begin an action in one turn and end it in another need the first
 //! two; the others say what holds of every legal history as a whole.
 
+ghost use Rattle.cm_steps.specs.Clients as clients;
+ghost use Rattle.cm_steps.specs.Destroying as destroying;
+ghost use Rattle.cm_steps.specs.Histories as histories;
 ghost use Rattle.cm_steps.specs.Lasting as lasting;
 ghost use Rattle.cm_steps.specs.Laws as laws;
+ghost use Rattle.cm_steps.specs.Shutdowns as shutdowns;
 
 /// Who began an action may end it, whatever other callers do in between.
 pub fn beginners_end()
@@ -33,4 +37,66 @@ pub fn routes_are_stable()
 /// Who joined it joined what was begun, and who awaits it gets the outcome that its end had.
 pub fn outcomes_are_one()
     ensures one { lasting.OutcomesAreOne }
+{}
+
+/// The tree that a legal history leaves is sound.
+pub fn trees_stay_sound()
+    ensures sound { shutdowns.TreesStaySound }
+{}
+
+/// What is marked to be shut down or destroyed stays so until it has left the tree, whatever
+/// callers do. A pick may be made for it.
+pub fn marks_stay()
+    ensures marks { shutdowns.MarksMark }
+    ensures stays { shutdowns.MarksStay }
+    ensures closes { shutdowns.MarkedMayClose }
+{}
+
+/// Once a shutdown is done, all at and below its target stays shut, and what is to be destroyed
+/// may be removed.
+pub fn shutdowns_last()
+    ensures done { shutdowns.DoneIsOver }
+    ensures stays { shutdowns.OverStays }
+    ensures purges { shutdowns.OverMayPurge }
+{}
+
+/// A shutdown never comes to a dead end: in the tree that a legal history leaves, where an instance
+/// that is being shut down isn't shut, some such instance may stop.
+pub fn shutdowns_go_on()
+    ensures { shutdowns.ShutdownsGoOn }
+{}
+
+/// Who picked an instance to be stopped may end its stop; that others leave that so is promised
+/// by `beginners_end`.
+pub fn pickers_end()
+    ensures picks { shutdowns.PickersMayEnd }
+{}
+
+/// Clients stop before what they depend on: when an instance is picked, to be stopped or to be
+/// shut since it is off, each of its clients that is being shut down with it is shut already.
+///
+/// A client uses something that the picked one provides, by a route of strong hops alone. Those at
+/// and below the outermost closing instance above the picked one are being shut down with it; a
+/// client that stands elsewhere is not, and this says nothing of it.
+pub fn clients_stop_first()
+    ensures first { clients.ClientsStopFirst }
+{}
+
+/// What was marked to be destroyed, and all that is below it at any time from then on, is gone
+/// in each later tree.
+///
+/// Who asks it for an action, a child, a route, an opening or a report is told so, and gets
+/// nothing else. No route that is opened passes it or ends at it, and only a pick or a purge,
+/// which take it to its end, still name it in another reply. Once it is removed no reply names
+/// it but this one, and no row ever has its incarnation again.
+pub fn the_destroyed_stay_gone()
+    ensures marked { destroying.MarkedAreDestroyed }
+    ensures gone { destroying.DestroyedStayGone }
+{}
+
+/// Every legal history keeps all these laws: that routes are stable, that each action has one
+/// outcome, that clients stop first, and that the destroyed stay gone. The tree that it leaves is
+/// sound.
+pub fn histories_keep_laws()
+    ensures { histories.HistoriesKeepLaws }
 {}

@@ -5,12 +5,16 @@ ghost use Rattle.cm_world.specs.World.{start};
 ghost use Rattle.cm_world.specs.Begin.{begin_reply};
 ghost use Rattle.cm_world.specs.Reports.{exit_reply};
 ghost use Rattle.cm_world.specs.Legal.{Legal, IsStep};
-ghost use Rattle.cm_world.specs.After.{moves};
+ghost use Rattle.cm_world.specs.After.{moves, moved, with_action};
 ghost use Rattle.cm_steps.specs.Story.{world_of};
+ghost use Rattle.cm_steps.specs.Tasks.{IsIdleAt};
 ghost use Rattle.cm_steps.specs.Answers.{BeginsBy, ExitsBy};
 ghost use Rattle.cm_steps.specs.Steps.{Tells, HasRoom, Refuses, RefusesQuiet, WaitsToBegin, WaitsToExit, entry_of};
 
+mod creating;
 mod ends;
+mod marks;
+mod picking;
 
 use crate::nostep::NoStep;
 use crate::replies::beginning::{BeginAnswer, begin_answer};
@@ -24,7 +28,7 @@ use cm_book::Book;
 use cm_names::{CapPath, List, Memory, Moniker, Name, Plain, Text};
 use cm_table::Table;
 use cm_turn::Storied;
-use cm_world::{Act, ActKind, Builtin, Entry, Event, Frame, Join, Limits, Reply, Work};
+use cm_world::{Act, ActKind, Builtin, Entry, Event, Frame, Join, Limits, Reply};
 use std::alloc::Global;
 use std::marker::Model;
 
@@ -379,7 +383,8 @@ impl Realm {
             }
             BeginAnswer::Begins(work) => {
                 let kept = copied(&work)?;
-                self.begin_action(caller, kind, inc, kept)?;
+                let event = Event::Begin(kind, inc);
+                self.begin_action(caller, kind, inc, event, Reply::Begun(kept))?;
                 Ok(Reply::Begun(work))
             }
         }
@@ -403,18 +408,21 @@ impl Realm {
         Ok(())
     }
 
-    /// Puts down that an action begins, with room for the entry of its end.
+    /// Puts down an event by which an action begins at an instance, with room for the entry of
+    /// its end.
     fn begin_action(
         &mut self,
         caller: u32,
         kind: ActKind,
         inc: u64,
-        work: Work,
+        event: Event,
+        reply: Reply,
     ) -> Result<(), NoStep>
-        requires { let w = world_of self.old in
-            begin_reply w.rows w.next_action kind inc ≡ Some (Reply.Begun work) }
-        ensures step { let event = Event.Begin kind inc in
-            OnOk result (Tells self.old self.new caller event (Reply.Begun work)) }
+        requires step { IsStep (world_of self.old) (entry_of caller event reply) }
+        requires begins { let w = world_of self.old in
+            moved w caller event reply ≡ with_action w caller kind inc }
+        requires idle { IsIdleAt (world_of self.old).rows kind inc }
+        ensures step { OnOk result (Tells self.old self.new caller event reply) }
         ensures refused { IfErr result (Refuses self.old 2 (λ a. ⊥)) }
         ensures err { OnErr result (self.new ≡ self.old) }
     {
@@ -430,8 +438,8 @@ impl Realm {
         });
         self.book.push_reserved(Entry {
             caller,
-            event: Event::Begin(kind, inc),
-            reply: Reply::Begun(work),
+            event,
+            reply,
         });
         Ok(())
     }

@@ -2,8 +2,12 @@
 //! is.
 
 pub mod beginning;
+pub mod creating;
 pub mod finding;
 pub mod listing;
+pub mod marking;
 pub mod opening;
+pub mod picking;
+pub mod purging;
 pub mod showing;
 pub mod surveying;

@@ -1,18 +1,25 @@
-//! Room for what a begin leaves to come: entries of ends and awaits, and rows of resolves.
+//! Room for what a step needs and leaves to come: entries, also those of ends and awaits, and rows.
 
-ghost use Rattle.std.specs.Prelude.{◌≡◌, ◌+◌, ◌-◌, ◌≤◌, ◌<◌, ◌^◌, length, cond, count_by, OnOk, OnErr, IfErr};
+ghost use Rattle.std.specs.Prelude.{◌≡◌, ◌+◌, ◌-◌, ◌≤◌, ◌<◌, ◌^◌, length, cond, count_by, Some, None, IsTrue, IfOk, OnOk, OnErr, IfErr};
 ghost use Rattle.std.specs.List.{list_any};
 ghost use Rattle.std.specs.Vec.{vec_len, vec_capacity};
+ghost use Rattle.cm_world.specs.Rows.{is_resolved, child_of};
+ghost use Rattle.cm_world.specs.World.{new_row};
 ghost use Rattle.cm_world.specs.Begin.{same_act};
 ghost use Rattle.cm_world.specs.Step as step;
 ghost use Rattle.cm_world.specs.After.{joined};
+ghost use Rattle.cm_book.specs.Refusal.{Fits};
+ghost use Rattle.cm_table.specs.Change.{with_row};
 ghost use Rattle.cm_steps.specs.Tasks as tasks;
 ghost use Rattle.cm_steps.specs.Rooms.{Lacks};
 
 use crate::nostep::NoStep;
 use cm_book::Book;
+use cm_decl::Give;
+use cm_names::{ChildName, List, Text};
 use cm_table::Table;
 use cm_world::{Act, ActKind, Join};
+use std::alloc::Global;
 
 /// The number of the next action.
 pub fn next_action(acts: &[Act]) -> u64
@@ -123,4 +130,37 @@ fn is_join(join: &Join, caller: u32, action: u64) -> bool
     ensures { result ≡ step.is_join caller action join.now }
 {
     join.caller == caller && join.action == action
+}
+
+/// Puts a new child into the tree, with room for the entry that says so, and answers its
+/// incarnation. There is room for its row.
+pub fn add_row(
+    alloc: Global,
+    table: &mut Table,
+    book: &mut Book,
+    parent: u64,
+    name: ChildName,
+    url: Text,
+    gives: List<Give>,
+) -> Result<u64, NoStep>
+    requires resolved { IsTrue (is_resolved table.old.rows parent) }
+    requires unused { child_of table.old.rows parent name ≡ None }
+    ensures inc { IfOk result (λ inc. inc ≡ table.old.next_inc) }
+    ensures table { let row = new_row table.old.next_inc (Some parent) (Some name) url gives in
+        OnOk result (table.new ≡ with_row row table.old) }
+    ensures book { let reserved = book.old.reserved + 1 in
+        OnOk result (book.new ≡ record book.old { reserved = reserved }) }
+    ensures fits { OnOk result (Fits book.old 1) }
+    ensures same { OnErr result (table.new ≡ table.old) }
+    ensures err { OnErr result (book.new ≡ book.old) }
+    ensures refused { IfErr result (Lacks book.old 1) }
+{
+    book.reserve(1)?;
+    match table.add(alloc, parent, name, url, gives) {
+        Ok(inc) => Ok(inc),
+        Err(_) => {
+            book.release(1);
+            Err(NoStep::Memory)
+        }
+    }
 }

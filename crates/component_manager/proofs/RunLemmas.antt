@@ -14,8 +14,7 @@ use Rattle.cm_command.specs.declared.script.Line.{Line}
 use Rattle.cm_gate.specs.declared.asked.Asked.{Asked}
 use Rattle.cm_gate.proofs.Logs.{grew_nothing, rose_nothing}
 use Rattle.cm_reply.specs.Journal.{header_text}
-use Rattle.cm_steps.proofs.Stable.{routes_are_stable}
-use Rattle.cm_steps.proofs.Outcomes.{outcomes_are_one}
+use Rattle.cm_steps.proofs.AllLaws.{histories_keep_laws}
 use Rattle.cm_manager.specs.Turns.{own_entries}
 use Rattle.cm_manager.specs.Closed.{HasEnds}
 use Rattle.cm_manager.specs.Contract.{RealmPass}
@@ -25,10 +24,10 @@ use Rattle.cm_manager.proofs.HavingEnds.{none_has_ends}
 use Rattle.cm_command.proofs.LineGrammar.{reads_one_way_lem}
 use Rattle.cm_lanes.specs.declared.said.Said.{Said}
 use Rattle.cm_lanes.specs.declared.said.Lanes.{Lanes}
-use Rattle.cm_lanes.specs.Script.{Answered, said_of, answered_lines, IsFit}
+use Rattle.cm_lanes.specs.Script.{Answered, said_of, answered_lines}
 use Rattle.cm_lanes.specs.Kept.{AreSixteen}
 use Rattle.cm_lanes.specs.Lanes.{RanOrNot}
-use Rattle.component_manager.specs.Headline.{KeepsLaws, WorksEach, RunsScript, shelf_of}
+use Rattle.component_manager.specs.Headline.{EndsWell, WorksEach, RunsScript, shelf_of}
 use Rattle.component_manager.specs.Performing.{Performs}
 use Rattle.component_manager.specs.Printed.{IsPrinted, phases_text, journal_of, printed_text, texts_of}
 use Rattle.component_manager.specs.Run.{IsFaulty, IsRefusal, RunsAsServed}
@@ -41,7 +40,6 @@ use Rattle.component_manager.specs.declared.stock.Served.{Served}
 use Rattle.component_manager.proofs.Histories.{makes_by, works_by, nothing_happened, legal_nothing}
 use Rattle.component_manager.proofs.Printing.{texts_all, no_want_all, nothing_written, front_of_nothing}
 use Rattle.component_manager.proofs.ScriptLaws.{one_script, served_faultless}
-use Rattle.component_manager.proofs.StockLemmas.{served_fit}
 use Rattle.component_manager.proofs.Wanting.{all_wanting, makes_nothing}
 
 -- bytes that are served aren't faulty, so that all may be said of those that are
@@ -70,8 +68,8 @@ nothing_legal f = tt
 nothing_ends : (history : List Entry) → history ≡ [] → HasEnds history
 nothing_ends history none = subst HasEnds (sym none) none_has_ends
 
-kept_laws : (f : Frame) (history : List Entry) → Legal (start f) history → HasEnds history → KeepsLaws f history
-kept_laws f history legal ends = record { routes = routes_are_stable f history legal; outcomes = outcomes_are_one f history legal; ends = ends }
+ends_well : (f : Frame) (history : List Entry) → Legal (start f) history → HasEnds history → EndsWell f history
+ends_well f history legal ends = record { laws = histories_keep_laws f history legal; ends = ends }
 
 module _ {G : Type 0} (log_of : G → Option (List Asked)) (faults_of : G → ℕ) where
   -- gates that were asked nothing
@@ -83,30 +81,30 @@ module _ {G : Type 0} (log_of : G → Option (List Asked)) (faults_of : G → �
       (record { asked = []; works = nothing; log = grew_nothing (log_of g); faults = rose_nothing (faults_of g) (faults_of g) (le_refl (faults_of g)) }))
 
   -- a realm that was made and closed without a manager
-  pub performs_nothing : (shelf : Shelf) (f : Frame) (phases : List (List Line)) (gates : List G) (book : History) → All (λ lines. All IsFit lines) phases → book.entries ≡ [] → Performs log_of faults_of shelf f phases gates (record { book = book; gates = gates; said = None })
-  performs_nothing shelf f phases gates book fit none = record {
+  pub performs_nothing : (shelf : Shelf) (f : Frame) (phases : List (List Line)) (gates : List G) (book : History) → book.entries ≡ [] → Performs log_of faults_of shelf f phases gates (record { book = book; gates = gates; said = None })
+  performs_nothing shelf f phases gates book none = record {
     answered = all_wanting phases;
-    makes = makes_nothing f phases book.entries fit none (subst (Legal (start f)) (sym none) (nothing_legal f));
+    makes = makes_nothing f phases book.entries none (subst (Legal (start f)) (sym none) (nothing_legal f));
     ends = nothing_ends book.entries none;
     work = works_nothing shelf book.entries gates gates none refl;
     said = tt;
   }
 
   -- lanes that ran, or did nothing
-  pub performs_by : (shelf : Shelf) (turn : LockView) (f : Frame) (phases : List (List Line)) (passes : List RealmPass) (gates : List G) (back : Lanes G) (book : History) → All (λ lines. All IsFit lines) phases → passes ≡ new_passes turn.lock f 16 → length gates ≡ 16 → AreSixteen turn back.passes → Closes book.entries back.passes → HasEnds book.entries
+  pub performs_by : (shelf : Shelf) (turn : LockView) (f : Frame) (phases : List (List Line)) (passes : List RealmPass) (gates : List G) (back : Lanes G) (book : History) → passes ≡ new_passes turn.lock f 16 → length gates ≡ 16 → AreSixteen turn back.passes → Closes book.entries back.passes → HasEnds book.entries
       → RanOrNot log_of faults_of shelf phases passes gates back → Performs log_of faults_of shelf f phases gates (record { book = book; gates = back.gates; said = back.said })
-  performs_by shelf turn f phases passes gates back book fit new count are closes ends (inl ran) = record {
+  performs_by shelf turn f phases passes gates back book new count are closes ends (inl ran) = record {
     answered = ran.answered;
     makes = makes_by log_of faults_of shelf turn f phases passes gates back book.entries new count are closes ran;
     ends = ends;
     work = works_by log_of faults_of shelf turn f phases passes gates back book.entries new count are closes ran;
     said = ran.said;
   }
-  performs_by shelf turn f phases passes gates back book fit new count are closes ends (inr un) =
+  performs_by shelf turn f phases passes gates back book new count are closes ends (inr un) =
       let none = nothing_happened log_of faults_of shelf turn f phases passes gates back book.entries new count are closes un.same_passes in
       record {
         answered = all_wanting phases;
-        makes = makes_nothing f phases book.entries fit none (legal_nothing log_of faults_of shelf turn f phases passes gates back book.entries new count are closes un.same_passes);
+        makes = makes_nothing f phases book.entries none (legal_nothing log_of faults_of shelf turn f phases passes gates back book.entries new count are closes un.same_passes);
         ends = ends;
         work = works_nothing shelf book.entries gates back.gates none un.same_gates;
         said = subst (λ (o : Option (List Said)). IfSome o (λ said. said ≡ flat_map (λ phase. map said_of phase) (all_wanting phases))) (sym un.nothing) tt;
@@ -134,14 +132,14 @@ module _ {G : Type 0} (log_of : G → Option (List Asked)) (faults_of : G → �
       by : (o : Option (List Said)) → done.said ≡ o → IfSome o (λ said. said ≡ flat_map (λ phase. map said_of phase) p.answered) → RunsScript log_of faults_of options served gates done.gates done.book.entries status old new
       by None is said =
           let none = untold is in
-          record { answered = p.answered; makes = p.makes; laws = kept_laws served.frame done.book.entries p.makes.legal p.ends; work = p.work; text = text; prints = refl; all = λ ended. absurd (cc (ended, none.0)); front = front_of_nothing old new text none.1 }
+          record { answered = p.answered; makes = p.makes; laws = ends_well served.frame done.book.entries p.makes.legal p.ends; work = p.work; text = text; prints = refl; all = λ ended. absurd (cc (ended, none.0)); front = front_of_nothing old new text none.1 }
       by (Some said) is same =
           let printed = told said is in
           let the_text : printed_text served.phases said options.journal (header_text served.frame) done.book.entries ≡ text = text_is options served p.answered said done.book.entries p.makes.lines same in
           record {
             answered = p.answered;
             makes = p.makes;
-            laws = kept_laws served.frame done.book.entries p.makes.legal p.ends;
+            laws = ends_well served.frame done.book.entries p.makes.legal p.ends;
             work = p.work;
             text = printed_text served.phases said options.journal (header_text served.frame) done.book.entries;
             prints = the_text;
@@ -165,15 +163,15 @@ module _ {G : Type 0} (log_of : G → Option (List Asked)) (faults_of : G → �
       (runs_by options served gates done status old new p printed untold))
 
   -- a script of which no line was run
-  pub runs_nothing : (options : RunOptions) (served : Served) (gates₀ gates₁ : List G) (history : List Entry) (status : ℕ) (out : Option (List ℕ)) → All (λ lines. All IsFit lines) served.phases → history ≡ [] → gates₁ ≡ gates₀ → status ≡ 6 → RunsScript log_of faults_of options served gates₀ gates₁ history status out out
-  runs_nothing options served gates₀ gates₁ history status out fit none same is =
+  pub runs_nothing : (options : RunOptions) (served : Served) (gates₀ gates₁ : List G) (history : List Entry) (status : ℕ) (out : Option (List ℕ)) → history ≡ [] → gates₁ ≡ gates₀ → status ≡ 6 → RunsScript log_of faults_of options served gates₀ gates₁ history status out out
+  runs_nothing options served gates₀ gates₁ history status out none same is =
       let answered = all_wanting served.phases in
       let text = phases_text answered ++ journal_of options.journal served.frame history in
       let legal = subst (Legal (start served.frame)) (sym none) (nothing_legal served.frame) in
       record {
         answered = answered;
-        makes = makes_nothing served.frame served.phases history fit none legal;
-        laws = kept_laws served.frame history legal (nothing_ends history none);
+        makes = makes_nothing served.frame served.phases history none legal;
+        laws = ends_well served.frame history legal (nothing_ends history none);
         work = works_nothing (shelf_of options served) history gates₀ gates₁ none same;
         text = text;
         prints = refl;
@@ -184,7 +182,7 @@ module _ {G : Type 0} (log_of : G → Option (List Asked)) (faults_of : G → �
   pub known_nothing : (left : Option (List ℕ)) (options : RunOptions) (gates₀ gates₁ : List G) (history : List Entry) (status : ℕ) (out : Option (List ℕ)) → history ≡ [] → gates₁ ≡ gates₀ → status ≡ 6
       → OfKnown (RunsAsServed (λ served. RunsScript log_of faults_of options served gates₀ gates₁ history status out out)) left
   known_nothing None options gates₀ gates₁ history status out none same is = tt
-  known_nothing (Some bytes) options gates₀ gates₁ history status out none same is = λ served serves. runs_nothing options served gates₀ gates₁ history status out (served_fit bytes served serves) none same is
+  known_nothing (Some bytes) options gates₀ gates₁ history status out none same is = λ served serves. runs_nothing options served gates₀ gates₁ history status out none same is
 
 -- ---- runs of other bytes
 

@@ -9,15 +9,13 @@ use Rattle.cm_command.specs.declared.script.Block.{Block}
 use Rattle.cm_command.specs.declared.script.Line.{Line}
 use Rattle.cm_command.specs.declared.script.Script.{Script}
 use Rattle.cm_command.specs.declared.script_reader.Draft.{Draft}
-use Rattle.cm_manager.specs.Calls.{is_built}
 use Rattle.cm_lanes.specs.Script.{IsFit}
-use Rattle.component_manager.specs.Reading.{Read, ◌>>=◌, Gives, bad}
+use Rattle.component_manager.specs.Reading.{Read, ◌>>=◌, Gives}
 use Rattle.component_manager.specs.Run.{Stops, stop_of}
-use Rattle.component_manager.specs.Stock.{checked_lines, checked_phases, frame_of, accepted, stocked, stock_of, served_script, IsFault, Serves}
+use Rattle.component_manager.specs.Stock.{frame_of, accepted, stocked, stock_of, served_script, IsFault, Serves}
 use Rattle.component_manager.specs.Written.{OfKnown}
 use Rattle.component_manager.specs.declared.fault.Fault.{Fault}
 use Rattle.component_manager.specs.declared.fault.Fault.TheVariants.{Unread, Unserved, Memory}
-use Rattle.component_manager.specs.declared.fault.Problem.TheVariants.{LaterForm}
 use Rattle.component_manager.specs.declared.stock.Served.{Served}
 
 -- what was read of a script that is one has no fault of the reader
@@ -33,18 +31,6 @@ bind_told (Err (Unserved line problem)) f h k = tt
 bind_told (Err Memory) f h k = tt
 bind_told (Err (Unread line number at)) f h k = absurd h
 
-lines_told : (lines : List Line) → IsOfScript (checked_lines lines)
-lines_told [] = tt
-lines_told (l ∷ ls) = by (is_built l.command) (lines_told ls)
-  where
-    by : (v : Bool) → IsOfScript (checked_lines ls) → IsOfScript (cond v (checked_lines ls) (Err (bad l.line LaterForm)))
-    by true h = h
-    by false h = tt
-
-phases_told : (phases : List (List Line)) → IsOfScript (checked_phases phases)
-phases_told [] = tt
-phases_told (p ∷ ps) = bind_told (checked_lines p) _ (lines_told p) (λ checked. phases_told ps)
-
 accepted_told : (line : ℕ) (r : Result Blocks RepoFault) → IsOfScript (accepted line r)
 accepted_told line (Ok blocks) = tt
 accepted_told line (Err repo.BadUrl) = tt
@@ -58,7 +44,7 @@ stock_told old (b ∷ bs) = bind_told (stocked old b) _ (accepted_told b.line (a
 
 script_told : (s : Script) → IsOfScript (served_script s)
 unfolding served_script
-script_told s = bind_told (checked_phases s.phases) _ (phases_told s.phases) (λ checked. bind_told (stock_of [] s.manifests) _ (stock_told [] s.manifests) (λ repository. tt))
+script_told s = bind_told (stock_of [] s.manifests) _ (stock_told [] s.manifests) (λ repository. tt)
 
 -- a script that isn't served is refused for what it gives
 pub fault_of_script : (bytes : List ℕ) (s : Script) (r : Read Served) → IsScript bytes s → Gives r (served_script s) → IfErr r (λ f. (f ≡ Memory → ⊥) → IsFault bytes f)
@@ -109,35 +95,24 @@ script_low bytes s is =
     subst (All (λ lines. All IsLow lines)) (sym is.whole.phases)
     (All-append (λ lines. All IsLow lines) is.draft.phases (is.draft.phase ∷ []) low.phases (All-cons (λ lines. All IsLow lines) is.draft.phase [] low.phase (All-nil (λ lines. All IsLow lines))))
 
--- a line that has a call, and the others behind it
-line_fits : (l : Line) (ls : List Line) (built : Bool) → is_built l.command ≡ built → l.lane ≤ 15 → (checked_lines ls ≡ Ok tt → All IsFit ls) → cond built (checked_lines ls) (Err (bad l.line LaterForm)) ≡ Ok tt → All IsFit (l ∷ ls)
-line_fits l ls true is low others rest = All-cons IsFit l ls (record { lane = omega (arith, low); built = is }) (others rest)
-line_fits l ls false is low others rest = absurd (cc rest)
+fit_lines : (lines : List Line) → All IsLow lines → All IsFit lines
+fit_lines [] low = All-nil IsFit
+fit_lines (l ∷ ls) low = All-cons IsFit l ls (record { lane = omega (arith, All-head IsLow l ls low) }) (fit_lines ls (All-tail IsLow l ls low))
 
-lines_fit : (lines : List Line) → All IsLow lines → checked_lines lines ≡ Ok tt → All IsFit lines
-lines_fit [] low is = All-nil IsFit
-lines_fit (l ∷ ls) low is = line_fits l ls (is_built l.command) refl (All-head IsLow l ls low) (lines_fit ls (All-tail IsLow l ls low)) is
+fit_phases : (phases : List (List Line)) → All (λ lines. All IsLow lines) phases → All (λ lines. All IsFit lines) phases
+fit_phases [] low = All-nil (λ lines. All IsFit lines)
+fit_phases (p ∷ ps) low =
+    All-cons (λ lines. All IsFit lines) p ps (fit_lines p (All-head (λ lines. All IsLow lines) p ps low)) (fit_phases ps (All-tail (λ lines. All IsLow lines) p ps low))
 
-phase_fits : (p : List Line) (ps : List (List Line)) (r : Read (Unit {0})) → (r ≡ Ok tt → All IsFit p) → (checked_phases ps ≡ Ok tt → All (λ lines. All IsFit lines) ps) → r >>= (λ checked. checked_phases ps) ≡ Ok tt → All (λ lines. All IsFit lines) (p ∷ ps)
-phase_fits p ps (Ok u) here others rest = All-cons (λ lines. All IsFit lines) p ps (here refl) (others rest)
-phase_fits p ps (Err e) here others rest = absurd (cc rest)
+served_by : (s : Script) (stock : Read Blocks) (served : Served) → (stock >>= λ repository. Ok (record { repository = repository; frame = frame_of s; phases = s.phases })) ≡ Ok served → served.phases ≡ s.phases
+served_by s (Ok blocks) served is = cc
+served_by s (Err e) served is = absurd (cc is)
 
-phases_fit : (phases : List (List Line)) → All (λ lines. All IsLow lines) phases → checked_phases phases ≡ Ok tt → All (λ lines. All IsFit lines) phases
-phases_fit [] low is = All-nil (λ lines. All IsFit lines)
-phases_fit (p ∷ ps) low is =
-    phase_fits p ps (checked_lines p) (lines_fit p (All-head (λ lines. All IsLow lines) p ps low)) (phases_fit ps (All-tail (λ lines. All IsLow lines) p ps low)) is
-
-served_by : (s : Script) (checked : Read (Unit {0})) (stock : Read Blocks) (served : Served) → (checked >>= λ c. stock >>= λ repository. Ok (record { repository = repository; frame = frame_of s; phases = s.phases })) ≡ Ok served → (checked ≡ Ok tt) × (served.phases ≡ s.phases)
-served_by s (Ok u) (Ok blocks) served is = (refl, cc)
-served_by s (Ok u) (Err e) served is = absurd (cc is)
-served_by s (Err e) stock served is = absurd (cc is)
-
--- each has a lane of the sixteen, and a call
-pub served_fit : (bytes : List ℕ) (served : Served) → Serves bytes served → All (λ lines. All IsFit lines) served.phases
+-- each has a lane of the sixteen
+served_fit : (bytes : List ℕ) (served : Served) → Serves bytes served → All (λ lines. All IsFit lines) served.phases
 unfolding served_script
 served_fit bytes served is =
-    let by = served_by is.script (checked_phases is.script.phases) (stock_of [] is.script.manifests) served is.asks in
-    subst (All (λ lines. All IsFit lines)) (sym by.1) (phases_fit is.script.phases (script_low bytes is.script is.reads) by.0)
+    subst (All (λ lines. All IsFit lines)) (sym (served_by is.script (stock_of [] is.script.manifests) served is.asks)) (fit_phases is.script.phases (script_low bytes is.script is.reads))
 
 -- the same of what a script gave
 pub fit_of_script : (bytes : List ℕ) (s : Script) (r : Read Served) → IsScript bytes s → Gives r (served_script s) → IfOk r (λ served. All (λ lines. All IsFit lines) served.phases)

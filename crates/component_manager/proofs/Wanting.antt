@@ -7,7 +7,7 @@ use Rattle.cm_world.specs.World.{start}
 use Rattle.cm_world.specs.Legal.{Legal}
 use Rattle.cm_command.specs.declared.script.Line.{Line}
 use Rattle.cm_lanes.specs.Laws.{no_answer}
-use Rattle.cm_lanes.specs.Script.{Answered, answered_lines, IsFit, ArePhases}
+use Rattle.cm_lanes.specs.Script.{Answered, answered_lines, ArePhases}
 use Rattle.cm_lanes.proofs.Parting.{phases_lost}
 use Rattle.component_manager.specs.Headline.{MakesHistory}
 
@@ -23,10 +23,10 @@ phases_back [] = refl
 phases_back (p ∷ ps) = ap (λ (q : List Line). q ∷ map answered_lines (all_wanting ps)) (lines_back p) ∙ ap (λ (rest : List (List Line)). p ∷ rest) (phases_back ps)
 
 -- such a script makes an empty history
-pub makes_nothing : (f : Frame) (phases : List (List Line)) (history : List Entry) → All (λ lines. All IsFit lines) phases → history ≡ [] → Legal (start f) history → MakesHistory f phases (all_wanting phases) history
-makes_nothing f phases history fit none legal = record {
+pub makes_nothing : (f : Frame) (phases : List (List Line)) (history : List Entry) → history ≡ [] → Legal (start f) history → MakesHistory f phases (all_wanting phases) history
+makes_nothing f phases history none legal = record {
   lines = phases_back phases;
   legal = legal;
-  performed = subst (λ (l : List Entry). ArePhases (λ c. f) (all_wanting phases) [] l) (sym none) (phases_lost (λ c. f) phases [] fit);
+  performed = subst (λ (l : List Entry). ArePhases (λ c. f) (all_wanting phases) [] l) (sym none) (phases_lost (λ c. f) phases []);
   callers = subst (All (λ (e : Entry). e.caller < 16)) (sym none) (All-nil (λ (e : Entry). e.caller < 16));
 }

@@ -8,7 +8,7 @@ use Rattle.cm_world.specs.World.{start}
 use Rattle.cm_world.specs.Legal.{Legal}
 use Rattle.cm_command.specs.declared.script.Line.{Line}
 use Rattle.cm_gate.specs.declared.asked.Asked.{Asked}
-use Rattle.cm_steps.specs.Lasting.{HasStableRoutes, HasOneOutcome}
+use Rattle.cm_steps.specs.Histories.{KeepsLaws}
 use Rattle.cm_manager.specs.Turns.{own_entries}
 use Rattle.cm_manager.specs.Closed.{HasEnds}
 use Rattle.cm_manager.specs.Work.{Shelf, WorksWith}
@@ -33,10 +33,9 @@ pub record MakesHistory (f : Frame) (phases : List (List Line)) (answered : List
   pub performed : ArePhases (λ c. f) answered [] history
   pub callers : All (λ (e : Entry). e.caller < 16) history
 
--- what holds of the history of every run: the routes that were opened in it are stable, and each action that was begun has its end and one outcome
-pub record KeepsLaws (f : Frame) (history : List Entry) : Type 0 where
-  pub routes : HasStableRoutes f history
-  pub outcomes : HasOneOutcome history
+-- what holds of the history of every run: it keeps the laws of every legal history, and each action that was begun has its end
+pub record EndsWell (f : Frame) (history : List Entry) : Type 0 where
+  pub laws : KeepsLaws f history
   pub ends : HasEnds history
 
 module _ {G : Type 0} (log_of : G → Option (List Asked)) (faults_of : G → ℕ) where
@@ -49,7 +48,7 @@ module _ {G : Type 0} (log_of : G → Option (List Asked)) (faults_of : G → �
   pub record RunsScript (options : RunOptions) (served : Served) (gates₀ gates₁ : List G) (history : List Entry) (status : ℕ) (out₀ out₁ : Option (List ℕ)) : Type 0 where
     pub answered : List (List Answered)
     pub makes : MakesHistory served.frame served.phases answered history
-    pub laws : KeepsLaws served.frame history
+    pub laws : EndsWell served.frame history
     pub work : WorksEach (shelf_of options served) history gates₀ gates₁
     pub text : List ℕ
     pub prints : text ≡ phases_text answered ++ journal_of options.journal served.frame history

@@ -1,30 +1,18 @@
 -- What a script asks for.
-use Rattle.std.specs.Prelude.{◌≡◌, ℕ, List, [], ◌∷◌, Result, Ok, Err, if◌then◌else◌}
+use Rattle.std.specs.Prelude.{◌≡◌, ℕ, List, [], ◌∷◌, Result, Ok, Err}
 use Rattle.cm_repo.specs.Blocks.{Blocks, added}
 use Rattle.cm_repo.specs.declared.fault.RepoFault.{RepoFault}
 use Rattle.cm_repo.specs.declared.fault.RepoFault.TheVariants as repo
 use Rattle.cm_world.specs.declared.frame.Frame.{Frame}
 use Rattle.cm_world.specs.declared.frame.Limits.{Limits}
-use Rattle.cm_manager.specs.Calls.{is_built}
 use Rattle.cm_command.specs.Scripts as scripts
 use Rattle.cm_command.specs.declared.script.Block.{Block}
-use Rattle.cm_command.specs.declared.script.Line.{Line}
 use Rattle.cm_command.specs.declared.script.Script.{Script}
 use Rattle.component_manager.specs.Reading.{Read, ◌>>=◌, bad}
 use Rattle.component_manager.specs.declared.fault.Fault.{Fault}
 use Rattle.component_manager.specs.declared.fault.Fault.TheVariants.{Unread, Unserved, Memory}
-use Rattle.component_manager.specs.declared.fault.Problem.TheVariants.{BadManifestUrl, RepeatedManifest, LaterForm}
+use Rattle.component_manager.specs.declared.fault.Problem.TheVariants.{BadManifestUrl, RepeatedManifest}
 use Rattle.component_manager.specs.declared.stock.Served.{Served}
-
--- nothing, or that the first line whose command has no call yet is refused
-abbrev pub checked_lines : List Line → Read (Unit {0})
-checked_lines [] = Ok tt
-checked_lines (l ∷ ls) = if is_built l.command then checked_lines ls else Err (bad l.line LaterForm)
-
--- the same of all phases
-abbrev pub checked_phases : List (List Line) → Read (Unit {0})
-checked_phases [] = Ok tt
-checked_phases (lines ∷ phases) = checked_lines lines >>= λ checked. checked_phases phases
 
 -- how many instances a realm may have, and how many entries its history
 abbrev pub limits : Limits
@@ -51,10 +39,9 @@ abbrev pub stock_of : Blocks → List Block → Read Blocks
 stock_of old [] = Ok old
 stock_of old (block ∷ blocks) = stocked old block >>= λ new. stock_of new blocks
 
--- what a script asks for; or else its first line whose command has no call yet; or else its first block that is refused
+-- what a script asks for; or else its first block that is refused
 unfoldable pub served_script : Script → Read Served
 served_script script = do
-  checked ← checked_phases script.phases
   repository ← stock_of [] script.manifests
   Ok (record { repository = repository; frame = frame_of script; phases = script.phases })
 

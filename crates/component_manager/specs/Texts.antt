@@ -5,12 +5,11 @@ use Rattle.cm_command.specs.declared.fault.ScriptFault.TheVariants as script_fau
 use Rattle.component_manager.specs.declared.fault.Fault.{Fault}
 use Rattle.component_manager.specs.declared.fault.Fault.TheVariants.{Unread, Unserved, Memory}
 use Rattle.component_manager.specs.declared.fault.Problem.{Problem}
-use Rattle.component_manager.specs.declared.fault.Problem.TheVariants.{BadManifestUrl, RepeatedManifest, LaterForm}
+use Rattle.component_manager.specs.declared.fault.Problem.TheVariants.{BadManifestUrl, RepeatedManifest}
 
 abbrev pub problem_text : Problem → List ℕ
 problem_text BadManifestUrl = codes "77 bad-manifest-url"
 problem_text RepeatedManifest = codes "78 repeated-manifest"
-problem_text LaterForm = codes "79 later-form"
 
 -- `line L: NUMBER WORD`, and at 70 ` at POSITION`
 abbrev pub fault_text : Fault → List ℕ

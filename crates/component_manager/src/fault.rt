@@ -11,8 +11,6 @@ pub enum Problem {
     BadManifestUrl,
     /// 78: an earlier block has the URL.
     RepeatedManifest,
-    /// 79: a line whose command this version has no call for yet.
-    LaterForm,
 }
 
 impl fmt::Display for Problem {
@@ -25,14 +23,12 @@ impl fmt::Display for Problem {
         match self {
             Problem::BadManifestUrl => f.write_str("77 bad-manifest-url"),
             Problem::RepeatedManifest => f.write_str("78 repeated-manifest"),
-            Problem::LaterForm => f.write_str("79 later-form"),
         }
     }
 }
 
 /// Why a script is refused: its first fault by [`read_script`](cm_command::read_script), or else
-/// its first line whose command has no call yet, or else its first block that the repository
-/// refuses.
+/// its first block that the repository refuses.
 #[derive(Debug, Clone, Copy, PartialEq, Eq)]
 pub enum Fault {
     /// 70 to 76: the text is no script, by its first fault.
@@ -41,7 +37,7 @@ pub enum Fault {
         number: ScriptNumber,
         at: u32,
     },
-    /// 77 to 79: what stands at this line of a script is refused.
+    /// 77 or 78: the block at this line of a script is refused.
     Unserved {
         line: u32,
         problem: Problem,

@@ -34,7 +34,6 @@ use std::thread::Threads;
 /// A script that is refused ends the run with 7, and its line on `err` tells the first of these:
 ///
 /// - 70 to 76: it is no script, by [`read_script`](cm_command::read_script);
-/// - 79: a line whose command this version has no call for yet;
 /// - 77 and 78: a manifest that [`Repository::add`](cm_repo::Repository::add) refuses, for its URL
 ///   and as one that is repeated.
 pub fn run<R: Threads + Wait + Sync, S: Source, K: Sink, E: Sink, G: Gates + Send + Drop>(

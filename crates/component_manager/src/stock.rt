@@ -9,7 +9,6 @@ ghost use Rattle.cm_lanes.specs.Script.{IsFit};
 
 use crate::fault::{Fault, Problem};
 use cm_command::{Block, Line, Script, ScriptFault, read_script};
-use cm_manager::is_built;
 use cm_names::{Bytes, List};
 use cm_repo::{RepoFault, Repository};
 use cm_world::{Frame, Limits};
@@ -28,42 +27,8 @@ pub struct Served {
     pub repository: Repository,
     /// What the realm is made with: its root, what stands above it, and its limits.
     pub frame: Frame,
-    /// The lines of each phase, for each of which there is a call.
+    /// The lines of each phase.
     pub phases: List<List<Line>>,
-}
-
-fn later(line: u32) -> Fault
-    ensures { result ≡ bad line Problem.LaterForm }
-{
-    Fault::Unserved {
-        line,
-        problem: Problem::LaterForm,
-    }
-}
-
-/// Refuses the first line whose command has no call yet.
-fn check_lines(lines: &[Line]) -> Result<(), Fault>
-    ensures { result ≡ spec.checked_lines lines.now }
-{
-    for line in lines {
-        if !is_built(&line.command) {
-            return Err(later(line.line));
-        }
-    }
-    Ok(())
-}
-
-/// Refuses the first line of all phases whose command has no call yet.
-fn check_phases(phases: &[List<Line>]) -> Result<(), Fault>
-    ensures { result ≡ spec.checked_phases phases.now }
-{
-    for phase in phases {
-        match check_lines(phase.as_slice()) {
-            Ok(()) => {}
-            Err(fault) => return Err(fault),
-        }
-    }
-    Ok(())
 }
 
 /// Puts a block into the repository.
@@ -110,7 +75,6 @@ fn serve_script(alloc: Global, script: Script) -> Result<Served, Fault>
         root,
         phases,
     } = script;
-    check_phases(phases.as_slice())?;
     let repository = stock_all(alloc, manifests)?;
     let frame = Frame {
         root,

@@ -22,6 +22,12 @@ const ROOT_WITHOUT_OFFER: &str =
 const ROOT_WITH_COLLECTION: &str =
     "manifest fuchsia-pkg://t/a#meta/root.cm\n{\"collections\":[{\"name\":\"coll\",\"durability\":\"transient\"}]}\n%%\n";
 
+const ROOT_WITH_OFFERS: &str =
+    "manifest fuchsia-pkg://t/a#meta/root.cm\n{\"collections\":[{\"name\":\"dyn\",\"durability\":\"transient\",\"allowed_offers\":\"static_and_dynamic\"}]}\n%%\n";
+
+const RUNNING: &str =
+    "manifest fuchsia-pkg://t/a#meta/x.cm\n{\"program\":{\"runner\":\"elf\"}}\n%%\n";
+
 const LOGGER: &str =
     "manifest fuchsia-pkg://t/a#meta/logger.cm\n{\"program\":{\"runner\":\"elf\"},\"capabilities\":[{\"protocol\":\"fuchsia.logger.LogSink\"}],\"expose\":[{\"protocol\":\"fuchsia.logger.LogSink\",\"from\":\"self\"}]}\n%%\n";
 
@@ -54,7 +60,7 @@ const USAGE: &str = "usage: run, check, serve, audit, generate\n";
 const REPLY: &str =
     "0 route /svc/fuchsia.logger.LogSink at logger incarnation 1 through use client, offer ., expose logger, capability logger\n";
 
-const CASES: [Case; 48] = [
+const CASES: [Case; 52] = [
     Case {
         words: &["run"],
         input: &[ROOT, LOGGER, CLIENT, ASK],
@@ -229,31 +235,26 @@ const CASES: [Case; 48] = [
     },
     Case {
         words: &["run"],
-        input: &[ROOT, ASK, "1 route . /svc/p\n0 shutdown .\n"],
-        status: 7,
-        out: "",
-        err: "line 7: 79 later-form\n",
+        input: &[
+            ROOT,
+            CLIENT,
+            "root fuchsia-pkg://t/a#meta/root.cm\n0 resolve client\n0 doctor .\n",
+        ],
+        status: 0,
+        out: "0 resolved client action 2\n0 doctor . 2\n  logger unresolved\n  client /svc/fuchsia.logger.LogSink refused 83 cannot-resolve action 3 absent\n",
+        err: "",
     },
     Case {
         words: &["run"],
-        input: &[ROOT, ASK, "sync\n0 destroy @0\n"],
-        status: 7,
-        out: "",
-        err: "line 7: 79 later-form\n",
-    },
-    Case {
-        words: &["run"],
-        input: &[ROOT, ROOT, ASK, "0 doctor .\n"],
-        status: 7,
-        out: "",
-        err: "line 9: 79 later-form\n",
-    },
-    Case {
-        words: &["run"],
-        input: &[ROOT, ASK, "0 create . coll x #meta/x.cm\n"],
-        status: 7,
-        out: "",
-        err: "line 6: 79 later-form\n",
+        input: &[
+            ROOT,
+            LOGGER,
+            CLIENT,
+            "root fuchsia-pkg://t/a#meta/root.cm\n0 resolve client\n0 doctor .\n0 doctor nobody\n",
+        ],
+        status: 0,
+        out: "0 resolved client action 2\n0 doctor . 2\n  logger unresolved\n  client /svc/fuchsia.logger.LogSink route /svc/fuchsia.logger.LogSink at logger incarnation 1 through use client, offer ., expose logger, capability logger\n0 refused 80 not-found in .\n",
+        err: "",
     },
     Case {
         words: &["run"],
@@ -426,6 +427,73 @@ const CASES: [Case; 48] = [
         ],
         status: 0,
         out: "0 children . coll 0\n0 refused 60 collection-not-found\n0 refused 80 not-found in .\n",
+        err: "",
+    },
+    Case {
+        words: &["run"],
+        input: &[
+            ROOT_WITH_COLLECTION,
+            RUNNING,
+            "root fuchsia-pkg://t/a#meta/root.cm\n0 create . coll x #meta/x.cm\n0 destroy coll:x\nsync\n0 create . coll x #meta/x.cm\n0 start @1\n",
+        ],
+        status: 0,
+        out: "0 created . coll:x incarnation 1\n0 destroyed coll:x\n0 created . coll:x incarnation 2\n0 refused 81 gone incarnation 1\n",
+        err: "",
+    },
+    Case {
+        words: &["run"],
+        input: &[
+            ROOT_WITH_COLLECTION,
+            RUNNING,
+            "root fuchsia-pkg://t/a#meta/root.cm\n0 resolve .\n0 shutdown .\n0 create . coll y #meta/x.cm\n",
+        ],
+        status: 0,
+        out: "0 resolved . action 1\n0 shut .\n0 refused 65 parent-closing incarnation 0\n",
+        err: "",
+    },
+    Case {
+        words: &["run"],
+        input: &[
+            ROOT_WITH_COLLECTION,
+            RUNNING,
+            "root fuchsia-pkg://t/a#meta/root.cm\n0 create . coll w #meta/x.cm + protocol p parent\n",
+        ],
+        status: 0,
+        out: "0 refused 62 dynamic-offers-refused\n",
+        err: "",
+    },
+    Case {
+        words: &["run"],
+        input: &[
+            ROOT_WITH_OFFERS,
+            RUNNING,
+            "root fuchsia-pkg://t/a#meta/root.cm\n0 create . dyn x #meta/x.cm\n0 create . dyn z #meta/x.cm + protocol p #dyn:x\n0 destroy dyn:x\n0 create . dyn x #meta/x.cm + protocol q #dyn:z\n",
+        ],
+        status: 0,
+        out: "0 created . dyn:x incarnation 1\n0 created . dyn:z incarnation 2\n0 destroyed dyn:x\n0 refused 64 offer-cycle dyn:x dyn:z dyn:x\n",
+        err: "",
+    },
+    Case {
+        words: &["run"],
+        input: &[
+            ROOT,
+            LOGGER,
+            CLIENT,
+            "root fuchsia-pkg://t/a#meta/root.cm\n0 start client\n0 shutdown .\n0 start client\n0 shutdown .\n",
+        ],
+        status: 0,
+        out: "0 started client action 3\n0 shut .\n0 refused 82 shut incarnation 2\n0 shut .\n",
+        err: "",
+    },
+    Case {
+        words: &["run"],
+        input: &[
+            ROOT_WITH_COLLECTION,
+            RUNNING,
+            "root fuchsia-pkg://t/a#meta/root.cm\n0 create . none x #meta/x.cm\n0 create . coll x #meta/x.cm\n0 create . coll x #meta/x.cm\n0 destroy .\n",
+        ],
+        status: 0,
+        out: "0 refused 60 collection-not-found\n0 created . coll:x incarnation 1\n0 refused 61 already-exists incarnation 1\n0 refused 68 not-dynamic\n",
         err: "",
     },
     Case {

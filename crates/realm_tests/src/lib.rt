@@ -15,6 +15,8 @@ mod realms;
 #[cfg(test)]
 mod replies;
 #[cfg(test)]
+mod shutdowns;
+#[cfg(test)]
 mod table;
 #[cfg(test)]
 mod walks;

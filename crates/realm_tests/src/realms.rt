@@ -54,6 +54,10 @@ pub enum Call {
     OpenUse(u64, &'static str),
     OpenExposed(u64, &'static str),
     Exited(u64),
+    /// Marks an instance: where true is given to be destroyed, else to be shut down.
+    Mark(bool, u64),
+    /// Creates a child of an instance in a collection, by a name.
+    Create(u64, &'static str, &'static str),
     /// Begins an action.
     Begin(ActKind, u64),
     /// Begins an action for caller 0, and ends it so where it begins.
@@ -113,6 +117,8 @@ fn tell(realm: &mut Realm, alloc: Global, caller: u32, call: &Call) -> Result<Te
         Call::OpenUse(inc, path) => open_use(realm, alloc, caller, *inc, path),
         Call::OpenExposed(inc, name) => open_exposed(realm, alloc, caller, *inc, name),
         Call::Exited(inc) => exited(realm, alloc, caller, *inc),
+        Call::Mark(doom, inc) => mark(realm, alloc, caller, *doom, *inc),
+        Call::Create(parent, coll, name) => create(realm, alloc, caller, *parent, coll, name),
         Call::Begin(kind, inc) => begin(realm, alloc, caller, *kind, *inc),
         Call::Run(kind, inc, outcome) => run(realm, alloc, *kind, *inc, *outcome),
         Call::Resolve(inc, manifest) => resolve(realm, alloc, *inc, manifest),
@@ -185,6 +191,26 @@ fn open_exposed(
 
 fn exited(realm: &mut Realm, alloc: Global, caller: u32, inc: u64) -> Result<Text, Fail> {
     let made = realm.exited(alloc, caller, inc);
+    told(realm, alloc, made)
+}
+
+fn mark(realm: &mut Realm, alloc: Global, caller: u32, doom: bool, inc: u64) -> Result<Text, Fail> {
+    let made = realm.mark(caller, doom, inc);
+    told(realm, alloc, made)
+}
+
+fn create(
+    realm: &mut Realm,
+    alloc: Global,
+    caller: u32,
+    parent: u64,
+    coll: &str,
+    name: &str,
+) -> Result<Text, Fail> {
+    let coll = Name::read(alloc, coll)?;
+    let name = Name::read(alloc, name)?;
+    let url = Text::from_str(alloc, "#new")?;
+    let made = realm.create(alloc, caller, parent, coll, name, url, List::new(alloc));
     told(realm, alloc, made)
 }
 
@@ -265,6 +291,17 @@ fn act(
         Reply::Begun(work) => Ok(realm.end(0, work.action, ending)),
         reply => Ok(reply),
     }
+}
+
+/// The lines of the history behind the first entries.
+pub fn lines_behind(realm: &Realm, alloc: Global, first: usize) -> Result<Text, Fail> {
+    let mut lines = Text::new(alloc);
+    let entries = realm.entries();
+    for place in first..entries.len() {
+        let line = entry_text(alloc, place as u64 + 1, &entries[place])?;
+        lines.push(format_args!("{line}\n"))?;
+    }
+    Ok(lines)
 }
 
 /// The last line of the history, or why no step was made.

@@ -160,7 +160,8 @@ fn resolve_work(
     })
 }
 
-fn program_work(
+/// The work on the program of an instance that lives.
+pub fn program_work(
     alloc: Global,
     table: &Table,
     action: u64,

@@ -21,6 +21,17 @@ const EAGER_ROOT: &str =
 const EAGER_CHILD: &str =
     "manifest fuchsia-pkg://t/a#meta/e.cm\n{\"program\":{\"runner\":\"elf\"}}\n%%\n";
 
+/// A provider, a client and a component between them, which has a child that it uses; the offer
+/// back to the provider is weak.
+const CHAIN: &[&str] = &[
+    "manifest fuchsia-pkg://t/a#meta/root.cm\n{\"children\":[{\"name\":\"provider\",\"url\":\"#meta/provider.cm\"},{\"name\":\"client\",\"url\":\"#meta/client.cm\"},{\"name\":\"mid\",\"url\":\"#meta/mid.cm\"}],\"offer\":[{\"protocol\":\"a\",\"from\":\"#mid\",\"to\":\"#client\"},{\"protocol\":\"b\",\"from\":\"#provider\",\"to\":\"#mid\"},{\"protocol\":\"c\",\"from\":\"#client\",\"to\":\"#provider\",\"dependency\":\"weak\"}]}\n%%\n",
+    "manifest fuchsia-pkg://t/a#meta/provider.cm\n{\"program\":{\"runner\":\"elf\"},\"capabilities\":[{\"protocol\":\"b\"}],\"expose\":[{\"protocol\":\"b\",\"from\":\"self\"}]}\n%%\n",
+    "manifest fuchsia-pkg://t/a#meta/client.cm\n{\"program\":{\"runner\":\"elf\"},\"capabilities\":[{\"protocol\":\"c\"}],\"expose\":[{\"protocol\":\"c\",\"from\":\"self\"}]}\n%%\n",
+    "manifest fuchsia-pkg://t/a#meta/mid.cm\n{\"program\":{\"runner\":\"elf\"},\"children\":[{\"name\":\"leaf\",\"url\":\"#meta/leaf.cm\"}],\"use\":[{\"protocol\":\"l\",\"from\":\"#leaf\"}],\"capabilities\":[{\"protocol\":\"a\"}],\"expose\":[{\"protocol\":\"a\",\"from\":\"self\"}]}\n%%\n",
+    "manifest fuchsia-pkg://t/a#meta/leaf.cm\n{\"program\":{\"runner\":\"elf\"},\"capabilities\":[{\"protocol\":\"l\"}],\"expose\":[{\"protocol\":\"l\",\"from\":\"self\"}]}\n%%\n",
+    "root fuchsia-pkg://t/a#meta/root.cm\n0 start provider\n0 start client\n0 start mid\n0 start mid/leaf\n0 shutdown .\n",
+];
+
 /// A manifest that gates have: that of a block, with so many spaces behind it.
 #[derive(Clone, Copy)]
 struct Held {
@@ -74,7 +85,16 @@ const QUIET: Row = Row {
     ends: &[],
 };
 
-const ROWS: [Row; 11] = [
+const ROWS: [Row; 12] = [
+    Row {
+        input: CHAIN,
+        failing: &[&[5]],
+        ends: &[End {
+            out: "0 started provider action 3\n0 started client action 5\n0 started mid action 7\n0 started mid/leaf action 9\n0 shut .\n",
+            told: "0 launch fuchsia-pkg://t/a#meta/provider.cm action 3 Running\n0 launch fuchsia-pkg://t/a#meta/client.cm action 5 Running\n0 launch fuchsia-pkg://t/a#meta/mid.cm action 7 Running\n0 launch fuchsia-pkg://t/a#meta/leaf.cm action 9 Running\n0 halt fuchsia-pkg://t/a#meta/client.cm action 10 Stopped\n0 halt fuchsia-pkg://t/a#meta/mid.cm action 11 Failed\n0 halt fuchsia-pkg://t/a#meta/leaf.cm action 12 Stopped\n0 halt fuchsia-pkg://t/a#meta/provider.cm action 13 Stopped\n0 faults 1\n",
+        }],
+        ..QUIET
+    },
     Row {
         input: &[ROOT, CLIENT, ROOT_LINE, "0 resolve logger\n"],
         ends: &[End {

@@ -9,4 +9,4 @@ close-book-requires-clause-passes g c =
 pub returns-clause-performs : goal.returns-clause-performs
 returns-clause-performs g c f new =
     performs_by g.G.Gates.log g.G.Gates.faults c.args.manager.shelf c.args.manager.turn f c.args.phases.now c.args.passes c.args.gates c.run_lanes-passes.result c.close-book.result
-    c.requires.fit new c.requires.gates c.run_lanes-passes.ensures.passes c.close-book.ensures.closes c.close-book.ensures.ended c.run_lanes-passes.ensures.ran
+    new c.requires.gates c.run_lanes-passes.ensures.passes c.close-book.ensures.closes c.close-book.ensures.ended c.run_lanes-passes.ensures.ran

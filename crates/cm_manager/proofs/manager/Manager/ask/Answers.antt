@@ -1,11 +1,17 @@
-use Rattle.std.proofs.Common.{Result, Ok, subst}
-use Rattle.cm_world.specs.declared.reply.Reply.{Reply}
-use Rattle.cm_steps.specs.declared.nostep.NoStep.{NoStep}
-use Rattle.cm_manager.specs.Asking.{Turned}
-use Rattle.cm_manager.proofs.Turning.{waits_asked}
+use Rattle.std.proofs.Common.{Ok}
+use Rattle.cm_manager.proofs.Due.{due_next}
+use Rattle.cm_manager.proofs.Turning.{waits_turned, waits_asked}
 use Rattle.cm_manager.proofs.manager.Manager.ask.Goals as goal
+
+pub loop-preserved : goal.loop-preserved
+loop-preserved g c = record {
+  more = (tt, tt);
+  waits =
+      waits_turned _ _ _ _ _ c.in-Err-Busy.field-0 c.loop.invariant.waits c.ask_once-after.ensures.same c.in-Err-Busy.is
+      c.ask_once-after.ensures.turned;
+  due = due_next c.due_events_stay.ensures.stays _ _ _ c.ask_once-after.ensures.same c.loop.invariant.due;
+}
 
 pub returns-in-Ok-clause-asked : goal.returns-in-Ok-clause-asked
 returns-in-Ok-clause-asked g c =
-    waits_asked c.args.event.now c.args.pass c.loop.idle c.ask_once-after.result.0 (Ok c.in-Ok.reply) c.loop.invariant.waits
-    (subst (λ (r : Result Reply NoStep). Turned c.args.event.now c.loop.idle c.ask_once-after.result.0 r) c.in-Ok.is c.ask_once-after.ensures.turned)
+    waits_asked _ _ c.loop.idle c.ask_once-after.result.0 (Ok c.in-Ok.reply) c.loop.invariant.waits (rw c.in-Ok.is at c.ask_once-after.ensures.turned)

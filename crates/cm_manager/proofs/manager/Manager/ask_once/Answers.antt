@@ -1,5 +1,13 @@
-use Rattle.cm_manager.proofs.Turning.{enters_at, may_leave, took_by, same_pass, turned_as, steps_on}
+use Rattle.cm_manager.proofs.Due.{open_at}
+use Rattle.cm_manager.proofs.Turning.{enters_at, entered_by, may_leave, took_by, same_pass, turned_as, steps_on}
 use Rattle.cm_manager.proofs.manager.Manager.ask_once.Goals as goal
+
+pub tell-went-requires-clause-ready : goal.tell-went-requires-clause-ready
+tell-went-requires-clause-ready g c =
+    let e = c.enter-held.ensures in
+    let enters = enters_at c.args.pass c.enter-held.result.pass c.enter-held.result.state c.state.result.now (record { pass = e.pass; frame = e.frame; begins = e.begins; own = e.own; known = e.known }) c.state.ensures.value in
+    λ legal.
+    open_at c.due_events_stay.ensures.stays c.due_events_stay.ensures.allowed _ _ _ (entered_by _ _ _ enters legal) c.requires.due
 
 pub leave-requires-clause-entries : goal.leave-requires-clause-entries
 leave-requires-clause-entries g c =

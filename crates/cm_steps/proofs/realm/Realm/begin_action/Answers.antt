@@ -1,23 +1,21 @@
-use Rattle.std.proofs.Common.{◌≡◌, ℕ, ◌+◌, ◌-◌, ◌++◌, ◌∷◌, [], List, cond, refl, ap, sym, ◌∙◌, subst, arith, length, length-append, Some, is_some}
+use Rattle.std.proofs.Common.{◌≡◌, ℕ, ◌+◌, ◌-◌, ◌++◌, ◌∷◌, [], List, cond, refl, ap, sym, ◌∙◌, subst, arith, length, length-append, Some}
 use Rattle.std.specs.List.{count_by}
 use Rattle.cm_book.specs.History.{History}
 use Rattle.cm_table.specs.Tree.{Tree}
 use Rattle.cm_table.specs.Change.{with_changed}
 use Rattle.cm_world.specs.declared.action.Act.{Act}
 use Rattle.cm_world.specs.declared.reply.Entry.{Entry}
-use Rattle.cm_world.specs.declared.event.Event.TheVariants as event
-use Rattle.cm_world.specs.declared.reply.Reply.TheVariants as reply
 use Rattle.cm_world.specs.World.{World, is_open}
-use Rattle.cm_world.specs.Begin.{begin_reply}
 use Rattle.cm_world.specs.End.{set_pending}
-use Rattle.cm_world.specs.After.{new_act, after}
+use Rattle.cm_world.specs.After.{new_act, with_action, moved, counted, after}
+use Rattle.cm_world.specs.Legal.{IsStep}
 use Rattle.cm_steps.specs.Story.{world_of}
 use Rattle.cm_steps.specs.Steps.{entry_of}
-use Rattle.cm_steps.specs.Tasks.{is_open_resolve, IsNumbered, IsTasked}
+use Rattle.cm_steps.specs.Tasks.{is_open_resolve, IsNumbered, IsTasked, IsIdleAt}
 use Rattle.cm_steps.specs.Inside.{world_in}
 use Rattle.cm_steps.proofs.Counts.{count_more}
 use Rattle.cm_steps.proofs.Going.{goes_on, one_longer}
-use Rattle.cm_steps.proofs.Begun.{begun_row, new_resolve}
+use Rattle.cm_steps.proofs.Begun.{new_resolve}
 use Rattle.cm_steps.proofs.Tasks.{numbered_more, tasked_begun}
 use Rattle.cm_steps.proofs.realm.Realm.begin_action.Goals as goal
 
@@ -27,7 +25,7 @@ invariant_of-self-2 c =
     let w : World = world_in c.self.inside in
     let xs : List Act = c.self.inside.acts.items in
     let next : ℕ = length xs + 1 in
-    let e : Entry = entry_of c.args.caller (event.Begin c.args.kind c.args.inc) (reply.Begun c.args.work) in
+    let e : Entry = entry_of c.args.caller c.args.event c.args.reply in
     let act : ℕ → Act = λ n. new_act n c.args.kind c.args.inc c.args.caller in
     let all : List Act = xs ++ act next ∷ [] in
     let pushed : History → History = λ t. record { entries = t.entries ++ e ∷ []; reserved = t.reserved - 1; limit = t.limit } in
@@ -37,19 +35,21 @@ invariant_of-self-2 c =
     let pended : ℕ → Tree → Tree = λ n t. with_changed c.args.inc (set_pending (Some (c.args.kind, n))) t in
     let table = c.set_pending.ensures ∙ ap (λ n. pended n c.make_room.new.table) number ∙ ap (pended next) c.make_room.ensures.table in
     let acts : c.push_reserved.new.self.items ≡ all = c.push_reserved.ensures.items ∙ ap (λ n. c.make_room.new.acts.items ++ act n ∷ []) number ∙ ap (λ ys. ys ++ act next ∷ []) c.make_room.ensures.acts in
-    let moved : Tree → List Act → ℕ → World = λ t ys n. record w { rows = t.rows; next_inc = t.next_inc; next_action = length ys + 1; acts = ys; entries = n } in
+    let left : Tree → List Act → ℕ → World = λ t ys n. record w { rows = t.rows; next_inc = t.next_inc; next_action = length ys + 1; acts = ys; entries = n } in
     let roomy : Tree = record c.self.inside.table { spare = c.make_room.new.table.spare } in
     let long : next ≡ length all = sym (length-append xs (act next ∷ [])) in
-    let reply_is = subst (λ v. begin_reply v.rows v.next_action c.args.kind c.args.inc ≡ Some (reply.Begun c.args.work)) (ap world_of (sym c.self.view_is) ∙ c.self.invariant.stands.world) c.requires in
-    let idle = begun_row w.rows w.next_action c.args.inc c.args.kind c.args.work reply_is in
+    let here : world_of c.args.self.now ≡ w = ap world_of (sym c.self.view_is) ∙ c.self.invariant.stands.world in
+    let begins = subst (λ (v : World). moved v c.args.caller c.args.event c.args.reply ≡ with_action v c.args.caller c.args.kind c.args.inc) here c.requires.begins in
+    let idle : IsIdleAt w.rows c.args.kind c.args.inc = subst (λ (v : World). IsIdleAt v.rows c.args.kind c.args.inc) here c.requires.idle in
     record {
       stands =
           goes_on _ _ w _ e c.self.invariant.stands refl more
-          (record { enabled = ap is_some reply_is; allowed = reply_is })
-          (ap (λ n. record (moved (pended next roomy) all (length c.self.inside.book.entries + 1)) { next_action = n + 1 }) long
-          ∙ ap (λ t. moved t all (length c.self.inside.book.entries + 1)) (sym table)
-          ∙ ap (λ ys. moved c.set_pending.new.self ys (length c.self.inside.book.entries + 1)) (sym acts)
-          ∙ ap (moved c.set_pending.new.self c.push_reserved.new.self.items) (one_longer _ _ _ more));
+          (subst (λ v. IsStep v e) here c.requires.step)
+          (ap counted begins
+          ∙ ap (λ n. record (left (pended next roomy) all (length c.self.inside.book.entries + 1)) { next_action = n + 1 }) long
+          ∙ ap (λ t. left t all (length c.self.inside.book.entries + 1)) (sym table)
+          ∙ ap (λ ys. left c.set_pending.new.self ys (length c.self.inside.book.entries + 1)) (sym acts)
+          ∙ ap (left c.set_pending.new.self c.push_reserved.new.self.items) (one_longer _ _ _ more));
       owes =
           let r = ap (λ (t : History). t.reserved) book in
           let one = count_more is_open xs (act next) in

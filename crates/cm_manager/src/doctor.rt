@@ -1,0 +1,356 @@
+//! The check of all routes at and below an instance.
+
+ghost use Rattle.std.specs.Prelude.{◌≡◌, ◌∷◌, ◌++◌, [], Some, Ok, Err, IfOk, IfErr};
+ghost use Rattle.cm_world.specs.declared.event.Event.TheVariants as event;
+ghost use Rattle.cm_command.specs.declared.command.Command.TheVariants as command;
+ghost use Rattle.cm_manager.specs.Asking.{frame_of};
+ghost use Rattle.cm_manager.specs.Contract.{Helps, IsSamePass, Performs};
+ghost use Rattle.cm_manager.specs.Doctor.{route_by, line_of, unresolved_line, surveyed_by, doctored_by};
+ghost use Rattle.cm_manager.specs.Doctor.{Each, OfPath, OfRow, Doctors, Adds, Adding, Gathering, Surveying};
+ghost use Rattle.cm_manager.specs.Runs.{Tries};
+
+use crate::Manager;
+use crate::answers::refusing;
+use cm_gate::Gates;
+use cm_names::{CapPath, List, Memory};
+use cm_turn::Pass;
+use cm_world::{Answer, Checked, Entry, Event, Frame, Refusal, Reply, Route, SurveyRow, Target};
+use std::alloc::Global;
+use std::sync::Wait;
+use std::thread::Threads;
+
+/// The route that was given, or why there is none.
+fn route_in(went: Result<Reply, Refusal>) -> Result<Route, Refusal>
+    ensures { result ≡ route_by went }
+{
+    match went {
+        Ok(Reply::Given(route)) => Ok(route),
+        Ok(other) => Err(refusing(other)),
+        Err(refusal) => Err(refusal),
+    }
+}
+
+/// The instances that were surveyed, or why none were.
+fn rows_in(went: Result<Reply, Refusal>) -> Result<List<SurveyRow>, Refusal>
+    ensures { result ≡ surveyed_by went }
+{
+    match went {
+        Ok(Reply::Surveyed(rows)) => Ok(rows),
+        Ok(other) => Err(refusing(other)),
+        Err(refusal) => Err(refusal),
+    }
+}
+
+/// The answer of a check with these lines, or with what ended it.
+fn doctored(lines: Result<List<Checked>, Refusal>) -> Result<Answer, Refusal>
+    ensures { result ≡ doctored_by lines }
+{
+    match lines {
+        Ok(lines) => Ok(Answer::Doctored(lines)),
+        Err(refusal) => Err(refusal),
+    }
+}
+
+/// The lines with that of a path behind them. `Err` where memory runs out.
+fn with_path(
+    lines: List<Checked>,
+    row: &SurveyRow,
+    path: &CapPath,
+    found: Result<Route, Refusal>,
+) -> Result<List<Checked>, Memory>
+    ensures { IfOk result (λ all. all ≡ lines ++
+        record { moniker = row.now.moniker; path = Some path.now; result = found } ∷ []) }
+{
+    let moniker = row.moniker.clone()?;
+    let path = path.clone()?;
+    let mut all = lines;
+    all.push(Checked {
+        moniker,
+        path: Some(path),
+        result: found,
+    })?;
+    Ok(all)
+}
+
+/// The lines with that of an instance behind them which isn't resolved. `Err` where memory runs
+/// out.
+fn with_unresolved(lines: List<Checked>, row: &SurveyRow) -> Result<List<Checked>, Memory>
+    ensures { IfOk result (λ all. all ≡ lines ++ unresolved_line row.now.moniker ∷ []) }
+{
+    let moniker = row.moniker.clone()?;
+    let mut all = lines;
+    all.push(Checked {
+        moniker,
+        path: None,
+        result: Err(Refusal::NoSuchUse),
+    })?;
+    Ok(all)
+}
+
+/// The lines, or that memory ran out.
+fn or_memory(lines: Result<List<Checked>, Memory>) -> Result<List<Checked>, Refusal>
+    ensures ok { IfOk lines (λ all. result ≡ Ok all) }
+    ensures err { IfErr lines (λ _. result ≡ Err Refusal.Memory) }
+{
+    match lines {
+        Ok(lines) => Ok(lines),
+        Err(_) => Err(Refusal::Memory),
+    }
+}
+
+/// The lines with that of a path behind them, for which this was found.
+///
+/// `Err` with what ends the check: `HistoryFull` where that was found, and `Memory` where memory
+/// ran out before or runs out.
+fn found_at(
+    lines: List<Checked>,
+    row: &SurveyRow,
+    path: &CapPath,
+    found: Result<Route, Refusal>,
+) -> Result<List<Checked>, Refusal>
+    ensures { Adds lines (line_of row.now.moniker path.now found) result }
+{
+    match found {
+        Err(Refusal::Memory) => Err(Refusal::Memory),
+        Err(Refusal::HistoryFull) => Err(Refusal::HistoryFull),
+        other => or_memory(with_path(lines, row, path, other)),
+    }
+}
+
+impl Manager {
+    /// Asks for the route of what the instance of this incarnation uses at the path.
+    fn try_route<R: Threads + Wait + Sync, G: Gates>(
+        &self,
+        rt: &R,
+        alloc: Global,
+        pass: Pass<Entry, Frame>,
+        gates: &mut G,
+        inc: u64,
+        path: &CapPath,
+    ) -> (Pass<Entry, Frame>, Result<Reply, Refusal>)
+        requires lock { pass.lock ≡ self.now.turn.lock }
+        requires known { IsSamePass (frame_of pass) pass pass }
+        ensures helps { let f = frame_of pass in
+            Helps self.now.shelf f
+            (λ a b. Tries f pass.caller (event.Route inc path.now) a b result.1)
+            pass result.0
+            (record { log = G.log gates.old; faults = G.faults gates.old })
+            (record { log = G.log gates.new; faults = G.faults gates.new }) }
+    {
+        match path.clone() {
+            Ok(path) => {
+                let event = Event::Route(inc, path);
+                self.try_event(rt, alloc, pass, gates, &event)
+            }
+            Err(_) => (pass, Err(Refusal::Memory)),
+        }
+    }
+
+    /// Surveys the instance of this incarnation and all below it.
+    fn try_survey<R: Threads + Wait + Sync, G: Gates>(
+        &self,
+        rt: &R,
+        alloc: Global,
+        pass: Pass<Entry, Frame>,
+        gates: &mut G,
+        inc: u64,
+    ) -> (Pass<Entry, Frame>, Result<List<SurveyRow>, Refusal>)
+        requires lock { pass.lock ≡ self.now.turn.lock }
+        ensures helps { let f = frame_of pass in
+            Helps self.now.shelf f (λ a b. Surveying f pass.caller inc a b result.1)
+            pass result.0
+            (record { log = G.log gates.old; faults = G.faults gates.old })
+            (record { log = G.log gates.new; faults = G.faults gates.new }) }
+    {
+        let event = Event::Survey(inc);
+        let (pass, went) = self.try_event(rt, alloc, pass, gates, &event);
+        (pass, rows_in(went))
+    }
+
+    /// Puts the line of a path that the instance uses behind the others.
+    fn check_path<R: Threads + Wait + Sync, G: Gates>(
+        &self,
+        rt: &R,
+        alloc: Global,
+        pass: Pass<Entry, Frame>,
+        gates: &mut G,
+        row: &SurveyRow,
+        path: &CapPath,
+        lines: List<Checked>,
+    ) -> (Pass<Entry, Frame>, Result<List<Checked>, Refusal>)
+        requires lock { pass.lock ≡ self.now.turn.lock }
+        requires known { IsSamePass (frame_of pass) pass pass }
+        ensures helps { let f = frame_of pass in
+            Helps self.now.shelf f
+            (λ a b. Adding (OfPath f pass.caller row.now path.now) lines a b result.1)
+            pass result.0
+            (record { log = G.log gates.old; faults = G.faults gates.old })
+            (record { log = G.log gates.new; faults = G.faults gates.new }) }
+    {
+        let (pass, went) = self.try_route(rt, alloc, pass, gates, row.inc, path);
+        (pass, found_at(lines, row, path, route_in(went)))
+    }
+
+    /// Puts the lines of all paths that the instance uses behind the others. `Err` tells what
+    /// ended the call among them: want of memory, or of room in the history.
+    fn check_paths<R: Threads + Wait + Sync, G: Gates>(
+        &self,
+        rt: &R,
+        alloc: Global,
+        pass: Pass<Entry, Frame>,
+        gates: &mut G,
+        row: &SurveyRow,
+        lines: List<Checked>,
+    ) -> (Pass<Entry, Frame>, Result<List<Checked>, Refusal>)
+        requires lock { pass.lock ≡ self.now.turn.lock }
+        requires known { IsSamePass (frame_of pass) pass pass }
+        ensures helps { let f = frame_of pass in
+            Helps self.now.shelf f
+            (λ a b. Gathering (Each (OfPath f pass.caller row.now) row.now.paths) lines a b result.1)
+            pass result.0
+            (record { log = G.log gates.old; faults = G.faults gates.old })
+            (record { log = G.log gates.new; faults = G.faults gates.new }) }
+    {
+        let mut idle = pass;
+        let mut all = lines;
+        for path in row.paths.as_slice() {
+            let (after, checked) = self.check_path(rt, alloc, idle, gates, row, path, all);
+            match checked {
+                Ok(more) => {
+                    idle = after;
+                    all = more;
+                }
+                Err(refusal) => return (after, Err(refusal)),
+            }
+        }
+        (idle, Ok(all))
+    }
+
+    /// Puts the lines of an instance behind the others: one for each path that it uses, or only
+    /// one where it isn't resolved.
+    fn check_row<R: Threads + Wait + Sync, G: Gates>(
+        &self,
+        rt: &R,
+        alloc: Global,
+        pass: Pass<Entry, Frame>,
+        gates: &mut G,
+        row: &SurveyRow,
+        lines: List<Checked>,
+    ) -> (Pass<Entry, Frame>, Result<List<Checked>, Refusal>)
+        requires lock { pass.lock ≡ self.now.turn.lock }
+        requires known { IsSamePass (frame_of pass) pass pass }
+        ensures helps { let f = frame_of pass in
+            Helps self.now.shelf f
+            (λ a b. Adding (OfRow f pass.caller row.now) lines a b result.1)
+            pass result.0
+            (record { log = G.log gates.old; faults = G.faults gates.old })
+            (record { log = G.log gates.new; faults = G.faults gates.new }) }
+    {
+        if !row.resolved {
+            return (pass, or_memory(with_unresolved(lines, row)));
+        }
+        self.check_paths(rt, alloc, pass, gates, row, lines)
+    }
+
+    /// Gathers the lines of these instances in order. `Err` tells what ended the call among them:
+    /// want of memory, or of room in the history.
+    fn check_rows<R: Threads + Wait + Sync, G: Gates>(
+        &self,
+        rt: &R,
+        alloc: Global,
+        pass: Pass<Entry, Frame>,
+        gates: &mut G,
+        rows: List<SurveyRow>,
+    ) -> (Pass<Entry, Frame>, Result<List<Checked>, Refusal>)
+        requires lock { pass.lock ≡ self.now.turn.lock }
+        requires known { IsSamePass (frame_of pass) pass pass }
+        ensures helps { let f = frame_of pass in
+            Helps self.now.shelf f
+            (λ a b. Gathering (Each (OfRow f pass.caller) rows) [] a b result.1)
+            pass result.0
+            (record { log = G.log gates.old; faults = G.faults gates.old })
+            (record { log = G.log gates.new; faults = G.faults gates.new }) }
+    {
+        let mut idle = pass;
+        let mut all = List::new(alloc);
+        for row in rows.as_slice() {
+            let (after, checked) = self.check_row(rt, alloc, idle, gates, row, all);
+            match checked {
+                Ok(more) => {
+                    idle = after;
+                    all = more;
+                }
+                Err(refusal) => return (after, Err(refusal)),
+            }
+        }
+        (idle, Ok(all))
+    }
+
+    /// Checks the routes of the instance of this incarnation, and of all below it.
+    fn doctor_at<R: Threads + Wait + Sync, G: Gates>(
+        &self,
+        rt: &R,
+        alloc: Global,
+        pass: Pass<Entry, Frame>,
+        gates: &mut G,
+        inc: u64,
+    ) -> (Pass<Entry, Frame>, Result<Answer, Refusal>)
+        requires lock { pass.lock ≡ self.now.turn.lock }
+        ensures helps { let f = frame_of pass in
+            Helps self.now.shelf f (λ a b. Doctors f pass.caller inc a b result.1)
+            pass result.0
+            (record { log = G.log gates.old; faults = G.faults gates.old })
+            (record { log = G.log gates.new; faults = G.faults gates.new }) }
+    {
+        let (after, surveyed) = self.try_survey(rt, alloc, pass, gates, inc);
+        match surveyed {
+            Ok(rows) => {
+                let (last, lines) = self.check_rows(rt, alloc, after, gates, rows);
+                (last, doctored(lines))
+            }
+            Err(refusal) => (after, Err(refusal)),
+        }
+    }
+
+    /// Checks the routes of all that an instance, and all below it, use: `Doctored` with a line
+    /// for each path of each of them that is resolved, by their incarnations and in the order of
+    /// their declarations, and one line without a path for each that isn't. It starts nothing.
+    ///
+    /// A line of a path has its route, or why it has none, as the call `route` tells it:
+    ///
+    /// - `Gone` or `Shut` where an instance doesn't live any more, or can't be resolved any more;
+    /// - `NoSuchUse` where the instance has no use of the path any more, and in the line of an
+    ///   instance that isn't resolved;
+    /// - `NoRoute` with the hop that fails and why, `VoidSource` where it is left out on purpose;
+    /// - `SourceShut` where an instance on the way can't be resolved any more;
+    /// - `CannotResolve` with the action and its outcome, where a resolve failed.
+    ///
+    /// The call itself is refused:
+    ///
+    /// - `NotFound` with the part of the moniker that was found, where nothing stands there;
+    /// - `Gone` or `Shut` where an instance doesn't live, or can't be resolved any more;
+    /// - `CannotResolve` with the action and its outcome, where a resolve on the way failed;
+    /// - `HistoryFull` where the history has no room for what is needed, `Memory` where memory
+    ///   runs out.
+    pub fn doctor<R: Threads + Wait + Sync, G: Gates>(
+        &self,
+        rt: &R,
+        alloc: Global,
+        pass: Pass<Entry, Frame>,
+        gates: &mut G,
+        target: &Target,
+    ) -> (Pass<Entry, Frame>, Result<Answer, Refusal>)
+        requires lock { pass.lock ≡ self.now.turn.lock }
+        ensures performs { let f = frame_of pass in
+            Performs self.now.shelf f (command.Doctor target.now) pass result.0
+            (record { log = G.log gates.old; faults = G.faults gates.old })
+            (record { log = G.log gates.new; faults = G.faults gates.new })
+            result.1 }
+    {
+        let (pass, row) = self.find_row(rt, alloc, pass, gates, target);
+        match row {
+            Ok(inc) => self.doctor_at(rt, alloc, pass, gates, inc),
+            Err(refusal) => (pass, Err(refusal)),
+        }
+    }
+}

@@ -1,0 +1,222 @@
+//! Shutdowns: an instance is marked, stopped with all below it, and removed where it is to be
+//! destroyed.
+//!
+//! Instances stop in the order that the picks give, each before what it uses (the component
+//! lifecycle, fuchsia.dev). Other calls may take turns between two picks, and several calls may
+//! shut one instance down side by side.
+
+ghost use Rattle.std.specs.Prelude.{◌≡◌, IfNone, true};
+ghost use Rattle.cm_world.specs.declared.event.Event.TheVariants as event;
+ghost use Rattle.cm_steps.specs.Shutdowns.{IsLeaving, IsMarked, IsOver};
+ghost use Rattle.cm_manager.specs.Turns.{world_after};
+ghost use Rattle.cm_manager.specs.Asking.{Asked, frame_of};
+ghost use Rattle.cm_manager.specs.Acting.{PicksBy};
+ghost use Rattle.cm_manager.specs.Contract.{Helps, IsSamePass};
+ghost use Rattle.cm_manager.specs.Shutdowns as spec;
+ghost use Rattle.cm_manager.specs.Shutdowns.{Stops, Shuts, Destroys};
+
+use crate::Manager;
+use crate::answers::refusing;
+use crate::began::Picked;
+use cm_gate::Gates;
+use cm_steps::laws::{marks_stay, pickers_end, shutdowns_last};
+use cm_turn::Pass;
+use cm_world::{ActKind, Entry, Event, Frame, Refusal, Reply};
+use std::alloc::Global;
+use std::sync::Wait;
+use std::thread::Threads;
+
+/// What ends a call that marks an instance: the mark was refused, or wasn't made.
+fn unmarked(asked: Result<Reply, Refusal>) -> Option<Refusal>
+    ensures { result ≡ spec.unmarked_by asked }
+{
+    match asked {
+        Ok(Reply::Marked) => None,
+        Ok(Reply::Already) => None,
+        Ok(other) => Some(refusing(other)),
+        Err(refusal) => Some(refusal),
+    }
+}
+
+impl Manager {
+    /// Marks an instance: where `doom` is true to be destroyed, else to be shut down.
+    fn ask_mark<R: Wait>(
+        &self,
+        rt: &R,
+        alloc: Global,
+        pass: Pass<Entry, Frame>,
+        doom: bool,
+        inc: u64,
+    ) -> (Pass<Entry, Frame>, Result<Reply, Refusal>)
+        requires lock { pass.lock ≡ self.now.turn.lock }
+        ensures same { IsSamePass (frame_of pass) pass result.0 }
+        ensures asked { Asked (event.Mark doom inc) pass result.0 result.1 }
+    {
+        let event = Event::Mark(doom, inc);
+        self.ask(rt, alloc, pass, &event)
+    }
+
+    /// Picks the instance that stops next, in a later turn again while that has to wait.
+    fn ask_pick<R: Wait>(
+        &self,
+        rt: &R,
+        alloc: Global,
+        pass: Pass<Entry, Frame>,
+        target: u64,
+    ) -> (Pass<Entry, Frame>, Result<Reply, Refusal>)
+        requires lock { pass.lock ≡ self.now.turn.lock }
+        requires leaving { IsLeaving (world_after (frame_of pass) pass.seen) target }
+        ensures same { IsSamePass (frame_of pass) pass result.0 }
+        ensures asked { Asked (event.Pick target) pass result.0 result.1 }
+    {
+        let event = Event::Pick(target);
+        self.ask(rt, alloc, pass, &event)
+    }
+
+    /// Removes an instance that was marked to be destroyed, with all below it.
+    fn ask_purge<R: Wait>(
+        &self,
+        rt: &R,
+        alloc: Global,
+        pass: Pass<Entry, Frame>,
+        inc: u64,
+    ) -> (Pass<Entry, Frame>, Result<Reply, Refusal>)
+        requires lock { pass.lock ≡ self.now.turn.lock }
+        requires marked { IsMarked true (world_after (frame_of pass) pass.seen) inc }
+        requires over { IsOver (world_after (frame_of pass) pass.seen) inc }
+        ensures same { IsSamePass (frame_of pass) pass result.0 }
+        ensures asked { Asked (event.Purge inc) pass result.0 result.1 }
+    {
+        let event = Event::Purge(inc);
+        self.ask(rt, alloc, pass, &event)
+    }
+
+    /// Makes one pick, and stops the instance where the pick asks for it, however that ends.
+    fn pick_one<R: Threads + Wait + Sync, G: Gates>(
+        &self,
+        rt: &R,
+        alloc: Global,
+        pass: Pass<Entry, Frame>,
+        gates: &mut G,
+        target: u64,
+    ) -> (Pass<Entry, Frame>, Picked)
+        requires lock { pass.lock ≡ self.now.turn.lock }
+        requires leaving { IsLeaving (world_after (frame_of pass) pass.seen) target }
+        ensures helps { let f = frame_of pass in
+            Helps self.now.shelf f (λ a b. PicksBy f pass.caller target result.1 a b)
+            pass result.0
+            (record { log = G.log gates.old; faults = G.faults gates.old })
+            (record { log = G.log gates.new; faults = G.faults gates.new }) }
+    {
+        pickers_end();
+        let (pass, asked) = self.ask_pick(rt, alloc, pass, target);
+        let reply = match asked {
+            Ok(reply) => reply,
+            Err(refusal) => return (pass, Picked::Cut(refusal)),
+        };
+        match reply {
+            Reply::Done => (pass, Picked::Done),
+            Reply::ShutDown(_) => (pass, Picked::Further),
+            Reply::Stopping(work) => {
+                let kind = ActKind::Stop;
+                let action = work.action;
+                let (ending, _eager) = self.do_work(rt, alloc, gates, &pass, kind, work);
+                let (pass, _outcome) = self.end_turn(rt, pass, action, ending);
+                (pass, Picked::Further)
+            }
+            _ => unreachable!(),
+        }
+    }
+
+    /// Stops an instance that was marked, and all below it, one by one. `Some` tells what ended
+    /// the call among them: want of memory, or of room in the history.
+    fn stop_all<R: Threads + Wait + Sync, G: Gates>(
+        &self,
+        rt: &R,
+        alloc: Global,
+        pass: Pass<Entry, Frame>,
+        gates: &mut G,
+        target: u64,
+    ) -> (Pass<Entry, Frame>, Option<Refusal>)
+        requires lock { pass.lock ≡ self.now.turn.lock }
+        requires leaving { IsLeaving (world_after (frame_of pass) pass.seen) target }
+        ensures helps { let f = frame_of pass in
+            Helps self.now.shelf f (λ a b. Stops f pass.caller target a b result.1)
+            pass result.0
+            (record { log = G.log gates.old; faults = G.faults gates.old })
+            (record { log = G.log gates.new; faults = G.faults gates.new }) }
+        ensures over { let world = world_after (frame_of result.0) result.0.seen in
+            IfNone result.1 (IsOver world target) }
+    {
+        marks_stay();
+        shutdowns_last();
+        let mut idle = pass;
+        for _ in rt.forever() {
+            let (after, picked) = self.pick_one(rt, alloc, idle, gates, target);
+            match picked {
+                Picked::Done => return (after, None),
+                Picked::Further => idle = after,
+                Picked::Cut(refusal) => return (after, Some(refusal)),
+            }
+        }
+        unreachable!()
+    }
+
+    /// Marks an instance, where `doom` is true to be destroyed, and stops it with all below it.
+    /// `Some` tells what ended the call before all was shut.
+    pub(crate) fn shut_row<R: Threads + Wait + Sync, G: Gates>(
+        &self,
+        rt: &R,
+        alloc: Global,
+        pass: Pass<Entry, Frame>,
+        gates: &mut G,
+        doom: bool,
+        inc: u64,
+    ) -> (Pass<Entry, Frame>, Option<Refusal>)
+        requires lock { pass.lock ≡ self.now.turn.lock }
+        ensures helps { let f = frame_of pass in
+            Helps self.now.shelf f (λ a b. Shuts f pass.caller doom inc a b result.1)
+            pass result.0
+            (record { log = G.log gates.old; faults = G.faults gates.old })
+            (record { log = G.log gates.new; faults = G.faults gates.new }) }
+        ensures marked { let world = world_after (frame_of result.0) result.0.seen in
+            IfNone result.1 (IsMarked doom world inc) }
+        ensures over { let world = world_after (frame_of result.0) result.0.seen in
+            IfNone result.1 (IsOver world inc) }
+    {
+        marks_stay();
+        let (pass, asked) = self.ask_mark(rt, alloc, pass, doom, inc);
+        match unmarked(asked) {
+            None => self.stop_all(rt, alloc, pass, gates, inc),
+            Some(refusal) => (pass, Some(refusal)),
+        }
+    }
+
+    /// Shuts an instance down to be destroyed, and removes it with all below it. `Some` tells
+    /// what ended the call before that.
+    pub(crate) fn destroy_row<R: Threads + Wait + Sync, G: Gates>(
+        &self,
+        rt: &R,
+        alloc: Global,
+        pass: Pass<Entry, Frame>,
+        gates: &mut G,
+        inc: u64,
+    ) -> (Pass<Entry, Frame>, Option<Refusal>)
+        requires lock { pass.lock ≡ self.now.turn.lock }
+        ensures helps { let f = frame_of pass in
+            Helps self.now.shelf f (λ a b. Destroys f pass.caller inc a b result.1)
+            pass result.0
+            (record { log = G.log gates.old; faults = G.faults gates.old })
+            (record { log = G.log gates.new; faults = G.faults gates.new }) }
+    {
+        let (pass, end) = self.shut_row(rt, alloc, pass, gates, true, inc);
+        if let Some(refusal) = end {
+            return (pass, Some(refusal));
+        }
+        let (pass, asked) = self.ask_purge(rt, alloc, pass, inc);
+        match asked {
+            Ok(_reply) => (pass, None),
+            Err(refusal) => (pass, Some(refusal)),
+        }
+    }
+}

@@ -1,0 +1,43 @@
+use Rattle.std.proofs.Common.{◌≡◌, ◌+◌, ◌++◌, ◌∷◌, [], refl, sym, ◌∙◌, ap, subst}
+use Rattle.cm_table.specs.Change as table
+use Rattle.cm_world.specs.declared.row.Row.{Row}
+use Rattle.cm_world.specs.declared.reply.Entry.{Entry}
+use Rattle.cm_world.specs.declared.event.Event.TheVariants as event
+use Rattle.cm_world.specs.declared.reply.Reply.TheVariants as reply
+use Rattle.cm_world.specs.World.{World}
+use Rattle.cm_world.specs.Create.{IsCreateReply, created_row}
+use Rattle.cm_world.specs.After.{with_row}
+use Rattle.cm_steps.specs.Story.{world_of}
+use Rattle.cm_steps.specs.Steps.{entry_of}
+use Rattle.cm_steps.specs.Inside.{world_in}
+use Rattle.cm_steps.proofs.Stepping.{one_pushed, kept_rows}
+use Rattle.cm_steps.proofs.Removing.{tasked_added}
+use Rattle.cm_steps.proofs.Creations.{child_made}
+use Rattle.cm_steps.proofs.realm.Realm.add_child.Goals as goal
+
+pub invariant_of-self-2 : goal.invariant_of-self-2
+invariant_of-self-2 c =
+    let w : World = world_in c.self.inside in
+    let here : world_of c.args.self.now ≡ w = ap world_of (sym c.self.view_is) ∙ c.self.invariant.stands.world in
+    let inc : c.in_ok-inc.inc ≡ w.next_inc = c.in_ok-inc.ensures.inc in
+    let e : Entry = entry_of c.args.caller (event.Create c.args.parent c.args.coll c.args.name c.args.url c.args.gives) (reply.Created c.in_ok-inc.inc) in
+    let row : Row = created_row w.next_inc c.args.parent c.args.coll c.args.name c.args.url c.args.gives in
+    let creates =
+    subst (λ (v : World). IsCreateReply v.frame.limits.rows v.rows v.next_inc c.args.parent c.args.coll c.args.name c.args.gives (reply.Created v.next_inc)) here c.requires.creates in
+    kept_rows c.self.inside _ e (w.rows ++ row ∷ []) (w.next_inc + 1) c.self.invariant
+    (record {
+      enabled = tt;
+      allowed = subst (λ i. IsCreateReply w.frame.limits.rows w.rows w.next_inc c.args.parent c.args.coll c.args.name c.args.gives (reply.Created i)) (sym inc) creates;
+    })
+    (ap (λ i. with_row w (created_row i c.args.parent c.args.coll c.args.name c.args.url c.args.gives)) inc)
+    (tasked_added w.rows w.acts row refl c.self.invariant.tasks)
+    (record {
+      frame = refl;
+      table =
+          c.in_ok-inc.ensures.table
+          ∙ ap (λ r. table.with_row r c.self.inside.table)
+          (child_made w.next_inc c.args.parent c.in_ok-child.child c.args.coll c.args.name c.args.url c.in_ok-own_url.own_url c.args.gives c.in_ok-own_gives.own_gives c.in_ok-child.ensures c.in_ok-own_url.ensures c.in_ok-own_gives.ensures);
+      acts = refl;
+      joins = refl;
+      book = one_pushed _ _ _ e c.in_ok-inc.ensures.book c.push_reserved.ensures;
+    })

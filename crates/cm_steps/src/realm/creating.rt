@@ -1,0 +1,141 @@
+//! The step that creates a child in a collection: `CreateChild` of `fuchsia.component.Realm`
+//! (fuchsia.dev).
+
+ghost use Rattle.std.specs.Prelude.{◌≡◌, IfOk, IfErr, OnOk, OnErr};
+ghost use Rattle.cm_world.specs.Create.{IsCreateReply};
+ghost use Rattle.cm_dynamic.specs.Laws.{CanTake};
+ghost use Rattle.cm_steps.specs.Story.{world_of};
+ghost use Rattle.cm_steps.specs.Steps.{Tells, HasRoom, RefusesQuiet};
+ghost use Rattle.cm_steps.specs.Answers.{CreatesBy};
+
+use super::{Realm, copied};
+use crate::nostep::NoStep;
+use crate::replies::creating::{CreateAnswer, child_name, create_answer};
+use crate::rooms::add_row;
+use cm_decl::Give;
+use cm_names::{List, Memory, Name, Text};
+use cm_world::{Entry, Event, Reply};
+use std::alloc::Global;
+
+impl Realm {
+    /// Creates a child of an instance in a collection, with a URL, and with offers to it alone:
+    /// `Created` with its incarnation. The child isn't resolved. This is `CreateChild` of
+    /// `fuchsia.component.Realm`.
+    ///
+    /// Nothing is created, in this order of trial, with the reply `Gone` where the parent doesn't
+    /// live, or it or one above it is being destroyed; `Closing` where it is shut, or it or one
+    /// above it is being shut down; `Need` where it isn't resolved; `NoCollection` where it
+    /// declares no such collection; `Exists` with the child of that name in it that isn't being
+    /// destroyed; `OffersRefused` where the collection takes no offers to one child; `BadOffer`
+    /// with the first offer that breaks a rule of a manifest; `Cycle` where the children would
+    /// depend on each other in a ring; `Full` where one instance more doesn't fit.
+    ///
+    /// - `HistoryFull` where one entry more doesn't fit;
+    /// - `Memory` where memory runs out.
+    pub fn create(
+        &mut self,
+        alloc: Global,
+        caller: u32,
+        parent: u64,
+        coll: Name,
+        name: Name,
+        url: Text,
+        gives: List<Give>,
+    ) -> Result<Reply, NoStep>
+        ensures step { IfOk result (λ reply.
+            Tells self.old self.new caller (Event.Create parent coll name url gives) reply) }
+        ensures room { OnOk result (HasRoom self.old 1) }
+        ensures refused { IfErr result (RefusesQuiet self.old) }
+        ensures err { OnErr result (self.new ≡ self.old) }
+    {
+        let answer = self.answer_to_create(alloc, parent, &coll, &name, gives.as_slice())?;
+        self.create_by(alloc, caller, parent, coll, name, url, gives, answer)
+    }
+
+    /// What a create comes to.
+    fn answer_to_create(
+        &self,
+        alloc: Global,
+        parent: u64,
+        coll: &Name,
+        name: &Name,
+        gives: &[Give],
+    ) -> Result<CreateAnswer, Memory>
+        ensures { let w = world_of self.now in
+            IfOk result (CreatesBy w.frame.limits.rows w.rows w.next_inc parent coll.now name.now
+            gives.now) }
+    {
+        create_answer(alloc, &self.table, parent, coll, name, gives)
+    }
+
+    /// Takes the step that a create comes to.
+    fn create_by(
+        &mut self,
+        alloc: Global,
+        caller: u32,
+        parent: u64,
+        coll: Name,
+        name: Name,
+        url: Text,
+        gives: List<Give>,
+        answer: CreateAnswer,
+    ) -> Result<Reply, NoStep>
+        requires { let w = world_of self.old in
+            CreatesBy w.frame.limits.rows w.rows w.next_inc parent coll name gives answer }
+        ensures step { IfOk result (λ reply.
+            Tells self.old self.new caller (Event.Create parent coll name url gives) reply) }
+        ensures room { OnOk result (HasRoom self.old 1) }
+        ensures refused { IfErr result (RefusesQuiet self.old) }
+        ensures err { OnErr result (self.new ≡ self.old) }
+    {
+        match answer {
+            CreateAnswer::Quiet(reply) => {
+                self.tell(caller, Event::Create(parent, coll, name, url, gives), reply)
+            }
+            CreateAnswer::Creates => {
+                self.add_child(alloc, caller, parent, coll, name, url, gives)
+            }
+        }
+    }
+
+    /// Puts a new child into the tree, and puts that down.
+    fn add_child(
+        &mut self,
+        alloc: Global,
+        caller: u32,
+        parent: u64,
+        coll: Name,
+        name: Name,
+        url: Text,
+        gives: List<Give>,
+    ) -> Result<Reply, NoStep>
+        requires creates { let w = world_of self.old in
+            IsCreateReply w.frame.limits.rows w.rows w.next_inc parent coll name gives
+            (Reply.Created w.next_inc) }
+        requires takes { CanTake (world_of self.old).rows parent coll name }
+        ensures step { IfOk result (λ reply.
+            Tells self.old self.new caller (Event.Create parent coll name url gives) reply) }
+        ensures room { OnOk result (HasRoom self.old 1) }
+        ensures refused { IfErr result (RefusesQuiet self.old) }
+        ensures err { OnErr result (self.new ≡ self.old) }
+    {
+        let child = child_name(&coll, &name)?;
+        let own_url = copied(&url)?;
+        let own_gives = copied(&gives)?;
+        let inc = add_row(
+            alloc,
+            &mut self.table,
+            &mut self.book,
+            parent,
+            child,
+            own_url,
+            own_gives,
+        )?;
+        self.book.push_reserved(Entry {
+            caller,
+            event: Event::Create(parent, coll, name, url, gives),
+            reply: Reply::Created(inc),
+        });
+        Ok(Reply::Created(inc))
+    }
+}

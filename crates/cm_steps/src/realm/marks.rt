@@ -1,0 +1,183 @@
+//! The steps that mark an instance to be shut down or destroyed, and that remove it.
+//!
+//! A destruction is `DestroyChild` of `fuchsia.component.Realm` (fuchsia.dev), in several steps:
+//! the child is marked, it is shut down with all below it, and it is removed. That an instance is
+//! shut down before it is destroyed is the rule of Fuchsia's component lifecycle documentation.
+
+ghost use Rattle.std.specs.Prelude.{◌≡◌, IsTrue, IfOk, IfErr, OnOk, OnErr, map, if◌then◌else◌};
+ghost use Rattle.cm_world.specs.Rows.{is_live, subtree};
+ghost use Rattle.cm_world.specs.End.{set_closing, set_doomed};
+ghost use Rattle.cm_world.specs.Marks.{lost_of, mark_reply};
+ghost use Rattle.cm_world.specs.Step.{may_purge};
+ghost use Rattle.cm_table.specs.Change.{with_changed};
+ghost use Rattle.cm_steps.specs.Story.{world_of};
+ghost use Rattle.cm_steps.specs.Steps.{Tells, HasRoom, RefusesQuiet};
+ghost use Rattle.cm_steps.specs.Answers.{AnswersMark, AnswersPurge};
+
+use super::{Realm, copied};
+use crate::laws::trees_stay_sound;
+use crate::nostep::NoStep;
+use crate::replies::marking::{MarkAnswer, mark_answer};
+use crate::replies::purging::{PurgeAnswer, purge_answer};
+use cm_names::{List, Memory};
+use cm_table::Table;
+use cm_world::{Entry, Event, Lost, Reply};
+use std::alloc::Global;
+
+impl Realm {
+    /// Marks an instance to be shut down with all below it, or, where `doom` is true, to be
+    /// destroyed, which marks it to be shut down too: `Marked`. From then on picks alone begin an
+    /// action there, and no child is created. A mark to be destroyed is the first part of
+    /// `DestroyChild` of `fuchsia.component.Realm`.
+    ///
+    /// To be shut down: `Gone` where the instance doesn't live, or it or one above it is being
+    /// destroyed; `Already` where it itself was marked before. To be destroyed, in this order:
+    /// `Gone` where it doesn't live; `Already` where it itself is being destroyed; `Gone` where
+    /// one above it is; `NotDynamic` where it is in no collection.
+    ///
+    /// - `HistoryFull` where one entry more doesn't fit;
+    /// - `Memory` where memory runs out.
+    pub fn mark(&mut self, caller: u32, doom: bool, inc: u64) -> Result<Reply, NoStep>
+        ensures step { IfOk result (λ reply.
+            Tells self.old self.new caller (Event.Mark doom inc) reply) }
+        ensures room { OnOk result (HasRoom self.old 1) }
+        ensures refused { IfErr result (RefusesQuiet self.old) }
+        ensures err { OnErr result (self.new ≡ self.old) }
+    {
+        let answer = self.answer_to_mark(doom, inc);
+        self.mark_by(caller, doom, inc, answer)
+    }
+
+    /// What a mark comes to.
+    fn answer_to_mark(&self, doom: bool, inc: u64) -> MarkAnswer
+        ensures { AnswersMark (world_of self.now).rows doom inc result }
+    {
+        let _acts = &self.acts;
+        mark_answer(&self.table, doom, inc)
+    }
+
+    /// Takes the step that a mark comes to.
+    fn mark_by(
+        &mut self,
+        caller: u32,
+        doom: bool,
+        inc: u64,
+        answer: MarkAnswer,
+    ) -> Result<Reply, NoStep>
+        requires { AnswersMark (world_of self.old).rows doom inc answer }
+        ensures step { IfOk result (λ reply.
+            Tells self.old self.new caller (Event.Mark doom inc) reply) }
+        ensures room { OnOk result (HasRoom self.old 1) }
+        ensures refused { IfErr result (RefusesQuiet self.old) }
+        ensures err { OnErr result (self.new ≡ self.old) }
+    {
+        match answer {
+            MarkAnswer::Quiet(reply) => self.tell(caller, Event::Mark(doom, inc), reply),
+            MarkAnswer::Marks => {
+                self.put_mark(caller, doom, inc)?;
+                Ok(Reply::Marked)
+            }
+        }
+    }
+
+    /// Puts down that an instance is marked.
+    fn put_mark(&mut self, caller: u32, doom: bool, inc: u64) -> Result<(), NoStep>
+        requires { mark_reply (world_of self.old).rows doom inc ≡ Reply.Marked }
+        ensures step { let event = Event.Mark doom inc in
+            OnOk result (Tells self.old self.new caller event Reply.Marked) }
+        ensures room { OnOk result (HasRoom self.old 1) }
+        ensures refused { IfErr result (RefusesQuiet self.old) }
+        ensures err { OnErr result (self.new ≡ self.old) }
+    {
+        self.book.reserve(1)?;
+        set_mark(&mut self.table, doom, inc);
+        self.book.push_reserved(Entry {
+            caller,
+            event: Event::Mark(doom, inc),
+            reply: Reply::Marked,
+        });
+        Ok(())
+    }
+
+    /// Removes an instance that is marked to be destroyed and shut with all below it, and all
+    /// these with it: `Purged` with each of them, by their incarnations, and where it stood;
+    /// `PurgedBefore` where the instance doesn't live any more. This is the last part of
+    /// `DestroyChild` of `fuchsia.component.Realm`.
+    ///
+    /// - `HistoryFull` where one entry more doesn't fit;
+    /// - `Memory` where memory runs out.
+    pub fn purge(&mut self, alloc: Global, caller: u32, inc: u64) -> Result<Reply, NoStep>
+        requires purgeable { IsTrue (may_purge (world_of self.old).rows inc) }
+        ensures step { IfOk result (λ reply.
+            Tells self.old self.new caller (Event.Purge inc) reply) }
+        ensures room { OnOk result (HasRoom self.old 1) }
+        ensures refused { IfErr result (RefusesQuiet self.old) }
+        ensures err { OnErr result (self.new ≡ self.old) }
+    {
+        let answer = self.answer_to_purge(alloc, inc)?;
+        self.purge_by(caller, inc, answer)
+    }
+
+    /// What a purge comes to.
+    fn answer_to_purge(&self, alloc: Global, inc: u64) -> Result<PurgeAnswer, Memory>
+        ensures { IfOk result (AnswersPurge (world_of self.now).rows inc) }
+    {
+        let _acts = &self.acts;
+        purge_answer(alloc, &self.table, inc)
+    }
+
+    /// Takes the step that a purge comes to.
+    fn purge_by(&mut self, caller: u32, inc: u64, answer: PurgeAnswer) -> Result<Reply, NoStep>
+        requires purgeable { IsTrue (may_purge (world_of self.old).rows inc) }
+        requires answer { AnswersPurge (world_of self.old).rows inc answer }
+        ensures step { IfOk result (λ reply.
+            Tells self.old self.new caller (Event.Purge inc) reply) }
+        ensures room { OnOk result (HasRoom self.old 1) }
+        ensures refused { IfErr result (RefusesQuiet self.old) }
+        ensures err { OnErr result (self.new ≡ self.old) }
+    {
+        match answer {
+            PurgeAnswer::Before => self.tell(caller, Event::Purge(inc), Reply::PurgedBefore),
+            PurgeAnswer::Removes(lost) => {
+                let kept = copied(&lost)?;
+                self.remove(caller, inc, kept)?;
+                Ok(Reply::Purged(lost))
+            }
+        }
+    }
+
+    /// Puts down that an instance is removed with all below it.
+    fn remove(&mut self, caller: u32, inc: u64, lost: List<Lost>) -> Result<(), NoStep>
+        requires purgeable { IsTrue (may_purge (world_of self.old).rows inc) }
+        requires lives { IsTrue (is_live (world_of self.old).rows inc) }
+        requires lost { let rows = (world_of self.old).rows in
+            lost ≡ map (lost_of rows) (subtree rows inc) }
+        ensures step { let event = Event.Purge inc in
+            OnOk result (Tells self.old self.new caller event (Reply.Purged lost)) }
+        ensures room { OnOk result (HasRoom self.old 1) }
+        ensures refused { IfErr result (RefusesQuiet self.old) }
+        ensures err { OnErr result (self.new ≡ self.old) }
+    {
+        trees_stay_sound();
+        self.book.reserve(1)?;
+        self.table.remove_below(inc);
+        self.book.push_reserved(Entry {
+            caller,
+            event: Event::Purge(inc),
+            reply: Reply::Purged(lost),
+        });
+        Ok(())
+    }
+}
+
+/// Marks an instance in the tree.
+fn set_mark(table: &mut Table, doom: bool, inc: u64)
+    ensures { let mark = if doom then set_doomed else set_closing in
+        table.new ≡ with_changed inc mark table.old }
+{
+    if doom {
+        table.set_doomed(inc);
+    } else {
+        table.set_closing(inc);
+    }
+}

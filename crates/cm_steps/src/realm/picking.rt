@@ -1,0 +1,106 @@
+//! The step that picks what a shutdown stops next.
+//!
+//! That an instance stops before what it depends on, and after what depends on it, is the
+//! shutdown order of Fuchsia's component lifecycle documentation (fuchsia.dev).
+
+ghost use Rattle.std.specs.Prelude.{◌≡◌, IsTrue, IfOk, IfErr, OnOk, OnErr};
+ghost use Rattle.cm_world.specs.Step.{PicksOff, may_close};
+ghost use Rattle.cm_steps.specs.Story.{world_of};
+ghost use Rattle.cm_steps.specs.Steps.{Tells, HasRoom, Refuses, RefusesQuiet, WaitsToPick};
+ghost use Rattle.cm_steps.specs.Answers.{PicksBy};
+
+use super::{Realm, copied};
+use crate::laws::trees_stay_sound;
+use crate::nostep::NoStep;
+use crate::replies::picking::{PickAnswer, pick_answer};
+use crate::rooms::next_action;
+use cm_names::Memory;
+use cm_world::{ActKind, Entry, Event, Reply};
+use std::alloc::Global;
+
+impl Realm {
+    /// Picks the instance that is to stop next, so that the target shuts down with all below it.
+    /// The target doesn't live, or it or one above it is being shut down.
+    ///
+    /// `Done` exactly where all at and below the target is shut. Else it is an instance at or
+    /// below the outermost one that is being shut down, among the target and those above it, that
+    /// isn't shut, has no pending action, and that nothing which isn't shut depends on: `Stopping`
+    /// with what is to be done where its program runs, by which a stop begins that the caller
+    /// ends; `ShutDown` with its incarnation where its program doesn't run, and then it is shut.
+    ///
+    /// - `Busy` with the number of an action that has to end before an instance can be picked;
+    /// - `HistoryFull` where two entries more don't fit, which is tried first;
+    /// - `Memory` where memory runs out.
+    pub fn pick(&mut self, alloc: Global, caller: u32, target: u64) -> Result<Reply, NoStep>
+        requires closing { IsTrue (may_close (world_of self.old).rows target) }
+        ensures step { IfOk result (λ reply.
+            Tells self.old self.new caller (Event.Pick target) reply) }
+        ensures room { OnOk result (HasRoom self.old 2) }
+        ensures refused { let waits = WaitsToPick (world_of self.old) target in
+            IfErr result (Refuses self.old 2 waits) }
+        ensures err { OnErr result (self.new ≡ self.old) }
+    {
+        if !self.has_room(2) {
+            return Err(NoStep::HistoryFull);
+        }
+        let answer = self.answer_to_pick(alloc, target)?;
+        self.pick_by(caller, target, answer)
+    }
+
+    /// What a pick comes to.
+    fn answer_to_pick(&self, alloc: Global, target: u64) -> Result<PickAnswer, Memory>
+        requires { IsTrue (may_close (world_of self.now).rows target) }
+        ensures { IfOk result (PicksBy (world_of self.now) target) }
+    {
+        trees_stay_sound();
+        let next = next_action(self.acts.as_slice());
+        pick_answer(alloc, &self.table, next, target)
+    }
+
+    /// Takes the step that a pick comes to, where there is room.
+    fn pick_by(&mut self, caller: u32, target: u64, answer: PickAnswer) -> Result<Reply, NoStep>
+        requires room { HasRoom self.old 2 }
+        requires closing { IsTrue (may_close (world_of self.old).rows target) }
+        requires answer { PicksBy (world_of self.old) target answer }
+        ensures step { IfOk result (λ reply.
+            Tells self.old self.new caller (Event.Pick target) reply) }
+        ensures refused { let waits = WaitsToPick (world_of self.old) target in
+            IfErr result (Refuses self.old 2 waits) }
+        ensures err { OnErr result (self.new ≡ self.old) }
+    {
+        match answer {
+            PickAnswer::Busy(action) => Err(NoStep::Busy(action)),
+            PickAnswer::Done => self.tell(caller, Event::Pick(target), Reply::Done),
+            PickAnswer::Shuts(inc) => {
+                self.shut(caller, target, inc)?;
+                Ok(Reply::ShutDown(inc))
+            }
+            PickAnswer::Stops(work) => {
+                let kept = copied(&work)?;
+                let inc = work.inc;
+                let event = Event::Pick(target);
+                self.begin_action(caller, ActKind::Stop, inc, event, Reply::Stopping(kept))?;
+                Ok(Reply::Stopping(work))
+            }
+        }
+    }
+
+    /// Puts down that an instance whose program doesn't run is shut.
+    fn shut(&mut self, caller: u32, target: u64, inc: u64) -> Result<(), NoStep>
+        requires closing { IsTrue (may_close (world_of self.old).rows target) }
+        requires picks { PicksOff (world_of self.old).rows target inc }
+        ensures step { let event = Event.Pick target in
+            OnOk result (Tells self.old self.new caller event (Reply.ShutDown inc)) }
+        ensures refused { IfErr result (RefusesQuiet self.old) }
+        ensures err { OnErr result (self.new ≡ self.old) }
+    {
+        self.book.reserve(1)?;
+        self.table.set_shut(inc);
+        self.book.push_reserved(Entry {
+            caller,
+            event: Event::Pick(target),
+            reply: Reply::ShutDown(inc),
+        });
+        Ok(())
+    }
+}

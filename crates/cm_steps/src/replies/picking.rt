@@ -1,0 +1,48 @@
+//! What a pick comes to.
+
+ghost use Rattle.std.specs.Prelude.{IsTrue, IfOk};
+ghost use Rattle.cm_world.specs.Sound.{IsSound};
+ghost use Rattle.cm_world.specs.Step.{may_close};
+ghost use Rattle.cm_steps.specs.Answers.{AnswersPick};
+
+use crate::replies::beginning::program_work;
+use cm_names::{List, Memory};
+use cm_order::{Picked, pick};
+use cm_table::Table;
+use cm_world::Work;
+use std::alloc::Global;
+
+/// What a pick comes to.
+#[derive(Drop)]
+pub enum PickAnswer {
+    /// It has to wait for the action of this number.
+    Busy(u64),
+    /// All at and below the target is shut.
+    Done,
+    /// This instance is shut, since its program doesn't run.
+    Shuts(u64),
+    /// An instance is to be stopped, and this is to be done.
+    Stops(Work),
+}
+
+/// What a pick comes to.
+pub fn pick_answer(
+    alloc: Global,
+    table: &Table,
+    next_action: u64,
+    target: u64,
+) -> Result<PickAnswer, Memory>
+    requires sound { IsSound table.now.rows table.now.next_inc }
+    requires closing { IsTrue (may_close table.now.rows target) }
+    ensures { IfOk result (AnswersPick table.now.rows next_action target) }
+{
+    match pick(alloc, table, target)? {
+        Picked::Waits(action) => Ok(PickAnswer::Busy(action)),
+        Picked::Done => Ok(PickAnswer::Done),
+        Picked::ShutNow(inc) => Ok(PickAnswer::Shuts(inc)),
+        Picked::StopNow(inc) => {
+            let work = program_work(alloc, table, next_action, inc, List::new(alloc))?;
+            Ok(PickAnswer::Stops(work))
+        }
+    }
+}
