@@ -1,4 +1,4 @@
--- What the begin of an action came to, in the turns of one caller.
+-- What the begin of an action, and a pick, came to, in the turns of one caller.
 use Rattle.std.specs.Prelude.{◌≡◌, ◌≢◌, ℕ, List, Bool, true, false, Option, Some, None, Result, Ok, Err, IsTrue, IsFalse}
 use Rattle.cm_world.specs.declared.action.ActKind.{ActKind}
 use Rattle.cm_world.specs.declared.action.ActKind.TheVariants as kind

@@ -1,4 +1,4 @@
-//! What became of a begin, of a start and of an event, before what follows from it.
+//! What became of a begin, of a start, of a pick and of an event, before what follows from it.
 
 use crate::Acted;
 use cm_names::List;

@@ -130,8 +130,8 @@ impl Manager {
         }
     }
 
-    /// Shuts an instance down, with all below it: they are stopped, each before what it uses, and
-    /// won't start again. `Shut`, also where all was shut before.
+    /// Shuts an instance down, with all below it: they are stopped one by one, each before what it
+    /// strongly depends on, and won't start again. `Shut`, also where all was shut before.
     ///
     /// A stop that has to be made by force counts as one. Where the call ends early, the instance
     /// stays marked, and a later call goes on from there.

@@ -318,9 +318,8 @@ impl Manager {
     ///
     /// A line of a path has its route, or why it has none, as the call `route` tells it:
     ///
-    /// - `Gone` or `Shut` where an instance doesn't live any more, or can't be resolved any more;
-    /// - `NoSuchUse` where the instance has no use of the path any more, and in the line of an
-    ///   instance that isn't resolved;
+    /// - `Gone` where the instance doesn't live any more, or it or one above it is being destroyed;
+    /// - `NoSuchUse` in the line of an instance that isn't resolved;
     /// - `NoRoute` with the hop that fails and why, `VoidSource` where it is left out on purpose;
     /// - `SourceShut` where an instance on the way can't be resolved any more;
     /// - `CannotResolve` with the action and its outcome, where a resolve failed.
@@ -328,7 +327,8 @@ impl Manager {
     /// The call itself is refused:
     ///
     /// - `NotFound` with the part of the moniker that was found, where nothing stands there;
-    /// - `Gone` or `Shut` where an instance doesn't live, or can't be resolved any more;
+    /// - `Gone` where the instance doesn't live, or it or one above it is being destroyed; `Shut`
+    ///   where an instance on the way can't be resolved any more;
     /// - `CannotResolve` with the action and its outcome, where a resolve on the way failed;
     /// - `HistoryFull` where the history has no room for what is needed, `Memory` where memory
     ///   runs out.

@@ -92,9 +92,9 @@ impl Manager {
     /// any order. Each action that a pass's caller began has its end among that caller's entries,
     /// as every call of the manager leaves it.
     ///
-    /// The history bears each pass out, and has no entry of anybody else. Each action that was ever
-    /// begun has its end in it, and one outcome, and each route that was opened was one in the tree
-    /// of that very entry.
+    /// The history bears each pass out, has no entry of anybody else, and keeps the laws of
+    /// [`histories_keep_laws`](cm_steps::laws::histories_keep_laws). Each action that was ever begun
+    /// has its end in it.
     pub fn close(self, passes: List<Pass<Entry, Frame>>) -> Book
         requires passes { AreAll self.turn passes }
         requires ended { All (λ p. HasEnds p.mine) passes }

@@ -1,9 +1,9 @@
 //! Shutdowns: an instance is marked, stopped with all below it, and removed where it is to be
 //! destroyed.
 //!
-//! Instances stop in the order that the picks give, each before what it uses (the component
-//! lifecycle, fuchsia.dev). Other calls may take turns between two picks, and several calls may
-//! shut one instance down side by side.
+//! Instances stop in the order that the picks give, each before what it strongly depends on (the
+//! component lifecycle, fuchsia.dev). Other calls may take turns between two picks, and several
+//! calls may shut one instance down side by side.
 
 ghost use Rattle.std.specs.Prelude.{◌≡◌, IfNone, true};
 ghost use Rattle.cm_world.specs.declared.event.Event.TheVariants as event;

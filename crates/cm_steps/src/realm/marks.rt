@@ -27,8 +27,8 @@ use std::alloc::Global;
 impl Realm {
     /// Marks an instance to be shut down with all below it, or, where `doom` is true, to be
     /// destroyed, which marks it to be shut down too: `Marked`. From then on picks alone begin an
-    /// action there, and no child is created. A mark to be destroyed is the first part of
-    /// `DestroyChild` of `fuchsia.component.Realm`.
+    /// action there, and no child is created in a collection. A mark to be destroyed is the first
+    /// part of `DestroyChild` of `fuchsia.component.Realm`.
     ///
     /// To be shut down: `Gone` where the instance doesn't live, or it or one above it is being
     /// destroyed; `Already` where it itself was marked before. To be destroyed, in this order:
