@@ -7,7 +7,8 @@ use Rattle.cm_decl.specs.declared.rows.Offer.{Offer}
 use Rattle.cm_decl.specs.declared.rows.Give.{Give}
 use Rattle.cm_decl.specs.declared.section.Section.{Section}
 use Rattle.cm_decl.specs.declared.section.Section.TheVariants.{Uses, Offers, Exposes}
-use Rattle.cm_decl.specs.Rules.{Rule, UnknownRef, NotDeclared, TargetIsSource, RequiredVoid, is_child, is_target, is_unknown, is_undeclared, is_given_back, is_required_void}
+use Rattle.cm_decl.specs.Rules.{Rule, UnknownRef, NotDeclared, TargetIsSource, RequiredVoid, is_child}
+use Rattle.cm_decl.specs.Rules.{is_target, is_unknown, is_undeclared, is_given_back, is_required_void}
 use Rattle.cm_decl.specs.Clashes.{clash}
 
 -- whether there is an i-th row and it passes

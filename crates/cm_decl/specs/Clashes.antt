@@ -1,5 +1,6 @@
 -- The rules that speak of two rows, and which other row a row clashes with.
-use Rattle.std.specs.Prelude.{ℕ, List, Bool, ◌&&◌, ◌||◌, Option, Some, None, take, slice_get, position, option_map, option_and_then}
+use Rattle.std.specs.Prelude.{ℕ, List, Bool, ◌&&◌, ◌||◌, Option, Some, None, take, slice_get, position}
+use Rattle.std.specs.Prelude.{option_map, option_and_then}
 use Rattle.std.specs.Str.{bytes_eq}
 use Rattle.cm_decl.specs.declared.decl.Decl.{Decl}
 use Rattle.cm_decl.specs.declared.rows.Child.{Child}
@@ -9,7 +10,8 @@ use Rattle.cm_decl.specs.declared.rows.Usage.{Usage}
 use Rattle.cm_decl.specs.declared.rows.Offer.{Offer}
 use Rattle.cm_decl.specs.declared.rows.Give.{Give}
 use Rattle.cm_decl.specs.declared.section.Section.{Section}
-use Rattle.cm_decl.specs.declared.section.Section.TheVariants.{Children, Collections, Capabilities, Uses, Offers, Exposes}
+use Rattle.cm_decl.specs.declared.section.Section.TheVariants.{Children, Collections, Capabilities, Uses}
+use Rattle.cm_decl.specs.declared.section.Section.TheVariants.{Offers, Exposes}
 use Rattle.cm_decl.specs.Rules.{Rule, RepeatedName, RepeatedTarget, RepeatedPath, PathInside, is_inside}
 
 -- where a row stands: its section, and its index there
@@ -27,7 +29,8 @@ first_row section passes rows = option_map (place section) (position passes rows
 -- the first row before the i-th of a section that clashes with it
 abbrev pub first_before : {A : Type 0} → Section → (A → A → Bool) → List A → ℕ → Option Place
 first_before section clashes rows i =
-    option_and_then (λ row. first_row section (λ earlier. clashes earlier row) (take i rows)) (slice_get rows i)
+    option_and_then (λ row. first_row section (λ earlier. clashes earlier row) (take i rows))
+    (slice_get rows i)
 
 -- the first, or the second where the first isn't there
 abbrev pub or_else : {A : Type 0} → Option A → Option A → Option A
@@ -37,7 +40,8 @@ or_else None other = other
 -- the child that has the name of the i-th collection
 abbrev pub child_of_name : Decl → ℕ → Option Place
 child_of_name d i =
-    option_and_then (λ k. first_row Children (λ c. bytes_eq c.name k.name) d.children) (slice_get d.collections i)
+    option_and_then (λ k. first_row Children (λ c. bytes_eq c.name k.name) d.children)
+    (slice_get d.collections i)
 
 -- children of one name
 abbrev pub same_child_name : Child → Child → Bool

@@ -22,7 +22,8 @@ IsLeast P x = P x × ((y : Node) → P y → IsTrue (node_at_most x y))
 abbrev pub Follows : (Node → Node → Bool) → Node → Node → Type 0
 Follows edge x y = IsLeast (λ z. InCore edge z × IsTrue (edge x z)) y
 
--- from the least node of the core on, each node is followed so; this is the loop that is so reached, begun at its least node
+-- from the least node of the core on, each node is followed so; this is the loop that is so
+-- reached, begun at its least node
 pub record IsPickedCycle (edge : Node → Node → Bool) (cycle : List Node) : Type 0 where
   pub start : Node
   pub least_of_core : IsLeast (InCore edge) start

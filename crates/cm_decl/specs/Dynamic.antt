@@ -1,11 +1,13 @@
 -- The faults of offers that are made to a child when it is created.
-use Rattle.std.specs.Prelude.{ℕ, List, [], ◌∷◌, length, take, Bool, false, ◌&&◌, ◌||◌, Option, option_map, option_and_then, is_none, find, slice_get, if◌then◌else◌}
+use Rattle.std.specs.Prelude.{ℕ, List, [], ◌∷◌, length, take, Bool, false, ◌&&◌, ◌||◌, Option, option_map}
+use Rattle.std.specs.Prelude.{option_and_then, is_none, find, slice_get, if◌then◌else◌}
 use Rattle.std.specs.List.{list_any, filter_map, range_with_len}
 use Rattle.std.specs.Str.{bytes_eq}
 use Rattle.cm_names.specs.declared.child.ChildName.{ChildName}
 use Rattle.cm_decl.specs.declared.decl.Decl.{Decl}
 use Rattle.cm_decl.specs.declared.rows.Give.{Give}
-use Rattle.cm_decl.specs.Rules.{Rule, UnknownRef, NotDeclared, RepeatedTarget, RequiredVoid, number_of, is_child, is_unknown, is_required_void}
+use Rattle.cm_decl.specs.Rules.{Rule, UnknownRef, NotDeclared, RepeatedTarget, RequiredVoid, number_of}
+use Rattle.cm_decl.specs.Rules.{is_child, is_unknown, is_required_void}
 use Rattle.cm_decl.specs.Breaks.{has_undeclared_source}
 
 -- a source is a declared child, or a dynamic one that is there
@@ -40,9 +42,11 @@ give_fault_at d dynamic coll gives i =
 
 -- its index and the number of its fault, where it is bad
 abbrev pub bad_give_at : Decl → (ChildName → Bool) → List ℕ → List Give → ℕ → Option (ℕ × ℕ)
-bad_give_at d dynamic coll gives i = option_map (λ rule. (i, number_of rule)) (give_fault_at d dynamic coll gives i)
+bad_give_at d dynamic coll gives i =
+    option_map (λ rule. (i, number_of rule)) (give_fault_at d dynamic coll gives i)
 
--- the first bad offer to a new child of a collection; dynamic tells which dynamic children are there and not doomed
+-- the first bad offer to a new child of a collection; dynamic tells which dynamic children are
+-- there and not doomed
 abbrev pub bad_give : Decl → (ChildName → Bool) → List ℕ → List Give → Option (ℕ × ℕ)
 bad_give d dynamic coll gives =
     slice_get (filter_map (bad_give_at d dynamic coll gives) (range_with_len 0 (length gives))) 0

@@ -1,4 +1,5 @@
--- Short declarations that worked examples speak of, and their faults. A name of one letter is written by its byte.
+-- Short declarations that worked examples speak of, and their faults. A name of one letter is
+-- written by its byte.
 use Rattle.std.specs.Prelude.{ℕ, List, [], ◌∷◌, false, Option, None}
 use Rattle.cm_decl.specs.declared.decl.Decl.{Decl}
 use Rattle.cm_decl.specs.declared.rows.Child.{Child}
@@ -22,7 +23,15 @@ use Rattle.cm_decl.specs.Faults.{Fault}
 
 -- what declares nothing
 abbrev pub no_decl : Decl
-no_decl = record { runner = None; children = []; collections = []; capabilities = []; uses = []; offers = []; exposes = [] }
+no_decl = record {
+  runner = None;
+  children = [];
+  collections = [];
+  capabilities = [];
+  uses = [];
+  offers = [];
+  exposes = [];
+}
 
 -- a child, with `#` and its name for its URL
 abbrev pub child : List ℕ → Child
@@ -125,7 +134,8 @@ one_inside = record no_decl {
 
 -- what has to be there, exposed from void
 abbrev pub exposed_from_void : Decl
-exposed_from_void = record no_decl { exposes = give p origin.Void Strong Optional ∷ give q origin.Void Strong Required ∷ [] }
+exposed_from_void =
+    record no_decl { exposes = give p origin.Void Strong Optional ∷ give q origin.Void Strong Required ∷ [] }
 
 -- a name that stands twice, and an offer that has to be there from void
 abbrev pub twice_named : Decl
@@ -136,7 +146,8 @@ twice_named = record no_decl {
 
 -- a fault at a row, beside the row that it clashes with
 abbrev pub row_fault : ℕ → Section → ℕ → Option Place → Fault
-row_fault number section i against = record { number = number; section = section; index = i; against = against; cycle = [] }
+row_fault number section i against =
+    record { number = number; section = section; index = i; against = against; cycle = [] }
 
 -- ---- cycles
 
@@ -146,4 +157,5 @@ child_node name = node.Child (static_name name)
 
 -- two children that are offered something of each other
 abbrev pub two_ways : Dependency → Decl
-two_ways back = record no_decl { children = child a ∷ child b ∷ []; offers = offer p a b Strong ∷ offer q b a back ∷ [] }
+two_ways back =
+    record no_decl { children = child a ∷ child b ∷ []; offers = offer p a b Strong ∷ offer q b a back ∷ [] }

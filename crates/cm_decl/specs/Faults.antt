@@ -3,7 +3,8 @@ use Rattle.std.specs.Prelude.{◌≡◌, ℕ, ◌<◌, List, [], Option, Some, N
 use Rattle.cm_decl.specs.declared.decl.Decl.{Decl}
 use Rattle.cm_decl.specs.declared.node.Node.{Node}
 use Rattle.cm_decl.specs.declared.section.Section.{Section}
-use Rattle.cm_decl.specs.declared.section.Section.TheVariants.{Manifest, Program, Children, Collections, Capabilities, Uses, Offers, Exposes, Graph}
+use Rattle.cm_decl.specs.declared.section.Section.TheVariants.{Manifest, Program, Children, Collections}
+use Rattle.cm_decl.specs.declared.section.Section.TheVariants.{Capabilities, Uses, Offers, Exposes, Graph}
 use Rattle.cm_decl.specs.Rules.{Rule, number_of}
 use Rattle.cm_decl.specs.Clashes.{Place, clash}
 use Rattle.cm_decl.specs.Breaks.{breaks}

@@ -14,7 +14,8 @@ abbrev pub rank : Node → ℕ
 rank Own = 0
 rank (Child name) = 1
 
--- how long the name of the collection is; names of one text differ in it, if at all, and names without a colon never do
+-- how long the name of the collection is; names of one text differ in it, if at all, and names
+-- without a colon never do
 abbrev pub coll_length : Option (List ℕ) → ℕ
 coll_length None = 0
 coll_length (Some coll) = length coll + 1
@@ -31,7 +32,8 @@ text_cmp x y = slice_cmp nat_cmp (node_text x) (node_text y)
 -- the component itself first, then the children by their texts
 abbrev pub node_cmp : Node → Node → Ordering
 node_cmp x y =
-    ordering_then (nat_cmp (rank x) (rank y)) (ordering_then (text_cmp x y) (nat_cmp (node_coll_length x) (node_coll_length y)))
+    ordering_then (nat_cmp (rank x) (rank y))
+    (ordering_then (text_cmp x y) (nat_cmp (node_coll_length x) (node_coll_length y)))
 
 -- whether the first is the second or stands before it
 abbrev pub node_at_most : Node → Node → Bool

@@ -12,7 +12,8 @@ pub record Realm (N : Type 0) : Type 0 where
 abbrev pub Strong : {N : Type 0} → Realm N → N → N → Type 0
 Strong r x y = IsTrue (r.edge x y)
 
--- an implied edge: where there is no cycle, each child on which the component doesn't depend depends on the component
+-- an implied edge: where there is no cycle, each child on which the component doesn't depend
+-- depends on the component
 pub record IsImplied {N : Type 0} (r : Realm N) (x y : N) : Type 0 where
   pub acyclic : NoCycle (Strong r)
   pub node : IsTrue (r.has x)

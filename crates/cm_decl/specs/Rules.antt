@@ -1,5 +1,5 @@
--- The rules that the rows of a declaration have to keep, and the tests that they are made of. The rules are those of
--- Fuchsia's component manifest reference (fuchsia.dev); their numbers are this project's own.
+-- The rules that the rows of a declaration have to keep, and the tests that they are made of. The rules
+-- are those of Fuchsia's component manifest reference (fuchsia.dev); their numbers are this project's own.
 use Rattle.std.specs.Prelude.{ℕ, List, [], ◌∷◌, ◌++◌, Bool, false, not, ◌&&◌, ◌||◌, is_none, nat_eq}
 use Rattle.std.specs.List.{list_any, starts_with}
 use Rattle.std.specs.Str.{bytes_eq}
@@ -37,7 +37,9 @@ number_of RequiredVoid = 57
 
 -- all rules, by their numbers
 abbrev pub rules : List Rule
-rules = RepeatedName ∷ UnknownRef ∷ NotDeclared ∷ TargetIsSource ∷ RepeatedTarget ∷ RepeatedPath ∷ PathInside ∷ RequiredVoid ∷ []
+rules =
+    RepeatedName ∷ UnknownRef ∷ NotDeclared ∷ TargetIsSource ∷ RepeatedTarget ∷ RepeatedPath ∷ PathInside
+    ∷ RequiredVoid ∷ []
 
 -- whether a child of this name is declared; a child in a collection never is
 abbrev pub is_child : Decl → ChildName → Bool
@@ -75,7 +77,7 @@ is_given_back _ to = false
 abbrev pub is_required_void : Give → Bool
 is_required_void g = elim g.from as (λ _. Bool) [ Void ↦ not (allows_void g.availability) | _ ↦ false ]
 
--- whether the first path goes on behind the second one with a slash, so that the parts of the second are a proper prefix
--- of its own
+-- whether the first path goes on behind the second one with a slash, so that the parts of the
+-- second are a proper prefix of its own
 abbrev pub is_inside : List ℕ → List ℕ → Bool
 is_inside path outer = starts_with nat_eq path (outer ++ 47 ∷ [])

@@ -19,7 +19,10 @@ ghost use Rattle.cm_decl.specs.Graph.{IsOrder, realm};
 ghost use Rattle.cm_decl.specs.Realm.{Directly};
 ghost use Rattle.cm_decl.specs.Cycle.{IsPickedCycle};
 ghost use Rattle.cm_decl.specs.Reach.{HasCycle, NoCycle};
-ghost use Rattle.cm_decl.specs.Examples.{named_as_child, used_of_nobody, offered_undeclared, given_back, exposed_twice, used_twice, one_inside, exposed_from_void, twice_named, two_ways, child_node, give, from_child, row_fault, a, b, p, q};
+ghost use Rattle.cm_decl.specs.Examples.{named_as_child, used_of_nobody, offered_undeclared, given_back};
+ghost use Rattle.cm_decl.specs.Examples.{exposed_twice, used_twice, one_inside, exposed_from_void};
+ghost use Rattle.cm_decl.specs.Examples.{twice_named, two_ways, child_node, give, from_child, row_fault, a};
+ghost use Rattle.cm_decl.specs.Examples.{b, p, q};
 
 /// A declaration has at most one fault, and a valid one has none.
 pub fn faults_once()

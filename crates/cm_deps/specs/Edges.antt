@@ -38,7 +38,8 @@ IsGrown after order = (k x : ℕ) → slice_get order k ≡ Some x → IsNext af
 abbrev pub Waits : List (List ℕ) → List ℕ → ℕ → Type 0
 Waits after front x = (y : ℕ) × IsTrue (holds (row after x) y) × (holds front y ≡ false)
 
--- nodes behind all that they depend on, as many as can be listed so: each other node depends on a node that isn't listed
+-- nodes behind all that they depend on, as many as can be listed so: each other node depends
+-- on a node that isn't listed
 pub record IsPeeled (after : List (List ℕ)) (order : List ℕ) : Type 0 where
   pub grown : IsGrown after order
   pub rest : (x : ℕ) → x < length after → holds order x ≡ false → Waits after order x

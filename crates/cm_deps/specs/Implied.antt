@@ -1,4 +1,5 @@
--- The edges to the first node, which stands for the component itself, from the nodes that it doesn't depend on.
+-- The edges to the first node, which stands for the component itself, from the nodes that it
+-- doesn't depend on.
 use Rattle.std.specs.Prelude.{◌≡◌, ◌≢◌, ℕ, ◌<◌, List, [], ◌∷◌, ◌++◌, length, nat_eq}
 use Rattle.std.specs.Prelude.{Bool, false, not, ◌&&◌, IsTrue, ◌⊎◌, if◌then◌else◌}
 use Rattle.cm_deps.specs.Edges.{holds, On, IsBelow, IsPeeled, IsReach}
@@ -21,13 +22,15 @@ pub record IsFull (after : List (List ℕ)) (reached : List ℕ) (full : List (L
 -- each node stands once, before all that it depends on, and these all stand there
 abbrev pub IsFalling : List (List ℕ) → List ℕ → Type 0
 IsFalling rows [] = Unit {0}
-IsFalling rows (x ∷ xs) = (holds xs x ≡ false) × ((y : ℕ) → On rows x y → IsTrue (holds xs y)) × IsFalling rows xs
+IsFalling rows (x ∷ xs) =
+    (holds xs x ≡ false) × ((y : ℕ) → On rows x y → IsTrue (holds xs y)) × IsFalling rows xs
 
 -- the list of a node with its implied edge; near tells whether the first node reaches it
 abbrev pub row_with : ℕ → List ℕ → Bool → List ℕ
 row_with x row near = row ++ (if not (nat_eq x 0) && not near then 0 ∷ [] else [])
 
--- all nodes were listed by the strong edges; here they stand once more, each before all that it depends on by all edges
+-- all nodes were listed by the strong edges; here they stand once more, each before all that
+-- it depends on by all edges
 pub record IsOrdered (after full : List (List ℕ)) (order : List ℕ) : Type 0 where
   pub listed : List ℕ
   pub peeled : IsPeeled after listed

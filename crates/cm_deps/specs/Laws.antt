@@ -14,8 +14,8 @@ pub record IsFurther (d : Decl) (dynamic : List DynChild) (collection : List ℕ
   pub new : is_node d dynamic (Child k.name) ≡ false
   pub unused : (z : Node) → strong_edge d (dynamic ++ k ∷ []) z (Child k.name) ≡ false
 
--- where a realm graph has no cycle, a further child would depend on a node exactly where, in the realm graph with that
--- child, it depends on it
+-- where a realm graph has no cycle, a further child would depend on a node exactly where, in
+-- the realm graph with that child, it depends on it
 abbrev pub WouldDependIsOneMore : Type 0
 WouldDependIsOneMore =
     (d : Decl) (dynamic : List DynChild) (coll : List ℕ) (k : DynChild) (y : Node) →

@@ -1,5 +1,6 @@
 -- The loop that is picked in a graph of numbered nodes that can't be listed behind all that they depend on.
-use Rattle.std.specs.Prelude.{◌≡◌, ℕ, ◌<◌, ◌≤◌, List, [], ◌∷◌, ◌++◌, length, take, drop, get_or, Bool, false, IsTrue, ◌⊎◌}
+use Rattle.std.specs.Prelude.{◌≡◌, ℕ, ◌<◌, ◌≤◌, List, [], ◌∷◌, ◌++◌, length, take, drop, get_or, Bool, false}
+use Rattle.std.specs.Prelude.{IsTrue, ◌⊎◌}
 use Rattle.cm_decl.specs.Reach.{Way, Reaches}
 use Rattle.cm_deps.specs.Edges.{holds, On}
 
@@ -11,7 +12,8 @@ pub record Leads (after : List (List ℕ)) (listed : ℕ → Bool) (x y : ℕ) :
 
 -- each node that isn't listed depends on one that isn't
 abbrev pub GoesOn : List (List ℕ) → (ℕ → Bool) → Type 0
-GoesOn after listed = (x : ℕ) → x < length after → listed x ≡ false → (y : ℕ) × On after x y × (listed y ≡ false)
+GoesOn after listed =
+    (x : ℕ) → x < length after → listed x ≡ false → (y : ℕ) × On after x y × (listed y ≡ false)
 
 -- no node is there twice
 abbrev pub Once : List ℕ → Type 0
@@ -24,7 +26,8 @@ IsTrail Onward start [] x = start ≡ x
 IsTrail Onward start (w ∷ ws) x = (start ≡ w) × Way Onward start ws x
 
 -- a walk that passed no node twice, and came back to one that it had passed
-pub record IsWalk (after : List (List ℕ)) (listed : ℕ → Bool) (start : ℕ) (passed : List ℕ) (node : ℕ) : Type 0 where
+pub record IsWalk (after : List (List ℕ)) (listed : ℕ → Bool) (start : ℕ) (passed : List ℕ) (node : ℕ)
+    : Type 0 where
   pub trail : IsTrail (Leads after listed) start passed node
   pub once : Once passed
   pub back : IsTrue (holds passed node)
@@ -48,8 +51,8 @@ pub record IsTurned (nodes ring : List ℕ) : Type 0 where
   pub least : (x : ℕ) → IsTrue (holds nodes x) → get_or nodes place 0 ≤ x
   pub whole : ring ≡ drop place nodes ++ take place nodes
 
--- from the first node that isn't listed on, each node is followed by the one that it leads to; this is the loop that is so
--- reached, begun at its least node
+-- from the first node that isn't listed on, each node is followed by the one that it leads to;
+-- this is the loop that is so reached, begun at its least node
 pub record IsRing (after : List (List ℕ)) (listed : ℕ → Bool) (ring : List ℕ) : Type 0 where
   pub start : ℕ
   pub first : IsFirstLeft (length after) listed start

@@ -1,5 +1,6 @@
 -- The numbers of the nodes that a node strongly depends on.
-use Rattle.std.specs.Prelude.{◌≡◌, ℕ, ◌<◌, List, [], ◌++◌, Bool, ◌&&◌, ◌||◌, length, map, filter, nat_lt, unwrap_or}
+use Rattle.std.specs.Prelude.{◌≡◌, ℕ, ◌<◌, List, [], ◌++◌, Bool, ◌&&◌, ◌||◌, length, map, filter, nat_lt}
+use Rattle.std.specs.Prelude.{unwrap_or}
 use Rattle.std.specs.List.{list_any}
 use Rattle.std.specs.Str.{bytes_eq}
 use Rattle.std.specs.Ordering.{nat_cmp}
@@ -41,9 +42,11 @@ numbers_at numbers name = unwrap_or (get (slice_cmp nat_cmp) numbers name) []
 
 -- at each name the numbers of the sources of the strong offers to it
 abbrev pub IsOffered : List Node → List Offer → BTreeMap (List ℕ) (List ℕ) → Type 0
-IsOffered nodes offers numbers = (name : List ℕ) → Lists nodes (strong_sources (offers_of offers name)) (numbers_at numbers name)
+IsOffered nodes offers numbers =
+    (name : List ℕ) → Lists nodes (strong_sources (offers_of offers name)) (numbers_at numbers name)
 
 -- for each node the numbers of the nodes that it strongly depends on
-pub record IsEdges (d : Decl) (dynamic : List DynChild) (nodes : List Node) (rows : List (List ℕ)) : Type 0 where
+pub record IsEdges (d : Decl) (dynamic : List DynChild) (nodes : List Node) (rows : List (List ℕ))
+    : Type 0 where
   pub size : length rows ≡ length nodes
   pub sources : (i : ℕ) → i < length nodes → Lists nodes (sources_of d dynamic (at nodes i)) (row rows i)

@@ -34,10 +34,12 @@ pub record SinkInMemory : Type 0 where
   pub capacity : ℕ
   pub plan : PlanAtWork
 
+-- this number, where no call is planned to fail, and else 0
 abbrev pub if_quiet : List ℕ → ℕ → ℕ
 if_quiet [] room = room
 if_quiet (call ∷ failing) room = 0
 
--- how many more bytes a sink is sure to take: those that fit into its memory, where no call is planned to fail
+-- how many more bytes a sink is sure to take: those that fit into its memory, where no call is
+-- planned to fail
 abbrev pub sure_room : SinkInMemory → ℕ
 sure_room sink = if_quiet sink.plan.failing (sink.capacity - length sink.written)

@@ -1,5 +1,6 @@
 -- The lines of bytes, and what a call of a line reader does.
-use Rattle.std.specs.Prelude.{◌≡◌, ◌≢◌, ◌⊎◌, ℕ, ◌<◌, ◌≤◌, cond, nat_eq, Bool, true, false, List, [], ◌∷◌, ◌++◌, length, All, Option, Some, None}
+use Rattle.std.specs.Prelude.{◌≡◌, ◌≢◌, ◌⊎◌, ℕ, ◌<◌, ◌≤◌, cond, nat_eq, Bool, true, false, List, [], ◌∷◌}
+use Rattle.std.specs.Prelude.{◌++◌, length, All, Option, Some, None}
 use Rattle.std.specs.Io.KnownBytes.{Consumes, IsAtEnd, Keeps}
 use Rattle.cm_io.specs.declared.lines.Next.{Next}
 use Rattle.cm_io.specs.declared.lines.Next.TheVariants as next
@@ -11,7 +12,8 @@ abbrev pub in_front : ℕ → List (List ℕ) → List (List ℕ)
 in_front byte [] = (byte ∷ []) ∷ []
 in_front byte (line ∷ lines) = (byte ∷ line) ∷ lines
 
--- the lines of bytes: each 0x0A ends a line, and what is left behind the last counts as a line where it isn't empty
+-- the lines of bytes: each 0x0A ends a line, and what is left behind the last counts as a line
+-- where it isn't empty
 unfoldable pub lines : List ℕ → List (List ℕ)
 lines [] = []
 lines (byte ∷ bytes) = cond (nat_eq byte 10) ([] ∷ lines bytes) (in_front byte (lines bytes))
@@ -20,16 +22,19 @@ lines (byte ∷ bytes) = cond (nat_eq byte 10) ([] ∷ lines bytes) (in_front by
 abbrev pub IsUnbroken : List ℕ → Type 0
 IsUnbroken bytes = All (λ byte. byte ≢ 10) bytes
 
--- `line` is the first line of `taken`: 0x0A ends it, and then comes `kept`; or it is all that was left, and isn't empty
+-- `line` is the first line of `taken`: 0x0A ends it, and then comes `kept`; or it is all that
+-- was left, and isn't empty
 abbrev pub IsFirstLine : List ℕ → List ℕ → Option (List ℕ) → List ℕ → Type 0
 IsFirstLine taken kept left line =
-    IsUnbroken line × ((taken ≡ line ++ 10 ∷ kept) ⊎ ((taken ≡ line) × (0 < length line) × (kept ≡ []) × IsAtEnd left))
+    IsUnbroken line × ((taken ≡ line ++ 10 ∷ kept)
+    ⊎ ((taken ≡ line) × (0 < length line) × (kept ≡ []) × IsAtEnd left))
 
--- what a call tells of `taken`, the bytes that the reader held before it and those that the source gave in it,
--- where the reader holds `kept` after it, and the source has `left`
+-- what a call tells of `taken`, the bytes that the reader held before it and those that the
+-- source gave in it, where the reader holds `kept` after it, and the source has `left`
 abbrev pub Tells : List ℕ → List ℕ → Option (List ℕ) → Next → Type 0
 Tells taken kept left (next.Line line) = (length line ≤ 65536) × IsFirstLine taken kept left line
-Tells taken kept left next.TooLong = (line : List ℕ) × (65536 < length line) × IsFirstLine taken kept left line
+Tells taken kept left next.TooLong =
+    (line : List ℕ) × (65536 < length line) × IsFirstLine taken kept left line
 Tells taken kept left next.End = (taken ≡ []) × (kept ≡ []) × IsAtEnd left
 Tells taken kept left next.ReadFault = IsUnbroken taken × (kept ≡ [])
 Tells taken kept left next.Memory = Unit {0}
@@ -39,7 +44,8 @@ abbrev pub TakesLine : Option (List ℕ) → Option (List ℕ) → Next → Type
 TakesLine None new answer = Unit {0}
 TakesLine (Some old) None answer = ⊥
 TakesLine (Some old) (Some new) (next.Line line) = (lines old ≡ line ∷ lines new) × (length line ≤ 65536)
-TakesLine (Some old) (Some new) next.TooLong = (line : List ℕ) × (lines old ≡ line ∷ lines new) × (65536 < length line)
+TakesLine (Some old) (Some new) next.TooLong =
+    (line : List ℕ) × (lines old ≡ line ∷ lines new) × (65536 < length line)
 TakesLine (Some old) (Some new) next.End = (old ≡ []) × (new ≡ [])
 TakesLine (Some old) (Some new) next.ReadFault = Unit {0}
 TakesLine (Some old) (Some new) next.Memory = Unit {0}
@@ -50,7 +56,8 @@ Grows old new part = (length old ≤ 65536 → new ≡ old ++ part) × (65536 < 
 
 -- the line grew by what was held up to the next line end, or by all of it where there is none
 abbrev pub TakesPart : List ℕ → List ℕ → List ℕ → List ℕ → Bool → Type 0
-TakesPart held kept old new true = (part : List ℕ) × IsUnbroken part × (held ≡ part ++ 10 ∷ kept) × Grows old new part
+TakesPart held kept old new true =
+    (part : List ℕ) × IsUnbroken part × (held ≡ part ++ 10 ∷ kept) × Grows old new part
 TakesPart held kept old new false = IsUnbroken held × (kept ≡ []) × Grows old new held
 
 -- what a read into an empty reader does to the bytes that the source has left; the reader then holds `held`

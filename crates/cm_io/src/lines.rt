@@ -37,9 +37,9 @@ pub enum Next {
 
 /// Takes one line after another out of a source, however the source cuts its bytes into pieces.
 ///
-/// Contracts see it as the list of the bytes that it holds: the source gave them, and they belong to no line told so
-/// far. They are those of `piece` from `start` up to `end`. Each byte is looked at once and copied once, so the time
-/// grows with the number of bytes and reads alone.
+/// Contracts see it as the list of the bytes that it holds: the source gave them, and they belong
+/// to no line told so far. They are those of `piece` from `start` up to `end`. Each byte is looked
+/// at once and copied once, so the time grows with the number of bytes and reads alone.
 #[derive(Drop)]
 pub struct LineReader {
     alloc: Global,
@@ -55,7 +55,8 @@ impl Model for LineReader {
 
     ghost view = { λ r. take (r.end - r.start) (drop r.start r.piece.items) };
 
-    ghost invariant = { λ r. (r.start ≤ r.end) × (r.end ≤ length r.piece.items) × (length r.piece.items ≡ 65536) };
+    ghost invariant = { λ r. (r.start ≤ r.end) × (r.end ≤ length r.piece.items)
+        × (length r.piece.items ≡ 65536) };
 }
 
 impl LineReader {
@@ -74,10 +75,11 @@ impl LineReader {
 
     /// Takes the next line. The byte 0x0A ends each line; a last line without it counts where it isn't empty.
     ///
-    /// It is `TooLong` exactly where the next line has more than 65,536 bytes, and the next call goes on behind that
-    /// line. It is `End` exactly where no byte is left. `ReadFault` comes only where the source's count of faults rose
-    /// in this call, and no line end is among the bytes taken so far, and never from a quiet source; `Memory` only
-    /// where memory ran out. After these two a part of a line is lost, so make no further call.
+    /// It is `TooLong` exactly where the next line has more than 65,536 bytes, and the next call
+    /// goes on behind that line. It is `End` exactly where no byte is left. `ReadFault` comes only
+    /// where the source's count of faults rose in this call, and no line end is among the bytes
+    /// taken so far, and never from a quiet source; `Memory` only where memory ran out. After these
+    /// two a part of a line is lost, so make no further call.
     pub fn next<R: Threads + Wait + Sync, S: Source>(&mut self, rt: &R, source: &mut S) -> Next
         ensures told { (given : Seq ℕ) × Consumes (S.left source.old) (S.left source.new) given
             × Tells (self.old ++ given) self.new (S.left source.new) result }
@@ -85,7 +87,8 @@ impl LineReader {
             (prepend_known self.new (S.left source.new)) result }
         ensures later { S.faults source.old ≤ S.faults source.new }
         ensures fault { result ≡ Next.ReadFault → Rose (S.faults source.old) (S.faults source.new) }
-        ensures quiet { S.quiet source.old → S.quiet source.new × (S.faults source.new ≡ S.faults source.old) }
+        ensures quiet { S.quiet source.old
+            → S.quiet source.new × (S.faults source.new ≡ S.faults source.old) }
         ensures unfailing { S.quiet source.old → result ≢ Next.ReadFault }
     {
         let mut line = Vec::new(self.alloc);
@@ -119,8 +122,8 @@ impl LineReader {
         got
     }
 
-    /// Moves what is held to the end of `line`, up to the next line end, and passes over that. Tells whether there
-    /// is one.
+    /// Moves what is held to the end of `line`, up to the next line end, and passes over that.
+    /// Tells whether there is one.
     fn take_part(&mut self, line: &mut Vec<u8>) -> Result<bool, AllocError>
         ensures { IfOk result (λ ended. TakesPart self.old self.new line.old.items line.new.items ended) }
     {

@@ -2,8 +2,10 @@
 
 ghost use Rattle.cm_io.specs.Counts.{count_after, one_more};
 ghost use Rattle.cm_io.specs.InMemory.{after_call, most_of, sure_room, unused};
-ghost use Rattle.cm_io.specs.Outside.{ReadCause, Reads, TookAnd, WriteCause, Writes, read_failed, write_failed};
-ghost use Rattle.std.specs.Prelude.{IsTrue, ◌≡◌, ◌≢◌, ◌↔◌, ◌⊎◌, ◌<◌, ℕ, Some, [], ◌≤◌, ◌+◌, ◌-◌, ◌^◌, length, min, max, Contains, IfOk};
+ghost use Rattle.cm_io.specs.Outside.{ReadCause, Reads, TookAnd, WriteCause, Writes, read_failed};
+ghost use Rattle.cm_io.specs.Outside.{write_failed};
+ghost use Rattle.std.specs.Prelude.{IsTrue, ◌≡◌, ◌≢◌, ◌↔◌, ◌⊎◌, ◌<◌, ℕ, Some, [], ◌≤◌, ◌+◌, ◌-◌, ◌^◌, length};
+ghost use Rattle.std.specs.Prelude.{min, max, Contains, IfOk};
 
 use crate::{Got, Sink, Source, Took};
 use cm_names::{Bytes, List, Memory};
@@ -79,7 +81,10 @@ impl Planned {
     fn fails(&mut self) -> bool
         ensures planned { IsTrue result ↔ Contains self.old.failing self.old.calls }
         ensures later { self.old.faults ≤ self.new.faults }
-        ensures call { self.new ≡ record self.old { calls = one_more self.old.calls; faults = count_after result self.old.faults } }
+        ensures call { self.new ≡ record self.old {
+          calls = one_more self.old.calls;
+          faults = count_after result self.old.faults;
+        } }
     {
         let fails = is_among(self.failing.as_slice(), self.calls);
         self.calls = self.calls.saturating_add(1);
@@ -167,7 +172,8 @@ impl Source for MemorySource {
 
 /// A sink that keeps the bytes in a list. A write for which no memory is found fails.
 ///
-/// Contracts see the bytes that were written, for how many bytes in all it holds memory, and the plan at work.
+/// Contracts see the bytes that were written, for how many bytes in all it holds memory, and the
+/// plan at work.
 #[derive(Drop)]
 pub struct MemorySink {
     bytes: Vec<u8>,
@@ -203,8 +209,8 @@ impl MemorySink {
         }
     }
 
-    /// A sink that holds nothing yet, with memory for `capacity` bytes: a write that fits into it fails only where
-    /// that is planned. `Memory` where memory ran out.
+    /// A sink that holds nothing yet, with memory for `capacity` bytes: a write that fits into it
+    /// fails only where that is planned. `Memory` where memory ran out.
     pub fn with_capacity(alloc: Global, capacity: usize, plan: Plan) -> Result<MemorySink, Memory>
         ensures { IfOk result (λ sink. sink ≡
             record { written = []; capacity = capacity; plan = unused plan.piece plan.failing }) }
@@ -238,7 +244,8 @@ impl Sink for MemorySink {
         requires { 0 < length bytes.now }
         ensures bytes { Writes (Some self.old.written) (Some self.new.written) bytes.now result }
         ensures cause { WriteCause self.old.plan.faults self.new.plan.faults result }
-        ensures room { length bytes.now ≤ sure_room self.old → TookAnd result (λ n. sure_room self.old ≤ n + sure_room self.new) }
+        ensures room { length bytes.now ≤ sure_room self.old
+            → TookAnd result (λ n. sure_room self.old ≤ n + sure_room self.new) }
         ensures planned { Contains self.old.plan.failing self.old.plan.calls → result ≡ Took.Failed }
         ensures memory { result ≡ Took.Failed → Contains self.old.plan.failing self.old.plan.calls
             ⊎ (self.old.capacity < length self.old.written + min (length bytes.now) (most_of self.old.plan)) }

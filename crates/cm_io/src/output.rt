@@ -18,7 +18,8 @@ pub enum Put {
 
 /// Writes all of the bytes, piece by piece, until the sink fails. It takes no memory.
 ///
-/// `WriteFault` comes only where the sink failed in this call, and never where there is sure to be room for the bytes.
+/// `WriteFault` comes only where the sink failed in this call, and never where there is sure to be
+/// room for the bytes.
 pub fn put_all<R: Threads + Wait + Sync, K: Sink>(rt: &R, sink: &mut K, bytes: &[u8]) -> Put
     ensures bytes { PutsAll (K.written sink.old) (K.written sink.new) bytes.now result }
     ensures cause { PutCause (K.faults sink.old) (K.faults sink.new) result }

@@ -30,11 +30,13 @@ pub trait Sink: Drop {
 
     /// Writes bytes from the front of the piece, as many as are taken at once.
     ///
-    /// `Failed` comes only where the sink failed: then its count of faults rises by one, and nothing was written. A
-    /// piece for which there is sure to be room doesn't fail, and takes no more room than the bytes that were taken.
+    /// `Failed` comes only where the sink failed: then its count of faults rises by one, and
+    /// nothing was written. A piece for which there is sure to be room doesn't fail, and takes no
+    /// more room than the bytes that were taken.
     fn write<R: Threads + Wait + Sync>(&mut self, rt: &R, bytes: &[u8]) -> Took
         requires { 0 < length bytes.now }
         ensures bytes { Writes (written self.old) (written self.new) bytes.now result }
         ensures cause { WriteCause (faults self.old) (faults self.new) result }
-        ensures room { length bytes.now ≤ room self.old → TookAnd result (λ n. room self.old ≤ n + room self.new) };
+        ensures room { length bytes.now ≤ room self.old
+            → TookAnd result (λ n. room self.old ≤ n + room self.new) };
 }

@@ -32,8 +32,9 @@ pub trait Source: Drop {
 
     /// Reads the next bytes, as many as come at once and fit.
     ///
-    /// `End` comes only where nothing is left, and `Failed` only where the source failed: then its count of faults
-    /// rises by one, and no byte is lost. A quiet source never answers `Failed`, and stays quiet.
+    /// `End` comes only where nothing is left, and `Failed` only where the source failed: then its
+    /// count of faults rises by one, and no byte is lost. A quiet source never answers `Failed`,
+    /// and stays quiet.
     fn read<R: Threads + Wait + Sync>(&mut self, rt: &R, into: &mut [u8]) -> Got
         requires { 0 < length into.old }
         ensures bytes { Reads (left self.old) (left self.new) into.new result }

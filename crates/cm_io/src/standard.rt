@@ -73,8 +73,8 @@ impl<T: Read + Drop> Source for Reading<T> {
     }
 }
 
-/// A writer whose faults are counted. Taking nothing counts as a fault; a call that a signal cut short is made again,
-/// and counts as none.
+/// A writer whose faults are counted. Taking nothing counts as a fault; a call that a signal cut
+/// short is made again, and counts as none.
 #[derive(Drop)]
 pub struct Writing<T> {
     inner: T,

@@ -1,7 +1,9 @@
 -- Where a moniker's text can stand, and how it can go on from there.
-use Rattle.std.specs.Prelude.{ℕ, ◌+◌, Bool, true, false, ◌==◌, ◌&&◌, nat_lt, Option, Some, None, if◌then◌else◌}
+use Rattle.std.specs.Prelude.{ℕ, ◌+◌, Bool, true, false, ◌==◌, ◌&&◌, nat_lt, Option, Some, None}
+use Rattle.std.specs.Prelude.{if◌then◌else◌}
 use Rattle.cm_names.specs.declared.grammar.MonikerPlace.{MonikerPlace}
-use Rattle.cm_names.specs.declared.grammar.MonikerPlace.TheVariants.{Start, Whole, Root, Part, First, Colon, Second}
+use Rattle.cm_names.specs.declared.grammar.MonikerPlace.TheVariants.{Start, Whole, Root, Part, First, Colon}
+use Rattle.cm_names.specs.declared.grammar.MonikerPlace.TheVariants.{Second}
 use Rattle.cm_names.specs.Name.{begins_name, continues_name}
 
 -- behind one byte more, where n bytes of a name stand

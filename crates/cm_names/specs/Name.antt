@@ -1,5 +1,6 @@
 -- Which texts are names, and the first fault of a text that is none.
-use Rattle.std.specs.Prelude.{ℕ, ◌+◌, ◌≤◌, List, [], ◌∷◌, length, Bool, not, ◌&&◌, ◌||◌, ◌==◌, nat_lt, nat_le, Option, Some, None, option_map, position, All, if◌then◌else◌, IsTrue}
+use Rattle.std.specs.Prelude.{ℕ, ◌+◌, ◌≤◌, List, [], ◌∷◌, length, Bool, not, ◌&&◌, ◌||◌, ◌==◌, nat_lt, nat_le}
+use Rattle.std.specs.Prelude.{Option, Some, None, option_map, position, All, if◌then◌else◌, IsTrue}
 use Rattle.cm_names.specs.declared.name.NameFault.{NameFault}
 use Rattle.cm_names.specs.declared.name.NameFault.TheVariants.{Empty, TooLong, BadByte}
 

@@ -1,9 +1,12 @@
 -- Which texts are paths and subdirectories, and the first fault of a text that is none.
-use Rattle.std.specs.Prelude.{◌≡◌, ℕ, ◌+◌, List, [], ◌∷◌, ◌++◌, length, codes, Bool, false, not, ◌&&◌, ◌||◌, ◌==◌, nat_le, nat_lt, if◌then◌else◌, Option, Some, option_map, position, slice_get}
+use Rattle.std.specs.Prelude.{◌≡◌, ℕ, ◌+◌, List, [], ◌∷◌, ◌++◌, length, codes, Bool, false, not, ◌&&◌, ◌||◌}
+use Rattle.std.specs.Prelude.{◌==◌, nat_le, nat_lt, if◌then◌else◌, Option, Some, option_map, position}
+use Rattle.std.specs.Prelude.{slice_get}
 use Rattle.std.specs.List.{list_all, slice_split, filter_map, flat_map}
 use Rattle.std.specs.Str.{bytes_eq}
 use Rattle.cm_names.specs.declared.path.PathFault.{PathFault}
-use Rattle.cm_names.specs.declared.path.PathFault.TheVariants.{Empty, TooLong, BadByte, NotAbsolute, NotRelative, EmptyPart, DotPart}
+use Rattle.cm_names.specs.declared.path.PathFault.TheVariants.{Empty, TooLong, BadByte, NotAbsolute}
+use Rattle.cm_names.specs.declared.path.PathFault.TheVariants.{NotRelative, EmptyPart, DotPart}
 
 -- ---- the grammar
 
@@ -56,7 +59,8 @@ parts_with_places place (part ∷ parts) = (place, part) ∷ parts_with_places (
 
 -- the first fault of the parts of a text that begins at this place
 abbrev pub parts_fault : ℕ → List ℕ → Option PathFault
-parts_fault place t = slice_get (filter_map (λ p. part_fault p.0 p.1) (parts_with_places place (parts_of t))) 0
+parts_fault place t =
+    slice_get (filter_map (λ p. part_fault p.0 p.1) (parts_with_places place (parts_of t))) 0
 
 -- the first fault of a text that is to be a path
 abbrev pub path_fault : List ℕ → Option PathFault

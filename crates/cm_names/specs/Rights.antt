@@ -1,10 +1,14 @@
 -- Rights, and the words that stand for them.
-use Rattle.std.specs.Prelude.{◌≡◌, ◌≢◌, ℕ, min, List, [], ◌∷◌, ◌++◌, length, codes, map, filter, Bool, true, false, not, ◌||◌, if◌then◌else◌, Option, Some, None, option_map, Result, Ok, Err}
+use Rattle.std.specs.Prelude.{◌≡◌, ◌≢◌, ℕ, min, List, [], ◌∷◌, ◌++◌, length, codes, map, filter, Bool, true}
+use Rattle.std.specs.Prelude.{false, not, ◌||◌, if◌then◌else◌, Option, Some, None, option_map, Result, Ok}
+use Rattle.std.specs.Prelude.{Err}
 use Rattle.std.specs.List.{list_all, list_any, join_with_byte}
 use Rattle.std.specs.Str.{bytes_eq}
 use Rattle.std.specs.Option.{option_map_or}
 use Rattle.cm_names.specs.declared.rights.Right.{Right}
-use Rattle.cm_names.specs.declared.rights.Right.TheVariants.{Connect, Enumerate, Execute, GetAttributes, ModifyDirectory, ReadBytes, Traverse, UpdateAttributes, WriteBytes}
+use Rattle.cm_names.specs.declared.rights.Right.TheVariants.{Connect, Enumerate, Execute, GetAttributes}
+use Rattle.cm_names.specs.declared.rights.Right.TheVariants.{ModifyDirectory, ReadBytes, Traverse}
+use Rattle.cm_names.specs.declared.rights.Right.TheVariants.{UpdateAttributes, WriteBytes}
 use Rattle.cm_names.specs.declared.rights.RightsFault.{RightsFault}
 use Rattle.cm_names.specs.declared.rights.RightsFault.TheVariants.{Empty, UnknownRight, RepeatedRight}
 
@@ -57,7 +61,8 @@ implies a b = not a || b
 -- the nine rights in their order
 abbrev pub all_rights : List Right
 all_rights =
-    Connect ∷ Enumerate ∷ Execute ∷ GetAttributes ∷ ModifyDirectory ∷ ReadBytes ∷ Traverse ∷ UpdateAttributes ∷ WriteBytes ∷ []
+    Connect ∷ Enumerate ∷ Execute ∷ GetAttributes ∷ ModifyDirectory ∷ ReadBytes ∷ Traverse ∷ UpdateAttributes
+    ∷ WriteBytes ∷ []
 
 -- a right's name
 abbrev pub word_of : Right → List ℕ
@@ -157,10 +162,12 @@ with_rights r (Ok others) = Ok (union r others)
 with_rights r (Err e) = Err e
 
 -- one word more, behind the earlier ones
-abbrev pub with_word : List (List ℕ) → List ℕ → Option RightSet → Result RightSet RightsFault → Result RightSet RightsFault
+abbrev pub with_word : List (List ℕ) → List ℕ → Option RightSet → Result RightSet RightsFault
+    → Result RightSet RightsFault
 with_word earlier word None others = Err (UnknownRight (index_of (length earlier)))
 with_word earlier word (Some r) others =
-    if list_any (bytes_eq word) earlier then Err (RepeatedRight (index_of (length earlier))) else with_rights r others
+    if list_any (bytes_eq word) earlier then Err (RepeatedRight (index_of (length earlier)))
+    else with_rights r others
 
 -- the union of the words, which stand behind the earlier ones, or their first fault
 abbrev pub rights_behind : List (List ℕ) → List (List ℕ) → Result RightSet RightsFault

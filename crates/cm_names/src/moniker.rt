@@ -1,9 +1,12 @@
 //! Where an instance stands in the tree of components.
 
-ghost use Rattle.std.specs.Prelude.{◌≡◌, ◌≢◌, ◌↔◌, ◌≤◌, [], ◌∷◌, ◌++◌, length, codes, map, All, IsTrue, IfOk, IfErr, MatchOption, OnOk};
+ghost use Rattle.std.specs.Prelude.{◌≡◌, ◌≢◌, ◌↔◌, ◌≤◌, [], ◌∷◌, ◌++◌, length, codes, map, All, IsTrue, IfOk};
+ghost use Rattle.std.specs.Prelude.{IfErr, MatchOption, OnOk};
 ghost use Rattle.cm_names.specs.Name.{IsName};
 ghost use Rattle.cm_names.specs.Child.{child_text};
-ghost use Rattle.cm_names.specs.Moniker.{moniker_text, IsChild, IsChildText, IsMonikerFault, IsMonikerText, IsMonikerTextOf, behind_slash, ReadsOneWay, WritesItsText, BeginsWith};
+ghost use Rattle.cm_names.specs.Moniker.{moniker_text, IsChild, IsChildText, IsMonikerFault, IsMonikerText};
+ghost use Rattle.cm_names.specs.Moniker.{IsMonikerTextOf, behind_slash, ReadsOneWay, WritesItsText};
+ghost use Rattle.cm_names.specs.Moniker.{BeginsWith};
 ghost use Rattle.cm_names.specs.Path.{parts_of};
 
 use crate::grammar::bad_place;

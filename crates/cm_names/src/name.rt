@@ -1,6 +1,7 @@
 //! Names of components, collections and capabilities.
 
-ghost use Rattle.std.specs.Prelude.{ℕ, List, ◌↔◌, ◌≡◌, ◌≢◌, Some, None, ◌<◌, ◌≤◌, not, position, IsTrue, IfOk, IfErr, IfSome, IfNone, All, length};
+ghost use Rattle.std.specs.Prelude.{ℕ, List, ◌↔◌, ◌≡◌, ◌≢◌, Some, None, ◌<◌, ◌≤◌, not, position, IsTrue};
+ghost use Rattle.std.specs.Prelude.{IfOk, IfErr, IfSome, IfNone, All, length};
 ghost use Rattle.cm_names.specs.Name.{begins_name, continues_name, first_bad, IsName, name_fault};
 
 use crate::{MAX_NAME_BYTES, Memory, Plain, Text};

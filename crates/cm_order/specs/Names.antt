@@ -1,6 +1,7 @@
--- The nodes of a level by their names: those of the realm graph of the declaration and of the children that were created in
--- its collections. A doomed child has no node there, since no name finds it.
-use Rattle.std.specs.Prelude.{ℕ, List, [], ◌∷◌, ◌==◌, Option, Some, None, is_some, option_map, option_and_then, if◌then◌else◌}
+-- The nodes of a level by their names: those of the realm graph of the declaration and of the children
+-- that were created in its collections. A doomed child has no node there, since no name finds it.
+use Rattle.std.specs.Prelude.{ℕ, List, [], ◌∷◌, ◌==◌, Option, Some, None, is_some, option_map}
+use Rattle.std.specs.Prelude.{option_and_then, if◌then◌else◌}
 use Rattle.std.specs.List.{flat_map}
 use Rattle.cm_names.specs.declared.child.ChildName.{ChildName}
 use Rattle.cm_decl.specs.declared.rows.Give.{Give}
@@ -25,7 +26,8 @@ in_collection c gives = if is_some c.coll then record { name = c; gives = gives 
 
 abbrev pub dynamic_child : Row → List DynChild
 dynamic_child r =
-    if r.doomed then [] else elim r.name as (λ _. List DynChild) [ None ↦ [] | Some c ↦ in_collection c r.gives ]
+    if r.doomed then []
+    else elim r.name as (λ _. List DynChild) [ None ↦ [] | Some c ↦ in_collection c r.gives ]
 
 -- the children of p in its collections that aren't doomed
 abbrev pub dynamic_children : List Row → ℕ → List DynChild

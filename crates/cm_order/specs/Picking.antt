@@ -33,7 +33,8 @@ pub record WaitsFor (rows : List Row) (target a : ℕ) : Type 0 where
   pub stuck : CanPick rows target → ⊥
   pub blocked : BlockedBy rows target a
 
--- done where all at and below the target is shut; else a row that may be picked, by whether it is on; else what to wait for
+-- done where all at and below the target is shut; else a row that may be picked, by whether it
+-- is on; else what to wait for
 abbrev pub IsPicked : List Row → ℕ → Picked → Type 0
 IsPicked rows target Done = IsTrue (is_subtree_shut rows target)
 IsPicked rows target (StopNow y) = PicksNow rows target y true

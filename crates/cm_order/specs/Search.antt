@@ -22,7 +22,8 @@ pub record LeadsNext (rows : List Row) (p : ℕ) (after : Option ℕ) (c : ℕ) 
   pub kid : IsKid rows p c
   pub behind : IsTrue (is_behind after c)
   pub leads : Leads rows p c
-  pub others : (i : ℕ) → IsKid rows p i → IsTrue (is_behind after i) → Leads rows p i → (i ≡ c) ⊎ IsTrue (is_behind (Some c) i)
+  pub others : (i : ℕ) → IsKid rows p i → IsTrue (is_behind after i) → Leads rows p i
+      → (i ≡ c) ⊎ IsTrue (is_behind (Some c) i)
 
 -- a child behind one of them that leads, or that there is none
 abbrev pub IsNextLeading : List Row → ℕ → Option ℕ → Option ℕ → Type 0

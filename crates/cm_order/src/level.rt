@@ -6,7 +6,8 @@ ghost use Rattle.cm_decl.specs.declared.node.DynChild.{DynChild as Dynamic};
 ghost use Rattle.cm_deps.specs.Graph.{IsGraphOf};
 ghost use Rattle.cm_world.specs.Sound.{IsSound};
 ghost use Rattle.cm_world.specs.Stopping.{IsFree};
-ghost use Rattle.cm_order.specs.Levels.{Each, IsLevel, IsLevelGraph, IsMember, LeavesFree, MemberDepends, RowWould, has_member};
+ghost use Rattle.cm_order.specs.Levels.{Each, IsLevel, IsLevelGraph, IsMember, LeavesFree, MemberDepends};
+ghost use Rattle.cm_order.specs.Levels.{RowWould, has_member};
 ghost use Rattle.cm_order.specs.Search.{Leads, IsNextLeading};
 
 use crate::members::{Member, dynamic, find_member, members_of};

@@ -1,6 +1,7 @@
 //! What a pick comes to.
 
-ghost use Rattle.std.specs.Prelude.{◌≡◌, false, Some, IsTrue, IfOk, if◌then◌else◌, option_map, option_and_then};
+ghost use Rattle.std.specs.Prelude.{◌≡◌, false, Some, IsTrue, IfOk, if◌then◌else◌, option_map};
+ghost use Rattle.std.specs.Prelude.{option_and_then};
 ghost use Rattle.cm_world.specs.Rows.{row_of, is_subtree_shut, is_on};
 ghost use Rattle.cm_world.specs.Sound.{IsSound};
 ghost use Rattle.cm_world.specs.Stopping as spec;

@@ -1,5 +1,6 @@
 -- What the fields of an item are read as.
-use Rattle.std.specs.Prelude.{ℕ, ◌&&◌, Bool, not, List, [], ◌∷◌, length, map, Option, Some, None, ok_or, Result, Ok, Err, nat_le, ◌==◌, if◌then◌else◌}
+use Rattle.std.specs.Prelude.{ℕ, ◌&&◌, Bool, not, List, [], ◌∷◌, length, map, Option, Some, None, ok_or}
+use Rattle.std.specs.Prelude.{Result, Ok, Err, nat_le, ◌==◌, if◌then◌else◌}
 use Rattle.std.specs.Str.{bytes_eq}
 use Rattle.std.specs.Borrow.{Bor}
 use Rattle.std.specs.List.{list_any, list_all}
@@ -11,7 +12,8 @@ use Rattle.cm_names.specs.Rights.{RightSet, rights_of}
 use Rattle.cm_names.specs.declared.rights.RightsFault.{RightsFault}
 use Rattle.cm_read.specs.declared.fault.Place.{Place}
 use Rattle.cm_read.specs.declared.fault.ReadFault.{ReadFault}
-use Rattle.cm_read.specs.Numbers.{unknown_field, missing, wrong_type, bad_name, bad_path, bad_rights, unknown_word, max_url}
+use Rattle.cm_read.specs.Numbers.{unknown_field, missing, wrong_type, bad_name, bad_path, bad_rights}
+use Rattle.cm_read.specs.Numbers.{unknown_word, max_url}
 use Rattle.cm_read.specs.Reading.{Read, ◌>>=◌, bad}
 
 -- ---- whether a field is there

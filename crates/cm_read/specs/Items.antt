@@ -1,5 +1,6 @@
 -- The items of each section, and the rows that they give.
-use Rattle.std.specs.Prelude.{ℕ, List, [], ◌∷◌, length, map, codes, nat_lt, Option, Some, None, unwrap_or, Ok, Err, if◌then◌else◌}
+use Rattle.std.specs.Prelude.{ℕ, List, [], ◌∷◌, length, map, codes, nat_lt, Option, Some, None, unwrap_or, Ok}
+use Rattle.std.specs.Prelude.{Err, if◌then◌else◌}
 use Rattle.std.specs.List.{flat_map}
 use Rattle.serde_json.specs.Data.{Data}
 use Rattle.serde_json.specs.Find.{get}
@@ -22,8 +23,11 @@ use Rattle.cm_read.specs.declared.fault.Place.{Place}
 use Rattle.cm_read.specs.declared.rows.Terms.{Terms}
 use Rattle.cm_read.specs.Numbers.{kind_count, not_with_many}
 use Rattle.cm_read.specs.Reading.{Read, ◌>>=◌, bad}
-use Rattle.cm_read.specs.Fields.{needed_at, if_there, name_in_at, name_at, url_at, path_in_at, path_at, subdir_at, names_at, references_at, rights_in_at, rights_at, object_at, known_at}
-use Rattle.cm_read.specs.Words.{startup_at, durability_at, allowed_offers_at, dependency_at, availability_at, expose_to_at, use_from_at, offer_from_at, expose_from_at}
+use Rattle.cm_read.specs.Fields.{needed_at, if_there, name_in_at, name_at, url_at, path_in_at, path_at}
+use Rattle.cm_read.specs.Fields.{subdir_at, names_at, references_at, rights_in_at, rights_at, object_at}
+use Rattle.cm_read.specs.Fields.{known_at}
+use Rattle.cm_read.specs.Words.{startup_at, durability_at, allowed_offers_at, dependency_at, availability_at}
+use Rattle.cm_read.specs.Words.{expose_to_at, use_from_at, offer_from_at, expose_from_at}
 
 -- ---- children and collections
 

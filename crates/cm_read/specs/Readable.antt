@@ -1,5 +1,6 @@
 -- Which declarations a manifest can have, and that these are read back from their text.
-use Rattle.std.specs.Prelude.{◌≡◌, ◌≢◌, ℕ, ◌≤◌, List, length, Bool, true, false, Option, Some, None, Ok, IsTrue, All}
+use Rattle.std.specs.Prelude.{◌≡◌, ◌≢◌, ℕ, ◌≤◌, List, length, Bool, true, false, Option, Some, None, Ok}
+use Rattle.std.specs.Prelude.{IsTrue, All}
 use Rattle.cm_names.specs.Name.{IsName}
 use Rattle.cm_names.specs.Path.{is_path, is_subdir}
 use Rattle.cm_names.specs.Rights.{RightSet, no_rights}

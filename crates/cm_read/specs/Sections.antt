@@ -1,5 +1,6 @@
 -- The rows of a section.
-use Rattle.std.specs.Prelude.{◌+◌, ◌-◌, ◌^◌, min, List, [], ◌++◌, length, Option, Some, None, ok_or, Ok, Err, nat_le, if◌then◌else◌}
+use Rattle.std.specs.Prelude.{◌+◌, ◌-◌, ◌^◌, min, List, [], ◌++◌, length, Option, Some, None, ok_or, Ok, Err}
+use Rattle.std.specs.Prelude.{nat_le, if◌then◌else◌}
 use Rattle.serde_json.specs.Data.{Data, Items, no_items, item}
 use Rattle.serde_json.specs.Find.{as_array}
 use Rattle.cm_decl.specs.declared.section.Section.{Section}

@@ -104,7 +104,8 @@ dependency_at at d =
 -- `availability`, by default `required`
 unfoldable pub availability_at : Place → Data → Read Availability
 availability_at at d =
-    or_default (get (codes "availability") d) Required (listed_at availability_named at (codes "availability"))
+    or_default (get (codes "availability") d) Required
+    (listed_at availability_named at (codes "availability"))
 
 -- `to` of an expose, by default `parent`
 unfoldable pub expose_to_at : Place → Data → Read (Unit {0})

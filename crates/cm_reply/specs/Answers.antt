@@ -1,5 +1,7 @@
--- How the answers to commands are written. Lines after the first begin with two spaces, and no line feed stands behind the last.
-use Rattle.std.specs.Prelude.{ℕ, List, [], ◌++◌, length, codes, decimal, not, Option, Some, None, Result, Ok, Err}
+-- How the answers to commands are written. Lines after the first begin with two spaces, and no
+-- line feed stands behind the last.
+use Rattle.std.specs.Prelude.{ℕ, List, [], ◌++◌, length, codes, decimal, not, Option, Some, None, Result, Ok}
+use Rattle.std.specs.Prelude.{Err}
 use Rattle.cm_names.specs.Child.{in_collection}
 use Rattle.cm_names.specs.Moniker.{moniker_text}
 use Rattle.cm_world.specs.declared.event.Target.{Target}
@@ -74,14 +76,19 @@ counted text items = codes " " ++ (decimal (length items) ++ further_lines text 
 abbrev pub answer_text : Command → Answer → Text
 answer_text c (answer.Resolved action) = of_target (codes "resolved") c ++ done_by action
 answer_text c (answer.Started action) = of_target (codes "started") c ++ done_by action
-answer_text c (answer.Stopped action forced) = of_target (codes "stopped") c ++ (when forced (codes " by-force") ++ done_by action)
+answer_text c (answer.Stopped action forced) =
+    of_target (codes "stopped") c ++ (when forced (codes " by-force") ++ done_by action)
 answer_text c answer.Shut = of_target (codes "shut") c
-answer_text c (answer.Created inc) = of_target (codes "created") c ++ (codes " " ++ (child_of c ++ incarnation_text inc))
+answer_text c (answer.Created inc) =
+    of_target (codes "created") c ++ (codes " " ++ (child_of c ++ incarnation_text inc))
 answer_text c answer.Destroyed = of_target (codes "destroyed") c
-answer_text c (answer.Children kids) = of_target (codes "children") c ++ (codes " " ++ (collection_of c ++ counted kid_text kids))
+answer_text c (answer.Children kids) =
+    of_target (codes "children") c ++ (codes " " ++ (collection_of c ++ counted kid_text kids))
 answer_text c (answer.Opened route) = codes "opened " ++ place_text route
 answer_text c (answer.Routed route) = codes "route " ++ route_text route
-answer_text c (answer.Shown look) = of_target (codes "shown") c ++ (incarnation_text look.inc ++ (codes " url " ++ (look.url ++ (codes " " ++ look_text look))))
+answer_text c (answer.Shown look) =
+    of_target (codes "shown") c
+    ++ (incarnation_text look.inc ++ (codes " url " ++ (look.url ++ (codes " " ++ look_text look))))
 answer_text c (answer.Surveyed rows) = of_target (codes "survey") c ++ counted survey_text rows
 answer_text c (answer.Doctored lines) = of_target (codes "doctor") c ++ counted checked_text lines
 answer_text c (answer.Left was_on) = of_target (codes "exited") c ++ when (not was_on) (codes " already")

@@ -52,7 +52,9 @@ session = record { parts = static_name (codes "core") ∷ static_name (codes "se
 -- a child in a collection of core/session
 abbrev pub element : Moniker
 element = record {
-  parts = static_name (codes "core") ∷ static_name (codes "session") ∷ record { coll = Some (codes "elements"); name = codes "e1" } ∷ [];
+  parts =
+      static_name (codes "core") ∷ static_name (codes "session")
+      ∷ record { coll = Some (codes "elements"); name = codes "e1" } ∷ [];
 }
 
 -- the path of a use
@@ -98,7 +100,15 @@ entry event reply = record { caller = 0; event = event; reply = reply }
 
 -- the reply to a begun action; of the work only the number is written
 abbrev pub begun : ℕ → Reply
-begun action = reply.Begun (record { action = action; inc = 0; moniker = root; base = []; url = []; runner = None; eager = [] })
+begun action = reply.Begun (record {
+  action = action;
+  inc = 0;
+  moniker = root;
+  base = [];
+  url = [];
+  runner = None;
+  eager = [];
+})
 
 -- an action that resolved an instance
 abbrev pub resolved : ℕ → Text → Decl → Entry
@@ -129,24 +139,32 @@ route_lines at_root at_client at_logger =
     ∷ codes "4 0 find client => found 2"
     ∷ codes "5 0 route 2 /svc/fuchsia.logger.LogSink => need 2"
     ∷ codes "6 0 begin resolve 2 => begun 2"
-    ∷ (codes "7 0 end 2 resolved fuchsia-pkg://t/a#meta/client.cm " ++ (at_client ++ codes " => ended resolved"))
+    ∷ (codes "7 0 end 2 resolved fuchsia-pkg://t/a#meta/client.cm "
+    ++ (at_client ++ codes " => ended resolved"))
     ∷ codes "8 0 route 2 /svc/fuchsia.logger.LogSink => need 1"
     ∷ codes "9 0 begin resolve 1 => begun 3"
-    ∷ (codes "10 0 end 3 resolved fuchsia-pkg://t/a#meta/logger.cm " ++ (at_logger ++ codes " => ended resolved"))
-    ∷ codes "11 0 route 2 /svc/fuchsia.logger.LogSink => given /svc/fuchsia.logger.LogSink at logger incarnation 1 through use client, offer ., expose logger, capability logger"
+    ∷ (codes "10 0 end 3 resolved fuchsia-pkg://t/a#meta/logger.cm "
+    ++ (at_logger ++ codes " => ended resolved"))
+    ∷ (codes "11 0 route 2 /svc/fuchsia.logger.LogSink => given /svc/fuchsia.logger.LogSink"
+    ++ codes " at logger incarnation 1 through use client, offer ., expose logger, capability logger")
     ∷ []
 
 -- ---- what is written of them
 
 -- the entries are written as these lines, whatever the declarations are
 abbrev pub PrintsEntries : Type 0
-PrintsEntries = (at_root at_client at_logger : Decl) → entries_text 1 (route_entries at_root at_client at_logger) ≡ flat_map line (route_lines (decl_text at_root) (decl_text at_client) (decl_text at_logger))
+PrintsEntries =
+    (at_root at_client at_logger : Decl)
+    → entries_text 1 (route_entries at_root at_client at_logger)
+    ≡ flat_map line (route_lines (decl_text at_root) (decl_text at_client) (decl_text at_logger))
 
 -- what a tree was made with
 abbrev pub frame : Frame
 frame = record {
   root = codes "fuchsia-boot:///#meta/root.cm";
-  builtins = record { kind = Protocol; name = codes "p"; path = codes "/svc/p"; rights = None } ∷ record { kind = Directory; name = codes "d"; path = codes "/d"; rights = Some reading } ∷ [];
+  builtins =
+      record { kind = Protocol; name = codes "p"; path = codes "/svc/p"; rights = None }
+      ∷ record { kind = Directory; name = codes "d"; path = codes "/d"; rights = Some reading } ∷ [];
   limits = record { rows = 65536; entries = 4194304 };
 }
 
@@ -165,36 +183,79 @@ PrintsHeader = header_text frame ≡ flat_map line header_lines
 
 -- a route, through four hops
 abbrev pub PrintsRoute : Type 0
-PrintsRoute = reply_text (command.RouteOf (Named client) log_sink) (Ok (answer.Routed route)) ≡ codes "route /svc/fuchsia.logger.LogSink at logger incarnation 1 through use client, offer ., expose logger, capability logger"
+PrintsRoute =
+    reply_text (command.RouteOf (Named client) log_sink) (Ok (answer.Routed route))
+    ≡ codes "route /svc/fuchsia.logger.LogSink at logger incarnation 1"
+    ++ codes " through use client, offer ., expose logger, capability logger"
 
 -- a directory is opened with rights
 abbrev pub PrintsDirectory : Type 0
-PrintsDirectory = reply_text (command.OpenExposed (Named logger) (codes "logs")) (Ok (answer.Opened directory)) ≡ codes "opened /data/logs at logger incarnation 1 rights connect,enumerate,get_attributes,read_bytes,traverse"
+PrintsDirectory =
+    reply_text (command.OpenExposed (Named logger) (codes "logs")) (Ok (answer.Opened directory)) ≡ codes
+    "opened /data/logs at logger incarnation 1 rights connect,enumerate,get_attributes,read_bytes,traverse"
 
 -- a stop by force
 abbrev pub PrintsForced : Type 0
-PrintsForced = reply_text (command.Stop (Named root)) (Ok (answer.Stopped (Some 7) true)) ≡ codes "stopped . by-force action 7"
+PrintsForced =
+    reply_text (command.Stop (Named root)) (Ok (answer.Stopped (Some 7) true))
+    ≡ codes "stopped . by-force action 7"
 
 -- a child that was created
 abbrev pub PrintsCreated : Type 0
-PrintsCreated = reply_text (command.Create (Named session) (codes "elements") (codes "e1") (codes "#meta/element.cm") []) (Ok (answer.Created 5)) ≡ codes "created core/session elements:e1 incarnation 5"
+PrintsCreated =
+    reply_text (command.Create (Named session) (codes "elements") (codes "e1") (codes "#meta/element.cm") [])
+    (Ok (answer.Created 5)) ≡ codes "created core/session elements:e1 incarnation 5"
 
 -- each child stands on a line of its own
 abbrev pub PrintsChildren : Type 0
-PrintsChildren = reply_text (command.ListChildren (Named session) (codes "elements")) (Ok (answer.Children (record { name = codes "e1"; inc = 5 } ∷ []))) ≡ codes "children core/session elements 1\n  e1 incarnation 5"
+PrintsChildren =
+    reply_text (command.ListChildren (Named session) (codes "elements"))
+    (Ok (answer.Children (record { name = codes "e1"; inc = 5 } ∷ [])))
+    ≡ codes "children core/session elements 1\n  e1 incarnation 5"
 
 -- an instance that is named by its incarnation, closing and about to stop
 abbrev pub PrintsLook : Type 0
-PrintsLook = reply_text (command.Show (Inc 5)) (Ok (answer.Shown (record { inc = 5; url = codes "#meta/e.cm"; resolved = true; on = true; closing = true; shut = false; pending = Some Stop }))) ≡ codes "shown @5 incarnation 5 url #meta/e.cm resolved on closing pending stop"
+PrintsLook =
+    reply_text (command.Show (Inc 5))
+    (Ok (answer.Shown (record {
+      inc = 5;
+      url = codes "#meta/e.cm";
+      resolved = true;
+      on = true;
+      closing = true;
+      shut = false;
+      pending = Some Stop;
+    })))
+    ≡ codes "shown @5 incarnation 5 url #meta/e.cm resolved on closing pending stop"
 
 -- an instance that is shut
 abbrev pub PrintsSurvey : Type 0
-PrintsSurvey = reply_text (command.Survey (Named session)) (Ok (answer.Surveyed (record { inc = 5; moniker = element; resolved = false; on = false; shut = true; paths = [] } ∷ []))) ≡ codes "survey core/session 1\n  core/session/elements:e1 incarnation 5 unresolved off shut"
+PrintsSurvey =
+    reply_text (command.Survey (Named session))
+    (Ok (answer.Surveyed (record {
+      inc = 5;
+      moniker = element;
+      resolved = false;
+      on = false;
+      shut = true;
+      paths = [];
+    } ∷ [])))
+    ≡ codes "survey core/session 1\n  core/session/elements:e1 incarnation 5 unresolved off shut"
 
 -- a use that is left out on purpose, and an instance that is not resolved
 abbrev pub PrintsDoctor : Type 0
-PrintsDoctor = reply_text (command.Doctor (Named root)) (Ok (answer.Doctored (record { moniker = client; path = Some log_sink; result = Err (refusal.VoidSource (hop OfferHop 0 root)) } ∷ record { moniker = element; path = None; result = Err refusal.NoSuchUse } ∷ []))) ≡ codes "doctor . 2\n  client /svc/fuchsia.logger.LogSink refused 88 void at offer .\n  core/session/elements:e1 unresolved"
+PrintsDoctor =
+    reply_text (command.Doctor (Named root))
+    (Ok (answer.Doctored (record {
+      moniker = client;
+      path = Some log_sink;
+      result = Err (refusal.VoidSource (hop OfferHop 0 root));
+    } ∷ record { moniker = element; path = None; result = Err refusal.NoSuchUse } ∷ [])))
+    ≡ codes "doctor . 2\n  client /svc/fuchsia.logger.LogSink refused 88 void at offer .\n"
+    ++ codes "  core/session/elements:e1 unresolved"
 
 -- a refusal is written alike for each command
 abbrev pub PrintsFailure : Type 0
-PrintsFailure = (c : Command) → reply_text c (Err (refusal.NoRoute (hop ExposeHop 1 logger) NoExpose)) ≡ codes "refused 87 no-expose at expose logger"
+PrintsFailure =
+    (c : Command) → reply_text c (Err (refusal.NoRoute (hop ExposeHop 1 logger) NoExpose))
+    ≡ codes "refused 87 no-expose at expose logger"

@@ -13,7 +13,8 @@ use Rattle.cm_reply.specs.Replies.{replied_text}
 -- an entry: its number, its caller, its event and its reply
 abbrev pub entry_text : ℕ → Entry → Text
 entry_text number e =
-    decimal number ++ (codes " " ++ (decimal e.caller ++ (codes " " ++ (event_text e.event ++ (codes " => " ++ replied_text e.reply)))))
+    decimal number ++ (codes " " ++ (decimal e.caller ++ (codes " " ++ (event_text e.event
+    ++ (codes " => " ++ replied_text e.reply)))))
 
 -- the rights of a directory, behind a space
 abbrev pub provided_rights : RightSet → Text
@@ -22,7 +23,8 @@ provided_rights rights = codes " " ++ text_of rights
 -- a builtin capability; the path of a protocol isn't written, since its name says it
 abbrev pub builtin_words : Kind → Builtin → Text
 builtin_words kind.Protocol b = codes "protocol " ++ b.name
-builtin_words kind.Directory b = codes "directory " ++ (b.name ++ (codes " " ++ (b.path ++ when_some provided_rights b.rights)))
+builtin_words kind.Directory b =
+    codes "directory " ++ (b.name ++ (codes " " ++ (b.path ++ when_some provided_rights b.rights)))
 
 -- the same behind its first word
 abbrev pub builtin_text : Builtin → Text

@@ -10,4 +10,6 @@ JournalBegins = (f : Frame) → journal_text f [] ≡ header_text f
 
 -- an entry more is a line more, with the next number
 abbrev pub JournalGrows : Type 0
-JournalGrows = (f : Frame) (es : List Entry) (e : Entry) → journal_text f (es ++ e ∷ []) ≡ journal_text f es ++ line (entry_text (length es + 1) e)
+JournalGrows =
+    (f : Frame) (es : List Entry) (e : Entry)
+    → journal_text f (es ++ e ∷ []) ≡ journal_text f es ++ line (entry_text (length es + 1) e)

@@ -25,7 +25,8 @@ other_text (reply.Left moniker) = codes "left"
 other_text (reply.Tailed count) = codes "tailed " ++ decimal count
 other_text _ = []
 
--- a reply: one that finds instances or tells of actions, creations, marks and removals as follows, every other as above
+-- a reply: one that finds instances or tells of actions, creations, marks and removals as
+-- follows, every other as above
 abbrev pub replied_text : Reply → Text
 replied_text (reply.Found inc) = codes "found " ++ decimal inc
 replied_text (reply.Need inc) = codes "need " ++ decimal inc
@@ -41,13 +42,15 @@ replied_text (reply.Closing inc) = codes "closing " ++ decimal inc
 replied_text reply.NoCollection = codes "no-collection"
 replied_text (reply.Exists inc) = codes "exists " ++ decimal inc
 replied_text reply.OffersRefused = codes "offers-refused"
-replied_text (reply.BadOffer index number) = codes "bad-offer " ++ (decimal index ++ (codes " " ++ decimal number))
+replied_text (reply.BadOffer index number) =
+    codes "bad-offer " ++ (decimal index ++ (codes " " ++ decimal number))
 replied_text (reply.Cycle nodes) = codes "cycle" ++ each_behind (codes " ") node_text nodes
 replied_text reply.Full = codes "full"
 replied_text reply.Marked = codes "marked"
 replied_text reply.NotDynamic = codes "not-dynamic"
 replied_text reply.Done = codes "done"
-replied_text (reply.Stopping work) = codes "stopping " ++ (decimal work.inc ++ (codes " " ++ decimal work.action))
+replied_text (reply.Stopping work) =
+    codes "stopping " ++ (decimal work.inc ++ (codes " " ++ decimal work.action))
 replied_text (reply.ShutDown inc) = codes "shutdown " ++ decimal inc
 replied_text (reply.Purged lost) = codes "purged " ++ decimal (length lost)
 replied_text reply.PurgedBefore = codes "purged-before"

@@ -1,5 +1,5 @@
 -- Tables of texts: each refusal, reason, outcome, event and reply at least once, and the short answers.
-use Rattle.std.specs.Prelude.{◌≡◌, ℕ, List, [], ◌∷◌, codes, map, true, false, Some, None, Ok}
+use Rattle.std.specs.Prelude.{◌≡◌, ℕ, List, [], ◌∷◌, ◌++◌, codes, map, true, false, Some, None, Ok}
 use Rattle.cm_names.specs.Rights.{no_rights, reading}
 use Rattle.cm_names.specs.declared.availability.Availability.TheVariants.{Required, Optional}
 use Rattle.cm_names.specs.declared.dependency.Dependency.TheVariants.{Weak}
@@ -24,7 +24,8 @@ use Rattle.cm_world.specs.declared.reply.Reply.{Reply}
 use Rattle.cm_world.specs.declared.reply.Reply.TheVariants as reply
 use Rattle.cm_world.specs.declared.report.Look.{Look}
 use Rattle.cm_world.specs.declared.report.SurveyRow.{SurveyRow}
-use Rattle.cm_world.specs.declared.route.StepKind.TheVariants.{UseHop, OfferHop, ExposeHop, FrameworkHop, BuiltinHop}
+use Rattle.cm_world.specs.declared.route.StepKind.TheVariants.{UseHop, OfferHop, ExposeHop, FrameworkHop}
+use Rattle.cm_world.specs.declared.route.StepKind.TheVariants.{BuiltinHop}
 use Rattle.cm_world.specs.declared.route.Provider.TheVariants as provider
 use Rattle.cm_world.specs.declared.route.Route.{Route as WholeRoute}
 use Rattle.cm_world.specs.declared.route.Why.{Why}
@@ -68,11 +69,20 @@ work = record { action = 9; inc = 5; moniker = child core; base = []; url = []; 
 
 -- an instance that is shut while it resolves
 abbrev pub look : Look
-look = record { inc = 5; url = []; resolved = false; on = false; closing = true; shut = true; pending = Some Resolve }
+look = record {
+  inc = 5;
+  url = [];
+  resolved = false;
+  on = false;
+  closing = true;
+  shut = true;
+  pending = Some Resolve;
+}
 
 -- an instance that runs; its paths are not written
 abbrev pub survey_row : SurveyRow
-survey_row = record { inc = 5; moniker = element; resolved = true; on = true; shut = false; paths = log_sink ∷ [] }
+survey_row =
+    record { inc = 5; moniker = element; resolved = true; on = true; shut = false; paths = log_sink ∷ [] }
 
 -- what the framework provides
 abbrev pub framework_route : WholeRoute
@@ -235,7 +245,8 @@ event_texts =
     ∷ codes "begin stop 5"
     ∷ codes "end 9 killed"
     ∷ codes "await 9"
-    ∷ codes "create 2 k a #meta/a.cm + directory d #core as=logs rights=connect,enumerate,get_attributes,read_bytes,traverse subdir=a/b weak optional"
+    ∷ (codes "create 2 k a #meta/a.cm + directory d #core as=logs"
+    ++ codes " rights=connect,enumerate,get_attributes,read_bytes,traverse subdir=a/b weak optional")
     ∷ codes "mark doomed 5"
     ∷ codes "mark closing 5"
     ∷ codes "pick 5"
@@ -328,7 +339,8 @@ reply_texts =
     ∷ codes "failed no-offer at offer core"
     ∷ codes "void at offer core"
     ∷ codes "given /svc/r at framework through use core, framework core"
-    ∷ codes "opened /d/a at builtin rights connect,enumerate,get_attributes,read_bytes,traverse through use ., builtin ."
+    ∷ (codes "opened /d/a at builtin rights connect,enumerate,get_attributes,read_bytes,traverse"
+    ++ codes " through use ., builtin .")
     ∷ codes "listed 2 [a incarnation 5] [b incarnation 7]"
     ∷ codes "shown unresolved off closing shut pending resolve"
     ∷ codes "surveyed 1 [core/session/elements:e1 incarnation 5 resolved on]"

@@ -1,5 +1,6 @@
 -- Which text a URL has, alone and on a base. How a URL is read and written is the URL Standard's.
-use Rattle.std.specs.Prelude.{ℕ, Bool, true, false, List, [], ◌∷◌, length, Option, Some, None, Result, Ok, Err, nat_lt, ◌==◌, if◌then◌else◌}
+use Rattle.std.specs.Prelude.{ℕ, Bool, true, false, List, [], ◌∷◌, length, Option, Some, None, Result, Ok}
+use Rattle.std.specs.Prelude.{Err, nat_lt, ◌==◌, if◌then◌else◌}
 use Rattle.url.specs.Parser.{parse_url, Parsed}
 use Rattle.url.specs.Parts.{Parts, serialize}
 use Rattle.cm_repo.specs.Answers.{◌>>=◌}

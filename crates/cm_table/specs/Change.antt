@@ -6,9 +6,11 @@ use Rattle.cm_world.specs.declared.action.Outcome.{Outcome}
 use Rattle.cm_world.specs.declared.action.Outcome.TheVariants as outcome
 use Rattle.cm_world.specs.declared.action.Finish.{Finish}
 use Rattle.cm_world.specs.declared.action.Finish.TheVariants as finish
-use Rattle.cm_world.specs.End.{changed, set_on, set_pending, set_closing, set_doomed, set_shut, set_decl, end_row, rows_by, added_by}
+use Rattle.cm_world.specs.End.{changed, set_on, set_pending, set_closing, set_doomed, set_shut, set_decl}
+use Rattle.cm_world.specs.End.{end_row, rows_by, added_by}
 use Rattle.cm_table.specs.declared.change.Change.{Change}
-use Rattle.cm_table.specs.declared.change.Change.TheVariants.{On, Pending, Closing, Doomed, Shut, End, Resolve}
+use Rattle.cm_table.specs.declared.change.Change.TheVariants.{On, Pending, Closing, Doomed, Shut, End}
+use Rattle.cm_table.specs.declared.change.Change.TheVariants.{Resolve}
 use Rattle.cm_table.specs.Ready.{Ready}
 use Rattle.cm_table.specs.Tree.{Tree}
 

@@ -16,8 +16,8 @@ tree_of a = record {
   spare = a.spare;
 }
 
--- the memory for one block more is there for each resolve that it is kept for, the rows are counted, and they are those of an
--- orderly world
+-- the memory for one block more is there for each resolve that it is kept for, the rows are
+-- counted, and they are those of an orderly world
 pub record IsKept (a : Inside) : Type 0 where
   pub room : length a.blocks.items + a.spare ≤ vec_capacity a.blocks
   pub count : a.count ≡ length (flat a.blocks.items)

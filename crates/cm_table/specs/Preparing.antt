@@ -9,7 +9,8 @@ use Rattle.cm_table.specs.declared.prepared.Prepared.TheInside.{Inside}
 abbrev pub ready_of : Inside → Ready
 ready_of a = record { absolute = a.absolute; decl = a.decl }
 
--- the declaration is valid, the second copies are copies, and the rows of the children are there, but for their numbers
+-- the declaration is valid, the second copies are copies, and the rows of the children are
+-- there, but for their numbers
 pub record IsReady (a : Inside) : Type 0 where
   pub valid : IsValid a.decl
   pub absolute : a.kept_absolute ≡ a.absolute

@@ -1,6 +1,7 @@
 //! Rows that came together.
 
-ghost use Rattle.std.specs.Prelude.{◌≡◌, ◌≤◌, ◌<◌, ◌==◌, false, IfNone, position, All, length, find, List as Seq};
+ghost use Rattle.std.specs.Prelude.{◌≡◌, ◌≤◌, ◌<◌, ◌==◌, false, IfNone, position, All, length, find};
+ghost use Rattle.std.specs.Prelude.{List as Seq};
 ghost use Rattle.std.specs.Vec.{vec_capacity};
 ghost use Rattle.std.specs.Option.{option_copied};
 ghost use Rattle.cm_world.specs.Edits.{drop_first};

@@ -1,12 +1,15 @@
 //! Tables.
 
-ghost use Rattle.std.specs.Prelude.{◌≡◌, ◌+◌, ◌-◌, ◌≤◌, ◌<◌, ◌∷◌, ◌++◌, ◌↔◌, [], ℕ, length, true, false, IfOk, IfErr, IfSome, IfNone, OnOk, OnErr, IsTrue, find, option_map, option_and_then};
+ghost use Rattle.std.specs.Prelude.{◌≡◌, ◌+◌, ◌-◌, ◌≤◌, ◌<◌, ◌∷◌, ◌++◌, ◌↔◌, [], ℕ, length, true, false};
+ghost use Rattle.std.specs.Prelude.{IfOk, IfErr, IfSome, IfNone, OnOk, OnErr, IsTrue, find, option_map};
+ghost use Rattle.std.specs.Prelude.{option_and_then};
 ghost use Rattle.std.specs.Option.{option_copied};
 ghost use Rattle.std.specs.Vec.{vec_capacity};
 ghost use Rattle.cm_world.specs.Rows.{row_of, is_live, is_resolved, is_behind, decl_of, child_of};
 ghost use Rattle.cm_world.specs.Sound.{IsOrderly};
 ghost use Rattle.cm_world.specs.World.{root_row, new_row};
-ghost use Rattle.cm_world.specs.End.{set_on, set_pending, set_closing, set_doomed, set_shut, end_row, rows_by, outcome_by};
+ghost use Rattle.cm_world.specs.End.{set_on, set_pending, set_closing, set_doomed, set_shut, end_row};
+ghost use Rattle.cm_world.specs.End.{rows_by, outcome_by};
 ghost use Rattle.cm_world.specs.After.{others_than};
 ghost use Rattle.cm_table.specs.Tree.{fit, first_tree};
 ghost use Rattle.cm_table.specs.Change.{change_row, IsSafe, resolved, next_by, with_changed, with_row};

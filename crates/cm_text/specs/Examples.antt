@@ -4,11 +4,14 @@ use Rattle.cm_text.specs.Json.{json_of}
 use Rattle.cm_text.specs.declared.fault.TextFault.TheVariants.{BadToken, Unclosed}
 
 pub record SpellingExamples : Type 0 where
-  pub manifest : json_of (codes "{children:[{name:'a',url:'#meta/a.cm'},],/* one */}") ≡ Ok (codes "{ \"children\" : [ { \"name\" : \"a\" , \"url\" : \"#meta/a.cm\" } ] }")
-  pub quotes : json_of (codes "['a\"b','\\'','\\\"',\"'\\''\"]") ≡ Ok (codes "[ \"a\\\"b\" , \"'\" , \"\\\"\" , \"'\\''\" ]")
+  pub manifest : json_of (codes "{children:[{name:'a',url:'#meta/a.cm'},],/* one */}")
+      ≡ Ok (codes "{ \"children\" : [ { \"name\" : \"a\" , \"url\" : \"#meta/a.cm\" } ] }")
+  pub quotes : json_of (codes "['a\"b','\\'','\\\"',\"'\\''\"]")
+      ≡ Ok (codes "[ \"a\\\"b\" , \"'\" , \"\\\"\" , \"'\\''\" ]")
   pub commas : json_of (codes "[,][1,,]{,}[1,],]") ≡ Ok (codes "[ , ] [ 1 , , ] { , } [ 1 ] ]")
   pub first_comma : json_of (codes ",]") ≡ Ok (codes ", ]")
-  pub keys : json_of (codes "{a-b:1,$c:-2.5e+3,1d:true}//x") ≡ Ok (codes "{ a-b : 1 , \"$c\" : -2.5e+3 , 1d : true }")
+  pub keys : json_of (codes "{a-b:1,$c:-2.5e+3,1d:true}//x")
+      ≡ Ok (codes "{ a-b : 1 , \"$c\" : -2.5e+3 , 1d : true }")
   pub key_in_array : json_of (codes "[a:1]") ≡ Ok (codes "[ \"a\" : 1 ]")
   pub nothing : json_of (codes " /**/ // x") ≡ Ok (codes "")
   pub carriage_return : json_of (codes "1//" ++ 13 ∷ codes "2" ++ 10 ∷ codes "3") ≡ Ok (codes "1 3")

@@ -28,8 +28,10 @@ FaultsAreUnique = (text : List ℕ) (e f : TextFault) → IsFaultOf text e → I
 
 -- and none where it has tokens
 abbrev pub TokensExcludeFaults : Type 0
-TokensExcludeFaults = (text : List ℕ) (ts : List Token) (e : TextFault) → AreTokensOf text ts → IsFaultOf text e → ⊥
+TokensExcludeFaults =
+    (text : List ℕ) (ts : List Token) (e : TextFault) → AreTokensOf text ts → IsFaultOf text e → ⊥
 
 -- each text has tokens or a fault
 abbrev pub TextsAreCovered : Type 0
-TextsAreCovered = (text : List ℕ) → ((ts : List Token) × AreTokensOf text ts) ⊎ ((e : TextFault) × IsFaultOf text e)
+TextsAreCovered =
+    (text : List ℕ) → ((ts : List Token) × AreTokensOf text ts) ⊎ ((e : TextFault) × IsFaultOf text e)

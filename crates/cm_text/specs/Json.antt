@@ -1,5 +1,6 @@
 -- The JSON spelling of tokens.
-use Rattle.std.specs.Prelude.{ℕ, List, [], ◌∷◌, ◌++◌, Bool, true, false, not, ◌&&◌, ◌||◌, ◌==◌, if◌then◌else◌, Option, Some, None, Result, Ok, Err}
+use Rattle.std.specs.Prelude.{ℕ, List, [], ◌∷◌, ◌++◌, Bool, true, false, not, ◌&&◌, ◌||◌, ◌==◌, if◌then◌else◌}
+use Rattle.std.specs.Prelude.{Option, Some, None, Result, Ok, Err}
 use Rattle.std.specs.List.{list_all, flat_map, join_with_byte}
 use Rattle.cm_text.specs.Bytes.{begins_key, continues_key, begins_with}
 use Rattle.cm_text.specs.Token.{Char, plain, taken, Token, mark, quoted, word, token_bytes}
@@ -24,7 +25,8 @@ is_bare_key bs = begins_with begins_key bs && list_all continues_key bs
 -- a token's JSON, which for a word depends on whether a colon is next
 abbrev pub token_json : Bool → Token → List ℕ
 token_json before_colon (mark b) = b ∷ []
-token_json before_colon (quoted q cs) = if q == 39 then in_quotes (flat_map char_json cs) else token_bytes (quoted q cs)
+token_json before_colon (quoted q cs) =
+    if q == 39 then in_quotes (flat_map char_json cs) else token_bytes (quoted q cs)
 token_json before_colon (word bs) = if before_colon && is_bare_key bs then in_quotes bs else bs
 
 -- ---- a token between its neighbours
@@ -57,11 +59,13 @@ is_some_token (Some t) = true
 -- a comma before } or ], behind a token other than { [ ,
 abbrev pub is_needless : Option Token → Token → Option Token → Bool
 is_needless before t after =
-    is_mark_of is_comma (Some t) && is_mark_of is_closing after && is_some_token before && not (is_mark_of keeps_comma before)
+    is_mark_of is_comma (Some t) && is_mark_of is_closing after && is_some_token before
+    && not (is_mark_of keeps_comma before)
 
 -- a token's spelling between its neighbours, or none
 abbrev pub spelling : Option Token → Token → Option Token → List (List ℕ)
-spelling before t after = if is_needless before t after then [] else token_json (is_mark_of is_colon after) t ∷ []
+spelling before t after =
+    if is_needless before t after then [] else token_json (is_mark_of is_colon after) t ∷ []
 
 -- the first of some tokens
 abbrev pub head_of : List Token → Option Token

@@ -1,5 +1,6 @@
 -- What the reader sees of a text's first piece.
-use Rattle.std.specs.Prelude.{ℕ, suc, List, [], ◌∷◌, ◌++◌, length, Bool, true, false, ◌==◌, if◌then◌else◌, Option, Some, None, Result, Ok, Err}
+use Rattle.std.specs.Prelude.{ℕ, suc, List, [], ◌∷◌, ◌++◌, length, Bool, true, false, ◌==◌, if◌then◌else◌}
+use Rattle.std.specs.Prelude.{Option, Some, None, Result, Ok, Err}
 use Rattle.std.specs.Option.{option_map}
 use Rattle.cm_text.specs.Token.{Char, plain, taken, Token, mark, quoted, word, piece_bytes, piece_token}
 use Rattle.cm_text.specs.Pieces.{plain_byte, First, stray, unclosed, piece, first_piece}

@@ -1,5 +1,6 @@
 -- Spellings as the writer puts them down.
-use Rattle.std.specs.Prelude.{ℕ, List, [], ◌∷◌, ◌++◌, Bool, true, false, ◌==◌, if◌then◌else◌, Option, Some, None}
+use Rattle.std.specs.Prelude.{ℕ, List, [], ◌∷◌, ◌++◌, Bool, true, false, ◌==◌, if◌then◌else◌, Option, Some}
+use Rattle.std.specs.Prelude.{None}
 use Rattle.std.specs.Char.{encode_utf8}
 use Rattle.std.specs.List.{list_all, flat_map}
 use Rattle.cm_text.specs.Token.{Token}
@@ -24,7 +25,8 @@ are_chars behind bs = list_all (is_char 39) (within behind bs)
 -- a token's spelling between its neighbours, behind a space where a token stands before it
 abbrev pub spelling_behind_space : Option Token → Token → Option Token → List ℕ
 spelling_behind_space before t after =
-    if is_needless before t after then [] else (if is_some_token before then 32 ∷ [] else []) ++ token_json (is_mark_of is_colon after) t
+    if is_needless before t after then []
+    else (if is_some_token before then 32 ∷ [] else []) ++ token_json (is_mark_of is_colon after) t
 
 -- the last token read is a token; where there is none, none stands before it
 abbrev pub is_pending : Option CodeToken → Option CodeToken → Bool

@@ -1,8 +1,11 @@
 -- Which tokens a text has, or its first fault.
-use Rattle.std.specs.Prelude.{◌≡◌, ◌≢◌, ◌⊎◌, ℕ, List, [], ◌∷◌, ◌++◌, length, Bool, true, false, not, ◌&&◌, ◌||◌, ◌==◌, IsTrue}
+use Rattle.std.specs.Prelude.{◌≡◌, ◌≢◌, ◌⊎◌, ℕ, List, [], ◌∷◌, ◌++◌, length, Bool, true, false, not, ◌&&◌}
+use Rattle.std.specs.Prelude.{◌||◌, ◌==◌, IsTrue}
 use Rattle.std.specs.List.{list_all, flat_map}
-use Rattle.cm_text.specs.Bytes.{is_mark, is_space, is_quote, is_word_byte, is_in_line, begins_with, closes_comment}
-use Rattle.cm_text.specs.Token.{Char, plain, taken, Token, mark, quoted, word, Piece, token, space, line_comment, block_comment, char_bytes, bytes_of, tokens_of}
+use Rattle.cm_text.specs.Bytes.{is_mark, is_space, is_quote, is_word_byte, is_in_line, begins_with}
+use Rattle.cm_text.specs.Bytes.{closes_comment}
+use Rattle.cm_text.specs.Token.{Char, plain, taken, Token, mark, quoted, word, Piece, token, space}
+use Rattle.cm_text.specs.Token.{line_comment, block_comment, char_bytes, bytes_of, tokens_of}
 use Rattle.cm_text.specs.declared.fault.TextFault.{TextFault}
 use Rattle.cm_text.specs.declared.fault.TextFault.TheVariants.{BadToken, Unclosed, Memory}
 
@@ -67,16 +70,21 @@ pub record AreTokensOf (text : List ℕ) (ts : List Token) : Type 0 where
 -- no piece begins with this byte, before the others
 abbrev pub begins_nothing : ℕ → List ℕ → Bool
 begins_nothing b bs =
-    not (is_mark b) && not (is_space b) && not (is_quote b) && not (is_word_byte b) && not ((b == 47) && begins_with (λ c. (c == 47) || (c == 42)) bs)
+    not (is_mark b) && not (is_space b) && not (is_quote b) && not (is_word_byte b)
+    && not ((b == 47) && begins_with (λ c. (c == 47) || (c == 42)) bs)
 
 -- no string with this quote ends within the bytes
 abbrev pub NeverCloses : ℕ → List ℕ → Type 0
-NeverCloses q bs = (cs : List Char) (rest : List ℕ) → IsTrue (list_all (is_char q) cs) → bs ≢ flat_map char_bytes cs ++ q ∷ rest
+NeverCloses q bs =
+    (cs : List Char) (rest : List ℕ) → IsTrue (list_all (is_char q) cs)
+    → bs ≢ flat_map char_bytes cs ++ q ∷ rest
 
 -- a string or a comment begins here, and never ends
 abbrev pub NeverEnds : List ℕ → Type 0
 NeverEnds [] = ⊥
-NeverEnds (b ∷ bs) = (IsTrue (is_quote b) × NeverCloses b bs) ⊎ ((cs : List ℕ) × (b ∷ bs ≡ 47 ∷ 42 ∷ cs) × IsTrue (not (has_end cs)))
+NeverEnds (b ∷ bs) =
+    (IsTrue (is_quote b) × NeverCloses b bs)
+    ⊎ ((cs : List ℕ) × (b ∷ bs ≡ 47 ∷ 42 ∷ cs) × IsTrue (not (has_end cs)))
 
 -- something stands here, and no piece begins with it
 abbrev pub BeginsNothing : List ℕ → Type 0
@@ -85,6 +93,9 @@ BeginsNothing (b ∷ bs) = IsTrue (begins_nothing b bs)
 
 -- the text's first fault: behind some pieces stands what begins no piece, or what never ends
 abbrev pub IsFaultOf : List ℕ → TextFault → Type 0
-IsFaultOf text (BadToken at) = (ps : List Piece) × (rest : List ℕ) × Begins text ps rest × (at ≡ length (bytes_of ps)) × BeginsNothing rest
-IsFaultOf text (Unclosed at) = (ps : List Piece) × (rest : List ℕ) × Begins text ps rest × (at ≡ length (bytes_of ps)) × NeverEnds rest
+IsFaultOf text (BadToken at) =
+    (ps : List Piece) × (rest : List ℕ) × Begins text ps rest × (at ≡ length (bytes_of ps))
+    × BeginsNothing rest
+IsFaultOf text (Unclosed at) =
+    (ps : List Piece) × (rest : List ℕ) × Begins text ps rest × (at ≡ length (bytes_of ps)) × NeverEnds rest
 IsFaultOf text Memory = ⊥

@@ -1,5 +1,6 @@
 -- What a writer has written of a text's JSON.
-use Rattle.std.specs.Prelude.{◌≡◌, List, [], ◌∷◌, ◌++◌, ℕ, Option, Some, None, option_map, string_bytes, Result, Ok, Err}
+use Rattle.std.specs.Prelude.{◌≡◌, List, [], ◌∷◌, ◌++◌, ℕ, Option, Some, None, option_map, string_bytes}
+use Rattle.std.specs.Prelude.{Result, Ok, Err}
 use Rattle.cm_text.specs.Token.{Token}
 use Rattle.cm_text.specs.Json.{head_of}
 use Rattle.cm_text.specs.Scan.{token_of}
@@ -19,7 +20,8 @@ json_pending before (Some t) ts = json_behind before (t ∷ ts)
 
 -- the whole JSON, where these tokens follow
 abbrev pub json_then : JsonWriter → List Token → List ℕ
-json_then w ts = string_bytes w.json ++ json_pending (option_map token_of w.before) (option_map token_of w.pending) ts
+json_then w ts =
+    string_bytes w.json ++ json_pending (option_map token_of w.before) (option_map token_of w.pending) ts
 
 -- the whole JSON, where these tokens follow or this fault does
 abbrev pub json_left : JsonWriter → Result (List Token) TextFault → Result (List ℕ) TextFault
@@ -35,4 +37,6 @@ pending_spelling before (Some t) after = spelling_behind_space before t after
 pub record IsWritten (old new : JsonWriter) (after : Option Token) : Type 0 where
   pub before : new.before ≡ old.before
   pub pending : new.pending ≡ old.pending
-  pub json : string_bytes new.json ≡ string_bytes old.json ++ pending_spelling (option_map token_of old.before) (option_map token_of old.pending) after
+  pub json : string_bytes new.json
+      ≡ string_bytes old.json
+      ++ pending_spelling (option_map token_of old.before) (option_map token_of old.pending) after

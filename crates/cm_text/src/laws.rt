@@ -1,6 +1,7 @@
 //! What holds of the tokens and faults of every text, as functions with empty bodies.
 
-ghost use Rattle.cm_text.specs.Facts.{FaultsAreComputed, FaultsAreUnique, TextsAreCovered, TokensAreComputed, TokensAreUnique, TokensExcludeFaults};
+ghost use Rattle.cm_text.specs.Facts.{FaultsAreComputed, FaultsAreUnique, TextsAreCovered, TokensAreComputed};
+ghost use Rattle.cm_text.specs.Facts.{TokensAreUnique, TokensExcludeFaults};
 ghost use Rattle.cm_text.specs.Examples.{SpellingExamples};
 
 /// Each text has tokens or a fault.

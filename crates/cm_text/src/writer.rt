@@ -1,6 +1,7 @@
 //! The writer of a text's JSON, token by token.
 
-ghost use Rattle.std.specs.Prelude.{◌≡◌, ◌++◌, ◌∷◌, ℕ, List, [], false, Some, None, option_map, IsTrue, IfOk, OnOk, string_bytes};
+ghost use Rattle.std.specs.Prelude.{◌≡◌, ◌++◌, ◌∷◌, ℕ, List, [], false, Some, None, option_map, IsTrue, IfOk};
+ghost use Rattle.std.specs.Prelude.{OnOk, string_bytes};
 ghost use Rattle.std.specs.List.{list_all};
 ghost use Rattle.cm_text.specs.Token.{quoted, Token as SpecToken};
 ghost use Rattle.cm_text.specs.Split.{is_token};
@@ -40,7 +41,8 @@ fn is_bare_key(word: &str) -> bool
 
 /// Whether a comma is left out: before `}` or `]`, behind a token other than `{`, `[` and `,`.
 fn is_needless(before: Option<Token<'_>>, token: Token<'_>, after: Option<Token<'_>>) -> bool
-    ensures { result ≡ spec.is_needless (option_map token_of before.entry) (token_of token.entry) (option_map token_of after.entry) }
+    ensures { result ≡ spec.is_needless (option_map token_of before.entry) (token_of token.entry)
+        (option_map token_of after.entry) }
 {
     let is_comma = matches!(token, Token::Mark(b','));
     let closes = matches!(after, Some(Token::Mark(b'}' | b']')));
@@ -95,7 +97,8 @@ fn write_chars(json: &mut String, inside: &str) -> Result<(), AllocError>
 /// Writes the JSON of a string, given its quote and what stands between its quotes.
 fn write_quoted(json: &mut String, quote: u8, inside: &str) -> Result<(), AllocError>
     requires { IsTrue (is_token (quoted quote (within false inside.now))) }
-    ensures { OnOk result (string_bytes json.new ≡ string_bytes json.old ++ spec.token_json false (quoted quote (within false inside.now))) }
+    ensures { OnOk result (string_bytes json.new
+        ≡ string_bytes json.old ++ spec.token_json false (quoted quote (within false inside.now))) }
 {
     if quote == b'\'' {
         json.push('"')?;
@@ -109,7 +112,8 @@ fn write_quoted(json: &mut String, quote: u8, inside: &str) -> Result<(), AllocE
 /// Writes a token's JSON.
 fn write_token(json: &mut String, token: Token<'_>, before_colon: bool) -> Result<(), AllocError>
     requires { IsTrue (is_token (token_of token)) }
-    ensures { OnOk result (string_bytes json.new ≡ string_bytes json.old ++ spec.token_json before_colon (token_of token.entry)) }
+    ensures { OnOk result (string_bytes json.new
+        ≡ string_bytes json.old ++ spec.token_json before_colon (token_of token.entry)) }
 {
     match token {
         Token::Mark(mark) => json.push(char::from(mark)),
@@ -127,7 +131,10 @@ fn write_between(
     after: Option<Token<'_>>,
 ) -> Result<(), AllocError>
     requires { IsTrue (is_token (token_of token)) }
-    ensures { OnOk result (string_bytes json.new ≡ string_bytes json.old ++ spelling_behind_space (option_map token_of before.entry) (token_of token.entry) (option_map token_of after.entry)) }
+    ensures { OnOk result (string_bytes json.new
+        ≡ string_bytes json.old
+        ++ spelling_behind_space (option_map token_of before.entry) (token_of token.entry)
+        (option_map token_of after.entry)) }
 {
     if is_needless(before, token, after) {
         return Ok(());
@@ -175,7 +182,8 @@ impl<'a> JsonWriter<'a> {
     /// Takes the next token.
     pub fn push(&mut self, token: Token<'a>) -> Result<(), AllocError>
         requires { IsTrue (is_token (token_of token)) }
-        ensures { OnOk result ((ts : List SpecToken) → json_then self.new ts ≡ json_then self.old (token_of token.entry ∷ ts)) }
+        ensures { OnOk result ((ts : List SpecToken)
+            → json_then self.new ts ≡ json_then self.old (token_of token.entry ∷ ts)) }
     {
         self.write_pending(Some(token))?;
         self.before = self.pending;

@@ -1,5 +1,6 @@
 -- What holds between any two steps, said of the table's state and of the history.
-use Rattle.std.specs.Prelude.{◌≡◌, ℕ, ◌+◌, ◌%◌, ◌^◌, ◌<◌, ◌≤◌, true, false, List, [], ◌∷◌, Option, Some, None, slice_index}
+use Rattle.std.specs.Prelude.{◌≡◌, ℕ, ◌+◌, ◌%◌, ◌^◌, ◌<◌, ◌≤◌, true, false, List, [], ◌∷◌, Option, Some, None}
+use Rattle.std.specs.Prelude.{slice_index}
 use mathlib.Core.Option.{some}
 use lib.ListN.{get_elem?}
 use Rattle.atomic_table.specs.Table.{State}
@@ -8,8 +9,11 @@ use Rattle.cm_turn.specs.History.{StartsWith, entries_by}
 use Rattle.cm_turn.specs.Rule.{tickets_out, left_home, Kept}
 
 -- whenever the rule is kept: the fact holds of the lock's frame, of the history, and of what the table has
-abbrev pub Always : {S E F : Type 0} → (S → List E) → (S → F) → (E → ℕ) → (F → List E → State (Option S) (View E F) → Type 0) → Type 0
-Always {S} {E} {F} story frame by Fact = (key : S × ℕ) (s : State (Option S) (View E F)) (kept : Kept story frame by key s) → Fact (frame key.0) kept.0.log s
+abbrev pub Always : {S E F : Type 0} → (S → List E) → (S → F) → (E → ℕ)
+    → (F → List E → State (Option S) (View E F) → Type 0) → Type 0
+Always {S} {E} {F} story frame by Fact =
+    (key : S × ℕ) (s : State (Option S) (View E F)) (kept : Kept story frame by key s)
+    → Fact (frame key.0) kept.0.log s
 
 module _ {S E F : Type 0} where
   -- seat i has the view v
@@ -22,23 +26,32 @@ module _ {S E F : Type 0} where
 
   -- at most one seat has the turn
   abbrev pub OneTurn : State (Option S) (View E F) → Type 0
-  OneTurn s = (i j : ℕ) (v u : View E F) → HasView s i v → HasView s j u → v.turn ≡ true → u.turn ≡ true → i ≡ j
+  OneTurn s =
+      (i j : ℕ) (v u : View E F) → HasView s i v → HasView s j u → v.turn ≡ true → u.turn ≡ true → i ≡ j
 
   -- no two seats have one caller
   abbrev pub OneCaller : State (Option S) (View E F) → Type 0
-  OneCaller s = (i j c : ℕ) (v u : View E F) → HasView s i v → HasView s j u → v.caller ≡ Some c → u.caller ≡ Some c → i ≡ j
+  OneCaller s =
+      (i j c : ℕ) (v u : View E F) → HasView s i v → HasView s j u → v.caller ≡ Some c → u.caller ≡ Some c
+      → i ≡ j
 
   -- every caller is below the maker's count
   abbrev pub CallersAreMade : State (Option S) (View E F) → Type 0
-  CallersAreMade s = (i j c : ℕ) (v u : View E F) → HasView s i v → HasView s j u → v.caller ≡ Some c → u.makes ≡ true → c < u.made
+  CallersAreMade s =
+      (i j c : ℕ) (v u : View E F) → HasView s i v → HasView s j u → v.caller ≡ Some c → u.makes ≡ true
+      → c < u.made
 
   -- a seat without a caller has neither ticket nor turn, the maker excepted
   abbrev pub OnlyCallersWait : State (Option S) (View E F) → Type 0
-  OnlyCallersWait s = (i : ℕ) (v : View E F) → HasView s i v → v.caller ≡ None → v.makes ≡ false → (v.ticket ≡ None) × (v.turn ≡ false)
+  OnlyCallersWait s =
+      (i : ℕ) (v : View E F) → HasView s i v → v.caller ≡ None → v.makes ≡ false
+      → (v.ticket ≡ None) × (v.turn ≡ false)
 
   -- no two seats have one ticket, not even modulo 2^64
   abbrev pub OneTicket : State (Option S) (View E F) → Type 0
-  OneTicket s = (i j t r : ℕ) (v u : View E F) → HasView s i v → HasView s j u → v.ticket ≡ Some t → u.ticket ≡ Some r → t % 2 ^ 64 ≡ r % 2 ^ 64 → i ≡ j
+  OneTicket s =
+      (i j t r : ℕ) (v u : View E F) → HasView s i v → HasView s j u → v.ticket ≡ Some t → u.ticket ≡ Some r
+      → t % 2 ^ 64 ≡ r % 2 ^ 64 → i ≡ j
 
   -- the word of the next ticket is that of the served one plus the number of tickets held, modulo 2^64
   abbrev pub CountsTickets : State (Option S) (View E F) → Type 0
@@ -54,7 +67,8 @@ module _ {S E F : Type 0} where
   abbrev pub AllAreHeld : State (Option S) (View E F) → Type 0
   AllAreHeld s =
       (k : ℕ) → k < tickets_out s.views
-      → (i : ℕ) × (t : ℕ) × (v : View E F) × HasView s i v × (v.ticket ≡ Some t) × (t % 2 ^ 64 ≡ (slice_index s.words 1 + k) % 2 ^ 64)
+      → (i : ℕ) × (t : ℕ) × (v : View E F) × HasView s i v × (v.ticket ≡ Some t)
+      × (t % 2 ^ 64 ≡ (slice_index s.words 1 + k) % 2 ^ 64)
 
   -- all frames that seats know are f
   abbrev pub OneFrame : F → State (Option S) (View E F) → Type 0
@@ -86,8 +100,10 @@ module _ {S E F : Type 0} where
 
   -- each caller's entries in the history are those of its view
   abbrev pub EntriesAreMine : (E → ℕ) → List E → State (Option S) (View E F) → Type 0
-  EntriesAreMine by log s = (i c : ℕ) (v : View E F) → HasView s i v → v.caller ≡ Some c → entries_by by c log ≡ v.mine
+  EntriesAreMine by log s =
+      (i c : ℕ) (v : View E F) → HasView s i v → v.caller ≡ Some c → entries_by by c log ≡ v.mine
 
   -- no entry has a caller whose pass isn't made
   abbrev pub NoOtherEntries : (E → ℕ) → List E → State (Option S) (View E F) → Type 0
-  NoOtherEntries by log s = (i c : ℕ) (v : View E F) → HasView s i v → v.makes ≡ true → v.made ≤ c → entries_by by c log ≡ []
+  NoOtherEntries by log s =
+      (i c : ℕ) (v : View E F) → HasView s i v → v.makes ≡ true → v.made ≤ c → entries_by by c log ≡ []

@@ -1,12 +1,14 @@
 -- What contracts see of a lock, of its passes and of a turn that is held.
-use Rattle.std.specs.Prelude.{◌≡◌, ℕ, zero, suc, ◌<◌, List, [], ◌∷◌, ◌++◌, All, length, Option, Some, IsSome, slice_get}
+use Rattle.std.specs.Prelude.{◌≡◌, ℕ, zero, suc, ◌<◌, List, [], ◌∷◌, ◌++◌, All, length, Option, Some, IsSome}
+use Rattle.std.specs.Prelude.{slice_get}
 use Rattle.atomic_table.specs.Seated.{TableId}
 use Rattle.cm_turn.specs.declared.view.View.{View}
 use Rattle.cm_turn.specs.declared.view.Known.{Known}
 use Rattle.cm_turn.specs.History.{StartsWith, entries_by}
 use Rattle.cm_turn.specs.Views.{spent_view, idle_view, holding_view}
 
--- a pass: its lock, its frame, its caller's number, a beginning of the history, and the caller's entries in it
+-- a pass: its lock, its frame, its caller's number, a beginning of the history, and the
+-- caller's entries in it
 pub record PassView (E F : Type 0) : Type 0 where
   pub lock : TableId
   pub frame : Option F
@@ -56,11 +58,15 @@ module _ {E F : Type 0} where
 
   -- these are all passes of the lock, each once: as many as it has, all its own, and one of each caller
   abbrev pub AreAll : LockView → List (PassView E F) → Type 0
-  AreAll l passes = All (λ p. p.lock ≡ l.lock) passes × (length passes ≡ l.passes) × ((c : ℕ) → c < l.passes → HasCaller passes c)
+  AreAll l passes =
+      All (λ p. p.lock ≡ l.lock) passes × (length passes ≡ l.passes)
+      × ((c : ℕ) → c < l.passes → HasCaller passes c)
 
--- the state bears a pass out: it has the pass's frame, its list begins with what the pass has seen, and the caller's entries in it are the pass's own
+-- the state bears a pass out: it has the pass's frame, its list begins with what the pass has
+-- seen, and the caller's entries in it are the pass's own
 abbrev pub IsKnown : {S E F : Type 0} → (S → List E) → (S → F) → (E → ℕ) → S → PassView E F → Type 0
-IsKnown story frame by s p = (p.frame ≡ Some (frame s)) × StartsWith (story s) p.seen × (entries_by by p.caller (story s) ≡ p.mine)
+IsKnown story frame by s p =
+    (p.frame ≡ Some (frame s)) × StartsWith (story s) p.seen × (entries_by by p.caller (story s) ≡ p.mine)
 
 -- How the values of this crate are seen.
 module _ {E F : Type 0} where
@@ -70,7 +76,8 @@ module _ {E F : Type 0} where
   view_in (v ∷ vs) = v
 
   abbrev pub pass_of : TableId → ℕ → View E F → PassView E F
-  pass_of lock number v = record { lock = lock; frame = v.frame; caller = number; seen = v.seen; mine = v.mine }
+  pass_of lock number v =
+      record { lock = lock; frame = v.frame; caller = number; seen = v.seen; mine = v.mine }
 
   abbrev pub known_as : PassView E F → Known E F
   known_as p = record { frame = p.frame; caller = p.caller; seen = p.seen; mine = p.mine }
@@ -85,7 +92,8 @@ module _ {E F : Type 0} where
 
   -- a pass that has the turn, and has seen its caller's entries and no others of it
   abbrev pub IsHolding : (E → ℕ) → ℕ → View E F → Type 0
-  IsHolding by c v = ((t : ℕ) × (v ≡ holding_view t v.frame c v.seen v.mine)) × (entries_by by c v.seen ≡ v.mine)
+  IsHolding by c v =
+      ((t : ℕ) × (v ≡ holding_view t v.frame c v.seen v.mine)) × (entries_by by c v.seen ≡ v.mine)
 
 -- a lock's table has two words and one slot
 abbrev pub IsLockTable : TableId → Type 0

@@ -1,5 +1,6 @@
 -- The rule of the lock's table, which holds between any two steps.
-use Rattle.std.specs.Prelude.{◌≡◌, ℕ, ◌+◌, ◌%◌, ◌^◌, ◌<◌, ◌≤◌, ◌⊎◌, Bool, true, false, List, [], ◌∷◌, Option, Some, None}
+use Rattle.std.specs.Prelude.{◌≡◌, ℕ, ◌+◌, ◌%◌, ◌^◌, ◌<◌, ◌≤◌, ◌⊎◌, Bool, true, false, List, [], ◌∷◌, Option}
+use Rattle.std.specs.Prelude.{Some, None}
 use mathlib.Core.Option.{some, none}
 use lib.ListN.{get_elem?}
 use Rattle.atomic_table.specs.Table.{State}
@@ -72,7 +73,8 @@ module _ {S E F : Type 0} where
   -- the state is out: a view has the turn
   abbrev pub IsOut : Homes S → List (View E F) → Type 0
   IsOut homes views =
-      (i : ℕ) × (v : View E F) × (get_elem? views i ≡ some v) × (v.turn ≡ true) × (homes ≡ left_home v.fresh ∷ [])
+      (i : ℕ) × (v : View E F) × (get_elem? views i ≡ some v) × (v.turn ≡ true)
+      × (homes ≡ left_home v.fresh ∷ [])
 
 module _ {S E F : Type 0} (story : S → List E) (frame : S → F) (by : E → ℕ) where
   -- the rule for one view: v is the view of seat i, at a lock with the frame f and n passes
@@ -102,7 +104,8 @@ module _ {S E F : Type 0} (story : S → List E) (frame : S → F) (by : E → �
     pub maker : v.makes ≡ true → (m.making ≡ i) × (v.made ≡ m.made) × (m.made + v.parts ≡ n)
 
   -- the rule for one moment, of the table's words, of what is at home, and of all views
-  pub record Stands (f : F) (n : ℕ) (m : Moment E) (words : List ℕ) (homes : Homes S) (views : List (View E F)) : Type 0 where
+  pub record Stands (f : F) (n : ℕ) (m : Moment E) (words : List ℕ) (homes : Homes S)
+      (views : List (View E F)) : Type 0 where
     -- the words are the next ticket and the one that is served
     pub words_are : words ≡ (m.drawn % 2 ^ 64) ∷ (m.served % 2 ^ 64) ∷ []
     -- as many tickets are held as are drawn and not yet past

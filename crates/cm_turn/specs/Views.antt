@@ -30,13 +30,22 @@ module _ {E F : Type 0} where
   abbrev pub idle_maker : F → ℕ → ℕ → View E F
   idle_maker f k n = record spent_view { frame = Some f; parts = n - k; makes = true; made = k }
 
-  -- the maker at the beginning, with n passes to make: it has ticket 0 and the turn, and the slot is still empty
+  -- the maker at the beginning, with n passes to make: it has ticket 0 and the turn, and the
+  -- slot is still empty
   abbrev pub maker : F → ℕ → View E F
-  maker f n = record spent_view { frame = Some f; ticket = Some 0; turn = true; fresh = true; parts = n; makes = true }
+  maker f n = record spent_view {
+    frame = Some f;
+    ticket = Some 0;
+    turn = true;
+    fresh = true;
+    parts = n;
+    makes = true;
+  }
 
   -- the pass of caller c at rest
   abbrev pub idle_view : Option F → ℕ → List E → List E → View E F
-  idle_view f c seen mine = record spent_view { frame = f; caller = Some c; seen = seen; mine = mine; parts = 1 }
+  idle_view f c seen mine =
+      record spent_view { frame = f; caller = Some c; seen = seen; mine = mine; parts = 1 }
 
   -- the pass of caller c that has the turn, by the ticket t
   abbrev pub holding_view : ℕ → Option F → ℕ → List E → List E → View E F

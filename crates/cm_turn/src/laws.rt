@@ -1,8 +1,12 @@
 //! What holds between any two steps of any callers, as laws.
 //!
-//! In each, `f` is the lock's frame, `log` is the history at one moment, and `s` is what the lock's table has at that
-//! moment: its two words, what is at home in its slot, and the views of all seats.
-ghost use Rattle.cm_turn.specs.Laws.{Always, OneTurn, OneCaller, CallersAreMade, OnlyCallersWait, OneTicket, CountsTickets, TicketsFollow, AllAreHeld, OneFrame, HomeFrame, SeenBegins, OutOnlyInTurn, OutInTurn, HomeIsHistory, TurnHasSeenAll, EntriesAreMine, NoOtherEntries};
+//! In each, `f` is the lock's frame, `log` is the history at one moment, and `s` is what the lock's
+//! table has at that moment: its two words, what is at home in its slot, and the views of all
+//! seats.
+ghost use Rattle.cm_turn.specs.Laws.{Always, OneTurn, OneCaller, CallersAreMade, OnlyCallersWait, OneTicket};
+ghost use Rattle.cm_turn.specs.Laws.{CountsTickets, TicketsFollow, AllAreHeld, OneFrame, HomeFrame};
+ghost use Rattle.cm_turn.specs.Laws.{SeenBegins, OutOnlyInTurn, OutInTurn, HomeIsHistory, TurnHasSeenAll};
+ghost use Rattle.cm_turn.specs.Laws.{EntriesAreMine, NoOtherEntries};
 
 use crate::storied::Storied;
 
@@ -53,7 +57,8 @@ pub fn state_stands_for_the_history<S: Storied>()
     ensures turn { Always S.story S.frame S.by (λ f log s. TurnHasSeenAll log s) }
 {}
 
-/// Each caller's entries in the history are those that its view has, and no entry has a caller whose pass isn't made.
+/// Each caller's entries in the history are those that its view has, and no entry has a caller
+/// whose pass isn't made.
 pub fn entries_have_callers<S: Storied>()
     ensures mine { Always S.story S.frame S.by (λ f log s. EntriesAreMine S.by log s) }
     ensures others { Always S.story S.frame S.by (λ f log s. NoOtherEntries S.by log s) }

@@ -8,9 +8,10 @@ use std::marker::Model;
 
 /// What one caller carries from turn to turn.
 ///
-/// Contracts see its `lock`, its `frame`, its `caller`, the beginning of the history that it has `seen`, and `mine`, the
-/// caller's entries in that. The frame is `Some` of the lock's frame. A pass can't be copied, and `enter` takes it away, so
-/// each caller has one turn at most, and a pass in hand is idle.
+/// Contracts see its `lock`, its `frame`, its `caller`, the beginning of the history that it has
+/// `seen`, and `mine`, the caller's entries in that. The frame is `Some` of the lock's frame. A
+/// pass can't be copied, and `enter` takes it away, so each caller has one turn at most, and a pass
+/// in hand is idle.
 #[derive(Drop)]
 pub struct Pass<E, F> {
     pub(crate) badge: Badge<View<E, F>>,

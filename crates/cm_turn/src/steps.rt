@@ -1,9 +1,12 @@
 //! The single steps of a seat at the lock's table.
 //!
 //! Word 0 is the next ticket and word 1 the one that is served, both modulo 2^64. The one slot has the state.
-ghost use Rattle.std.specs.Prelude.{◌≡◌, ◌<◌, ◌%◌, ◌^◌, ◌++◌, ℕ, [], ◌∷◌, Some, None, IsSome, All, List, true, false};
+ghost use Rattle.std.specs.Prelude.{◌≡◌, ◌<◌, ◌%◌, ◌^◌, ◌++◌, ℕ, [], ◌∷◌, Some, None, IsSome, All, List};
+ghost use Rattle.std.specs.Prelude.{true, false};
 ghost use Rattle.cm_turn.specs.History.{StartsWith, entries_by, longer};
-ghost use Rattle.cm_turn.specs.Views.{spent_view, with_ticket, with_turn, with_slot, with_entries, without_turn, with_longer, with_one_made, next_pass, note_of, with_told, with_pass};
+ghost use Rattle.cm_turn.specs.Views.{spent_view, with_ticket, with_turn, with_slot, with_entries};
+ghost use Rattle.cm_turn.specs.Views.{without_turn, with_longer, with_one_made, next_pass, note_of};
+ghost use Rattle.cm_turn.specs.Views.{with_told, with_pass};
 ghost use Rattle.cm_turn.specs.Plays.{Found};
 ghost use Rattle.cm_turn.specs.Passes.{IsLockTable};
 
@@ -42,8 +45,9 @@ pub(crate) fn draw_ticket<S: Storied>(table: &LockTable<S>, seat: &mut LockSeat<
 
 /// Looks until the ticket is served, and then has the turn and the slot.
 ///
-/// Between two looks it is parked on the word of the served ticket, of which the low 32 bits are compared. A wake that comes
-/// between the look and the park isn't lost, as the word has changed by then.
+/// Between two looks it is parked on the word of the served ticket, of which the low 32 bits are
+/// compared. A wake that comes between the look and the park isn't lost, as the word has changed by
+/// then.
 pub(crate) fn await_turn<S: Storied, R: Wait>(
     rt: &R,
     table: &LockTable<S>,
@@ -95,7 +99,8 @@ pub(crate) fn record_entries<S: Storied>(table: &LockTable<S>, seat: &mut LockSe
     ensures view { (s : S) × (c : ℕ)
         × (seat.old.me.1 ≡ (0, Some s) ∷ [])
         × (seat.old.me.0.caller ≡ Some c)
-        × (seat.new.me ≡ (with_entries (S.story s) (entries_by S.by c (S.story s)) seat.old.me.0, seat.old.me.1)) }
+        × (seat.new.me
+        ≡ (with_entries (S.story s) (entries_by S.by c (S.story s)) seat.old.me.0, seat.old.me.1)) }
 {
     table.load::<Record>(seat, 1);
 }
@@ -115,7 +120,8 @@ pub(crate) fn pass_turn_on<S: Storied>(table: &LockTable<S>, seat: &mut LockSeat
     table.wake_all(1);
 }
 
-/// Looks up what another seat has told: the longer of that and of what this one has seen is a beginning of the history.
+/// Looks up what another seat has told: the longer of that and of what this one has seen is a
+/// beginning of the history.
 pub(crate) fn learn_told<S: Storied>(table: &LockTable<S>, seat: &mut LockSeat<S>)
     requires lock { IsLockTable table.now.table_id × (seat.old.table_id ≡ table.now.table_id) }
     requires bare { seat.old.me.1 ≡ [] }

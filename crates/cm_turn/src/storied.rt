@@ -4,7 +4,8 @@ ghost use Rattle.std.specs.Prelude.{List, ℕ};
 /// A state that stands for a history.
 ///
 /// - `story` is the list of entries that the state stands for.
-/// - `frame` is what no turn may change, and what the history is understood from, such as the state before the first entry.
+/// - `frame` is what no turn may change, and what the history is understood from, such as the state
+///   before the first entry.
 /// - `by` is the number of the caller that has made an entry.
 ///
 /// These are meanings alone: nothing of them is computed.

@@ -1,5 +1,6 @@
 //! Callers count in turns, in threads of their own.
-ghost use Rattle.std.specs.Prelude.{◌≡◌, ◌<◌, ◌≤◌, ◌++◌, [], ℕ, List as Seq, All, IfSome, length, slice_index_or};
+ghost use Rattle.std.specs.Prelude.{◌≡◌, ◌<◌, ◌≤◌, ◌++◌, [], ℕ, List as Seq, All, IfSome, length};
+ghost use Rattle.std.specs.Prelude.{slice_index_or};
 ghost use Rattle.cm_turn.specs.Passes.{PassView, IsPassOf};
 ghost use Rattle.cm_turn.specs.declared.tests.Count.{Count as Counted};
 

@@ -1,8 +1,10 @@
 //! The lock, and a turn that is held.
-ghost use Rattle.std.specs.Prelude.{◌≡◌, ◌<◌, ◌≤◌, ◌++◌, ◌⊎◌, ℕ, [], ◌∷◌, Some, None, IsSome, All, List as Seq, IfOk, IfErr, true, false, length, map, vec_capacity};
+ghost use Rattle.std.specs.Prelude.{◌≡◌, ◌<◌, ◌≤◌, ◌++◌, ◌⊎◌, ℕ, [], ◌∷◌, Some, None, IsSome, All};
+ghost use Rattle.std.specs.Prelude.{List as Seq, IfOk, IfErr, true, false, length, map, vec_capacity};
 ghost use Rattle.cm_turn.specs.History.{StartsWith, entries_by, longer};
 ghost use Rattle.cm_turn.specs.Views.{with_longer, with_told, maker, gatherer, idle_maker};
-ghost use Rattle.cm_turn.specs.Passes.{LockView, HeldView, pass_of, IsHolding, AreAll, new_passes, seen_up_to, IsKnown, IsLockTable, HasCaller, known_as, IsOwn};
+ghost use Rattle.cm_turn.specs.Passes.{LockView, HeldView, pass_of, IsHolding, AreAll, new_passes};
+ghost use Rattle.cm_turn.specs.Passes.{seen_up_to, IsKnown, IsLockTable, HasCaller, known_as, IsOwn};
 
 use crate::pass::Pass;
 use crate::rule::InTurns;
@@ -21,8 +23,8 @@ use std::sync::Wait;
 
 /// A lock round one state, in which each caller knows that what it finds extends what it had seen.
 ///
-/// Contracts see which `lock` it is, and how many `passes` it has. It can be shared by threads. Where it is dropped and
-/// not closed, the state is dropped with it.
+/// Contracts see which `lock` it is, and how many `passes` it has. It can be shared by threads.
+/// Where it is dropped and not closed, the state is dropped with it.
 #[derive(Drop)]
 pub struct Turn<S: Storied> {
     table: Table<Option<S>, View<S::Entry, S::Frame>, (S, u32), InTurns, Global>,
@@ -34,13 +36,14 @@ impl<S: Storied> Model for Turn<S> {
 
     ghost view = { λ t. record { lock = t.table.shared.table_id; passes = t.passes } };
 
-    ghost invariant = { λ t. (t.table.shared.table_id.words ≡ 2) × (t.table.shared.table_id.slots ≡ 1) × (t.table.shared.key.1 ≡ t.passes) };
+    ghost invariant = { λ t. (t.table.shared.table_id.words ≡ 2) × (t.table.shared.table_id.slots ≡ 1)
+        × (t.table.shared.key.1 ≡ t.passes) };
 }
 
 /// A turn that is being held: nobody else has the state until it is given to [`Turn::leave`].
 ///
-/// Contracts see the `state`, and the `pass` that entered, whose `seen` is the whole history that was found. It can't be
-/// dropped, so no turn is forgotten.
+/// Contracts see the `state`, and the `pass` that entered, whose `seen` is the whole history that
+/// was found. It can't be dropped, so no turn is forgotten.
 pub struct Held<S: Storied> {
     pub(crate) state: S,
     seat: Seat<Option<S>, View<S::Entry, S::Frame>>,
@@ -56,8 +59,9 @@ impl<S: Storied> Model for Held<S> {
 }
 
 impl<S: Storied> Turn<S> {
-    /// A lock round the state, and its passes in order: those of the callers from 0 to `passes` - 1, of which there are 1 to
-    /// 64. They have the state's frame, and have seen nothing, as the state stands for no entries.
+    /// A lock round the state, and its passes in order: those of the callers from 0 to
+    /// `passes` - 1, of which there are 1 to 64. They have the state's frame, and have seen
+    /// nothing, as the state stands for no entries.
     ///
     /// `Err` means that memory ran out, and gives the state back.
     pub fn new(
@@ -89,12 +93,13 @@ impl<S: Storied> Turn<S> {
 
     /// Waits for the turn and takes it, for the caller of this pass, which is one of the lock's.
     ///
-    /// The state that is found has the pass's frame. Its history begins with all that the pass had seen, and has those
-    /// entries of the caller that the pass knows, and no others of it: all of these it had seen. The pass in the held turn
-    /// has seen the whole history.
+    /// The state that is found has the pass's frame. Its history begins with all that the pass had
+    /// seen, and has those entries of the caller that the pass knows, and no others of it: all of
+    /// these it had seen. The pass in the held turn has seen the whole history.
     ///
-    /// Turns come in the order in which callers ask. A caller that waits is parked until the next turn is passed on: it uses
-    /// no processor meanwhile. Each time all that wait are woken, and those whose turn it isn't park again.
+    /// Turns come in the order in which callers ask. A caller that waits is parked until the next
+    /// turn is passed on: it uses no processor meanwhile. Each time all that wait are woken, and
+    /// those whose turn it isn't park again.
     pub fn enter<R: Wait>(&self, rt: &R, pass: Pass<S::Entry, S::Frame>) -> Held<S>
         requires lock { pass.lock ≡ self.now.lock }
         ensures pass { result.pass ≡ seen_up_to (S.story result.state) pass }
@@ -118,8 +123,8 @@ impl<S: Storied> Turn<S> {
         }
     }
 
-    /// Gives the turn back, with a state of the same frame, whose history is the one that was found followed by entries of
-    /// this caller alone, or by none.
+    /// Gives the turn back, with a state of the same frame, whose history is the one that was found
+    /// followed by entries of this caller alone, or by none.
     ///
     /// The pass has then seen the whole history, and these entries are added to its own.
     pub fn leave(&self, held: Held<S>) -> Pass<S::Entry, S::Frame>
@@ -154,8 +159,8 @@ impl<S: Storied> Turn<S> {
 
     /// Lets two passes of this lock know what either has seen.
     ///
-    /// What one has seen begins what the other has. Afterwards both have seen the longer, and each knows the entries of its
-    /// caller that it knew. It waits for no turn.
+    /// What one has seen begins what the other has. Afterwards both have seen the longer, and each
+    /// knows the entries of its caller that it knew. It waits for no turn.
     pub fn meet(&self, a: &mut Pass<S::Entry, S::Frame>, b: &mut Pass<S::Entry, S::Frame>)
         requires lock { (a.old.lock ≡ self.now.lock) × (b.old.lock ≡ self.now.lock) }
         ensures first { a.new ≡ seen_up_to a.new.seen a.old }
@@ -173,10 +178,12 @@ impl<S: Storied> Turn<S> {
         b.badge = other.into_badge();
     }
 
-    /// Ends the lock and gives its state, once all passes of the lock are given back, each once, in any order.
+    /// Ends the lock and gives its state, once all passes of the lock are given back, each once, in
+    /// any order.
     ///
-    /// The state bears each pass out: it has its frame, its history begins with what the pass had seen, and its entries of the
-    /// pass's caller are the pass's own. It has no entry of anybody else.
+    /// The state bears each pass out: it has its frame, its history begins with what the pass had
+    /// seen, and its entries of the pass's caller are the pass's own. It has no entry of anybody
+    /// else.
     pub fn close(self, passes: List<Pass<S::Entry, S::Frame>>) -> S
         requires { AreAll self passes }
         ensures known { All (IsKnown S.story S.frame S.by result) passes }
@@ -206,7 +213,8 @@ fn meet_seats<S: Storied>(table: &LockTable<S>, one: &mut LockSeat<S>, other: &m
         → entries_by S.by c (longer one.old.me.0.seen other.old.me.0.seen) ≡ one.old.me.0.mine)
         × ((c : ℕ) → other.old.me.0.caller ≡ Some c
         → entries_by S.by c (longer other.old.me.0.seen one.old.me.0.seen) ≡ other.old.me.0.mine) }
-    ensures same { longer one.old.me.0.seen other.old.me.0.seen ≡ longer other.old.me.0.seen one.old.me.0.seen }
+    ensures same { longer one.old.me.0.seen other.old.me.0.seen
+        ≡ longer other.old.me.0.seen one.old.me.0.seen }
     ensures seen { (let xs = one.old.me.0.seen in
         let ys = other.old.me.0.seen in
         StartsWith (longer xs ys) xs × StartsWith (longer xs ys) ys

@@ -6,7 +6,8 @@ use Rattle.cm_decl.specs.declared.rows.Collection.{Collection}
 use Rattle.cm_decl.specs.declared.rows.Capability.{Capability}
 use Rattle.cm_decl.specs.declared.rows.Give.{Give}
 use Rattle.cm_decl.specs.declared.section.Section.{Section}
-use Rattle.cm_decl.specs.declared.section.Section.TheVariants.{Children, Collections, Capabilities, Uses, Offers, Exposes}
+use Rattle.cm_decl.specs.declared.section.Section.TheVariants.{Children, Collections, Capabilities, Uses}
+use Rattle.cm_decl.specs.declared.section.Section.TheVariants.{Offers, Exposes}
 use Rattle.cm_decl.specs.Faults.{Fault, IsFirstIn, section_rank}
 use Rattle.cm_valid.specs.Keys.{usage_key, offer_key}
 use Rattle.cm_valid.specs.Near.{StandApart}
@@ -14,8 +15,13 @@ use Rattle.cm_valid.specs.declared.found.Found.{Found}
 
 -- the fault that was found
 abbrev pub fault_of : Found → Fault
-fault_of found =
-    record { number = found.number; section = found.section; index = found.index; against = found.against; cycle = [] }
+fault_of found = record {
+  number = found.number;
+  section = found.section;
+  index = found.index;
+  against = found.against;
+  cycle = [];
+}
 
 -- what was found is the first fault of those in a part of the declaration, or there is none in this part
 abbrev pub Finds : Decl → (Fault → Type 0) → Option Found → Type 0

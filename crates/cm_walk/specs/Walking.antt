@@ -1,5 +1,6 @@
 -- How far a walk has come.
-use Rattle.std.specs.Prelude.{◌≡◌, ℕ, List, [], ◌∷◌, ◌++◌, Bool, true, false, Option, Some, None, map, filter_map}
+use Rattle.std.specs.Prelude.{◌≡◌, ℕ, List, [], ◌∷◌, ◌++◌, Bool, true, false, Option, Some, None, map}
+use Rattle.std.specs.Prelude.{filter_map}
 use Rattle.cm_names.specs.Path.{joined_text}
 use Rattle.cm_decl.specs.declared.origin.Origin.{Origin}
 use Rattle.cm_world.specs.declared.row.Row.{Row}
@@ -8,7 +9,8 @@ use Rattle.cm_world.specs.declared.route.StepKind.{StepKind}
 use Rattle.cm_world.specs.declared.route.StepKind.TheVariants.{FrameworkHop}
 use Rattle.cm_world.specs.Stations as world
 use Rattle.cm_world.specs.Next as spec
-use Rattle.cm_world.specs.Route.{Named, First, NoUse, NoneExposed, trial, said_by, stated_before, asked_rights, is_use}
+use Rattle.cm_world.specs.Route.{Named, First, NoUse, NoneExposed, trial, said_by, stated_before}
+use Rattle.cm_world.specs.Route.{asked_rights, is_use}
 use Rattle.cm_walk.specs.declared.station.Station.{Station}
 use Rattle.cm_walk.specs.declared.station.Source.{Source}
 use Rattle.cm_walk.specs.declared.station.Source.TheVariants.{Row as FromRow, End}
@@ -84,7 +86,8 @@ abbrev pub begins_with_use : List world.Station → Bool
 begins_with_use [] = false
 begins_with_use (s ∷ ss) = is_use s.hop.step
 
--- the trail keeps of the stations of the front what s, which is tried now, and those ahead of it are judged by
+-- the trail keeps of the stations of the front what s, which is tried now, and those ahead of
+-- it are judged by
 pub record IsBehind (front : List world.Station) (s : world.Station) (t : Trail) : Type 0 where
   pub hops : t.hops ≡ map (λ x. x.hop) front
   pub subdirs : t.subdirs ≡ filter_map (λ x. x.subdir) front

@@ -2,7 +2,8 @@
 
 ghost use Rattle.std.specs.Prelude.{◌≡◌, false};
 ghost use Rattle.std.specs.Option.{option_map_or};
-ghost use Rattle.cm_world.specs.Rows.{row_of, some_above, is_below, is_gone, is_closed, is_resolved, is_shut, is_on};
+ghost use Rattle.cm_world.specs.Rows.{row_of, some_above, is_below, is_gone, is_closed, is_resolved, is_shut};
+ghost use Rattle.cm_world.specs.Rows.{is_on};
 ghost use Rattle.cm_world.specs.Sound.{IsOrderly};
 ghost use Rattle.cm_walk.specs.Marks.{has_mark};
 

@@ -1,5 +1,5 @@
--- Histories that worked examples of actions speak of. They go on where the root, the logger 1 and the client 2 are resolved
--- and off, and three actions have ended.
+-- Histories that worked examples of actions speak of. They go on where the root, the logger 1
+-- and the client 2 are resolved and off, and three actions have ended.
 use Rattle.std.specs.Prelude.{ℕ, List, [], ◌∷◌, Some}
 use Rattle.cm_names.specs.declared.dependency.Dependency.TheVariants.{Strong}
 use Rattle.cm_names.specs.declared.availability.Availability.TheVariants.{Required}
@@ -37,7 +37,8 @@ failed_entries =
     ∷ entry_of 1 (Await 4) (reply.Ended outcome.GateFailed)
     ∷ []
 
--- the client runs and opens what the logger provides, which has to be started first; then the logger ends by itself
+-- the client runs and opens what the logger provides, which has to be started first; then the
+-- logger ends by itself
 abbrev pub opened_entries : List Entry
 opened_entries =
     entry (Begin Start 2) (reply.Begun (starting_client 4))

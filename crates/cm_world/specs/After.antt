@@ -1,5 +1,6 @@
 -- The world that an entry leaves.
-use Rattle.std.specs.Prelude.{ℕ, ◌+◌, List, [], ◌∷◌, ◌++◌, Bool, true, false, not, Some, None, filter, if◌then◌else◌}
+use Rattle.std.specs.Prelude.{ℕ, ◌+◌, List, [], ◌∷◌, ◌++◌, Bool, true, false, not, Some, None, filter}
+use Rattle.std.specs.Prelude.{if◌then◌else◌}
 use Rattle.std.specs.List.{list_any}
 use Rattle.cm_world.specs.declared.row.Row.{Row}
 use Rattle.cm_world.specs.declared.action.Act.{Act}
@@ -12,11 +13,13 @@ use Rattle.cm_world.specs.declared.reply.Reply.{Reply}
 use Rattle.cm_world.specs.declared.reply.Reply.TheVariants as reply
 use Rattle.cm_world.specs.declared.reply.Entry.{Entry}
 use Rattle.cm_world.specs.declared.event.Event.{Event}
-use Rattle.cm_world.specs.declared.event.Event.TheVariants.{Begin, End, Await, Create, Mark, Pick, Purge, Exited}
+use Rattle.cm_world.specs.declared.event.Event.TheVariants.{Begin, End, Await, Create, Mark, Pick, Purge}
+use Rattle.cm_world.specs.declared.event.Event.TheVariants.{Exited}
 use Rattle.cm_world.specs.Edits.{drop_first}
 use Rattle.cm_world.specs.Rows.{is_below}
 use Rattle.cm_world.specs.World.{World, act_of}
-use Rattle.cm_world.specs.End.{changed, set_pending, set_on, set_closing, set_doomed, set_shut, rows_by, added_by, ended}
+use Rattle.cm_world.specs.End.{changed, set_pending, set_on, set_closing, set_doomed, set_shut, rows_by}
+use Rattle.cm_world.specs.End.{added_by, ended}
 use Rattle.cm_world.specs.Create.{created_row}
 use Rattle.cm_world.specs.Step.{is_join}
 
@@ -27,12 +30,11 @@ new_act action kind i caller = record { action = action; kind = kind; inc = i; b
 
 -- an action begins at a row
 abbrev pub with_action : World → ℕ → ActKind → ℕ → World
-with_action w caller kind i =
-    record w {
-      rows = changed i (set_pending (Some (kind, w.next_action))) w.rows;
-      next_action = w.next_action + 1;
-      acts = w.acts ++ new_act w.next_action kind i caller ∷ [];
-    }
+with_action w caller kind i = record w {
+  rows = changed i (set_pending (Some (kind, w.next_action))) w.rows;
+  next_action = w.next_action + 1;
+  acts = w.acts ++ new_act w.next_action kind i caller ∷ [];
+}
 
 -- an action ends with an outcome; it names its row
 abbrev pub with_end : World → ℕ → Finish → Outcome → World
@@ -51,7 +53,8 @@ with_end w a finish o =
 -- with this one, which stands there once however often it is made
 abbrev pub joined : ℕ → ℕ → List Join → List Join
 joined caller action joins =
-    if list_any (is_join caller action) joins then joins else joins ++ record { caller = caller; action = action } ∷ []
+    if list_any (is_join caller action) joins then joins
+    else joins ++ record { caller = caller; action = action } ∷ []
 
 abbrev pub unjoined : ℕ → ℕ → List Join → List Join
 unjoined caller action joins = drop_first (is_join caller action) joins
@@ -80,8 +83,10 @@ moved w caller (Begin kind i) (reply.Begun work) = with_action w caller kind i
 moved w caller (Begin kind i) (reply.Joined a) = with_joins w (joined caller a w.joins)
 moved w caller (End a finish) (reply.Ended o) = with_end w a finish o
 moved w caller (Await a) (reply.Ended o) = with_joins w (unjoined caller a w.joins)
-moved w caller (Create p coll name url gives) (reply.Created i) = with_row w (created_row i p coll name url gives)
-moved w caller (Mark doom i) reply.Marked = with_rows w (changed i (if doom then set_doomed else set_closing) w.rows)
+moved w caller (Create p coll name url gives) (reply.Created i) =
+    with_row w (created_row i p coll name url gives)
+moved w caller (Mark doom i) reply.Marked =
+    with_rows w (changed i (if doom then set_doomed else set_closing) w.rows)
 moved w caller (Pick t) (reply.Stopping work) = with_action w caller Stop work.inc
 moved w caller (Pick t) (reply.ShutDown i) = with_rows w (changed i set_shut w.rows)
 moved w caller (Purge i) (reply.Purged lost) = with_rows w (others_than w.rows i)

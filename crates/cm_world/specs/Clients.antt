@@ -9,8 +9,8 @@ use Rattle.cm_world.specs.Rows.{moniker_of}
 use Rattle.cm_world.specs.Stations.{Station}
 use Rattle.cm_world.specs.Route.{IsRoute, last_of, provider_of}
 
--- another instance, some use of which has a route of strong hops that ends here; whether the route gives anything doesn't
--- matter
+-- another instance, some use of which has a route of strong hops that ends here; whether the
+-- route gives anything doesn't matter
 pub record IsClient (rows : List Row) (builtins : List Builtin) (x y : ℕ) : Type 0 where
   pub differ : x ≢ y
   pub path : List ℕ

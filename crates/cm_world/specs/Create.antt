@@ -1,5 +1,6 @@
 -- The reply to a create.
-use Rattle.std.specs.Prelude.{◌≡◌, ℕ, List, [], ◌∷◌, ◌++◌, Bool, true, false, not, ◌&&◌, Option, Some, None, find, filter_map, is_some, option_map, option_and_then, if◌then◌else◌}
+use Rattle.std.specs.Prelude.{◌≡◌, ℕ, List, [], ◌∷◌, ◌++◌, Bool, true, false, not, ◌&&◌, Option, Some, None}
+use Rattle.std.specs.Prelude.{find, filter_map, is_some, option_map, option_and_then, if◌then◌else◌}
 use Rattle.std.specs.Str.{bytes_eq}
 use Rattle.cm_names.specs.declared.child.ChildName.{ChildName}
 use Rattle.cm_decl.specs.declared.decl.Decl.{Decl}
@@ -12,7 +13,8 @@ use Rattle.cm_decl.specs.Cycle.{IsPickedCycle}
 use Rattle.cm_decl.specs.Reach.{NoCycle}
 use Rattle.cm_world.specs.declared.row.Row.{Row}
 use Rattle.cm_world.specs.declared.reply.Reply.{Reply}
-use Rattle.cm_world.specs.declared.reply.Reply.TheVariants.{Gone, Closing, Need, NoCollection, Exists, OffersRefused, BadOffer, Cycle, Full, Created}
+use Rattle.cm_world.specs.declared.reply.Reply.TheVariants.{Gone, Closing, Need, NoCollection, Exists}
+use Rattle.cm_world.specs.declared.reply.Reply.TheVariants.{OffersRefused, BadOffer, Cycle, Full, Created}
 use Rattle.cm_world.specs.Rows.{decl_of, child_of, has_parent, is_gone, is_closed}
 use Rattle.cm_world.specs.World.{new_row, rows_fit}
 
@@ -27,7 +29,8 @@ collection_of d coll = find (λ c. bytes_eq c.name coll) d.collections
 
 abbrev pub dynamic_by : ℕ → Row → ChildName → Option DynChild
 dynamic_by p r c =
-    if has_parent p r && is_some c.coll && not r.doomed then Some (record { name = c; gives = r.gives }) else None
+    if has_parent p r && is_some c.coll && not r.doomed then Some (record { name = c; gives = r.gives })
+    else None
 
 -- a row as a child of p in a collection, if it is one that isn't doomed
 abbrev pub dynamic_of : ℕ → Row → Option DynChild
@@ -74,7 +77,10 @@ abbrev pub refused_create : List Row → ℕ → List ℕ → List ℕ → List 
 refused_create rows p coll name gives =
     if is_gone rows p then Some (Gone p)
     else if is_closed rows p then Some (Closing p)
-    else elim (decl_of rows p) as (λ _. Option Reply) [ None ↦ Some (Need p) | Some d ↦ refused_by rows p d coll name gives ]
+    else elim (decl_of rows p) as (λ _. Option Reply) [
+      | None ↦ Some (Need p)
+      | Some d ↦ refused_by rows p d coll name gives
+    ]
 
 -- ---- the reply
 
@@ -99,7 +105,8 @@ CreatesUnless limit rows next p c gives None reply =
 -- the reply to a create; next is the incarnation that the new row would get
 abbrev pub IsCreateReply : ℕ → List Row → ℕ → ℕ → List ℕ → List ℕ → List Give → Reply → Type 0
 IsCreateReply limit rows next p coll name gives reply =
-    CreatesUnless limit rows next p (dynamic_name coll name) gives (refused_create rows p coll name gives) reply
+    CreatesUnless limit rows next p (dynamic_name coll name) gives
+    (refused_create rows p coll name gives) reply
 
 -- the row of a new child
 abbrev pub created_row : ℕ → ℕ → List ℕ → List ℕ → List ℕ → List Give → Row

@@ -1,5 +1,6 @@
--- How many steps a walk can still make. It goes up while it follows uses and offers, each time to a row with a lower
--- incarnation; then it goes down by exposes, each time to a row with a higher one, and never up again.
+-- How many steps a walk can still make. It goes up while it follows uses and offers, each time
+-- to a row with a lower incarnation; then it goes down by exposes, each time to a row with a
+-- higher one, and never up again.
 use Rattle.std.specs.Prelude.{◌≡◌, ℕ, ◌+◌, ◌-◌, ◌<◌, List, Bool, true, false, ◌&&◌, Option, Some, None}
 use Rattle.cm_decl.specs.declared.origin.Origin.{Origin}
 use Rattle.cm_decl.specs.declared.origin.Origin.TheVariants.{Parent}

@@ -1,5 +1,5 @@
--- Short realms that worked examples speak of: a route that is found, one that isn't, and a tree without room. A name of one
--- letter is written by its byte.
+-- Short realms that worked examples speak of: a route that is found, one that isn't, and a
+-- tree without room. A name of one letter is written by its byte.
 use Rattle.std.specs.Prelude.{ℕ, List, [], ◌∷◌, ◌++◌, true, false, Some, None}
 use Rattle.cm_names.specs.declared.moniker.Moniker.{Moniker}
 use Rattle.cm_names.specs.declared.dependency.Dependency.TheVariants.{Strong}
@@ -85,8 +85,15 @@ abbrev pub root_url : List ℕ
 root_url = 82 ∷ []
 
 abbrev pub resolving : ℕ → ℕ → Moniker → List ℕ → List ℕ → Work
-resolving action inc moniker base url =
-    record { action = action; inc = inc; moniker = moniker; base = base; url = url; runner = None; eager = [] }
+resolving action inc moniker base url = record {
+  action = action;
+  inc = inc;
+  moniker = moniker;
+  base = base;
+  url = url;
+  runner = None;
+  eager = [];
+}
 
 abbrev pub hop : ℕ → Moniker → Hop
 hop inc moniker = record {
@@ -156,7 +163,8 @@ route_entries = resolving_entries ++ entry (Route 2 s_path) (reply.Given whole_r
 
 -- the same without the offer, and without the expose
 abbrev pub unoffered_entries : List Entry
-unoffered_entries = first_entries no_offer_decl ++ entry (Route 2 s_path) (reply.Failed no_offer_hop why.NoOffer) ∷ []
+unoffered_entries =
+    first_entries no_offer_decl ++ entry (Route 2 s_path) (reply.Failed no_offer_hop why.NoOffer) ∷ []
 
 abbrev pub unexposed_entries : List Entry
 unexposed_entries =
@@ -177,7 +185,8 @@ logger_look = record {
 }
 
 abbrev pub client_survey : SurveyRow
-client_survey = record { inc = 2; moniker = at_child c; resolved = true; on = false; shut = false; paths = s_path ∷ [] }
+client_survey =
+    record { inc = 2; moniker = at_child c; resolved = true; on = false; shut = false; paths = s_path ∷ [] }
 
 abbrev pub x_expose_hop : Hop
 x_expose_hop = record no_expose_hop { name = x }

@@ -38,7 +38,8 @@ StartsSound = (f : Frame) → IsSound (start f).rows (start f).next_inc
 
 -- a legal history goes on by any entry that the world allows which it leaves
 abbrev pub LegalGoesOn : Type 0
-LegalGoesOn = (w : World) (es : List Entry) (e : Entry) → Legal w es → IsStep (replay w es) e → Legal w (es ++ e ∷ [])
+LegalGoesOn =
+    (w : World) (es : List Entry) (e : Entry) → Legal w es → IsStep (replay w es) e → Legal w (es ++ e ∷ [])
 
 -- and then leaves the world behind that entry
 abbrev pub ReplayGoesOn : Type 0

@@ -1,5 +1,5 @@
--- The level of an instance: which of it and its children depends on which. It is the realm graph of its declaration, made
--- of rows: of the instance itself and of its children that live, doomed ones too.
+-- The level of an instance: which of it and its children depends on which. It is the realm graph of its
+-- declaration, made of rows: of the instance itself and of its children that live, doomed ones too.
 use Rattle.std.specs.Prelude.{ℕ, List, [], Bool, false, ◌&&◌, ◌||◌, ◌==◌, nat_eq, Some, None, if◌then◌else◌}
 use Rattle.std.specs.List.{list_any}
 use Rattle.std.specs.Option.{option_eq, option_map_or}
@@ -23,7 +23,8 @@ abbrev pub row_sources : Decl → Row → List Origin
 row_sources d r = elim r.name as (λ _. List Origin) [ None ↦ [] | Some c ↦ child_sources d c r.gives ]
 
 abbrev pub child_row_sources : List Row → Decl → ℕ → List Origin
-child_row_sources rows d x = elim (row_of rows x) as (λ _. List Origin) [ None ↦ [] | Some r ↦ row_sources d r ]
+child_row_sources rows d x =
+    elim (row_of rows x) as (λ _. List Origin) [ None ↦ [] | Some r ↦ row_sources d r ]
 
 -- the sources that a node strongly depends on: of p itself the children that it uses
 abbrev pub level_sources : List Row → ℕ → ℕ → List Origin
@@ -42,7 +43,8 @@ is_from_row rows p y _ = false
 -- the first node strongly depends on the second: the second is a source of the first, and both are nodes
 abbrev pub level_edge : List Row → ℕ → ℕ → ℕ → Bool
 level_edge rows p x y =
-    list_any (is_from_row rows p y) (level_sources rows p x) && is_level_node rows p x && is_level_node rows p y
+    list_any (is_from_row rows p y) (level_sources rows p x) && is_level_node rows p x
+    && is_level_node rows p y
 
 -- the level of p
 abbrev pub level : List Row → ℕ → Realm ℕ

@@ -4,7 +4,8 @@ use Rattle.std.specs.Option.{option_map_or}
 use Rattle.cm_world.specs.declared.row.Row.{Row}
 use Rattle.cm_world.specs.declared.report.Lost.{Lost}
 use Rattle.cm_world.specs.declared.reply.Reply.{Reply}
-use Rattle.cm_world.specs.declared.reply.Reply.TheVariants.{Gone, Already, Marked, NotDynamic, PurgedBefore, Purged}
+use Rattle.cm_world.specs.declared.reply.Reply.TheVariants.{Gone, Already, Marked, NotDynamic, PurgedBefore}
+use Rattle.cm_world.specs.declared.reply.Reply.TheVariants.{Purged}
 use Rattle.cm_world.specs.Rows.{row_of, has_closing, is_live, is_gone, subtree, moniker_of}
 
 abbrev pub close_reply : List Row → ℕ → Reply
@@ -21,7 +22,9 @@ abbrev pub doom_reply : List Row → ℕ → Reply
 doom_reply rows i =
     elim (row_of rows i) as (λ _. Reply) [
       | None ↦ Gone i
-      | Some r ↦ if r.doomed then Already else if is_gone rows i then Gone i else if is_dynamic r then Marked else NotDynamic
+      | Some r ↦
+          if r.doomed then Already else if is_gone rows i then Gone i
+          else if is_dynamic r then Marked else NotDynamic
     ]
 
 abbrev pub mark_reply : List Row → Bool → ℕ → Reply

@@ -18,10 +18,11 @@ use Rattle.cm_world.specs.declared.route.StepKind.TheVariants.{OfferHop, ExposeH
 use Rattle.cm_world.specs.declared.route.Why.{Why}
 use Rattle.cm_world.specs.declared.route.Why.TheVariants.{NoOffer, NoExpose, NoBuiltin}
 use Rattle.cm_world.specs.Rows.{row_of, decl_of, child_of}
-use Rattle.cm_world.specs.Stations.{Station, bare_hop, offer_station, expose_station, capability_station, builtin_station, framework_station}
+use Rattle.cm_world.specs.Stations.{Station, bare_hop, offer_station, expose_station, capability_station}
+use Rattle.cm_world.specs.Stations.{builtin_station, framework_station}
 
--- another station; nothing, since this is an end; nothing without the declaration of a row; the void; a child that isn't
--- there; or a hop that is missing, and why
+-- another station; nothing, since this is an end; nothing without the declaration of a row;
+-- the void; a child that isn't there; or a hop that is missing, and why
 pub data Next : Type 0 where
   To : Station → Next
   Ends : Next
@@ -108,7 +109,8 @@ by_capability rows i (Some c) = To (capability_station rows i c)
 abbrev pub next_from : List Row → List Builtin → ℕ → Kind → List ℕ → Origin → Next
 next_from rows builtins i kind name Parent = from_above rows builtins kind name (row_of rows i)
 next_from rows builtins i kind name (Child c) = from_child rows kind name (child_of rows i c)
-next_from rows builtins i kind name Own = by_capability rows i (option_and_then (λ d. capability_of d kind name) (decl_of rows i))
+next_from rows builtins i kind name Own =
+    by_capability rows i (option_and_then (λ d. capability_of d kind name) (decl_of rows i))
 next_from rows builtins i kind name Framework = To (framework_station rows i kind name)
 next_from rows builtins i kind name Void = FromVoid
 

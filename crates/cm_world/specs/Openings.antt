@@ -9,7 +9,9 @@ use Rattle.cm_world.specs.declared.route.Start.{Start}
 use Rattle.cm_world.specs.declared.route.Walked.{Walked}
 use Rattle.cm_world.specs.declared.route.Walked.TheVariants as walked
 use Rattle.cm_world.specs.declared.reply.Reply.{Reply}
-use Rattle.cm_world.specs.declared.reply.Reply.TheVariants.{Gone, Need, Shut, NoSuchUse, ClientOff, SourceShut, NeedStart, Failed, Void, Given, Opened}
+use Rattle.cm_world.specs.declared.reply.Reply.TheVariants.{Gone, Need, Shut, NoSuchUse, ClientOff}
+use Rattle.cm_world.specs.declared.reply.Reply.TheVariants.{SourceShut, NeedStart, Failed, Void, Given}
+use Rattle.cm_world.specs.declared.reply.Reply.TheVariants.{Opened}
 use Rattle.cm_world.specs.Rows.{is_gone, is_closed, is_on, is_shut, is_resolved}
 use Rattle.cm_world.specs.Route.{IsWalked}
 

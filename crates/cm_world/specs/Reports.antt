@@ -1,5 +1,6 @@
 -- The replies that tell how instances are.
-use Rattle.std.specs.Prelude.{ℕ, List, [], Bool, not, ◌&&◌, Option, Some, None, filter, filter_map, map, is_some, option_map, option_and_then, if◌then◌else◌}
+use Rattle.std.specs.Prelude.{ℕ, List, [], Bool, not, ◌&&◌, Option, Some, None, filter, filter_map, map}
+use Rattle.std.specs.Prelude.{is_some, option_map, option_and_then, if◌then◌else◌}
 use Rattle.std.specs.Str.{bytes_eq}
 use Rattle.std.specs.Option.{option_eq}
 use Rattle.cm_names.specs.declared.child.ChildName.{ChildName}
@@ -8,7 +9,8 @@ use Rattle.cm_world.specs.declared.report.Kid.{Kid}
 use Rattle.cm_world.specs.declared.report.Look.{Look}
 use Rattle.cm_world.specs.declared.report.SurveyRow.{SurveyRow}
 use Rattle.cm_world.specs.declared.reply.Reply.{Reply}
-use Rattle.cm_world.specs.declared.reply.Reply.TheVariants.{Gone, Already, NoCollection, Listed, Shown, Surveyed, Left, Tailed}
+use Rattle.cm_world.specs.declared.reply.Reply.TheVariants.{Gone, Already, NoCollection, Listed, Shown}
+use Rattle.cm_world.specs.declared.reply.Reply.TheVariants.{Surveyed, Left, Tailed}
 use Rattle.cm_world.specs.Rows.{row_of, decl_of, is_gone, has_parent, subtree, moniker_of}
 use Rattle.cm_world.specs.Create.{collection_of}
 use Rattle.cm_world.specs.Openings.{unready}
@@ -84,7 +86,9 @@ abbrev pub exit_reply : List Row → ℕ → Option Reply
 exit_reply rows i =
     elim (row_of rows i) as (λ _. Option Reply) [
       | None ↦ Some (Gone i)
-      | Some r ↦ if is_some r.pending then None else if r.on then Some (Left (moniker_of rows i)) else Some Already
+      | Some r ↦
+          if is_some r.pending then None
+          else if r.on then Some (Left (moniker_of rows i)) else Some Already
     ]
 
 abbrev pub tail_reply : List Row → ℕ → ℕ → Reply

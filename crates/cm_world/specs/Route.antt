@@ -1,5 +1,6 @@
 -- Routes, and what a walk along one comes to.
-use Rattle.std.specs.Prelude.{◌≡◌, ℕ, List, [], ◌∷◌, ◌++◌, Bool, true, false, Option, Some, None, find, map, filter_map, reverse, slice_get, option_and_then, if◌then◌else◌}
+use Rattle.std.specs.Prelude.{◌≡◌, ℕ, List, [], ◌∷◌, ◌++◌, Bool, true, false, Option, Some, None, find, map}
+use Rattle.std.specs.Prelude.{filter_map, reverse, slice_get, option_and_then, if◌then◌else◌}
 use Rattle.std.specs.Str.{bytes_eq}
 use Rattle.cm_names.specs.declared.availability.Availability.{Availability}
 use Rattle.cm_names.specs.Availability.{fits}
@@ -11,7 +12,8 @@ use Rattle.cm_world.specs.declared.row.Row.{Row}
 use Rattle.cm_world.specs.declared.frame.Builtin.{Builtin}
 use Rattle.cm_world.specs.declared.route.Hop.{Hop}
 use Rattle.cm_world.specs.declared.route.StepKind.{StepKind}
-use Rattle.cm_world.specs.declared.route.StepKind.TheVariants.{UseHop, OfferHop, ExposeHop, CapabilityHop, FrameworkHop, BuiltinHop}
+use Rattle.cm_world.specs.declared.route.StepKind.TheVariants.{UseHop, OfferHop, ExposeHop, CapabilityHop}
+use Rattle.cm_world.specs.declared.route.StepKind.TheVariants.{FrameworkHop, BuiltinHop}
 use Rattle.cm_world.specs.declared.route.Why.TheVariants as why
 use Rattle.cm_world.specs.declared.route.Provider.{Provider}
 use Rattle.cm_world.specs.declared.route.Provider.TheVariants as provider
@@ -40,7 +42,8 @@ named_by rows (UseAt i path) =
       | Some u ↦ First (use_station rows i u)
     ]
 named_by rows (ExposeAt i name) =
-    elim (option_and_then (λ d. find (λ g. bytes_eq g.target_name name) d.exposes) (decl_of rows i)) as (λ _. Named) [
+    elim (option_and_then (λ d. find (λ g. bytes_eq g.target_name name) d.exposes) (decl_of rows i))
+    as (λ _. Named) [
       | None ↦ NoneExposed (bare_hop rows ExposeHop i Protocol name)
       | Some g ↦ First (expose_station rows i g)
     ]
@@ -55,8 +58,8 @@ last_of s [] = s
 last_of s (t ∷ ts) = last_of t ts
 
 -- the first station is what the start names, each other is the next of the one before, and the last is an end
-pub record IsRoute (rows : List Row) (builtins : List Builtin) (begin : Start) (first : Station) (rest : List Station)
-    : Type 0 where
+pub record IsRoute (rows : List Row) (builtins : List Builtin) (begin : Start) (first : Station)
+    (rest : List Station) : Type 0 where
   pub begins : named_by rows begin ≡ First first
   pub chain : IsChain rows builtins first rest
   pub ends : next_of rows builtins (last_of first rest) ≡ Ends
@@ -84,8 +87,8 @@ abbrev pub asked_rights : List Station → Option RightSet
 asked_rights [] = None
 asked_rights (s ∷ ss) = if is_use s.hop.step then s.hop.rights else first_rights (s ∷ ss)
 
--- the end's path and the subdirectories, in the order from the source to the use; what the framework provides has its path
--- alone
+-- the end's path and the subdirectories, in the order from the source to the use; what the
+-- framework provides has its path alone
 abbrev pub path_of : List Station → Station → List ℕ
 path_of front s = elim s.hop.step as (λ _. List ℕ) [
   | FrameworkHop ↦ s.path
@@ -120,7 +123,8 @@ unless_fitting hop _ _ = None
 -- an offer or expose hop whose availability doesn't fit that of the hop before it
 abbrev pub weak_availability : List Station → Station → Option Walked
 weak_availability front s =
-    if is_offer_or_expose s.hop.step then unless_fitting s.hop (stated_before front) s.hop.availability else None
+    if is_offer_or_expose s.hop.step then unless_fitting s.hop (stated_before front) s.hop.availability
+    else None
 
 abbrev pub unless_within : Hop → Option RightSet → Option RightSet → Option Walked
 unless_within hop (Some asked) (Some stated) =
@@ -143,7 +147,8 @@ said_by front s (Misses hop reason) = Some (Failed hop reason)
 -- a missing instance first, then availability, then rights, then what its next says
 abbrev pub trial_by : List Station → Station → Next → Option Walked
 trial_by front s NoChild = Some (Failed s.hop why.NoInstance)
-trial_by front s next = or_else (weak_availability front s) (or_else (weak_rights front s) (said_by front s next))
+trial_by front s next =
+    or_else (weak_availability front s) (or_else (weak_rights front s) (said_by front s next))
 
 -- what is decided at a station, if anything is
 abbrev pub trial : List Row → List Builtin → List Station → Station → Option Walked

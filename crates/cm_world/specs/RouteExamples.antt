@@ -86,8 +86,13 @@ using_decl rights subdir = record no_decl {
 }
 
 abbrev pub resolved_row : ℕ → Option ℕ → Option ChildName → Decl → Row
-resolved_row inc parent name declaration =
-    record (root_row []) { inc = inc; parent = parent; name = name; absolute = Some []; decl = Some declaration }
+resolved_row inc parent name declaration = record (root_row []) {
+  inc = inc;
+  parent = parent;
+  name = name;
+  absolute = Some [];
+  decl = Some declaration;
+}
 
 abbrev pub three_rows : Decl → Decl → Decl → List Row
 three_rows root store client =
@@ -132,7 +137,8 @@ subdir_route = record {
 
 -- the use asks for rw*, the offer states no rights, the expose r*
 abbrev pub weak_rows : List Row
-weak_rows = three_rows (offering_decl None None) (storing_decl (Some reading) None) (using_decl reading_writing None)
+weak_rows =
+    three_rows (offering_decl None None) (storing_decl (Some reading) None) (using_decl reading_writing None)
 
 abbrev pub weak_walk : Walked
 weak_walk =
@@ -149,7 +155,8 @@ void_decl = record no_decl {
 }
 
 abbrev pub asking_decl : Availability → Decl
-asking_decl used = record no_decl { uses = record (use_of s origin.Parent s_path) { availability = used } ∷ [] }
+asking_decl used =
+    record no_decl { uses = record (use_of s origin.Parent s_path) { availability = used } ∷ [] }
 
 abbrev pub void_rows : Availability → List Row
 void_rows used =

@@ -1,5 +1,7 @@
 -- What is read of the rows of a realm tree. A row is named by its incarnation.
-use Rattle.std.specs.Prelude.{ℕ, zero, suc, List, [], ◌∷◌, ◌++◌, Bool, true, false, ◌&&◌, ◌||◌, not, ◌==◌, nat_eq, nat_lt, Option, Some, None, find, filter, is_some, length, option_map, option_and_then, option_to_list}
+use Rattle.std.specs.Prelude.{ℕ, zero, suc, List, [], ◌∷◌, ◌++◌, Bool, true, false, ◌&&◌, ◌||◌, not, ◌==◌}
+use Rattle.std.specs.Prelude.{nat_eq, nat_lt, Option, Some, None, find, filter, is_some, length, option_map}
+use Rattle.std.specs.Prelude.{option_and_then, option_to_list}
 use Rattle.std.specs.List.{list_all}
 use Rattle.std.specs.Option.{option_eq, option_map_or}
 use Rattle.cm_names.specs.declared.child.ChildName.{ChildName}
@@ -60,7 +62,10 @@ abbrev pub at_or_above : ℕ → (Row → Bool) → List Row → Option ℕ → 
 at_or_above zero passes rows i = false
 at_or_above (suc n) passes rows None = false
 at_or_above (suc n) passes rows (Some i) =
-    elim (row_of rows i) as (λ _. Bool) [ None ↦ false | Some r ↦ passes r || at_or_above n passes rows r.parent ]
+    elim (row_of rows i) as (λ _. Bool) [
+      | None ↦ false
+      | Some r ↦ passes r || at_or_above n passes rows r.parent
+    ]
 
 -- whether it or one of its ancestors does; they are at most as many as there are rows
 abbrev pub some_above : (Row → Bool) → List Row → ℕ → Bool
@@ -83,7 +88,10 @@ abbrev pub names_to : ℕ → List Row → Option ℕ → List ChildName
 names_to zero rows i = []
 names_to (suc n) rows None = []
 names_to (suc n) rows (Some i) =
-    elim (row_of rows i) as (λ _. List ChildName) [ None ↦ [] | Some r ↦ names_to n rows r.parent ++ option_to_list r.name ]
+    elim (row_of rows i) as (λ _. List ChildName) [
+      | None ↦ []
+      | Some r ↦ names_to n rows r.parent ++ option_to_list r.name
+    ]
 
 abbrev pub moniker_of : List Row → ℕ → Moniker
 moniker_of rows i = record { parts = names_to (length rows) rows (Some i) }

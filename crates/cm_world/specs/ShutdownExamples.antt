@@ -24,7 +24,8 @@ abbrev pub k : List ℕ
 k = 107 ∷ []
 
 abbrev pub k_decl : Decl
-k_decl = record no_decl { collections = record { name = k; durability = Transient; dynamic_offers = false } ∷ [] }
+k_decl =
+    record no_decl { collections = record { name = k; durability = Transient; dynamic_offers = false } ∷ [] }
 
 abbrev pub x_name : ChildName
 x_name = record { coll = Some k; name = x }
@@ -60,8 +61,8 @@ purged_entries =
     ∷ entry (Begin Start 1) (reply.Gone 1)
     ∷ []
 
--- ---- children provider 1, client 2, mid 3 of a closing root, and leaf 4 of mid: the client depends on mid, mid on the
--- provider and on its leaf; the provider is weakly offered something of the client
+-- ---- children provider 1, client 2, mid 3 of a closing root, and leaf 4 of mid: the client depends
+-- on mid, mid on the provider and on its leaf; the provider is weakly offered something of the client
 
 abbrev pub v : List ℕ
 v = 118 ∷ []

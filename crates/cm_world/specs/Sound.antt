@@ -1,5 +1,6 @@
 -- Which rows are those of an orderly world, and of a sound one. The next incarnation is given beside them.
-use Rattle.std.specs.Prelude.{◌≡◌, ℕ, ◌<◌, List, [], ◌∷◌, Bool, true, false, ◌&&◌, Some, None, IsSome, IsTrue, is_none, count_by}
+use Rattle.std.specs.Prelude.{◌≡◌, ℕ, ◌<◌, List, [], ◌∷◌, Bool, true, false, ◌&&◌, Some, None, IsSome, IsTrue}
+use Rattle.std.specs.Prelude.{is_none, count_by}
 use Rattle.std.specs.Option.{option_map_or}
 use Rattle.cm_decl.specs.declared.decl.Decl.{Decl}
 use Rattle.cm_decl.specs.Same.{same_child}
@@ -51,12 +52,14 @@ pub record IsWellShut (rows : List Row) (r : Row) : Type 0 where
 abbrev pub is_static_child : ℕ → Row → Bool
 is_static_child p r = has_parent p r && option_map_or (λ c. is_none c.coll) r.name false
 
--- the children of p by such names are exactly those of its declaration, one each; none is doomed or was given anything
+-- the children of p by such names are exactly those of its declaration, one each; none is
+-- doomed or was given anything
 pub record HasStatic (rows : List Row) (p : ℕ) (d : Decl) : Type 0 where
   pub one_each : (name : List ℕ) →
       count_by (λ r. has_parent p r && has_name (static_name name) r) rows
       ≡ count_by (λ k. same_child (static_name k.name) (static_name name)) d.children
-  pub kept : (i : ℕ) (r : Row) → Lives rows i r → IsTrue (is_static_child p r) → (r.doomed ≡ false) × (r.gives ≡ [])
+  pub kept : (i : ℕ) (r : Row) → Lives rows i r → IsTrue (is_static_child p r)
+      → (r.doomed ≡ false) × (r.gives ≡ [])
 
 pub record IsSound (rows : List Row) (next : ℕ) : Type 0 where
   pub orderly : IsOrderly rows next

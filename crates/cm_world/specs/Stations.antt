@@ -13,11 +13,12 @@ use Rattle.cm_world.specs.declared.row.Row.{Row}
 use Rattle.cm_world.specs.declared.frame.Builtin.{Builtin}
 use Rattle.cm_world.specs.declared.route.Hop.{Hop}
 use Rattle.cm_world.specs.declared.route.StepKind.{StepKind}
-use Rattle.cm_world.specs.declared.route.StepKind.TheVariants.{UseHop, OfferHop, ExposeHop, CapabilityHop, FrameworkHop, BuiltinHop}
+use Rattle.cm_world.specs.declared.route.StepKind.TheVariants.{UseHop, OfferHop, ExposeHop, CapabilityHop}
+use Rattle.cm_world.specs.declared.route.StepKind.TheVariants.{FrameworkHop, BuiltinHop}
 use Rattle.cm_world.specs.Rows.{moniker_of}
 
--- a hop, with the source, the name there and the subdirectory that its row states; an end has no source, and the path that
--- it provides
+-- a hop, with the source, the name there and the subdirectory that its row states; an end has
+-- no source, and the path that it provides
 pub record Station : Type 0 where
   pub hop : Hop
   pub source : Option Origin
@@ -25,7 +26,8 @@ pub record Station : Type 0 where
   pub subdir : Option (List ℕ)
   pub path : List ℕ
 
-abbrev pub hop_at : List Row → StepKind → ℕ → Kind → List ℕ → Option RightSet → Option Availability → Bool → Hop
+abbrev pub hop_at : List Row → StepKind → ℕ → Kind → List ℕ → Option RightSet → Option Availability → Bool
+    → Hop
 hop_at rows step i kind name rights availability strong = record {
   step = step;
   inc = i;
@@ -75,7 +77,8 @@ abbrev pub end_station : Hop → List ℕ → Station
 end_station hop path = record { hop = hop; source = None; source_name = []; subdir = None; path = path }
 
 abbrev pub capability_station : List Row → ℕ → Capability → Station
-capability_station rows i c = end_station (hop_at rows CapabilityHop i c.kind c.name c.rights None true) c.path
+capability_station rows i c =
+    end_station (hop_at rows CapabilityHop i c.kind c.name c.rights None true) c.path
 
 abbrev pub builtin_station : List Row → ℕ → Builtin → Station
 builtin_station rows i b = end_station (hop_at rows BuiltinHop i b.kind b.name b.rights None true) b.path

@@ -1,5 +1,6 @@
 -- The events that are enabled, and the replies that they may get.
-use Rattle.std.specs.Prelude.{◌≡◌, ℕ, List, [], Bool, false, true, not, ◌&&◌, ◌||◌, ◌==◌, Some, None, option_map, is_some, IsTrue, ◌⊎◌}
+use Rattle.std.specs.Prelude.{◌≡◌, ℕ, List, [], Bool, false, true, not, ◌&&◌, ◌||◌, ◌==◌, Some, None}
+use Rattle.std.specs.Prelude.{option_map, is_some, IsTrue, ◌⊎◌}
 use Rattle.std.specs.List.{list_any}
 use Rattle.cm_world.specs.declared.row.Row.{Row}
 use Rattle.cm_world.specs.declared.action.Act.{Act}
@@ -11,7 +12,9 @@ use Rattle.cm_world.specs.declared.route.Start.TheVariants.{UseAt, ExposeAt}
 use Rattle.cm_world.specs.declared.reply.Reply.{Reply}
 use Rattle.cm_world.specs.declared.reply.Reply.TheVariants as reply
 use Rattle.cm_world.specs.declared.event.Event.{Event}
-use Rattle.cm_world.specs.declared.event.Event.TheVariants.{Find, Begin, End, Await, Create, Mark, Pick, Purge, Route, OpenUse, OpenExposed, Listing, Show, Survey, Exited, Tail}
+use Rattle.cm_world.specs.declared.event.Event.TheVariants.{Find, Begin, End, Await, Create, Mark, Pick}
+use Rattle.cm_world.specs.declared.event.Event.TheVariants.{Purge, Route, OpenUse, OpenExposed, Listing, Show}
+use Rattle.cm_world.specs.declared.event.Event.TheVariants.{Survey, Exited, Tail}
 use Rattle.cm_world.specs.Rows.{is_live, has_doomed, is_closing, is_subtree_shut}
 use Rattle.cm_world.specs.World.{World, act_of, outcome_of}
 use Rattle.cm_world.specs.Work.{work_of}
@@ -26,7 +29,8 @@ use Rattle.cm_world.specs.Reports.{list_reply, show_reply, survey_reply, exit_re
 
 -- ---- enabled
 
--- an action that this caller began and that has no outcome, and an end that fits it, with a valid declaration if it brings one
+-- an action that this caller began and that has no outcome, and an end that fits it, with a
+-- valid declaration if it brings one
 pub record MayEnd (acts : List Act) (caller action : ℕ) (finish : Finish) : Type 0 where
   pub act : Act
   pub there : act_of acts action ≡ Some act
@@ -56,7 +60,8 @@ abbrev pub IsEnabled : World → ℕ → Event → Type 0
 IsEnabled w caller (Begin kind i) = IsTrue (is_some (begin_reply w.rows w.next_action kind i))
 IsEnabled w caller (End a finish) = MayEnd w.acts caller a finish
 IsEnabled w caller (Await a) = MayAwait w.acts w.joins caller a
-IsEnabled w caller (Pick t) = IsTrue (may_close w.rows t) × (IsTrue (is_subtree_shut w.rows t) ⊎ CanPick w.rows t)
+IsEnabled w caller (Pick t) =
+    IsTrue (may_close w.rows t) × (IsTrue (is_subtree_shut w.rows t) ⊎ CanPick w.rows t)
 IsEnabled w caller (Purge i) = IsTrue (may_purge w.rows i)
 IsEnabled w caller (Exited i) = IsTrue (is_some (exit_reply w.rows i))
 IsEnabled w caller _ = Unit {0}
@@ -92,7 +97,8 @@ Allowed w caller (Find m) r = r ≡ found_from w.rows 0 [] m.parts
 Allowed w caller (Begin kind i) r = begin_reply w.rows w.next_action kind i ≡ Some r
 Allowed w caller (End a finish) r = r ≡ reply.Ended (outcome_by w.frame.limits.rows w.rows w.next_inc finish)
 Allowed w caller (Await a) r = option_map reply.Ended (outcome_of w.acts a) ≡ Some r
-Allowed w caller (Create p coll name url gives) r = IsCreateReply w.frame.limits.rows w.rows w.next_inc p coll name gives r
+Allowed w caller (Create p coll name url gives) r =
+    IsCreateReply w.frame.limits.rows w.rows w.next_inc p coll name gives r
 Allowed w caller (Mark doom i) r = r ≡ mark_reply w.rows doom i
 Allowed w caller (Pick t) r = IsPickReply w.rows w.next_action t r
 Allowed w caller (Purge i) r = r ≡ purge_reply w.rows i

@@ -1,5 +1,6 @@
 -- Which instances may stop now, and which of them a pick may choose.
-use Rattle.std.specs.Prelude.{◌≡◌, ℕ, List, [], ◌∷◌, Bool, false, Option, Some, None, find, filter, reverse, if◌then◌else◌, IsTrue, ◌==◌}
+use Rattle.std.specs.Prelude.{◌≡◌, ℕ, List, [], ◌∷◌, Bool, false, Option, Some, None, find, filter, reverse}
+use Rattle.std.specs.Prelude.{if◌then◌else◌, IsTrue, ◌==◌}
 use Rattle.cm_decl.specs.Realm.{Depends}
 use Rattle.cm_world.specs.declared.row.Row.{Row}
 use Rattle.cm_world.specs.Rows.{row_of, has_closing, is_below, is_shut, is_subtree_shut, line_of}
@@ -26,15 +27,15 @@ abbrev pub AllFree : List Row → ℕ → List ℕ → Type 0
 AllFree rows x [] = Unit {0}
 AllFree rows x (p ∷ ps) = IsFree rows p x × AllFree rows p ps
 
--- a row may stop: at every level from its outermost closing row down to itself, what depends on the node that leads to it
--- is wholly shut
+-- a row may stop: at every level from its outermost closing row down to itself, what depends
+-- on the node that leads to it is wholly shut
 pub record MayStop (rows : List Row) (y : ℕ) : Type 0 where
   pub top : ℕ
   pub outermost : outermost rows y ≡ Some top
   pub free : AllFree rows y (line_up_to rows top y)
 
--- a pick for this target may choose a row: it is at or below the target's outermost closing row, isn't shut, has no
--- pending action, and may stop
+-- a pick for this target may choose a row: it is at or below the target's outermost closing
+-- row, isn't shut, has no pending action, and may stop
 pub record MayPick (rows : List Row) (target : ℕ) (y : ℕ) (r : Row) : Type 0 where
   pub row : row_of rows y ≡ Some r
   pub top : ℕ

@@ -9,7 +9,8 @@ use Rattle.cm_world.specs.Rows.{row_of, child_of, moniker_of}
 
 -- the absolute URL of a row's parent, empty for the root
 abbrev pub base_of : List Row → Row → List ℕ
-base_of rows r = unwrap_or (option_and_then (λ p. option_and_then (λ q. q.absolute) (row_of rows p)) r.parent) []
+base_of rows r =
+    unwrap_or (option_and_then (λ p. option_and_then (λ q. q.absolute) (row_of rows p)) r.parent) []
 
 -- the children that start together with a row, in the order of its declaration
 abbrev pub eager_of : List Row → Row → List ℕ

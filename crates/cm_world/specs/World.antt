@@ -1,5 +1,6 @@
 -- The realm tree as a whole.
-use Rattle.std.specs.Prelude.{ℕ, ◌+◌, ◌-◌, ◌^◌, List, [], ◌∷◌, Bool, false, ◌&&◌, nat_le, ◌==◌, Option, None, find, is_none, length, count_by, option_and_then}
+use Rattle.std.specs.Prelude.{ℕ, ◌+◌, ◌-◌, ◌^◌, List, [], ◌∷◌, Bool, false, ◌&&◌, nat_le, ◌==◌, Option, None}
+use Rattle.std.specs.Prelude.{find, is_none, length, count_by, option_and_then}
 use Rattle.cm_names.specs.declared.child.ChildName.{ChildName}
 use Rattle.cm_decl.specs.declared.rows.Give.{Give}
 use Rattle.cm_world.specs.declared.row.Row.{Row}
@@ -8,8 +9,8 @@ use Rattle.cm_world.specs.declared.action.Join.{Join}
 use Rattle.cm_world.specs.declared.action.Outcome.{Outcome}
 use Rattle.cm_world.specs.declared.frame.Frame.{Frame}
 
--- the instances that live, all actions that were begun, the callers that wait for one, and how many entries the history
--- has; the frame never changes
+-- the instances that live, all actions that were begun, the callers that wait for one, and how
+-- many entries the history has; the frame never changes
 pub record World : Type 0 where
   pub frame : Frame
   pub rows : List Row
@@ -41,7 +42,15 @@ root_row url = new_row 0 None None url []
 
 -- one row, the root, which isn't resolved
 abbrev pub start : Frame → World
-start f = record { frame = f; rows = root_row f.root ∷ []; next_inc = 1; next_action = 1; acts = []; joins = []; entries = 0 }
+start f = record {
+  frame = f;
+  rows = root_row f.root ∷ [];
+  next_inc = 1;
+  next_action = 1;
+  acts = [];
+  joins = [];
+  entries = 0;
+}
 
 -- whether n more rows fit in the limit of rows, and none of them needs an incarnation above 2 ^ 64 - 2
 abbrev pub rows_fit : ℕ → List Row → ℕ → ℕ → Bool

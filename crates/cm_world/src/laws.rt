@@ -18,8 +18,10 @@ ghost use Rattle.cm_world.specs.Legal.{Legal};
 ghost use Rattle.cm_world.specs.Laws as laws;
 ghost use Rattle.cm_world.specs.Worlds as worlds;
 ghost use Rattle.cm_world.specs.Ending as ending;
-ghost use Rattle.cm_world.specs.Examples.{route_entries, unoffered_entries, unexposed_entries, logger_look, client_surveyed, x_unexposed, at_root, at_child, c, s, x, s_path};
-ghost use Rattle.cm_world.specs.RouteExamples.{subdir_rows, subdir_route, weak_rows, weak_walk, void_rows, i_path, full_entries};
+ghost use Rattle.cm_world.specs.Examples.{route_entries, unoffered_entries, unexposed_entries, logger_look};
+ghost use Rattle.cm_world.specs.Examples.{client_surveyed, x_unexposed, at_root, at_child, c, s, x, s_path};
+ghost use Rattle.cm_world.specs.RouteExamples.{subdir_rows, subdir_route, weak_rows, weak_walk, void_rows};
+ghost use Rattle.cm_world.specs.RouteExamples.{i_path, full_entries};
 ghost use Rattle.cm_world.specs.ShutdownExamples.{doomed_entries, purged_entries, chain_rows, k, at_x};
 ghost use Rattle.cm_world.specs.ActionExamples.{joined_entries, failed_entries, opened_entries, x_kid, given};
 
