@@ -1,6 +1,6 @@
 -- How many items pass a test behind a change of one, and how long lists are then.
 use Rattle.std.proofs.Common.{◌≡◌, ℕ, ◌+◌, ◌≤◌, List, [], ◌∷◌, ◌++◌, Bool, true, false, cond, ◌||◌, ◌&&◌, ◌==◌, true≢false, Some, is_none, length, find, refl, sym, ◌∙◌, ap, subst, arith, IsTrue}
-use Rattle.std.proofs.lemmas.List.Sums.{sum_by-cons, sum_by_push}
+use Rattle.std.proofs.lemmas.List.Sums.{sum_by_push}
 use Rattle.std.specs.List.{count_by, list_any}
 use Rattle.cm_decl.specs.declared.decl.Decl.{Decl}
 use Rattle.cm_world.specs.declared.action.Act.{Act}
@@ -17,11 +17,8 @@ use Rattle.cm_world.specs.End.{fits_kind, put_outcome, ended}
 use Rattle.cm_world.specs.Step.{MayEnd, is_join}
 use Rattle.cm_world.specs.After.{unjoined}
 use Rattle.cm_world.proofs.Finding.{none_some, some_same}
+use Rattle.cm_laws.proofs.sound.Changes.{count-cons}
 use Rattle.cm_steps.specs.Tasks.{is_open_resolve}
-
--- the first is counted
-pub count-cons : {A : Type 0} (q : A → Bool) (x : A) (xs : List A) → count_by q (x ∷ xs) ≡ cond (q x) 1 0 + count_by q xs
-count-cons q x xs = sum_by-cons (λ z. cond (q z) 1 0) x xs
 
 swap_one : (t s : Bool) (n : ℕ) → t ≡ false → s ≡ true → (cond t 1 0 + n) + 1 ≡ cond s 1 0 + n
 swap_one false true n differ hits = omega arith

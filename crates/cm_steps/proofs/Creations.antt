@@ -1,10 +1,15 @@
 -- What a create comes to, and the row that it adds.
-use Rattle.std.proofs.Common.{◌≡◌, ℕ, List, ◌∙◌, ap, subst, Some}
+use Rattle.std.proofs.Common.{◌≡◌, ℕ, List, ◌+◌, true, Option, Some, None, refl, sym, ◌∙◌, ap, subst, arith}
 use Rattle.cm_names.specs.declared.child.ChildName.{ChildName}
+use Rattle.cm_decl.specs.declared.decl.Decl.{Decl}
+use Rattle.cm_decl.specs.declared.node.DynChild.{DynChild}
 use Rattle.cm_decl.specs.declared.rows.Give.{Give}
 use Rattle.cm_world.specs.declared.row.Row.{Row}
-use Rattle.cm_world.specs.World.{new_row}
-use Rattle.cm_world.specs.Create.{IsCreateReply, dynamic_name, created_row}
+use Rattle.cm_world.specs.declared.reply.Reply.{Reply}
+use Rattle.cm_world.specs.declared.reply.Reply.TheVariants.{Created}
+use Rattle.cm_world.specs.Rows.{decl_of}
+use Rattle.cm_world.specs.World.{new_row, rows_fit}
+use Rattle.cm_world.specs.Create.{refused_create, CreatesUnder, CreatesUnless, IsCreateReply, dynamic_name, dynamic_with, created_row}
 use Rattle.cm_dynamic.specs.declared.create.MayCreate.{MayCreate}
 use Rattle.cm_dynamic.specs.declared.create.MayCreate.TheVariants.{Yes}
 use Rattle.cm_dynamic.specs.Replies.{TellsRoom, AnswersCreate}
@@ -12,6 +17,7 @@ use Rattle.cm_dynamic.specs.Laws.{ParentsCanTake}
 use Rattle.cm_steps.specs.Answers.{IsAnswerOf, CreatesBy}
 use Rattle.cm_steps.specs.declared.replies.creating.CreateAnswer.{CreateAnswer}
 use Rattle.cm_steps.specs.declared.replies.creating.CreateAnswer.TheVariants.{Creates, Quiet}
+use Rattle.cm_laws.proofs.sound.Replies.{creating}
 
 -- by whether the child may be created, in a tree whose room was told
 pub creates_by : (limit next free p : ℕ) (rows : List Row) (coll name : List ℕ) (gives : List Give) (may : MayCreate) (answer : CreateAnswer) → ParentsCanTake → TellsRoom limit rows next free → AnswersCreate rows free p coll name gives may → IsAnswerOf may answer → CreatesBy limit rows next p coll name gives answer
@@ -27,3 +33,20 @@ child_made next p child coll name url copied gives given named same_url same_giv
     ap (λ k. new_row next (Some p) (Some k) copied given) named
     ∙ ap (λ u. new_row next (Some p) (Some (dynamic_name coll name)) u given) same_url
     ∙ ap (new_row next (Some p) (Some (dynamic_name coll name)) url) same_gives
+
+module _ (rows : List Row) (limit next p : ℕ) (coll name : List ℕ) (gives : List Give) (i : ℕ) where
+  under_fits : (o : Option Decl) (dynamic : List DynChild) → CreatesUnder limit rows next o dynamic (Created i) → rows_fit limit rows next 1 ≡ true
+  under_fits None dynamic it = absurd it
+  under_fits (Some d) dynamic it = it.1
+
+  -- a refusal is the same whatever the next incarnation is, and the number of a new child isn't
+  unless_fits : (o : Option Reply) → refused_create rows p coll name gives ≡ o → CreatesUnless limit rows next p (dynamic_name coll name) gives o (Created i) → rows_fit limit rows next 1 ≡ true
+  unless_fits (Some refusal) e it =
+      let again : IsCreateReply limit rows (i + 1) p coll name gives (Created i) = subst (λ o. CreatesUnless limit rows (i + 1) p (dynamic_name coll name) gives o (Created i)) (sym e) it in
+      let number : i ≡ i + 1 = (creating rows limit (i + 1) p coll name gives i again).number in
+      absurd (omega arith)
+  unless_fits None e it = under_fits (decl_of rows p) (dynamic_with rows p (dynamic_name coll name) gives) it
+
+  -- where a child is created, its row fits
+  pub created_fits : IsCreateReply limit rows next p coll name gives (Created i) → rows_fit limit rows next 1 ≡ true
+  created_fits it = unless_fits (refused_create rows p coll name gives) refl it

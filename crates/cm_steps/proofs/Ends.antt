@@ -1,14 +1,12 @@
 -- What the end of an action needs, and what it leaves.
-use Rattle.std.proofs.Common.{◌≡◌, ℕ, ◌+◌, ◌-◌, ◌≤◌, ◌==◌, List, [], ◌∷◌, ◌++◌, Bool, true, false, ◌&&◌, true≢false, length, append-nil, Some, None, is_some, option_and_then, refl, sym, ◌∙◌, ap, subst, arith}
+use Rattle.std.proofs.Common.{◌≡◌, ℕ, ◌+◌, ◌-◌, ◌≤◌, ◌==◌, List, [], ◌∷◌, ◌++◌, Bool, true, false, ◌&&◌, length, Some, None, is_some, option_and_then, refl, sym, ◌∙◌, ap, subst, arith}
 use Rattle.std.specs.Option.{option_map_or}
 use Rattle.std.specs.List.{count_by}
-use Rattle.cm_decl.specs.declared.decl.Decl.{Decl}
 use Rattle.cm_world.specs.declared.row.Row.{Row}
 use Rattle.cm_world.specs.declared.frame.Frame.{Frame}
 use Rattle.cm_world.specs.declared.action.Act.{Act}
 use Rattle.cm_world.specs.declared.action.Join.{Join}
-use Rattle.cm_world.specs.declared.action.ActKind.{ActKind}
-use Rattle.cm_world.specs.declared.action.ActKind.TheVariants.{Resolve, Start, Stop}
+use Rattle.cm_world.specs.declared.action.ActKind.TheVariants.{Resolve}
 use Rattle.cm_world.specs.declared.action.Outcome.{Outcome}
 use Rattle.cm_world.specs.declared.action.Outcome.TheVariants as outcome
 use Rattle.cm_world.specs.declared.action.Finish.{Finish}
@@ -18,21 +16,22 @@ use Rattle.cm_world.specs.declared.reply.Reply.TheVariants.{Ended}
 use Rattle.cm_world.specs.Rows.{row_of}
 use Rattle.cm_world.specs.World.{World, act_of, is_open}
 use Rattle.cm_world.specs.Begin.{same_act}
-use Rattle.cm_world.specs.End.{fits_kind, changed, end_row, set_decl, set_pending, rows_by, added_by, put_outcome, ended, child_rows, outcome_by}
+use Rattle.cm_world.specs.End.{rows_by, added_by, put_outcome, ended, outcome_by}
 use Rattle.cm_world.specs.Step.{MayEnd}
 use Rattle.cm_world.specs.After.{counted, after}
-use Rattle.cm_world.proofs.Finding.{none_some}
 use Rattle.cm_table.specs.Tree.{Tree}
 use Rattle.cm_table.proofs.Edits.{length-edit_first}
 use Rattle.cm_steps.specs.declared.realm.Realm.TheInside.{Inside}
 use Rattle.cm_steps.specs.declared.ending.Ending.{Ending}
 use Rattle.cm_steps.specs.declared.ending.Ending.TheVariants as ending
-use Rattle.cm_steps.specs.Steps.{entry_of}
-use Rattle.cm_steps.specs.Tasks.{is_open_resolve, IsNumbered, HasRow, IsTasked}
+use Rattle.cm_laws.specs.Story.{entry_of}
+use Rattle.cm_laws.specs.Tasks.{IsNumbered, HasRow, IsTasked}
+use Rattle.cm_steps.specs.Tasks.{is_open_resolve}
 use Rattle.cm_steps.specs.Inside.{story_of, world_in, IsKept}
 use Rattle.cm_steps.specs.Ends.{inc_of, finish_of, takes_of, CanTake}
 use Rattle.cm_steps.proofs.Counts.{open_less, resolve_less, count_le}
-use Rattle.cm_steps.proofs.Tasks.{tasked_ended, numbered_ended, idle_kids}
+use Rattle.cm_laws.proofs.actions.Tasks.{numbered_ended}
+use Rattle.cm_laws.proofs.actions.Ends.{kind_of_resolve, tasked_by}
 use Rattle.cm_steps.proofs.Going.{goes_on, one_longer}
 
 -- ---- what it leaves
@@ -47,36 +46,7 @@ after-ended w caller a f o x there =
 pub inc-ended : (acts : List Act) (caller a : ℕ) (f : Finish) → (may : MayEnd acts caller a f) → inc_of acts a ≡ may.act.inc
 inc-ended acts caller a f may = ap (λ o. option_map_or (λ x. x.inc) o 0) may.there
 
-end_inc : (o : Outcome) (r : Row) → (end_row o r).inc ≡ r.inc
-end_inc outcome.Started r = refl
-end_inc outcome.Stopped r = refl
-end_inc outcome.Killed r = refl
-end_inc _ r = refl
-
-pub end_idle : (o : Outcome) (r : Row) → (end_row o r).pending ≡ None
-end_idle outcome.Started r = refl
-end_idle outcome.Stopped r = refl
-end_idle outcome.Killed r = refl
-end_idle _ r = refl
-
-one_row : (rows : List Row) (acts : List Act) (caller a : ℕ) (f : Finish) (o : Outcome) → (may : MayEnd acts caller a f) → IsTasked rows acts → IsTasked (changed may.act.inc (end_row o) rows) (ended a o acts)
-one_row rows acts caller a f o may tasked =
-    subst (λ rs. IsTasked rs (ended a o acts)) (append-nil (changed may.act.inc (end_row o) rows))
-    (tasked_ended rows [] acts a may.act o (end_row o) (end_inc o) (end_idle o) (λ j r e. absurd (none_some r e)) tasked may.there may.pending)
-
--- what is pending where behind the end of an action
-pub tasked_by : (rows : List Row) (acts : List Act) (caller a next : ℕ) (f : Finish) (o : Outcome) → (may : MayEnd acts caller a f) → IsTasked rows acts → IsTasked (rows_by may.act.inc next f o rows) (ended a o acts)
-tasked_by rows acts caller a next (finish.Other p) o may tasked = one_row rows acts caller a (finish.Other p) o may tasked
-tasked_by rows acts caller a next (finish.Resolved url d) outcome.Resolved may tasked =
-    tasked_ended rows (child_rows may.act.inc next d.children) acts a may.act outcome.Resolved (λ r. set_decl url d (set_pending None r)) (λ r. refl) (λ r. refl) (idle_kids may.act.inc next d.children) tasked may.there may.pending
-tasked_by rows acts caller a next (finish.Resolved url d) o may tasked = one_row rows acts caller a (finish.Resolved url d) o may tasked
-
 -- ---- what the end of an action needs
-
-pub kind_of_resolve : (k : ActKind) (url : List ℕ) (d : Decl) → fits_kind k (finish.Resolved url d) ≡ true → k ≡ Resolve
-kind_of_resolve Resolve url d e = refl
-kind_of_resolve Start url d e = absurd (true≢false (sym e))
-kind_of_resolve Stop url d e = absurd (true≢false (sym e))
 
 never_open : (b : Bool) → (b && false) ≡ false
 never_open true = refl

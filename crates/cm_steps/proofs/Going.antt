@@ -7,9 +7,8 @@ use Rattle.cm_world.specs.World.{World, start}
 use Rattle.cm_world.specs.After.{moves, moved, counted, after}
 use Rattle.cm_world.specs.Legal.{IsStep, Legal, replay}
 use Rattle.cm_world.proofs.Histories.{Legal-push, replay-push, moved-quiet}
-use Rattle.cm_steps.specs.Story.{Story, world_of, IsLegal}
+use Rattle.cm_laws.specs.Story.{Story, world_of, IsLegal, entry_of}
 use Rattle.cm_steps.specs.Inside.{Stands}
-use Rattle.cm_steps.specs.Steps.{entry_of}
 
 -- with one entry more that the tree allows, it is legal and leaves the tree behind that entry
 pub goes_on : (old new : Story) (w v : World) (e : Entry) → Stands old w → new.frame ≡ old.frame → new.entries ≡ old.entries ++ e ∷ [] → IsStep w e → after w e ≡ v → Stands new v

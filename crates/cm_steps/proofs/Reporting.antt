@@ -9,12 +9,10 @@ use Rattle.cm_world.specs.declared.row.Row.{Row}
 use Rattle.cm_world.specs.declared.view.Facts.{Facts}
 use Rattle.cm_world.specs.declared.report.Kid.{Kid}
 use Rattle.cm_world.specs.declared.report.SurveyRow.{SurveyRow}
-use Rattle.cm_world.specs.declared.reply.Reply.{Reply}
 use Rattle.cm_world.specs.declared.reply.Reply.TheVariants.{Gone, Surveyed}
 use Rattle.cm_world.specs.Rows.{row_of, decl_of, name_of, moniker_of, has_parent, subtree, is_below, is_gone, is_resolved, is_on, is_shut, facts_of}
-use Rattle.cm_world.specs.Reports.{kid_by, kid_of, list_by, list_reply, paths_used, survey_row, survey_reply}
-use Rattle.cm_world.specs.Openings.{unready}
-use Rattle.cm_world.proofs.Finding.{none_some, row_of-inc}
+use Rattle.cm_world.specs.Reports.{kid_by, kid_of, paths_used, survey_row, survey_reply}
+use Rattle.cm_world.proofs.Finding.{row_of-inc}
 use Rattle.cm_steps.specs.Reporting.{kid_as, kid_in, paths_by, surveyed_row}
 use Rattle.cm_steps.proofs.Reading.{told_of}
 
@@ -39,16 +37,6 @@ kid_found rows i coll f c found r e named is lives =
     ∙ ap (λ b. kid_as coll i b c) (ap (λ z. z.doomed) (told_of rows i f r e lives))
     ∙ ap (option_and_then (kid_as coll i r.doomed)) (named ∙ ap (option_and_then (λ s. s.name)) lives)
     ∙ sym (ap (λ j. option_and_then (kid_as coll j r.doomed) r.name) (row_of-inc rows i r lives))
-
-pub kid_unnamed : (rows : List Row) (i : ℕ) (coll : List ℕ) (r : Row) → None ≡ name_of rows i → row_of rows i ≡ Some r → None ≡ kid_in coll r
-kid_unnamed rows i coll r named lives = ap (option_and_then (kid_as coll r.inc r.doomed)) (named ∙ ap (option_and_then (λ s. s.name)) lives)
-
-pub kid_lost : (rows : List Row) (i : ℕ) (coll : List ℕ) (r : Row) → None ≡ option_map facts_of (row_of rows i) → row_of rows i ≡ Some r → None ≡ kid_in coll r
-kid_lost rows i coll r e lives = absurd (none_some (facts_of r) (e ∙ ap (option_map facts_of) lives))
-
--- where nothing refuses it, the declaration decides
-pub ready_list : (rows : List Row) (i : ℕ) (coll : List ℕ) → None ≡ unready rows i → list_by rows i coll ≡ list_reply rows i coll
-ready_list rows i coll ready = ap (λ o. elim o as (λ _. Reply) [ Some refusal ↦ refusal | None ↦ list_by rows i coll ]) ready
 
 -- ---- one row of a survey
 

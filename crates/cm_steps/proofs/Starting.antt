@@ -8,11 +8,12 @@ use Rattle.cm_world.specs.World.{World, start, owed}
 use Rattle.cm_world.specs.Legal.{Legal, replay}
 use Rattle.cm_book.specs.History.{History}
 use Rattle.cm_table.specs.Tree.{Tree, first_tree}
-use Rattle.cm_steps.specs.Story.{world_of, IsLegal}
-use Rattle.cm_steps.specs.Tasks.{is_open_resolve, IsNumbered, IsTasked}
+use Rattle.cm_laws.specs.Story.{world_of, IsLegal}
+use Rattle.cm_laws.specs.Tasks.{IsNumbered, IsTasked}
+use Rattle.cm_steps.specs.Tasks.{is_open_resolve}
 use Rattle.cm_steps.specs.Inside.{story_of, world_in, Stands, IsKept}
 use Rattle.cm_steps.specs.declared.realm.Realm.TheInside.{Inside}
-use Rattle.cm_steps.proofs.Tasks.{tasked_new}
+use Rattle.cm_laws.proofs.actions.Tasks.{tasked_new}
 
 stands_new : (a : Inside) → a.table ≡ first_tree a.frame.root a.frame.builtins a.frame.limits.rows → a.acts.items ≡ [] → a.joins.items ≡ [] → a.book.entries ≡ [] → Stands (story_of a) (world_in a)
 unfolding world_of IsLegal

@@ -12,9 +12,10 @@ use Rattle.cm_world.specs.World.{World, owed}
 use Rattle.cm_world.specs.After.{moved, counted, after}
 use Rattle.cm_world.specs.Legal.{IsStep}
 use Rattle.cm_world.specs.Sound.{IsSound}
-use Rattle.cm_steps.specs.Story.{world_of, IsLegal}
-use Rattle.cm_steps.specs.Shutdowns.{TreesStaySound}
-use Rattle.cm_steps.specs.Tasks.{is_open_resolve, IsNumbered, IsTasked}
+use Rattle.cm_laws.specs.Story.{world_of, IsLegal}
+use Rattle.cm_laws.specs.Shutdowns.{TreesStaySound}
+use Rattle.cm_laws.specs.Tasks.{IsNumbered, IsTasked}
+use Rattle.cm_steps.specs.Tasks.{is_open_resolve}
 use Rattle.cm_steps.specs.Inside.{story_of, world_in, IsKept}
 use Rattle.cm_steps.specs.declared.realm.Realm.TheInside.{Inside}
 use Rattle.cm_steps.proofs.Going.{goes_on, one_longer}

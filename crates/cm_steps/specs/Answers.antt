@@ -6,7 +6,7 @@ use Rattle.cm_world.specs.declared.action.ActKind.{ActKind}
 use Rattle.cm_world.specs.declared.reply.Reply.{Reply}
 use Rattle.cm_world.specs.declared.reply.Reply.TheVariants as reply
 use Rattle.cm_world.specs.declared.event.Event.TheVariants.{Begin, Create, Mark, Exited}
-use Rattle.cm_world.specs.Rows.{row_of, is_live, subtree, is_subtree_shut}
+use Rattle.cm_world.specs.Rows.{is_live, subtree, is_subtree_shut}
 use Rattle.cm_world.specs.Begin.{begin_reply, begin_idle}
 use Rattle.cm_world.specs.Reports.{exit_reply}
 use Rattle.cm_world.specs.Create.{IsCreateReply}
@@ -19,6 +19,7 @@ use Rattle.cm_dynamic.specs.Laws.{CanTake}
 use Rattle.cm_dynamic.specs.declared.create.MayCreate.{MayCreate}
 use Rattle.cm_dynamic.specs.declared.create.MayCreate.TheVariants.{Yes}
 use Rattle.cm_dynamic.specs.Replies.{create_reply}
+use Rattle.cm_steps.specs.Tasks.{IsAt}
 use Rattle.cm_steps.specs.Steps.{WaitsToBegin, WaitsToExit, WaitsToPick}
 use Rattle.cm_steps.specs.declared.replies.beginning.BeginAnswer.{BeginAnswer}
 use Rattle.cm_steps.specs.declared.replies.beginning.BeginAnswer.TheVariants as begin
@@ -33,23 +34,18 @@ use Rattle.cm_steps.specs.declared.replies.purging.PurgeAnswer.TheVariants as pu
 use Rattle.cm_steps.specs.declared.replies.picking.PickAnswer.{PickAnswer}
 use Rattle.cm_steps.specs.declared.replies.picking.PickAnswer.TheVariants as pick
 
--- an action of some kind is pending at a row
-pub record IsAt (rows : List Row) (i a : ℕ) : Type 0 where
-  pub row : Row
-  pub lives : row_of rows i ≡ Some row
-  pub kind : ActKind
-  pub pending : row.pending ≡ Some (kind, a)
-
 -- an answer to a begin: no reply while the action is pending, or the reply of the definition
 abbrev pub AnswersBegin : List Row → ℕ → ActKind → ℕ → BeginAnswer → Type 0
 AnswersBegin rows next kind i (begin.Busy a) = (begin_reply rows next kind i ≡ None) × IsAt rows i a
-AnswersBegin rows next kind i (begin.Quiet r) = (begin_reply rows next kind i ≡ Some r) × (moves (Begin kind i) r ≡ false)
+AnswersBegin rows next kind i (begin.Quiet r) =
+    (begin_reply rows next kind i ≡ Some r) × (moves (Begin kind i) r ≡ false)
 AnswersBegin rows next kind i (begin.Joins a) = begin_reply rows next kind i ≡ Some (reply.Joined a)
 AnswersBegin rows next kind i (begin.Begins work) = begin_reply rows next kind i ≡ Some (reply.Begun work)
 
 -- the same where no action is pending at the row
 abbrev pub AnswersIdle : List Row → ℕ → ActKind → Row → BeginAnswer → Type 0
-AnswersIdle rows next kind r (begin.Quiet s) = (begin_idle rows next kind r ≡ s) × (moves (Begin kind r.inc) s ≡ false)
+AnswersIdle rows next kind r (begin.Quiet s) =
+    (begin_idle rows next kind r ≡ s) × (moves (Begin kind r.inc) s ≡ false)
 AnswersIdle rows next kind r (begin.Begins work) = begin_idle rows next kind r ≡ reply.Begun work
 AnswersIdle rows next kind r _ = ⊥
 
@@ -62,7 +58,8 @@ AnswersExit rows i (exit.Leaves m) = exit_reply rows i ≡ Some (reply.Left m)
 -- what a begin comes to in a world: it waits for a pending action, or has the reply of the definition
 abbrev pub BeginsBy : World → ActKind → ℕ → BeginAnswer → Type 0
 BeginsBy w kind i (begin.Busy a) = WaitsToBegin w kind i a
-BeginsBy w kind i (begin.Quiet r) = (begin_reply w.rows w.next_action kind i ≡ Some r) × (moves (Begin kind i) r ≡ false)
+BeginsBy w kind i (begin.Quiet r) =
+    (begin_reply w.rows w.next_action kind i ≡ Some r) × (moves (Begin kind i) r ≡ false)
 BeginsBy w kind i (begin.Joins a) = begin_reply w.rows w.next_action kind i ≡ Some (reply.Joined a)
 BeginsBy w kind i (begin.Begins work) = begin_reply w.rows w.next_action kind i ≡ Some (reply.Begun work)
 
@@ -76,18 +73,21 @@ ExitsBy w i (exit.Leaves m) = exit_reply w.rows i ≡ Some (reply.Left m)
 
 -- a reply to a create that changes nothing
 abbrev pub IsQuietCreate : Reply → Type 0
-IsQuietCreate r = (p : ℕ) (coll name url : List ℕ) (gives : List Give) → moves (Create p coll name url gives) r ≡ false
+IsQuietCreate r =
+    (p : ℕ) (coll name url : List ℕ) (gives : List Give) → moves (Create p coll name url gives) r ≡ false
 
 -- what a create comes to, by whether the child may be created
 abbrev pub IsAnswerOf : MayCreate → CreateAnswer → Type 0
 IsAnswerOf may create.Creates = may ≡ Yes
 IsAnswerOf may (create.Quiet r) = ((next : ℕ) → create_reply next may ≡ r) × IsQuietCreate r
 
--- what a create comes to in a tree: a child with the next incarnation, whose row it can take, or another reply of the definition
+-- what a create comes to in a tree: a child with the next incarnation, whose row it can take, or another
+-- reply of the definition
 abbrev pub CreatesBy : ℕ → List Row → ℕ → ℕ → List ℕ → List ℕ → List Give → CreateAnswer → Type 0
 CreatesBy limit rows next p coll name gives create.Creates =
     IsCreateReply limit rows next p coll name gives (reply.Created next) × CanTake rows p coll name
-CreatesBy limit rows next p coll name gives (create.Quiet r) = IsCreateReply limit rows next p coll name gives r × IsQuietCreate r
+CreatesBy limit rows next p coll name gives (create.Quiet r) =
+    IsCreateReply limit rows next p coll name gives r × IsQuietCreate r
 
 -- ---- marks and purges
 
@@ -99,7 +99,8 @@ AnswersMark rows doom i (mark.Quiet r) = (mark_reply rows doom i ≡ r) × (move
 -- an answer to a purge: whether the row lives, and then what is removed
 abbrev pub AnswersPurge : List Row → ℕ → PurgeAnswer → Type 0
 AnswersPurge rows i purge.Before = is_live rows i ≡ false
-AnswersPurge rows i (purge.Removes lost) = IsTrue (is_live rows i) × (lost ≡ map (lost_of rows) (subtree rows i))
+AnswersPurge rows i (purge.Removes lost) =
+    IsTrue (is_live rows i) × (lost ≡ map (lost_of rows) (subtree rows i))
 
 -- ---- picks
 

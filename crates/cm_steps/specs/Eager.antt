@@ -1,5 +1,6 @@
 -- What the work of an action takes from the tree.
-use Rattle.std.specs.Prelude.{ℕ, List, [], Option, Some, None, filter, filter_map, if◌then◌else◌, option_and_then}
+use Rattle.std.specs.Prelude.{ℕ, List, [], filter, filter_map, if◌then◌else◌}
+use Rattle.std.specs.Prelude.{Option, Some, None, option_and_then}
 use Rattle.cm_decl.specs.declared.decl.Decl.{Decl}
 use Rattle.cm_decl.specs.declared.rows.Child.{Child}
 use Rattle.cm_decl.specs.Graph.{static_name}

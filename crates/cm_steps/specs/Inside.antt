@@ -1,8 +1,9 @@
 -- How a realm keeps its history and its tree.
 use Rattle.std.specs.Prelude.{◌≡◌, ◌+◌, ◌≤◌, length, count_by}
 use Rattle.cm_world.specs.World.{World, owed}
-use Rattle.cm_steps.specs.Story.{Story, world_of, IsLegal}
-use Rattle.cm_steps.specs.Tasks.{is_open_resolve, IsNumbered, IsTasked}
+use Rattle.cm_laws.specs.Story.{Story, world_of, IsLegal}
+use Rattle.cm_laws.specs.Tasks.{IsNumbered, IsTasked}
+use Rattle.cm_steps.specs.Tasks.{is_open_resolve}
 use Rattle.cm_steps.specs.declared.realm.Realm.TheInside.{Inside}
 
 -- the story that the fields keep
@@ -26,7 +27,8 @@ pub record Stands (s : Story) (w : World) : Type 0 where
   pub legal : IsLegal s
   pub world : world_of s ≡ w
 
--- the fields are the tree that the book leaves; room is kept for the entries that are owed, and for each open resolve
+-- the fields are the tree that the book leaves; room is kept for the entries that are owed, and for each open
+-- resolve
 pub record IsKept (a : Inside) : Type 0 where
   pub stands : Stands (story_of a) (world_in a)
   pub owes : a.book.reserved ≡ owed a.acts.items a.joins.items

@@ -1,4 +1,3 @@
-pub mod Story
 pub mod Tasks
 pub mod Inside
 pub mod Rooms
@@ -7,9 +6,3 @@ pub mod Eager
 pub mod Reporting
 pub mod Answers
 pub mod Ends
-pub mod Laws
-pub mod Lasting
-pub mod Shutdowns
-pub mod Clients
-pub mod Destroying
-pub mod Histories

@@ -1,5 +1,6 @@
 -- What a list of children, a survey and a purge take from one row.
-use Rattle.std.specs.Prelude.{ℕ, List, [], Bool, not, ◌&&◌, Option, Some, None, map, option_and_then, if◌then◌else◌}
+use Rattle.std.specs.Prelude.{ℕ, List, [], map, Bool, not, ◌&&◌, if◌then◌else◌}
+use Rattle.std.specs.Prelude.{Option, Some, None, option_and_then}
 use Rattle.std.specs.Str.{bytes_eq}
 use Rattle.std.specs.Option.{option_eq}
 use Rattle.cm_names.specs.declared.child.ChildName.{ChildName}
@@ -14,7 +15,9 @@ use Rattle.cm_world.specs.Marks.{lost_of}
 
 -- row i as a child in a collection, by its name and whether it is doomed
 abbrev pub kid_as : List ℕ → ℕ → Bool → ChildName → Option Kid
-kid_as coll i doomed c = if option_eq bytes_eq c.coll (Some coll) && not doomed then Some (record { name = c.name; inc = i }) else None
+kid_as coll i doomed c =
+    if option_eq bytes_eq c.coll (Some coll) && not doomed
+    then Some (record { name = c.name; inc = i }) else None
 
 -- a row as a child in a collection of its parent, if it is in it and isn't doomed
 abbrev pub kid_in : List ℕ → Row → Option Kid
@@ -27,7 +30,8 @@ paths_by (Some d) = map (λ u. u.path) d.uses
 
 -- a row in the survey of another, if it is at or below that one and isn't gone
 abbrev pub surveyed_row : List Row → ℕ → Row → Option SurveyRow
-surveyed_row rows top r = if is_below rows top r.inc && not (is_gone rows r.inc) then Some (survey_row rows r) else None
+surveyed_row rows top r =
+    if is_below rows top r.inc && not (is_gone rows r.inc) then Some (survey_row rows r) else None
 
 -- a row that is removed with another, if it is at or below that one
 abbrev pub lost_row : List Row → ℕ → Row → Option Lost

@@ -1,46 +1,16 @@
--- Which action is pending where.
-use Rattle.std.specs.Prelude.{◌≡◌, ℕ, ◌+◌, List, [], ◌∷◌, Bool, Some, None, ◌&&◌}
+-- Where an action may begin, and which action is waited for.
+use Rattle.std.specs.Prelude.{◌≡◌, ℕ, List, Bool, Some, None, ◌&&◌}
 use Rattle.cm_world.specs.declared.row.Row.{Row}
 use Rattle.cm_world.specs.declared.action.Act.{Act}
 use Rattle.cm_world.specs.declared.action.ActKind.{ActKind}
 use Rattle.cm_world.specs.declared.action.ActKind.TheVariants.{Resolve}
 use Rattle.cm_world.specs.Rows.{row_of}
-use Rattle.cm_world.specs.World.{act_of, is_open}
+use Rattle.cm_world.specs.World.{is_open}
 use Rattle.cm_world.specs.Begin.{same_act}
-
--- an action that was begun and hasn't ended
-pub record IsPending (acts : List Act) (a : ℕ) : Type 0 where
-  pub act : Act
-  pub there : act_of acts a ≡ Some act
-  pub pending : act.outcome ≡ None
-
--- and stands at this row
-pub record IsPendingAt (acts : List Act) (i a : ℕ) : Type 0 where
-  pub act : Act
-  pub there : act_of acts a ≡ Some act
-  pub pending : act.outcome ≡ None
-  pub at : act.inc ≡ i
 
 -- a resolve that hasn't ended
 abbrev pub is_open_resolve : Act → Bool
 is_open_resolve x = same_act x.kind Resolve && is_open x
-
--- the actions are numbered from n on
-abbrev pub IsNumbered : ℕ → List Act → Type 0
-IsNumbered n [] = Unit {0}
-IsNumbered n (x ∷ xs) = (x.action ≡ n) × IsNumbered (n + 1) xs
-
--- the row at which an action is pending; one that is resolved has no declaration yet
-pub record HasRow (rows : List Row) (x : Act) : Type 0 where
-  pub row : Row
-  pub lives : row_of rows x.inc ≡ Some row
-  pub pending : row.pending ≡ Some (x.kind, x.action)
-  pub unresolved : x.kind ≡ Resolve → row.decl ≡ None
-
--- an action that hasn't ended is pending at its row, and what is pending at a row hasn't ended
-pub record IsTasked (rows : List Row) (acts : List Act) : Type 0 where
-  pub rows_of : (a : ℕ) (x : Act) → act_of acts a ≡ Some x → x.outcome ≡ None → HasRow rows x
-  pub acts_of : (i a : ℕ) (kind : ActKind) (r : Row) → row_of rows i ≡ Some r → r.pending ≡ Some (kind, a) → IsPendingAt acts i a
 
 -- a row at which an action may begin: none is pending, and one that is to be resolved has no declaration yet
 pub record IsIdleAt (rows : List Row) (kind : ActKind) (i : ℕ) : Type 0 where
@@ -48,3 +18,10 @@ pub record IsIdleAt (rows : List Row) (kind : ActKind) (i : ℕ) : Type 0 where
   pub lives : row_of rows i ≡ Some row
   pub idle : row.pending ≡ None
   pub unresolved : kind ≡ Resolve → row.decl ≡ None
+
+-- an action of some kind is pending at a row
+pub record IsAt (rows : List Row) (i a : ℕ) : Type 0 where
+  pub row : Row
+  pub lives : row_of rows i ≡ Some row
+  pub kind : ActKind
+  pub pending : row.pending ≡ Some (kind, a)

@@ -5,11 +5,11 @@
 //! the event with its reply at the end of the history, all three or none of them. That the
 //! history is legal, and that the tree is the one that the history leaves, is part of the type.
 //!
-//! The definitions of events, replies and histories are those of `cm_world`.
+//! The definitions of events, replies and histories are those of `cm_world`; what holds of every
+//! legal history is said by `cm_laws`.
 #![tactic(auto)]
 
 pub mod ending;
-pub mod laws;
 pub mod nostep;
 mod pending;
 pub mod realm;

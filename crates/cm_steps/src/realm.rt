@@ -6,10 +6,10 @@ ghost use Rattle.cm_world.specs.Begin.{begin_reply};
 ghost use Rattle.cm_world.specs.Reports.{exit_reply};
 ghost use Rattle.cm_world.specs.Legal.{Legal, IsStep};
 ghost use Rattle.cm_world.specs.After.{moves, moved, with_action};
-ghost use Rattle.cm_steps.specs.Story.{world_of};
+ghost use Rattle.cm_laws.specs.Story.{world_of, Tells, entry_of};
 ghost use Rattle.cm_steps.specs.Tasks.{IsIdleAt};
 ghost use Rattle.cm_steps.specs.Answers.{BeginsBy, ExitsBy};
-ghost use Rattle.cm_steps.specs.Steps.{Tells, HasRoom, Refuses, RefusesQuiet, WaitsToBegin, WaitsToExit, entry_of};
+ghost use Rattle.cm_steps.specs.Steps.{HasRoom, Refuses, RefusesQuiet, WaitsToBegin, WaitsToExit};
 
 mod creating;
 mod ends;
@@ -44,7 +44,7 @@ pub struct Realm {
 }
 
 impl Model for Realm {
-    ghost use Rattle.cm_steps.specs.Story.{Story};
+    ghost use Rattle.cm_laws.specs.Story.{Story};
 
     ghost Value = { Story };
 

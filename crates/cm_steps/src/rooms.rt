@@ -1,6 +1,7 @@
 //! Room for what a step needs and leaves to come: entries, also those of ends and awaits, and rows.
 
-ghost use Rattle.std.specs.Prelude.{◌≡◌, ◌+◌, ◌-◌, ◌≤◌, ◌<◌, ◌^◌, length, cond, count_by, Some, None, IsTrue, IfOk, OnOk, OnErr, IfErr};
+ghost use Rattle.std.specs.Prelude.{◌≡◌, ◌+◌, ◌-◌, ◌≤◌, ◌<◌, ◌^◌, length, cond, count_by};
+ghost use Rattle.std.specs.Prelude.{Some, None, IsTrue, IfOk, OnOk, OnErr, IfErr};
 ghost use Rattle.std.specs.List.{list_any};
 ghost use Rattle.std.specs.Vec.{vec_len, vec_capacity};
 ghost use Rattle.cm_world.specs.Rows.{is_resolved, child_of};
@@ -10,6 +11,7 @@ ghost use Rattle.cm_world.specs.Step as step;
 ghost use Rattle.cm_world.specs.After.{joined};
 ghost use Rattle.cm_book.specs.Refusal.{Fits};
 ghost use Rattle.cm_table.specs.Change.{with_row};
+ghost use Rattle.cm_table.specs.Tree.{fit};
 ghost use Rattle.cm_steps.specs.Tasks as tasks;
 ghost use Rattle.cm_steps.specs.Rooms.{Lacks};
 
@@ -17,7 +19,7 @@ use crate::nostep::NoStep;
 use cm_book::Book;
 use cm_decl::Give;
 use cm_names::{ChildName, List, Text};
-use cm_table::Table;
+use cm_table::{Table, TableFault};
 use cm_world::{Act, ActKind, Join};
 use std::alloc::Global;
 
@@ -145,6 +147,7 @@ pub fn add_row(
 ) -> Result<u64, NoStep>
     requires resolved { IsTrue (is_resolved table.old.rows parent) }
     requires unused { child_of table.old.rows parent name ≡ None }
+    requires room { IsTrue (fit table.old 1) }
     ensures inc { IfOk result (λ inc. inc ≡ table.old.next_inc) }
     ensures table { let row = new_row table.old.next_inc (Some parent) (Some name) url gives in
         OnOk result (table.new ≡ with_row row table.old) }
@@ -158,7 +161,8 @@ pub fn add_row(
     book.reserve(1)?;
     match table.add(alloc, parent, name, url, gives) {
         Ok(inc) => Ok(inc),
-        Err(_) => {
+        Err(TableFault::Full) => unreachable!(),
+        Err(TableFault::Memory) => {
             book.release(1);
             Err(NoStep::Memory)
         }

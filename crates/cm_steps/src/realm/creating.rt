@@ -4,8 +4,8 @@
 ghost use Rattle.std.specs.Prelude.{◌≡◌, IfOk, IfErr, OnOk, OnErr};
 ghost use Rattle.cm_world.specs.Create.{IsCreateReply};
 ghost use Rattle.cm_dynamic.specs.Laws.{CanTake};
-ghost use Rattle.cm_steps.specs.Story.{world_of};
-ghost use Rattle.cm_steps.specs.Steps.{Tells, HasRoom, RefusesQuiet};
+ghost use Rattle.cm_laws.specs.Story.{world_of, Tells};
+ghost use Rattle.cm_steps.specs.Steps.{HasRoom, RefusesQuiet};
 ghost use Rattle.cm_steps.specs.Answers.{CreatesBy};
 
 use super::{Realm, copied};

@@ -8,8 +8,7 @@ ghost use Rattle.std.specs.Prelude.{◌≡◌, IsTrue, IfSome, IfNone, None};
 ghost use Rattle.std.specs.List.{list_any};
 ghost use Rattle.cm_world.specs.World.{outcome_of};
 ghost use Rattle.cm_world.specs.Step.{MayEnd, is_join};
-ghost use Rattle.cm_steps.specs.Story.{world_of};
-ghost use Rattle.cm_steps.specs.Steps.{Tells};
+ghost use Rattle.cm_laws.specs.Story.{world_of, Tells};
 ghost use Rattle.cm_steps.specs.Ends.{finish_of};
 
 use super::Realm;

@@ -10,15 +10,15 @@ ghost use Rattle.cm_world.specs.End.{set_closing, set_doomed};
 ghost use Rattle.cm_world.specs.Marks.{lost_of, mark_reply};
 ghost use Rattle.cm_world.specs.Step.{may_purge};
 ghost use Rattle.cm_table.specs.Change.{with_changed};
-ghost use Rattle.cm_steps.specs.Story.{world_of};
-ghost use Rattle.cm_steps.specs.Steps.{Tells, HasRoom, RefusesQuiet};
+ghost use Rattle.cm_laws.specs.Story.{world_of, Tells};
+ghost use Rattle.cm_steps.specs.Steps.{HasRoom, RefusesQuiet};
 ghost use Rattle.cm_steps.specs.Answers.{AnswersMark, AnswersPurge};
 
 use super::{Realm, copied};
-use crate::laws::trees_stay_sound;
 use crate::nostep::NoStep;
 use crate::replies::marking::{MarkAnswer, mark_answer};
 use crate::replies::purging::{PurgeAnswer, purge_answer};
+use cm_laws::trees_stay_sound;
 use cm_names::{List, Memory};
 use cm_table::Table;
 use cm_world::{Entry, Event, Lost, Reply};

@@ -5,15 +5,15 @@
 
 ghost use Rattle.std.specs.Prelude.{◌≡◌, IsTrue, IfOk, IfErr, OnOk, OnErr};
 ghost use Rattle.cm_world.specs.Step.{PicksOff, may_close};
-ghost use Rattle.cm_steps.specs.Story.{world_of};
-ghost use Rattle.cm_steps.specs.Steps.{Tells, HasRoom, Refuses, RefusesQuiet, WaitsToPick};
+ghost use Rattle.cm_laws.specs.Story.{world_of, Tells};
+ghost use Rattle.cm_steps.specs.Steps.{HasRoom, Refuses, RefusesQuiet, WaitsToPick};
 ghost use Rattle.cm_steps.specs.Answers.{PicksBy};
 
 use super::{Realm, copied};
-use crate::laws::trees_stay_sound;
 use crate::nostep::NoStep;
 use crate::replies::picking::{PickAnswer, pick_answer};
 use crate::rooms::next_action;
+use cm_laws::trees_stay_sound;
 use cm_names::Memory;
 use cm_world::{ActKind, Entry, Event, Reply};
 use std::alloc::Global;
@@ -28,7 +28,8 @@ impl Realm {
     /// with what is to be done where its program runs, by which a stop begins that the caller
     /// ends; `ShutDown` with its incarnation where its program doesn't run, and then it is shut.
     ///
-    /// - `Busy` with the number of an action that has to end before an instance can be picked;
+    /// - `Busy` with the number of an action that is pending at such an instance, where each of
+    ///   them has one pending;
     /// - `HistoryFull` where two entries more don't fit, which is tried first;
     /// - `Memory` where memory runs out.
     pub fn pick(&mut self, alloc: Global, caller: u32, target: u64) -> Result<Reply, NoStep>

@@ -1,6 +1,7 @@
 //! What a begin comes to, and what its beginner has to do.
 
-ghost use Rattle.std.specs.Prelude.{◌≡◌, ◌++◌, [], IfOk, OnOk, Some, option_map, option_and_then, option_to_list, unwrap_or, is_some};
+ghost use Rattle.std.specs.Prelude.{◌≡◌, ◌++◌, [], IfOk, OnOk, Some, is_some};
+ghost use Rattle.std.specs.Prelude.{option_map, option_and_then, option_to_list, unwrap_or};
 ghost use Rattle.std.specs.Option.{option_copied};
 ghost use Rattle.cm_world.specs.declared.row.Row.{Row};
 ghost use Rattle.cm_world.specs.Rows.{row_of, decl_of, facts_of};

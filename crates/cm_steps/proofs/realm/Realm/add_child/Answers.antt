@@ -1,19 +1,28 @@
-use Rattle.std.proofs.Common.{◌≡◌, ◌+◌, ◌++◌, ◌∷◌, [], refl, sym, ◌∙◌, ap, subst}
+use Rattle.std.proofs.Common.{◌≡◌, ◌+◌, ◌++◌, ◌∷◌, [], true, refl, sym, ◌∙◌, ap, subst}
 use Rattle.cm_table.specs.Change as table
 use Rattle.cm_world.specs.declared.row.Row.{Row}
 use Rattle.cm_world.specs.declared.reply.Entry.{Entry}
 use Rattle.cm_world.specs.declared.event.Event.TheVariants as event
 use Rattle.cm_world.specs.declared.reply.Reply.TheVariants as reply
-use Rattle.cm_world.specs.World.{World}
+use Rattle.cm_world.specs.World.{World, rows_fit}
 use Rattle.cm_world.specs.Create.{IsCreateReply, created_row}
 use Rattle.cm_world.specs.After.{with_row}
-use Rattle.cm_steps.specs.Story.{world_of}
-use Rattle.cm_steps.specs.Steps.{entry_of}
+use Rattle.cm_laws.specs.Story.{world_of, entry_of}
 use Rattle.cm_steps.specs.Inside.{world_in}
 use Rattle.cm_steps.proofs.Stepping.{one_pushed, kept_rows}
 use Rattle.cm_steps.proofs.Removing.{tasked_added}
-use Rattle.cm_steps.proofs.Creations.{child_made}
+use Rattle.cm_steps.proofs.Creations.{child_made, created_fits}
 use Rattle.cm_steps.proofs.realm.Realm.add_child.Goals as goal
+
+pub add_row-requires-clause-room : goal.add_row-requires-clause-room
+add_row-requires-clause-room c =
+    let old : World = world_of c.args.self.now in
+    let w : World = world_in c.self.inside in
+    let here : old ≡ w = ap world_of (sym c.self.view_is) ∙ c.self.invariant.stands.world in
+    let fits : rows_fit old.frame.limits.rows old.rows old.next_inc 1 ≡ true =
+    created_fits old.rows old.frame.limits.rows old.next_inc c.args.parent c.args.coll c.args.name c.args.gives old.next_inc c.requires.creates in
+    subst (λ n. rows_fit n w.rows w.next_inc 1 ≡ true) (sym c.self.invariant.rows)
+    (subst (λ (v : World). rows_fit v.frame.limits.rows v.rows v.next_inc 1 ≡ true) here fits)
 
 pub invariant_of-self-2 : goal.invariant_of-self-2
 invariant_of-self-2 c =

@@ -1,6 +1,6 @@
 use Rattle.std.proofs.Common.{sym, ◌∙◌, ap, subst, IfOk}
 use Rattle.cm_world.specs.World.{World}
-use Rattle.cm_steps.specs.Story.{world_of}
+use Rattle.cm_laws.specs.Story.{world_of}
 use Rattle.cm_steps.specs.Inside.{world_in}
 use Rattle.cm_steps.specs.Answers.{CreatesBy}
 use Rattle.cm_steps.proofs.realm.Realm.answer_to_create.Goals as goal

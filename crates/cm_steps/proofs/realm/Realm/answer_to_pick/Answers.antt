@@ -1,7 +1,7 @@
 use Rattle.std.proofs.Common.{◌≡◌, ◌+◌, sym, ◌∙◌, ap, subst, length, IsTrue, IfOk}
 use Rattle.cm_world.specs.World.{World}
 use Rattle.cm_world.specs.Step.{may_close}
-use Rattle.cm_steps.specs.Story.{world_of}
+use Rattle.cm_laws.specs.Story.{world_of}
 use Rattle.cm_steps.specs.Inside.{world_in}
 use Rattle.cm_steps.specs.Answers.{AnswersPick, PicksBy}
 use Rattle.cm_steps.proofs.Reading.{if_ok}

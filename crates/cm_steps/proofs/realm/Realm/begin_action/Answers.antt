@@ -9,14 +9,14 @@ use Rattle.cm_world.specs.World.{World, is_open}
 use Rattle.cm_world.specs.End.{set_pending}
 use Rattle.cm_world.specs.After.{new_act, with_action, moved, counted, after}
 use Rattle.cm_world.specs.Legal.{IsStep}
-use Rattle.cm_steps.specs.Story.{world_of}
-use Rattle.cm_steps.specs.Steps.{entry_of}
-use Rattle.cm_steps.specs.Tasks.{is_open_resolve, IsNumbered, IsTasked, IsIdleAt}
+use Rattle.cm_laws.specs.Story.{world_of, entry_of}
+use Rattle.cm_laws.specs.Tasks.{IsNumbered, IsTasked}
+use Rattle.cm_steps.specs.Tasks.{is_open_resolve, IsIdleAt}
 use Rattle.cm_steps.specs.Inside.{world_in}
 use Rattle.cm_steps.proofs.Counts.{count_more}
 use Rattle.cm_steps.proofs.Going.{goes_on, one_longer}
 use Rattle.cm_steps.proofs.Begun.{new_resolve}
-use Rattle.cm_steps.proofs.Tasks.{numbered_more, tasked_begun}
+use Rattle.cm_laws.proofs.actions.Tasks.{numbered_more, tasked_begun}
 use Rattle.cm_steps.proofs.realm.Realm.begin_action.Goals as goal
 
 pub invariant_of-self-2 : goal.invariant_of-self-2

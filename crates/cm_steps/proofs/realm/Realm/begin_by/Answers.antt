@@ -2,7 +2,7 @@ use Rattle.std.proofs.Common.{◌≡◌, Some, sym, ◌∙◌, ap, is_some, subs
 use Rattle.cm_world.specs.declared.reply.Reply.TheVariants.{Begun}
 use Rattle.cm_world.specs.Begin.{begin_reply}
 use Rattle.cm_world.specs.World.{World}
-use Rattle.cm_steps.specs.Story.{world_of}
+use Rattle.cm_laws.specs.Story.{world_of}
 use Rattle.cm_steps.specs.Answers.{BeginsBy}
 use Rattle.cm_steps.proofs.Begun.{idle_begun}
 use Rattle.cm_steps.proofs.realm.Realm.begin_by.Goals as goal

@@ -1,6 +1,6 @@
 use Rattle.std.proofs.Common.{subst}
 use Rattle.cm_world.specs.World.{World}
-use Rattle.cm_steps.specs.Story.{world_of}
+use Rattle.cm_laws.specs.Story.{world_of}
 use Rattle.cm_steps.specs.Answers.{CreatesBy}
 use Rattle.cm_steps.proofs.realm.Realm.create_by.Goals as goal
 

@@ -6,8 +6,7 @@ use Rattle.cm_world.specs.World.{World}
 use Rattle.cm_world.specs.End.{rows_by, outcome_by}
 use Rattle.cm_world.specs.Step.{MayEnd}
 use Rattle.cm_steps.specs.Ends.{inc_of, finish_of}
-use Rattle.cm_steps.specs.Story.{world_of}
-use Rattle.cm_steps.specs.Steps.{entry_of}
+use Rattle.cm_laws.specs.Story.{world_of, entry_of}
 use Rattle.cm_steps.proofs.Counts.{open_less}
 use Rattle.cm_steps.proofs.Ends.{inc-ended, can_take, kept_ended}
 use Rattle.cm_steps.proofs.realm.Realm.end.Goals as goal

@@ -1,7 +1,7 @@
 use Rattle.std.proofs.Common.{subst}
 use Rattle.cm_world.specs.World.{start}
 use Rattle.cm_world.specs.Legal.{Legal}
-use Rattle.cm_steps.specs.Story.{Story, IsLegal}
+use Rattle.cm_laws.specs.Story.{Story, IsLegal}
 use Rattle.cm_steps.proofs.realm.Realm.entries.Goals as goal
 
 pub returns-clause-legal : goal.returns-clause-legal

@@ -7,8 +7,7 @@ use Rattle.cm_world.specs.declared.reply.Reply.TheVariants as reply
 use Rattle.cm_world.specs.World.{World}
 use Rattle.cm_world.specs.Begin.{begin_reply}
 use Rattle.cm_world.specs.After.{after}
-use Rattle.cm_steps.specs.Story.{world_of}
-use Rattle.cm_steps.specs.Steps.{entry_of}
+use Rattle.cm_laws.specs.Story.{world_of, entry_of}
 use Rattle.cm_steps.specs.Inside.{world_in}
 use Rattle.cm_steps.proofs.Going.{goes_on, one_longer}
 use Rattle.cm_steps.proofs.Joined.{length-joined}

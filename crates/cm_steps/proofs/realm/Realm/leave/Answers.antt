@@ -9,12 +9,12 @@ use Rattle.cm_world.specs.World.{World}
 use Rattle.cm_world.specs.Reports.{exit_reply}
 use Rattle.cm_world.specs.End.{set_on}
 use Rattle.cm_world.specs.After.{after}
-use Rattle.cm_steps.specs.Story.{world_of}
-use Rattle.cm_steps.specs.Steps.{entry_of}
-use Rattle.cm_steps.specs.Tasks.{is_open_resolve, IsTasked}
+use Rattle.cm_laws.specs.Story.{world_of, entry_of}
+use Rattle.cm_laws.specs.Tasks.{IsTasked}
+use Rattle.cm_steps.specs.Tasks.{is_open_resolve}
 use Rattle.cm_steps.specs.Inside.{world_in}
 use Rattle.cm_steps.proofs.Going.{goes_on, one_longer}
-use Rattle.cm_steps.proofs.Tasks.{tasked_changed}
+use Rattle.cm_laws.proofs.actions.Tasks.{tasked_changed}
 use Rattle.cm_steps.proofs.realm.Realm.leave.Goals as goal
 
 pub invariant_of-self-2 : goal.invariant_of-self-2

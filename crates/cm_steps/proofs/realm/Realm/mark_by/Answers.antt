@@ -1,5 +1,5 @@
 use Rattle.std.proofs.Common.{sym, subst}
-use Rattle.cm_steps.specs.Story.{world_of}
+use Rattle.cm_laws.specs.Story.{world_of}
 use Rattle.cm_steps.specs.Answers.{AnswersMark}
 use Rattle.cm_steps.proofs.realm.Realm.mark_by.Goals as goal
 

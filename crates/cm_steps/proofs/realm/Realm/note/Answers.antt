@@ -2,8 +2,7 @@ use Rattle.std.proofs.Common.{◌-◌, ◌++◌, ◌∷◌, [], refl, ap, sym, �
 use Rattle.cm_book.specs.History.{History}
 use Rattle.cm_world.specs.declared.reply.Entry.{Entry}
 use Rattle.cm_world.specs.Legal.{IsStep}
-use Rattle.cm_steps.specs.Story.{world_of}
-use Rattle.cm_steps.specs.Steps.{entry_of}
+use Rattle.cm_laws.specs.Story.{world_of, entry_of}
 use Rattle.cm_steps.specs.Inside.{world_in}
 use Rattle.cm_steps.proofs.Going.{goes_on, one_longer, after-quiet}
 use Rattle.cm_steps.proofs.realm.Realm.note.Goals as goal

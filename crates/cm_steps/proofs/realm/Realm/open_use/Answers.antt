@@ -3,8 +3,7 @@ use Rattle.cm_world.specs.declared.event.Event.TheVariants as event
 use Rattle.cm_world.specs.Legal.{IsStep}
 use Rattle.cm_world.specs.declared.route.Start.TheVariants as begin
 use Rattle.cm_world.specs.Openings as openings
-use Rattle.cm_steps.specs.Story.{world_of}
-use Rattle.cm_steps.specs.Steps.{entry_of}
+use Rattle.cm_laws.specs.Story.{world_of, entry_of}
 use Rattle.cm_steps.proofs.realm.Realm.open_use.Goals as goal
 
 pub tell-requires-clause-step : goal.tell-requires-clause-step

@@ -6,8 +6,7 @@ use Rattle.cm_world.specs.World.{World}
 use Rattle.cm_world.specs.Step.{PicksOn}
 use Rattle.cm_world.specs.After.{with_action}
 use Rattle.cm_world.specs.Legal.{IsStep}
-use Rattle.cm_steps.specs.Story.{world_of}
-use Rattle.cm_steps.specs.Steps.{entry_of}
+use Rattle.cm_laws.specs.Story.{world_of, entry_of}
 use Rattle.cm_steps.specs.Answers.{PicksBy}
 use Rattle.cm_steps.proofs.Begun.{idle_picked}
 use Rattle.cm_steps.proofs.realm.Realm.pick_by.Goals as goal

@@ -3,7 +3,7 @@ use Rattle.cm_world.specs.declared.row.Row.{Row}
 use Rattle.cm_world.specs.declared.reply.Reply.TheVariants as reply
 use Rattle.cm_world.specs.Rows.{is_live, subtree}
 use Rattle.cm_world.specs.Marks.{lost_of}
-use Rattle.cm_steps.specs.Story.{world_of}
+use Rattle.cm_laws.specs.Story.{world_of}
 use Rattle.cm_steps.specs.Answers.{AnswersPurge}
 use Rattle.cm_steps.proofs.realm.Realm.purge_by.Goals as goal
 

@@ -6,8 +6,7 @@ use Rattle.cm_world.specs.declared.reply.Reply.TheVariants as reply
 use Rattle.cm_world.specs.World.{World}
 use Rattle.cm_world.specs.End.{changed, set_closing, set_doomed}
 use Rattle.cm_world.specs.Marks.{mark_reply}
-use Rattle.cm_steps.specs.Story.{world_of}
-use Rattle.cm_steps.specs.Steps.{entry_of}
+use Rattle.cm_laws.specs.Story.{world_of, entry_of}
 use Rattle.cm_steps.specs.Inside.{world_in}
 use Rattle.cm_steps.proofs.Stepping.{one_pushed, kept_rows}
 use Rattle.cm_steps.proofs.Removing.{tasked_marked}

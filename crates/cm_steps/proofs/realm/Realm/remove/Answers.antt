@@ -7,11 +7,11 @@ use Rattle.cm_world.specs.Rows.{is_live, has_doomed, subtree, is_subtree_shut}
 use Rattle.cm_world.specs.Marks.{lost_of}
 use Rattle.cm_world.specs.Step.{may_purge}
 use Rattle.cm_world.specs.After.{others_than}
-use Rattle.cm_steps.specs.Story.{world_of}
-use Rattle.cm_steps.specs.Steps.{entry_of}
+use Rattle.cm_laws.specs.Story.{world_of, entry_of}
 use Rattle.cm_steps.specs.Inside.{world_in}
 use Rattle.cm_steps.proofs.Stepping.{one_pushed, kept_rows, sound_in}
-use Rattle.cm_steps.proofs.Removing.{purge_shut, tasked_purged}
+use Rattle.cm_laws.proofs.sound.Tasks.{tasked_purged}
+use Rattle.cm_steps.proofs.Removing.{purge_shut}
 use Rattle.cm_steps.proofs.realm.Realm.remove.Goals as goal
 
 pub invariant_of-self-2 : goal.invariant_of-self-2

@@ -5,10 +5,9 @@ use Rattle.cm_world.specs.declared.reply.Reply.TheVariants as reply
 use Rattle.cm_world.specs.World.{World}
 use Rattle.cm_world.specs.End.{changed, set_shut}
 use Rattle.cm_world.specs.Step.{PicksOff, may_close}
-use Rattle.cm_steps.specs.Story.{world_of}
-use Rattle.cm_steps.specs.Steps.{entry_of}
+use Rattle.cm_laws.specs.Story.{world_of, entry_of}
 use Rattle.cm_steps.specs.Inside.{world_in}
-use Rattle.cm_steps.proofs.Tasks.{tasked_changed}
+use Rattle.cm_laws.proofs.actions.Tasks.{tasked_changed}
 use Rattle.cm_steps.proofs.Stepping.{one_pushed, kept_rows}
 use Rattle.cm_steps.proofs.realm.Realm.shut.Goals as goal
 

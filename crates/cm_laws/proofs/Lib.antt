@@ -1,0 +1,10 @@
+pub mod Answered
+pub mod Entries
+pub mod actions
+pub mod levels
+pub mod sound
+pub mod MarksLast
+pub mod Stable
+pub mod clients
+pub mod destroyed
+pub mod AllLaws

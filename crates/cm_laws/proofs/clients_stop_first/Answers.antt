@@ -1,0 +1,6 @@
+use Rattle.cm_laws.proofs.clients.First.{clients_stop_first}
+use Rattle.cm_laws.proofs.sound.Healthy.{trees_stay_sound}
+use Rattle.cm_laws.proofs.clients_stop_first.Goals as goal
+
+pub returns : goal.returns
+returns c = record { first = clients_stop_first trees_stay_sound }

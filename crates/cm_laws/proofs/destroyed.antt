@@ -1,0 +1,4 @@
+pub mod Standing
+pub mod Naming
+pub mod Rooted
+pub mod Gone

@@ -1,0 +1,284 @@
+-- Rows that stand: they live, aren't doomed, and aren't below a doomed row. Each next station of a route is at such a row, and
+-- so is what a walk along it names.
+use Rattle.std.proofs.Common.{◌≡◌, ℕ, List, [], ◌∷◌, ◌++◌, map, Bool, true, false, cond, not, ◌&&◌, ◌||◌, Option, Some, None, find, is_some, option_map, option_and_then, IsTrue, refl, sym, ◌∙◌, ap, subst, inl, inr}
+use Rattle.std.specs.List.{list_all}
+use Rattle.std.specs.Str.{bytes_eq}
+use Rattle.std.proofs.lemmas.List.Folds.{list_all-map, list_all-append}
+use Rattle.cm_names.specs.declared.availability.Availability.{Availability}
+use Rattle.cm_names.specs.Availability.{fits}
+use Rattle.cm_names.specs.Rights.{RightSet, contains}
+use Rattle.cm_names.specs.declared.child.ChildName.{ChildName}
+use Rattle.cm_decl.specs.Clashes.{or_else}
+use Rattle.cm_decl.specs.declared.decl.Decl.{Decl}
+use Rattle.cm_decl.specs.declared.kind.Kind.{Kind}
+use Rattle.cm_decl.specs.declared.kind.Kind.TheVariants.{Protocol}
+use Rattle.cm_decl.specs.declared.origin.Origin.{Origin}
+use Rattle.cm_decl.specs.declared.origin.Origin.TheVariants.{Parent, Own, Framework, Child, Void}
+use Rattle.cm_decl.specs.declared.rows.Usage.{Usage}
+use Rattle.cm_decl.specs.declared.rows.Give.{Give}
+use Rattle.cm_decl.specs.declared.rows.Capability.{Capability}
+use Rattle.cm_decl.proofs.Sameness.{and_first, and_second}
+use Rattle.cm_world.specs.declared.row.Row.{Row}
+use Rattle.cm_world.specs.declared.frame.Builtin.{Builtin}
+use Rattle.cm_world.specs.declared.route.Hop.{Hop}
+use Rattle.cm_world.specs.declared.route.StepKind.{StepKind}
+use Rattle.cm_world.specs.declared.route.StepKind.TheVariants as step
+use Rattle.cm_world.specs.declared.route.Why.{Why}
+use Rattle.cm_world.specs.declared.route.Start.{Start}
+use Rattle.cm_world.specs.declared.route.Start.TheVariants.{UseAt, ExposeAt}
+use Rattle.cm_world.specs.declared.route.Walked.{Walked}
+use Rattle.cm_world.specs.declared.route.Walked.TheVariants as walked
+use Rattle.cm_world.specs.Rows.{row_of, decl_of, child_of, has_parent, has_name, some_above, is_gone}
+use Rattle.cm_world.specs.Sound.{IsOrderly, IsParent}
+use Rattle.cm_world.specs.Stations.{Station, use_station, expose_station, bare_hop}
+use Rattle.cm_world.specs.Next.{Next, To, Ends, Needs, FromVoid, NoChild, Misses, by_builtin, builtin_of, by_offer, offered, offered_by, next_above, from_above, by_expose, give_of, exposed_by, from_child, by_capability, capability_of, next_from, next_by, next_of}
+use Rattle.cm_world.specs.Route.{Named, First, NoUse, NoneExposed, named_by, IsChain, provider_of, route_of, weak_availability, weak_rights, unless_fitting, unless_within, is_offer_or_expose, stated_before, asked_rights, said_by, trial_by, IsDecided, IsWalkedFrom, IsWalked}
+use Rattle.cm_world.proofs.Finding.{none_some, some_same, row_of-inc, find-passes}
+use Rattle.cm_world.proofs.Walks.{find-lives}
+use Rattle.cm_order.proofs.Trees.{some_eq, and_pair, not_true, flip_not, true_not_false}
+use Rattle.cm_laws.specs.Destroying.{incs_of_provider, incs_of_route}
+use Rattle.cm_laws.proofs.sound.Above.{above_up, above_cases}
+
+-- a row that isn't gone
+abbrev pub stands : List Row → ℕ → Bool
+stands rows i = not (is_gone rows i)
+
+-- a row that is doomed, or below a doomed one
+abbrev pub is_doomed : List Row → ℕ → Bool
+is_doomed rows i = some_above (λ r. r.doomed) rows i
+
+pub one : (b : Bool) → b ≡ true → (b && true) ≡ true
+one b e = and_pair b true e refl
+
+module _ (rows : List Row) (next : ℕ) (orderly : IsOrderly rows next) where
+  -- ---- up and down the tree
+
+  spared_by : (a b : Bool) → IsTrue (not (a || b)) → b ≡ false
+  spared_by true b h = true_not_false false h refl
+  spared_by false b h = flip_not b h
+
+  spared : (i : ℕ) → IsTrue (stands rows i) → is_doomed rows i ≡ false
+  spared i h = spared_by (not (is_some (row_of rows i))) (is_doomed rows i) h
+
+  pub standing : (i : ℕ) (r : Row) → row_of rows i ≡ Some r → is_doomed rows i ≡ false → IsTrue (stands rows i)
+  standing i r lives e =
+      ap (λ o. not (not (is_some o) || is_doomed rows i)) lives ∙ ap not e
+
+  -- the parent of a row that stands
+  pub stands_up : (i p : ℕ) (r : Row) → row_of rows i ≡ Some r → r.parent ≡ Some p → IsTrue (stands rows i) → IsTrue (stands rows p)
+  stands_up i p r lives up h =
+      let parent : IsParent rows p i = (orderly.parents i p r lives up).0 in
+      standing p parent.row parent.lives
+      (not_true (is_doomed rows p) (λ above. true_not_false (is_doomed rows i) (above_up (λ s. s.doomed) rows next orderly i p r lives up above) (spared i h)))
+
+  -- a child of one, if it isn't doomed
+  pub stands_down : (i p : ℕ) (r : Row) → row_of rows i ≡ Some r → r.parent ≡ Some p → r.doomed ≡ false → IsTrue (stands rows p) → IsTrue (stands rows i)
+  stands_down i p r lives up undoomed h = standing i r lives (not_true (is_doomed rows i) by_cases) where
+    by_cases : IsTrue (is_doomed rows i) → ⊥
+    by_cases above = elim (above_cases (λ s. s.doomed) rows next orderly i r lives above) [
+      | inl here ↦ true_not_false r.doomed here undoomed
+      | inr higher ↦
+          let same : higher.0 ≡ p = some_same higher.0 p (sym higher.1 ∙ up) in
+          true_not_false (is_doomed rows p) (subst (λ j. IsTrue (is_doomed rows j)) same higher.2) (spared p h)
+    ]
+
+  found_child : (p j : ℕ) (c : ChildName) (o : Option Row) → find (λ r. has_parent p r && has_name c r && not r.doomed) rows ≡ o → option_map (λ r. r.inc) o ≡ Some j → IsTrue (stands rows p) → IsTrue (stands rows j)
+  found_child p j c None f e h = absurd (none_some j e)
+  found_child p j c (Some r) f e h =
+      let test : Row → Bool = λ r. has_parent p r && has_name c r && not r.doomed in
+      let passes : IsTrue (test r) = find-passes test rows r f in
+      let named : IsTrue (has_parent p r && has_name c r) = and_first (has_parent p r && has_name c r) (not r.doomed) passes in
+      subst (λ i. IsTrue (stands rows i)) (some_same r.inc j e)
+      (stands_down r.inc p r (find-lives test rows next r orderly.rising f) (some_eq r.parent p (and_first (has_parent p r) (has_name c r) named)) (flip_not r.doomed (and_second (has_parent p r && has_name c r) (not r.doomed) passes)) h)
+
+  -- a child that is found by its name
+  pub child_stands : (p j : ℕ) (c : ChildName) → child_of rows p c ≡ Some j → IsTrue (stands rows p) → IsTrue (stands rows j)
+  child_stands p j c e h = found_child p j c (find (λ r. has_parent p r && has_name c r && not r.doomed) rows) refl e h
+
+  -- ---- what comes behind a station
+
+  abbrev next_stands : Next → Bool
+  next_stands (To t) = stands rows t.hop.inc
+  next_stands (Needs j) = stands rows j
+  next_stands (Misses hop reason) = stands rows hop.inc
+  next_stands _ = true
+
+  builtin_stands : (i : ℕ) (kind : Kind) (name : List ℕ) (o : Option Builtin) → IsTrue (stands rows i) → IsTrue (next_stands (by_builtin rows i kind name o))
+  builtin_stands i kind name None h = h
+  builtin_stands i kind name (Some b) h = h
+
+  offer_stands : (p : ℕ) (kind : Kind) (name : List ℕ) (o : Option Give) → IsTrue (stands rows p) → IsTrue (next_stands (by_offer rows p kind name o))
+  offer_stands p kind name None h = h
+  offer_stands p kind name (Some g) h = h
+
+  offered_stands : (p : ℕ) (r : Row) (kind : Kind) (name : List ℕ) (o : Option Decl) → IsTrue (stands rows p) → IsTrue (next_stands (offered_by rows p r kind name o))
+  offered_stands p r kind name None h = h
+  offered_stands p r kind name (Some d) h =
+      offer_stands p kind name (option_and_then (λ c. offered d c r.gives kind name) r.name) h
+
+  above_stands : (builtins : List Builtin) (i : ℕ) (r : Row) (kind : Kind) (name : List ℕ) (o : Option ℕ) → row_of rows i ≡ Some r → r.parent ≡ o → IsTrue (stands rows i) → IsTrue (next_stands (next_above rows builtins r kind name o))
+  above_stands builtins i r kind name None lives up h =
+      builtin_stands r.inc kind name (builtin_of builtins kind name)
+      (subst (λ j. IsTrue (stands rows j)) (sym (row_of-inc rows i r lives)) h)
+  above_stands builtins i r kind name (Some p) lives up h =
+      offered_stands p r kind name (decl_of rows p) (stands_up i p r lives up h)
+
+  parent_stands : (builtins : List Builtin) (i : ℕ) (kind : Kind) (name : List ℕ) (o : Option Row) → row_of rows i ≡ o → IsTrue (stands rows i) → IsTrue (next_stands (from_above rows builtins kind name o))
+  parent_stands builtins i kind name None lives h = refl
+  parent_stands builtins i kind name (Some r) lives h = above_stands builtins i r kind name r.parent lives refl h
+
+  expose_stands : (j : ℕ) (kind : Kind) (name : List ℕ) (o : Option Give) → IsTrue (stands rows j) → IsTrue (next_stands (by_expose rows j kind name o))
+  expose_stands j kind name None h = h
+  expose_stands j kind name (Some g) h = h
+
+  exposed_stands : (j : ℕ) (kind : Kind) (name : List ℕ) (o : Option Decl) → IsTrue (stands rows j) → IsTrue (next_stands (exposed_by rows j kind name o))
+  exposed_stands j kind name None h = h
+  exposed_stands j kind name (Some d) h = expose_stands j kind name (give_of d.exposes kind name) h
+
+  kid_stands : (i : ℕ) (c : ChildName) (kind : Kind) (name : List ℕ) (o : Option ℕ) → child_of rows i c ≡ o → IsTrue (stands rows i) → IsTrue (next_stands (from_child rows kind name o))
+  kid_stands i c kind name None found h = refl
+  kid_stands i c kind name (Some j) found h = exposed_stands j kind name (decl_of rows j) (child_stands i j c found h)
+
+  own_stands : (i : ℕ) (o : Option Capability) → IsTrue (stands rows i) → IsTrue (next_stands (by_capability rows i o))
+  own_stands i None h = refl
+  own_stands i (Some c) h = h
+
+  source_stands : (builtins : List Builtin) (i : ℕ) (kind : Kind) (name : List ℕ) (from : Origin) → IsTrue (stands rows i) → IsTrue (next_stands (next_from rows builtins i kind name from))
+  source_stands builtins i kind name Parent h = parent_stands builtins i kind name (row_of rows i) refl h
+  source_stands builtins i kind name (Child c) h = kid_stands i c kind name (child_of rows i c) refl h
+  source_stands builtins i kind name Own h =
+      own_stands i (option_and_then (λ d. capability_of d kind name) (decl_of rows i)) h
+  source_stands builtins i kind name Framework h = h
+  source_stands builtins i kind name Void h = refl
+
+  behind_stands : (builtins : List Builtin) (s : Station) (o : Option Origin) → IsTrue (stands rows s.hop.inc) → IsTrue (next_stands (next_by rows builtins s o))
+  behind_stands builtins s None h = refl
+  behind_stands builtins s (Some from) h = source_stands builtins s.hop.inc s.hop.kind s.source_name from h
+
+  -- ---- what a walk names
+
+  abbrev pub incs_of_walked : Walked → List ℕ
+  incs_of_walked (walked.Given route) = incs_of_route route
+  incs_of_walked (walked.Failed hop reason) = hop.inc ∷ []
+  incs_of_walked (walked.Need j) = j ∷ []
+  incs_of_walked (walked.Void hop) = hop.inc ∷ []
+  incs_of_walked walked.NoSuchUse = []
+
+  abbrev pub walked_stands : Walked → Bool
+  walked_stands v = list_all (stands rows) (incs_of_walked v)
+
+  -- if it is decided
+  abbrev decided_stands : Option Walked → Bool
+  decided_stands None = true
+  decided_stands (Some v) = walked_stands v
+
+  abbrev front_stands : List Station → Bool
+  front_stands front = list_all (λ t. stands rows t.hop.inc) front
+
+  front_push : (front : List Station) (s : Station) → IsTrue (front_stands front) → IsTrue (stands rows s.hop.inc) → IsTrue (front_stands (front ++ s ∷ []))
+  front_push front s before here =
+      list_all-append (λ t. stands rows t.hop.inc) front (s ∷ [])
+      ∙ and_pair (front_stands front) (front_stands (s ∷ [])) before (one (stands rows s.hop.inc) here)
+
+  provider_stands : (h : Hop) (k : StepKind) → h.step ≡ k → IsTrue (stands rows h.inc) → IsTrue (list_all (stands rows) (incs_of_provider (provider_of h)))
+  provider_stands h step.CapabilityHop e here = rw e (one (stands rows h.inc) here)
+  provider_stands h step.BuiltinHop e here = rw e refl
+  provider_stands h step.UseHop e here = rw e refl
+  provider_stands h step.OfferHop e here = rw e refl
+  provider_stands h step.ExposeHop e here = rw e refl
+  provider_stands h step.FrameworkHop e here = rw e refl
+
+  route_stands : (front : List Station) (s : Station) → IsTrue (front_stands front) → IsTrue (stands rows s.hop.inc) → IsTrue (walked_stands (walked.Given (route_of front s)))
+  route_stands front s before here =
+      list_all-append (stands rows) (map (λ h. h.inc) (map (λ t. t.hop) (front ++ s ∷ []))) (incs_of_provider (provider_of s.hop))
+      ∙ and_pair (list_all (stands rows) (map (λ h. h.inc) (map (λ t. t.hop) (front ++ s ∷ [])))) (list_all (stands rows) (incs_of_provider (provider_of s.hop)))
+      (list_all-map (stands rows) (λ h. h.inc) (map (λ t. t.hop) (front ++ s ∷ []))
+      ∙ list_all-map (λ h. stands rows h.inc) (λ t. t.hop) (front ++ s ∷ [])
+      ∙ front_push front s before here)
+      (provider_stands s.hop s.hop.step refl here)
+
+  said_stands : (front : List Station) (s : Station) (n : Next) → IsTrue (front_stands front) → IsTrue (stands rows s.hop.inc) → IsTrue (next_stands n) → IsTrue (decided_stands (said_by front s n))
+  said_stands front s (To t) before here behind = refl
+  said_stands front s Ends before here behind = route_stands front s before here
+  said_stands front s (Needs j) before here behind = one (stands rows j) behind
+  said_stands front s FromVoid before here behind = one (stands rows s.hop.inc) here
+  said_stands front s NoChild before here behind = one (stands rows s.hop.inc) here
+  said_stands front s (Misses hop reason) before here behind = one (stands rows hop.inc) behind
+
+  either_stands : (a b : Option Walked) → IsTrue (decided_stands a) → IsTrue (decided_stands b) → IsTrue (decided_stands (or_else a b))
+  either_stands None b first second = second
+  either_stands (Some v) b first second = first
+
+  unless_stands : (b : Bool) (hop : Hop) (reason : Why) → IsTrue (stands rows hop.inc) → IsTrue (decided_stands (cond b None (Some (walked.Failed hop reason))))
+  unless_stands true hop reason here = refl
+  unless_stands false hop reason here = one (stands rows hop.inc) here
+
+  fitting_stands : (hop : Hop) (x y : Option Availability) → IsTrue (stands rows hop.inc) → IsTrue (decided_stands (unless_fitting hop x y))
+  fitting_stands hop (Some asked) (Some given) here = unless_stands (fits asked given) hop _ here
+  fitting_stands hop (Some asked) None here = refl
+  fitting_stands hop None y here = refl
+
+  if_stands : (b : Bool) (o : Option Walked) → IsTrue (decided_stands o) → IsTrue (decided_stands (cond b o None))
+  if_stands true o here = here
+  if_stands false o here = refl
+
+  within_stands : (hop : Hop) (x y : Option RightSet) → IsTrue (stands rows hop.inc) → IsTrue (decided_stands (unless_within hop x y))
+  within_stands hop (Some asked) (Some stated) here = unless_stands (contains stated asked) hop _ here
+  within_stands hop (Some asked) None here = refl
+  within_stands hop None y here = refl
+
+  checked_stands : (front : List Station) (s : Station) (o : Option Walked) → IsTrue (stands rows s.hop.inc) → IsTrue (decided_stands o) → IsTrue (decided_stands (or_else (weak_availability front s) (or_else (weak_rights front s) o)))
+  checked_stands front s o here said =
+      either_stands (weak_availability front s) (or_else (weak_rights front s) o)
+      (if_stands (is_offer_or_expose s.hop.step) _ (fitting_stands s.hop (stated_before front) s.hop.availability here))
+      (either_stands (weak_rights front s) o (within_stands s.hop (asked_rights (front ++ s ∷ [])) s.hop.rights here) said)
+
+  trial_stands : (front : List Station) (s : Station) (n : Next) → IsTrue (front_stands front) → IsTrue (stands rows s.hop.inc) → IsTrue (next_stands n) → IsTrue (decided_stands (trial_by front s n))
+  trial_stands front s NoChild before here behind = one (stands rows s.hop.inc) here
+  trial_stands front s (To t) before here behind = checked_stands front s _ here (said_stands front s (To t) before here behind)
+  trial_stands front s Ends before here behind = checked_stands front s _ here (said_stands front s Ends before here behind)
+  trial_stands front s (Needs j) before here behind = checked_stands front s _ here (said_stands front s (Needs j) before here behind)
+  trial_stands front s FromVoid before here behind = checked_stands front s _ here (said_stands front s FromVoid before here behind)
+  trial_stands front s (Misses hop reason) before here behind =
+      checked_stands front s _ here (said_stands front s (Misses hop reason) before here behind)
+
+  verdict_stands : (builtins : List Builtin) (front : List Station) (s : Station) (rest : List Station) (v : Walked) → IsTrue (front_stands front) → IsTrue (stands rows s.hop.inc) → IsChain rows builtins s rest → IsDecided rows builtins front s rest v → IsTrue (walked_stands v)
+  verdict_stands builtins front s [] v before here chain decided =
+      sym (ap decided_stands decided)
+      ∙ trial_stands front s (next_of rows builtins s) before here (behind_stands builtins s s.source here)
+  verdict_stands builtins front s (t ∷ ts) v before here chain decided =
+      verdict_stands builtins (front ++ s ∷ []) t ts v (front_push front s before here)
+      (sym (ap next_stands chain.0) ∙ behind_stands builtins s s.source here) chain.1 decided.1
+
+  abbrev named_stands : Named → Bool
+  named_stands (First s) = stands rows s.hop.inc
+  named_stands NoUse = true
+  named_stands (NoneExposed hop) = stands rows hop.inc
+
+  from_stands : (builtins : List Builtin) (n : Named) (v : Walked) → IsTrue (named_stands n) → IsWalkedFrom rows builtins n v → IsTrue (walked_stands v)
+  from_stands builtins (First s) v here it = verdict_stands builtins [] s it.rest v refl here it.chain it.decided
+  from_stands builtins NoUse v here it = ap walked_stands it
+  from_stands builtins (NoneExposed hop) v here it = ap walked_stands it ∙ one (stands rows hop.inc) here
+
+  -- where a walk starts from
+  abbrev pub inc_of_start : Start → ℕ
+  inc_of_start (UseAt i path) = i
+  inc_of_start (ExposeAt i name) = i
+
+  use_stands : (i : ℕ) (path : List ℕ) (o : Option Usage) → IsTrue (stands rows i) → IsTrue (named_stands (elim o as (λ _. Named) [ None ↦ NoUse | Some u ↦ First (use_station rows i u) ]))
+  use_stands i path None here = refl
+  use_stands i path (Some u) here = here
+
+  exposing_stands : (i : ℕ) (name : List ℕ) (o : Option Give) → IsTrue (stands rows i) → IsTrue (named_stands (elim o as (λ _. Named) [ None ↦ NoneExposed (bare_hop rows step.ExposeHop i Protocol name) | Some g ↦ First (expose_station rows i g) ]))
+  exposing_stands i name None here = here
+  exposing_stands i name (Some g) here = here
+
+  start_stands : (begin : Start) → IsTrue (stands rows (inc_of_start begin)) → IsTrue (named_stands (named_by rows begin))
+  start_stands (UseAt i path) here =
+      use_stands i path (option_and_then (λ d. find (λ u. bytes_eq u.path path) d.uses) (decl_of rows i)) here
+  start_stands (ExposeAt i name) here =
+      exposing_stands i name (option_and_then (λ d. find (λ g. bytes_eq g.target_name name) d.exposes) (decl_of rows i)) here
+
+  -- a walk from a row that stands names such rows alone
+  pub walk_stands : (builtins : List Builtin) (begin : Start) (v : Walked) → IsTrue (stands rows (inc_of_start begin)) → IsWalked rows builtins begin v → IsTrue (walked_stands v)
+  walk_stands builtins begin v here it = from_stands builtins (named_by rows begin) v (start_stands begin here) it

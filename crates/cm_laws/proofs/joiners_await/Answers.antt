@@ -1,0 +1,5 @@
+use Rattle.cm_laws.proofs.actions.Beginners.{joiners_are_joined, others_leave_joins}
+use Rattle.cm_laws.proofs.joiners_await.Goals as goal
+
+pub returns : goal.returns
+returns c = record { joins = joiners_are_joined; stays = others_leave_joins }

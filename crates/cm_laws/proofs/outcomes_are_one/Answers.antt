@@ -1,0 +1,5 @@
+use Rattle.cm_laws.proofs.actions.Outcomes.{outcomes_are_one}
+use Rattle.cm_laws.proofs.outcomes_are_one.Goals as goal
+
+pub returns : goal.returns
+returns c = record { one = outcomes_are_one }

@@ -1,0 +1,5 @@
+use Rattle.cm_laws.proofs.actions.Beginners.{pickers_may_end}
+use Rattle.cm_laws.proofs.pickers_end.Goals as goal
+
+pub returns : goal.returns
+returns c = record { picks = pickers_may_end }

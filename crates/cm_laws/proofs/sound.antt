@@ -1,0 +1,9 @@
+pub mod Above
+pub mod Rows
+pub mod Changes
+pub mod Growth
+pub mod Purges
+pub mod Replies
+pub mod Marks
+pub mod Tasks
+pub mod Healthy

@@ -1,0 +1,37 @@
+-- All that holds of every legal history, in one.
+use Rattle.std.specs.Prelude.{ℕ, List}
+use Rattle.cm_world.specs.declared.frame.Frame.{Frame}
+use Rattle.cm_world.specs.declared.reply.Entry.{Entry}
+use Rattle.cm_world.specs.World.{start}
+use Rattle.cm_world.specs.Legal.{Legal, replay}
+use Rattle.cm_world.specs.Sound.{IsSound}
+use Rattle.cm_laws.specs.Lasting.{OfEachEntry, HasStableRoutes, HasOneOutcome}
+use Rattle.cm_laws.specs.Clients.{PicksClientsFirst}
+use Rattle.cm_laws.specs.Shutdowns.{MarksHold, DoneStaysShut, GoesOn}
+use Rattle.cm_laws.specs.Destroying.{IsDoomed, IsDestroyed, KeepsGone, LeavesGone}
+
+-- a legal history keeps these laws
+pub record KeepsLaws (f : Frame) (es : List Entry) : Type 0 where
+  -- each route that was opened is one in the tree of that very entry
+  pub routes : HasStableRoutes f es
+  -- each action begins once and ends at most once, and everyone gets the one outcome
+  pub outcomes : HasOneOutcome es
+  -- what is picked in a shutdown has its clients shut
+  pub clients : PicksClientsFirst f es
+  -- what is marked to be shut down or destroyed stays so
+  pub marks : MarksHold f es
+  -- what a pick found done stays shut
+  pub done : DoneStaysShut f es
+  -- a shutdown never comes to a dead end
+  pub goes_on : GoesOn f es
+  -- what is marked to be destroyed is destroyed, and what is destroyed stays gone
+  pub doomed : (i : ℕ) → IsDoomed es i → IsDestroyed f es i
+  pub destroyed : OfEachEntry (KeepsGone f) es
+  -- and in the tree that is left what was destroyed is gone
+  pub left : LeavesGone f es
+  -- the tree that is left is sound
+  pub sound : IsSound (replay (start f) es).rows (replay (start f) es).next_inc
+
+-- every legal history does
+abbrev pub HistoriesKeepLaws : Type 0
+HistoriesKeepLaws = (f : Frame) (es : List Entry) → Legal (start f) es → KeepsLaws f es

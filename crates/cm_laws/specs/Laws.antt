@@ -1,0 +1,47 @@
+-- Laws of begins: who may end what was begun, and who may await it.
+use Rattle.std.specs.Prelude.{◌≡◌, ℕ, List, [], filter, ◌==◌, IsTrue}
+use Rattle.std.specs.List.{list_any}
+use Rattle.cm_world.specs.declared.action.ActKind.{ActKind}
+use Rattle.cm_world.specs.declared.action.Finish.{Finish}
+use Rattle.cm_world.specs.declared.action.Work.{Work}
+use Rattle.cm_world.specs.declared.event.Event.TheVariants.{Begin}
+use Rattle.cm_world.specs.declared.reply.Reply.TheVariants as reply
+use Rattle.cm_world.specs.declared.reply.Entry.{Entry}
+use Rattle.cm_world.specs.World.{World}
+use Rattle.cm_world.specs.End.{fits_kind, HasValid}
+use Rattle.cm_world.specs.Step.{MayEnd, is_join}
+use Rattle.cm_world.specs.Legal.{Legal, replay}
+use Rattle.cm_laws.specs.Story.{Story, world_of, Tells}
+
+-- none of these entries is the caller's
+abbrev pub AreOthers : ℕ → List Entry → Type 0
+AreOthers caller es = filter (λ e. e.caller == caller) es ≡ []
+
+-- the caller has joined the action and hasn't awaited it since
+abbrev pub IsJoined : World → ℕ → ℕ → Type 0
+IsJoined w caller a = IsTrue (list_any (is_join caller a) w.joins)
+
+-- who began an action may end it then by any end that fits it
+abbrev pub BeginnersMayEnd : Type 0
+BeginnersMayEnd =
+    (old new : Story) (caller i : ℕ) (kind : ActKind) (work : Work) (finish : Finish)
+    → Tells old new caller (Begin kind i) (reply.Begun work) → IsTrue (fits_kind kind finish)
+    → HasValid finish → MayEnd (world_of new).acts caller work.action finish
+
+-- who joined an action is joined then
+abbrev pub JoinersAreJoined : Type 0
+JoinersAreJoined =
+    (old new : Story) (caller i a : ℕ) (kind : ActKind) → Tells old new caller (Begin kind i) (reply.Joined a)
+    → IsJoined (world_of new) caller a
+
+-- and neither is changed by what others do
+abbrev pub OthersLeaveEnds : Type 0
+OthersLeaveEnds =
+    (w : World) (es : List Entry) (caller a : ℕ) (finish : Finish) → Legal w es → AreOthers caller es
+    → MayEnd w.acts caller a finish → MayEnd (replay w es).acts caller a finish
+
+-- what other callers do leaves the join of this one
+abbrev pub OthersLeaveJoins : Type 0
+OthersLeaveJoins =
+    (w : World) (es : List Entry) (caller a : ℕ) → AreOthers caller es → IsJoined w caller a
+    → IsJoined (replay w es) caller a

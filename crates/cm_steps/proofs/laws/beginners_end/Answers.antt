@@ -1,5 +1,0 @@
-use Rattle.cm_steps.proofs.Beginners.{beginners_may_end, others_leave_ends}
-use Rattle.cm_steps.proofs.laws.beginners_end.Goals as goal
-
-pub returns : goal.returns
-returns c = record { begins = beginners_may_end; stays = others_leave_ends }

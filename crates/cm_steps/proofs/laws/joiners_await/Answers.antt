@@ -1,5 +1,0 @@
-use Rattle.cm_steps.proofs.Beginners.{joiners_are_joined, others_leave_joins}
-use Rattle.cm_steps.proofs.laws.joiners_await.Goals as goal
-
-pub returns : goal.returns
-returns c = record { joins = joiners_are_joined; stays = others_leave_joins }

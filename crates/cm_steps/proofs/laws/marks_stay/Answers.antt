@@ -1,5 +1,0 @@
-use Rattle.cm_steps.proofs.MarksLast.{marks_mark, marks_stay, marked_may_close}
-use Rattle.cm_steps.proofs.laws.marks_stay.Goals as goal
-
-pub returns : goal.returns
-returns c = record { marks = marks_mark; stays = marks_stay; closes = marked_may_close }

@@ -1,5 +1,0 @@
-use Rattle.cm_steps.proofs.Stable.{routes_are_stable}
-use Rattle.cm_steps.proofs.laws.routes_are_stable.Goals as goal
-
-pub returns : goal.returns
-returns c = record { stable = routes_are_stable }

@@ -1,5 +1,0 @@
-use Rattle.cm_steps.proofs.Destroying.{marked_are_destroyed, destroyed_stay_gone}
-use Rattle.cm_steps.proofs.laws.the_destroyed_stay_gone.Goals as goal
-
-pub returns : goal.returns
-returns c = record { marked = marked_are_destroyed; gone = destroyed_stay_gone }
