@@ -12,6 +12,7 @@ pub mod Machine
 pub mod MonikerCounts
 pub mod NameCounts
 pub mod NumberCounts
+pub mod OneScript
 pub mod PathCounts
 pub mod Pieces
 pub mod RightCounts

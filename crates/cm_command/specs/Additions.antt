@@ -6,7 +6,8 @@ use Rattle.cm_names.specs.Rights.{RightSet}
 use Rattle.cm_decl.specs.declared.kind.Kind.{Kind}
 use Rattle.cm_decl.specs.declared.kind.Kind.TheVariants.{Directory}
 use Rattle.cm_command.specs.declared.addition.Addition.{Addition}
-use Rattle.cm_command.specs.declared.addition.Addition.TheVariants.{Target, Rights, Subdir, Weak, Optional, Group}
+use Rattle.cm_command.specs.declared.addition.Addition.TheVariants.{Target, Rights, Subdir, Weak, Optional}
+use Rattle.cm_command.specs.declared.addition.Addition.TheVariants.{Group}
 use Rattle.cm_command.specs.Words.{IsRightsText}
 
 -- `as=` and the name

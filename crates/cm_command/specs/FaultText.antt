@@ -1,7 +1,9 @@
 -- How the faults of scripts are written.
 use Rattle.std.specs.Prelude.{ℕ, List, ◌++◌, codes, decimal}
 use Rattle.cm_command.specs.declared.fault.ScriptNumber.{ScriptNumber}
-use Rattle.cm_command.specs.declared.fault.ScriptNumber.TheVariants.{BadCommand, BadLane, NoRoot, UnclosedManifest, TooManyLanes, LineTooLong, TooLarge}
+use Rattle.cm_command.specs.declared.fault.ScriptNumber.TheVariants.{BadCommand, BadLane, NoRoot}
+use Rattle.cm_command.specs.declared.fault.ScriptNumber.TheVariants.{UnclosedManifest, TooManyLanes}
+use Rattle.cm_command.specs.declared.fault.ScriptNumber.TheVariants.{LineTooLong, TooLarge}
 use Rattle.cm_command.specs.declared.fault.ScriptFault.{ScriptFault}
 use Rattle.cm_command.specs.declared.fault.ScriptFault.TheVariants.{Bad, Memory}
 
@@ -33,5 +35,6 @@ position_text _ at = codes ""
 -- `line L: NUMBER WORD`, and ` at POSITION`
 abbrev pub fault_text : ScriptFault → List ℕ
 fault_text (Bad line number at) =
-    codes "line " ++ decimal line ++ codes ": " ++ decimal (number_of number) ++ codes " " ++ fault_word number ++ position_text number at
+    codes "line " ++ decimal line ++ codes ": " ++ decimal (number_of number) ++ codes " "
+    ++ fault_word number ++ position_text number at
 fault_text Memory = codes "out of memory"

@@ -25,14 +25,25 @@ Text = List ℕ
 
 -- what a group gives that has no word behind its origin: all else is the default
 abbrev pub plain_give : Kind → Text → Origin → Give
-plain_give kind name origin =
-    record { kind = kind; source_name = name; from = origin; target_name = name; rights = None; subdir = None; dependency = dependency.Strong; availability = availability.Required }
+plain_give kind name origin = record {
+  kind = kind;
+  source_name = name;
+  from = origin;
+  target_name = name;
+  rights = None;
+  subdir = None;
+  dependency = dependency.Strong;
+  availability = availability.Required;
+}
 
 -- the word, which is the n-th in the order of what a group may add, makes the first give the second
 pub data Adds : ℕ → Text → Give → Give → Type 0 where
-  target : {name : Text} {g : Give} → IsName name → Adds 0 (codes "as=" ++ name) g (record g { target_name = name })
-  rights : {w : Text} {r : RightSet} {g : Give} → g.kind ≡ kind.Directory → IsRightsText w r → Adds 1 (codes "rights=" ++ w) g (record g { rights = Some r })
-  subdir : {w : Text} {g : Give} → g.kind ≡ kind.Directory → IsTrue (is_subdir w) → Adds 2 (codes "subdir=" ++ w) g (record g { subdir = Some w })
+  target : {name : Text} {g : Give} → IsName name
+      → Adds 0 (codes "as=" ++ name) g (record g { target_name = name })
+  rights : {w : Text} {r : RightSet} {g : Give} → g.kind ≡ kind.Directory → IsRightsText w r
+      → Adds 1 (codes "rights=" ++ w) g (record g { rights = Some r })
+  subdir : {w : Text} {g : Give} → g.kind ≡ kind.Directory → IsTrue (is_subdir w)
+      → Adds 2 (codes "subdir=" ++ w) g (record g { subdir = Some w })
   weak : {g : Give} → Adds 3 (codes "weak") g (record g { dependency = dependency.Weak })
   optional : {g : Give} → Adds 4 (codes "optional") g (record g { availability = availability.Optional })
 
@@ -40,29 +51,45 @@ mutual
   -- groups, each of which begins with the word `+`
   pub data Groups : List Text → List Give → Type 0 where
     no_group : Groups [] []
-    group : {k : Kind} {name from : Text} {origin : Origin} {ws : List Text} {gs : List Give} → IsName name → IsOriginText from origin → Behind 0 (plain_give k name origin) ws gs → Groups (codes "+" ∷ kind_word k ∷ name ∷ from ∷ ws) gs
+    group : {k : Kind} {name from : Text} {origin : Origin} {ws : List Text} {gs : List Give} → IsName name
+        → IsOriginText from origin → Behind 0 (plain_give k name origin) ws gs
+        → Groups (codes "+" ∷ kind_word k ∷ name ∷ from ∷ ws) gs
 
-  -- what stands behind a group's origin: additions from the n-th on, each once at most and in their order, and further groups
+  -- what stands behind a group's origin: additions from the n-th on, each once at most and in
+  -- their order, and further groups
   pub data Behind : ℕ → Give → List Text → List Give → Type 0 where
     whole : {n : ℕ} {g : Give} {ws : List Text} {gs : List Give} → Groups ws gs → Behind n g ws (g ∷ gs)
-    addition : {n m : ℕ} {g h : Give} {w : Text} {ws : List Text} {gs : List Give} → n ≤ m → Adds m w g h → Behind (m + 1) h ws gs → Behind n g (w ∷ ws) gs
+    addition : {n m : ℕ} {g h : Give} {w : Text} {ws : List Text} {gs : List Give} → n ≤ m → Adds m w g h
+        → Behind (m + 1) h ws gs → Behind n g (w ∷ ws) gs
 
 -- the commands, each with its words
 pub data CommandWords : List Text → Command → Type 0 where
-  resolve : {t : Text} {a : Target} → IsTargetText t a → CommandWords (codes "resolve" ∷ t ∷ []) (command.Resolve a)
+  resolve : {t : Text} {a : Target} → IsTargetText t a
+      → CommandWords (codes "resolve" ∷ t ∷ []) (command.Resolve a)
   start : {t : Text} {a : Target} → IsTargetText t a → CommandWords (codes "start" ∷ t ∷ []) (command.Start a)
   stop : {t : Text} {a : Target} → IsTargetText t a → CommandWords (codes "stop" ∷ t ∷ []) (command.Stop a)
-  shutdown : {t : Text} {a : Target} → IsTargetText t a → CommandWords (codes "shutdown" ∷ t ∷ []) (command.Shutdown a)
-  create : {t coll name url : Text} {a : Target} {ws : List Text} {gives : List Give} → IsTargetText t a → IsName coll → IsName name → IsUrlText url → Groups ws gives → CommandWords (codes "create" ∷ t ∷ coll ∷ name ∷ url ∷ ws) (command.Create a coll name url gives)
-  destroy : {t : Text} {a : Target} → IsTargetText t a → CommandWords (codes "destroy" ∷ t ∷ []) (command.Destroy a)
-  list : {t coll : Text} {a : Target} → IsTargetText t a → IsName coll → CommandWords (codes "list" ∷ t ∷ coll ∷ []) (command.ListChildren a coll)
-  open_use : {t path : Text} {a : Target} → IsTargetText t a → IsTrue (is_path path) → CommandWords (codes "open" ∷ t ∷ path ∷ []) (command.OpenUse a path)
-  open_exposed : {t name : Text} {a : Target} → IsTargetText t a → IsName name → CommandWords (codes "open-exposed" ∷ t ∷ name ∷ []) (command.OpenExposed a name)
-  route_of : {t path : Text} {a : Target} → IsTargetText t a → IsTrue (is_path path) → CommandWords (codes "route" ∷ t ∷ path ∷ []) (command.RouteOf a path)
-  doctor : {t : Text} {a : Target} → IsTargetText t a → CommandWords (codes "doctor" ∷ t ∷ []) (command.Doctor a)
+  shutdown : {t : Text} {a : Target} → IsTargetText t a
+      → CommandWords (codes "shutdown" ∷ t ∷ []) (command.Shutdown a)
+  create : {t coll name url : Text} {a : Target} {ws : List Text} {gives : List Give} → IsTargetText t a
+      → IsName coll → IsName name → IsUrlText url → Groups ws gives
+      → CommandWords (codes "create" ∷ t ∷ coll ∷ name ∷ url ∷ ws) (command.Create a coll name url gives)
+  destroy : {t : Text} {a : Target} → IsTargetText t a
+      → CommandWords (codes "destroy" ∷ t ∷ []) (command.Destroy a)
+  list : {t coll : Text} {a : Target} → IsTargetText t a → IsName coll
+      → CommandWords (codes "list" ∷ t ∷ coll ∷ []) (command.ListChildren a coll)
+  open_use : {t path : Text} {a : Target} → IsTargetText t a → IsTrue (is_path path)
+      → CommandWords (codes "open" ∷ t ∷ path ∷ []) (command.OpenUse a path)
+  open_exposed : {t name : Text} {a : Target} → IsTargetText t a → IsName name
+      → CommandWords (codes "open-exposed" ∷ t ∷ name ∷ []) (command.OpenExposed a name)
+  route_of : {t path : Text} {a : Target} → IsTargetText t a → IsTrue (is_path path)
+      → CommandWords (codes "route" ∷ t ∷ path ∷ []) (command.RouteOf a path)
+  doctor : {t : Text} {a : Target} → IsTargetText t a
+      → CommandWords (codes "doctor" ∷ t ∷ []) (command.Doctor a)
   show : {t : Text} {a : Target} → IsTargetText t a → CommandWords (codes "show" ∷ t ∷ []) (command.Show a)
-  survey : {t : Text} {a : Target} → IsTargetText t a → CommandWords (codes "survey" ∷ t ∷ []) (command.Survey a)
-  exited : {t : Text} {a : Target} → IsTargetText t a → CommandWords (codes "exited" ∷ t ∷ []) (command.Exited a)
+  survey : {t : Text} {a : Target} → IsTargetText t a
+      → CommandWords (codes "survey" ∷ t ∷ []) (command.Survey a)
+  exited : {t : Text} {a : Target} → IsTargetText t a
+      → CommandWords (codes "exited" ∷ t ∷ []) (command.Exited a)
 
 -- the line asks for that command
 abbrev pub CommandText : Text → Command → Type 0
@@ -79,8 +106,12 @@ IsCommandFault t Memory = ⊥
 
 -- the words behind `builtin`; a protocol's path is `/svc/` and its name
 pub data BuiltinWords : List Text → Builtin → Type 0 where
-  protocol : {name : Text} → IsName name → BuiltinWords (codes "protocol" ∷ name ∷ []) (record { kind = kind.Protocol; name = name; path = service_path name; rights = None })
-  directory : {name path w : Text} {r : RightSet} → IsName name → IsTrue (is_path path) → IsRightsText w r → BuiltinWords (codes "directory" ∷ name ∷ path ∷ w ∷ []) (record { kind = kind.Directory; name = name; path = path; rights = Some r })
+  protocol : {name : Text} → IsName name
+      → BuiltinWords (codes "protocol" ∷ name ∷ [])
+      (record { kind = kind.Protocol; name = name; path = service_path name; rights = None })
+  directory : {name path w : Text} {r : RightSet} → IsName name → IsTrue (is_path path) → IsRightsText w r
+      → BuiltinWords (codes "directory" ∷ name ∷ path ∷ w ∷ [])
+      (record { kind = kind.Directory; name = name; path = path; rights = Some r })
 
 -- what stands behind `builtin ` says that there is that capability
 abbrev pub BuiltinText : Text → Builtin → Type 0

@@ -8,4 +8,5 @@ pub mod Pieces
 pub mod Written
 pub mod FaultText
 pub mod Scripts
+pub mod Laws
 pub mod Places

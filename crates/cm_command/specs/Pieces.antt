@@ -7,7 +7,8 @@ abbrev pub pieces : ℕ → List ℕ → List (List ℕ)
 pieces k t = slice_split (λ b. b == k) t
 
 -- the pieces lead from the place to one where the text may end and says v
-abbrev pub Leads : {S V : Type 0} → (S → List ℕ → S → Type 0) → (S → V → Type 0) → S → List (List ℕ) → V → Type 0
+abbrev pub Leads : {S V : Type 0} → (S → List ℕ → S → Type 0) → (S → V → Type 0) → S → List (List ℕ) → V
+    → Type 0
 Leads {S} {V} steps ends s [] v = ends s v
 Leads {S} {V} steps ends s (w ∷ ws) v = (a : S) × steps s w a × Leads steps ends a ws v
 

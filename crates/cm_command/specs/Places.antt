@@ -1,5 +1,6 @@
 -- Where a line stands behind some of its words: which word leads on, and to what.
-use Rattle.std.specs.Prelude.{◌≡◌, ◌⊎◌, ℕ, ◌+◌, ◌-◌, ◌≤◌, ◌^◌, List, [], ◌∷◌, ◌++◌, codes, Some, None, Result, MatchResult, IsTrue}
+use Rattle.std.specs.Prelude.{◌≡◌, ◌⊎◌, ℕ, ◌+◌, ◌-◌, ◌≤◌, ◌^◌, List, [], ◌∷◌, ◌++◌, codes, Some, None, Result}
+use Rattle.std.specs.Prelude.{MatchResult, IsTrue}
 use Rattle.cm_names.specs.Name.{IsName}
 use Rattle.cm_names.specs.Path.{is_path, service_path}
 use Rattle.cm_names.specs.Rights.{RightSet}
@@ -48,7 +49,8 @@ verb_word verb.Exited = codes "exited"
 -- all verbs
 abbrev pub verbs : List Verb
 verbs =
-    verb.Resolve ∷ verb.Start ∷ verb.Stop ∷ verb.Shutdown ∷ verb.Create ∷ verb.Destroy ∷ verb.List ∷ verb.Open ∷ verb.OpenExposed ∷ verb.Route ∷ verb.Doctor ∷ verb.Show ∷ verb.Survey ∷ verb.Exited ∷ []
+    verb.Resolve ∷ verb.Start ∷ verb.Stop ∷ verb.Shutdown ∷ verb.Create ∷ verb.Destroy ∷ verb.List ∷ verb.Open
+    ∷ verb.OpenExposed ∷ verb.Route ∷ verb.Doctor ∷ verb.Show ∷ verb.Survey ∷ verb.Exited ∷ []
 
 -- the word of some verb
 abbrev pub IsVerbWord : Text → Type 0
@@ -125,7 +127,8 @@ Steps (place.GroupKind c) w p = (k : Kind) × (w ≡ kind_word k) × (p ≡ plac
 Steps (place.GroupName c k) w p = IsName w × (p ≡ place.GroupFrom c k w)
 Steps (place.GroupFrom c k name) w p = (o : Origin) × IsOriginText w o × (p ≡ give c k name o)
 Steps (place.Additions c g n) w p =
-    ((w ≡ codes "+") × (p ≡ place.GroupKind (with_give c g))) ⊎ ((m : ℕ) × (h : Give) × (n ≤ m) × Adds m w g h × (p ≡ place.Additions c h (m + 1)))
+    ((w ≡ codes "+") × (p ≡ place.GroupKind (with_give c g)))
+    ⊎ ((m : ℕ) × (h : Give) × (n ≤ m) × Adds m w g h × (p ≡ place.Additions c h (m + 1)))
 Steps place.BuiltinKind w p = (k : Kind) × (w ≡ kind_word k) × (p ≡ place.BuiltinName k)
 Steps (place.BuiltinName k) w p = IsName w × (p ≡ behind_builtin k w)
 Steps (place.BuiltinPath name) w p = IsTrue (is_path w) × (p ≡ place.BuiltinRights name w)

@@ -1,5 +1,6 @@
 -- The lines of a script, the script that they are, and its first fault.
-use Rattle.std.specs.Prelude.{◌≡◌, ℕ, ◌+◌, ◌<◌, ◌≤◌, min, List, [], ◌∷◌, ◌++◌, length, codes, Bool, true, false, ◌==◌, cond, IsTrue, IsFalse, Contains, Some, None}
+use Rattle.std.specs.Prelude.{◌≡◌, ℕ, ◌+◌, ◌<◌, ◌≤◌, min, List, [], ◌∷◌, ◌++◌, length, codes, Bool, true}
+use Rattle.std.specs.Prelude.{false, ◌==◌, cond, IsTrue, IsFalse, Contains, Some, None}
 use Rattle.cm_names.specs.Fronts.{IsLongestFront}
 use Rattle.cm_world.specs.declared.frame.Builtin.{Builtin}
 use Rattle.cm_command.specs.declared.fault.ScriptNumber.{ScriptNumber}
@@ -22,7 +23,8 @@ abbrev pub in_front : ℕ → List Text → List Text
 in_front byte [] = (byte ∷ []) ∷ []
 in_front byte (line ∷ lines) = (byte ∷ line) ∷ lines
 
--- the lines of bytes: each 0x0A ends a line, and what is left behind the last counts as a line where it isn't empty
+-- the lines of bytes: each 0x0A ends a line, and what is left behind the last counts as a line
+-- where it isn't empty
 abbrev pub lines_of : Text → List Text
 lines_of [] = []
 lines_of (byte ∷ bytes) = cond (byte == 10) ([] ∷ lines_of bytes) (in_front byte (lines_of bytes))
@@ -67,34 +69,60 @@ pub record IsNoLane (t : Text) : Type 0 where
 
 -- an earlier builtin has the kind and the name
 abbrev pub IsRepeated : List Builtin → Builtin → Type 0
-IsRepeated earlier b = (other : Builtin) × Contains earlier other × (other.kind ≡ b.kind) × (other.name ≡ b.name)
+IsRepeated earlier b =
+    (other : Builtin) × Contains earlier other × (other.kind ≡ b.kind) × (other.name ≡ b.name)
 
 -- the n-th line, which makes the first draft the second
 pub data Takes (n : ℕ) : Text → Draft → Draft → Type 0 where
-  closes : {d : Draft} {b : Block} → d.block ≡ Some b → Takes n (codes "%%") d (record d { manifests = d.manifests ++ b ∷ []; block = None })
-  inner : {d : Draft} {b : Block} {t : Text} → d.block ≡ Some b → (t ≡ codes "%%" → ⊥) → Takes n t d (record d { block = Some (record b { bytes = b.bytes ++ (t ++ codes "\n") }) })
+  closes : {d : Draft} {b : Block} → d.block ≡ Some b
+      → Takes n (codes "%%") d (record d { manifests = d.manifests ++ b ∷ []; block = None })
+  inner : {d : Draft} {b : Block} {t : Text} → d.block ≡ Some b → (t ≡ codes "%%" → ⊥)
+      → Takes n t d (record d { block = Some (record b { bytes = b.bytes ++ (t ++ codes "\n") }) })
   blank : {d : Draft} {t : Text} → d.block ≡ None → IsTrue (is_blank t) → Takes n t d d
-  opens : {d : Draft} {url : Text} → d.block ≡ None → IsFalse d.begun → IsUrlText url → Takes n (codes "manifest " ++ url) d (record d { block = Some (record { line = n; url = url; bytes = [] }) })
-  builtin : {d : Draft} {t : Text} {b : Builtin} → d.block ≡ None → IsFalse d.begun → BuiltinText t b → (IsRepeated d.builtins b → ⊥) → Takes n (codes "builtin " ++ t) d (record d { builtins = d.builtins ++ b ∷ [] })
-  root : {d : Draft} {url : Text} → d.block ≡ None → IsFalse d.begun → d.root ≡ None → IsUrlText url → Takes n (codes "root " ++ url) d (record d { root = Some url })
-  sync : {d : Draft} {r : Text} → d.block ≡ None → d.root ≡ Some r → Takes n (codes "sync") d (record d { phases = d.phases ++ d.phase ∷ []; phase = []; begun = true })
-  command : {d : Draft} {r t rest : Text} {lane : ℕ} {c : _} → d.block ≡ None → d.root ≡ Some r → IsLane t lane rest → lane ≤ 15 → CommandText rest c → Takes n t d (record d { phase = d.phase ++ record { line = n; lane = lane; command = c } ∷ []; begun = true })
+  opens : {d : Draft} {url : Text} → d.block ≡ None → IsFalse d.begun → IsUrlText url
+      → Takes n (codes "manifest " ++ url) d
+      (record d { block = Some (record { line = n; url = url; bytes = [] }) })
+  builtin : {d : Draft} {t : Text} {b : Builtin} → d.block ≡ None → IsFalse d.begun → BuiltinText t b
+      → (IsRepeated d.builtins b → ⊥)
+      → Takes n (codes "builtin " ++ t) d (record d { builtins = d.builtins ++ b ∷ [] })
+  root : {d : Draft} {url : Text} → d.block ≡ None → IsFalse d.begun → d.root ≡ None → IsUrlText url
+      → Takes n (codes "root " ++ url) d (record d { root = Some url })
+  sync : {d : Draft} {r : Text} → d.block ≡ None → d.root ≡ Some r
+      → Takes n (codes "sync") d (record d { phases = d.phases ++ d.phase ∷ []; phase = []; begun = true })
+  command : {d : Draft} {r t rest : Text} {lane : ℕ} {c : _} → d.block ≡ None → d.root ≡ Some r
+      → IsLane t lane rest → lane ≤ 15 → CommandText rest c
+      → Takes n t d (record d {
+        phase = d.phase ++ record { line = n; lane = lane; command = c } ∷ [];
+        begun = true;
+      })
 
 -- the fault of a line of a script that is read so far, and its position
 pub data LineFault (d : Draft) : Text → ScriptNumber → ℕ → Type 0 where
-  late_manifest : {t : Text} → d.block ≡ None → IsTrue d.begun → BeginsWith t (codes "manifest ") → LineFault d t fault.BadCommand 0
-  late_builtin : {t : Text} → d.block ≡ None → IsTrue d.begun → BeginsWith t (codes "builtin ") → LineFault d t fault.BadCommand 0
-  late_root : {t : Text} → d.block ≡ None → IsTrue d.begun → BeginsWith t (codes "root ") → LineFault d t fault.BadCommand 0
-  second_root : {t r : Text} → d.block ≡ None → d.root ≡ Some r → BeginsWith t (codes "root ") → LineFault d t fault.BadCommand 0
-  bad_manifest : {t : Text} {at : ℕ} → d.block ≡ None → IsFalse d.begun → (IsUrlText t → ⊥) → IsLongestFront IsUrlText t at → LineFault d (codes "manifest " ++ t) fault.BadCommand (9 + at)
-  bad_builtin : {t : Text} {at : ℕ} → d.block ≡ None → IsFalse d.begun → (IsBuiltinText t → ⊥) → IsLongestFront IsBuiltinText t at → LineFault d (codes "builtin " ++ t) fault.BadCommand (8 + at)
-  bad_root : {t : Text} {at : ℕ} → d.block ≡ None → IsFalse d.begun → d.root ≡ None → (IsUrlText t → ⊥) → IsLongestFront IsUrlText t at → LineFault d (codes "root " ++ t) fault.BadCommand (5 + at)
-  repeated : {t : Text} {b : Builtin} → d.block ≡ None → IsFalse d.begun → BuiltinText t b → IsRepeated d.builtins b → LineFault d (codes "builtin " ++ t) fault.BadCommand 0
+  late_manifest : {t : Text} → d.block ≡ None → IsTrue d.begun → BeginsWith t (codes "manifest ")
+      → LineFault d t fault.BadCommand 0
+  late_builtin : {t : Text} → d.block ≡ None → IsTrue d.begun → BeginsWith t (codes "builtin ")
+      → LineFault d t fault.BadCommand 0
+  late_root : {t : Text} → d.block ≡ None → IsTrue d.begun → BeginsWith t (codes "root ")
+      → LineFault d t fault.BadCommand 0
+  second_root : {t r : Text} → d.block ≡ None → d.root ≡ Some r → BeginsWith t (codes "root ")
+      → LineFault d t fault.BadCommand 0
+  bad_manifest : {t : Text} {at : ℕ} → d.block ≡ None → IsFalse d.begun → (IsUrlText t → ⊥)
+      → IsLongestFront IsUrlText t at → LineFault d (codes "manifest " ++ t) fault.BadCommand (9 + at)
+  bad_builtin : {t : Text} {at : ℕ} → d.block ≡ None → IsFalse d.begun → (IsBuiltinText t → ⊥)
+      → IsLongestFront IsBuiltinText t at → LineFault d (codes "builtin " ++ t) fault.BadCommand (8 + at)
+  bad_root : {t : Text} {at : ℕ} → d.block ≡ None → IsFalse d.begun → d.root ≡ None → (IsUrlText t → ⊥)
+      → IsLongestFront IsUrlText t at → LineFault d (codes "root " ++ t) fault.BadCommand (5 + at)
+  repeated : {t : Text} {b : Builtin} → d.block ≡ None → IsFalse d.begun → BuiltinText t b
+      → IsRepeated d.builtins b → LineFault d (codes "builtin " ++ t) fault.BadCommand 0
   early_sync : d.block ≡ None → d.root ≡ None → LineFault d (codes "sync") fault.NoRoot 0
   bad_lane : {t : Text} → d.block ≡ None → IsNoLane t → LineFault d t fault.BadLane 0
-  too_many : {t rest : Text} {lane : ℕ} → d.block ≡ None → IsLane t lane rest → 15 < lane → LineFault d t fault.TooManyLanes 0
-  no_root : {t rest : Text} {lane : ℕ} → d.block ≡ None → IsLane t lane rest → lane ≤ 15 → d.root ≡ None → LineFault d t fault.NoRoot 0
-  bad_command : {t rest r : Text} {lane at : ℕ} (way : IsLane t lane rest) → d.block ≡ None → lane ≤ 15 → d.root ≡ Some r → (IsCommandText rest → ⊥) → IsLongestFront IsCommandText rest at → LineFault d t fault.BadCommand (length way.digits + 1 + at)
+  too_many : {t rest : Text} {lane : ℕ} → d.block ≡ None → IsLane t lane rest → 15 < lane
+      → LineFault d t fault.TooManyLanes 0
+  no_root : {t rest : Text} {lane : ℕ} → d.block ≡ None → IsLane t lane rest → lane ≤ 15 → d.root ≡ None
+      → LineFault d t fault.NoRoot 0
+  bad_command : {t rest r : Text} {lane at : ℕ} (way : IsLane t lane rest) → d.block ≡ None → lane ≤ 15
+      → d.root ≡ Some r → (IsCommandText rest → ⊥) → IsLongestFront IsCommandText rest at
+      → LineFault d t fault.BadCommand (length way.digits + 1 + at)
 
 -- the fault of a line, as it is answered
 abbrev pub IsLineFault : Draft → Text → Refused → Type 0
@@ -113,8 +141,10 @@ pub record IsOther (t : Text) : Type 0 where
 
 -- a line of an open block
 pub data TakesInside : Text → Block → Draft → Draft → Type 0 where
-  ends_block : {b : Block} {d : Draft} → TakesInside (codes "%%") b d (record d { manifests = d.manifests ++ b ∷ [] })
-  adds_line : {t : Text} {b : Block} {d : Draft} → (t ≡ codes "%%" → ⊥) → TakesInside t b d (record d { block = Some (record b { bytes = b.bytes ++ (t ++ codes "\n") }) })
+  ends_block : {b : Block} {d : Draft}
+      → TakesInside (codes "%%") b d (record d { manifests = d.manifests ++ b ∷ [] })
+  adds_line : {t : Text} {b : Block} {d : Draft} → (t ≡ codes "%%" → ⊥)
+      → TakesInside t b d (record d { block = Some (record b { bytes = b.bytes ++ (t ++ codes "\n") }) })
 
 -- the line begins with that lane, which is given as 16 where it is larger
 pub record StartsLane (t : Text) (digits lane : ℕ) (rest : Text) : Type 0 where
@@ -136,14 +166,23 @@ place_of command_fault.Memory = 0
 -- the fault of a URL that stands behind so many bytes
 abbrev pub IsUrlFault : ℕ → Text → Refused → Type 0
 IsUrlFault len t (refused.Bad number at) =
-    (IsUrlText t → ⊥) × (number ≡ fault.BadCommand) × ((n : ℕ) × (at ≡ len + n) × IsLongestFront IsUrlText t n)
+    (IsUrlText t → ⊥) × (number ≡ fault.BadCommand)
+    × ((n : ℕ) × (at ≡ len + n) × IsLongestFront IsUrlText t n)
 IsUrlFault len t refused.Memory = Unit {0}
 
 -- ---- all lines
 
 -- the draft of no line
 abbrev pub no_draft : Draft
-no_draft = record { manifests = []; builtins = []; root = None; phases = []; phase = []; begun = false; block = None }
+no_draft = record {
+  manifests = [];
+  builtins = [];
+  root = None;
+  phases = [];
+  phase = [];
+  begun = false;
+  block = None;
+}
 
 -- where the line ends that begins at a place of so many bytes; the last line may have no line feed
 abbrev pub end_of : ℕ → ℕ → Text → ℕ
@@ -163,16 +202,24 @@ ExceedsLimit len end _ = ⊥
 -- the lines, of which the first is the n-th and begins at that place, make the first draft the second
 pub data Reads (size : ℕ) : ℕ → ℕ → Draft → List Text → Draft → Type 0 where
   no_more : {place n : ℕ} {d : Draft} → Reads size place n d [] d
-  one_more : {place n : ℕ} {t : Text} {ts : List Text} {d e f : Draft} → Fits size place t → Takes n t d e → Reads size (end_of size place t) (n + 1) e ts f → Reads size place n d (t ∷ ts) f
+  one_more : {place n : ℕ} {t : Text} {ts : List Text} {d e f : Draft} → Fits size place t → Takes n t d e
+      → Reads size (end_of size place t) (n + 1) e ts f → Reads size place n d (t ∷ ts) f
 
 -- the first fault of the lines: its line's number, what it is, and its position
 pub data Faults (size : ℕ) : ℕ → ℕ → Draft → List Text → ℕ → ScriptNumber → ℕ → Type 0 where
-  too_long : {place n : ℕ} {d : Draft} {t : Text} {ts : List Text} → line_limit < length t → Faults size place n d (t ∷ ts) n fault.LineTooLong 0
-  too_large : {place n : ℕ} {d : Draft} {t : Text} {ts : List Text} → length t ≤ line_limit → script_limit < end_of size place t → Faults size place n d (t ∷ ts) n fault.TooLarge 0
-  here : {place n at : ℕ} {d : Draft} {t : Text} {ts : List Text} {number : ScriptNumber} → Fits size place t → LineFault d t number at → Faults size place n d (t ∷ ts) n number at
-  later : {place n m at : ℕ} {d e : Draft} {t : Text} {ts : List Text} {number : ScriptNumber} → Fits size place t → Takes n t d e → Faults size (end_of size place t) (n + 1) e ts m number at → Faults size place n d (t ∷ ts) m number at
-  unclosed : {place n : ℕ} {d : Draft} {b : Block} → d.block ≡ Some b → Faults size place n d [] b.line fault.UnclosedManifest 0
-  rootless : {place n : ℕ} {d : Draft} → d.block ≡ None → d.root ≡ None → Faults size place n d [] n fault.NoRoot 0
+  too_long : {place n : ℕ} {d : Draft} {t : Text} {ts : List Text} → line_limit < length t
+      → Faults size place n d (t ∷ ts) n fault.LineTooLong 0
+  too_large : {place n : ℕ} {d : Draft} {t : Text} {ts : List Text} → length t ≤ line_limit
+      → script_limit < end_of size place t → Faults size place n d (t ∷ ts) n fault.TooLarge 0
+  here : {place n at : ℕ} {d : Draft} {t : Text} {ts : List Text} {number : ScriptNumber} → Fits size place t
+      → LineFault d t number at → Faults size place n d (t ∷ ts) n number at
+  later : {place n m at : ℕ} {d e : Draft} {t : Text} {ts : List Text} {number : ScriptNumber}
+      → Fits size place t → Takes n t d e → Faults size (end_of size place t) (n + 1) e ts m number at
+      → Faults size place n d (t ∷ ts) m number at
+  unclosed : {place n : ℕ} {d : Draft} {b : Block} → d.block ≡ Some b
+      → Faults size place n d [] b.line fault.UnclosedManifest 0
+  rootless : {place n : ℕ} {d : Draft} → d.block ≡ None → d.root ≡ None
+      → Faults size place n d [] n fault.NoRoot 0
 
 -- the draft is the script once its last phase is closed
 pub record IsWhole (d : Draft) (s : Script) : Type 0 where
@@ -186,7 +233,8 @@ pub record IsWhole (d : Draft) (s : Script) : Type 0 where
 abbrev pub IsLastFault : Draft → ℕ → ScriptFault → Type 0
 IsLastFault d n (script_fault.Bad line fault.UnclosedManifest at) =
     (b : Block) × (d.block ≡ Some b) × (line ≡ b.line) × (at ≡ 0)
-IsLastFault d n (script_fault.Bad line fault.NoRoot at) = (d.block ≡ None) × (d.root ≡ None) × (line ≡ n) × (at ≡ 0)
+IsLastFault d n (script_fault.Bad line fault.NoRoot at) =
+    (d.block ≡ None) × (d.root ≡ None) × (line ≡ n) × (at ≡ 0)
 IsLastFault d n (script_fault.Bad line _ at) = ⊥
 IsLastFault d n script_fault.Memory = Unit {0}
 

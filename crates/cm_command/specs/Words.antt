@@ -1,5 +1,6 @@
 -- The words of a command, and what they stand for.
-use Rattle.std.specs.Prelude.{◌≡◌, ℕ, ◌<◌, ◌≤◌, ◌^◌, List, [], ◌∷◌, length, codes, Bool, false, ◌&&◌, ◌==◌, nat_le, All, Contains, IsTrue, Ok}
+use Rattle.std.specs.Prelude.{◌≡◌, ℕ, ◌<◌, ◌≤◌, ◌^◌, List, [], ◌∷◌, length, codes, Bool, false, ◌&&◌, ◌==◌}
+use Rattle.std.specs.Prelude.{nat_le, All, Contains, IsTrue, Ok}
 use Rattle.std.specs.List.{slice_split, list_any}
 use Rattle.std.specs.Str.{bytes_eq}
 use Rattle.cm_names.specs.declared.child.ChildName.{ChildName}
@@ -60,7 +61,9 @@ IsChildOrigin t = (c : ChildName) × IsOriginText t (Child c)
 -- the words that stand for rights
 abbrev pub right_words : List (List ℕ)
 right_words =
-    codes "connect" ∷ codes "enumerate" ∷ codes "execute" ∷ codes "get_attributes" ∷ codes "modify_directory" ∷ codes "r*" ∷ codes "read_bytes" ∷ codes "rw*" ∷ codes "rx*" ∷ codes "traverse" ∷ codes "update_attributes" ∷ codes "w*" ∷ codes "write_bytes" ∷ codes "x*" ∷ []
+    codes "connect" ∷ codes "enumerate" ∷ codes "execute" ∷ codes "get_attributes" ∷ codes "modify_directory"
+    ∷ codes "r*" ∷ codes "read_bytes" ∷ codes "rw*" ∷ codes "rx*" ∷ codes "traverse"
+    ∷ codes "update_attributes" ∷ codes "w*" ∷ codes "write_bytes" ∷ codes "x*" ∷ []
 
 -- one of them that is none of those
 abbrev pub IsUnused : List (List ℕ) → List ℕ → Type 0

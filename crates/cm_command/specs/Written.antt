@@ -1,5 +1,6 @@
 -- The line that a command is written as.
-use Rattle.std.specs.Prelude.{◌≡◌, ◌≢◌, ◌<◌, ◌≤◌, ◌^◌, List, [], ◌∷◌, ◌++◌, length, codes, decimal, flat_map, if◌then◌else◌, Option, Some, None, All, IfSome, IsTrue}
+use Rattle.std.specs.Prelude.{◌≡◌, ◌≢◌, ◌<◌, ◌≤◌, ◌^◌, List, [], ◌∷◌, ◌++◌, length, codes, decimal, flat_map}
+use Rattle.std.specs.Prelude.{if◌then◌else◌, Option, Some, None, All, IfSome, IsTrue}
 use Rattle.std.specs.Str.{bytes_eq}
 use Rattle.std.specs.List.{join_with_byte}
 use Rattle.cm_names.specs.declared.availability.Availability.{Availability}
@@ -64,7 +65,9 @@ availability_word availability.Optional = codes "optional" ∷ []
 -- the words of a group
 abbrev pub give_words : Give → List Text
 give_words g =
-    codes "+" ∷ kind_word g.kind ∷ g.source_name ∷ origin_text g.from ∷ (target_word g ++ (rights_word g.rights ++ (subdir_word g.subdir ++ (dependency_word g.dependency ++ availability_word g.availability))))
+    codes "+" ∷ kind_word g.kind ∷ g.source_name ∷ origin_text g.from
+    ∷ (target_word g ++ (rights_word g.rights ++ (subdir_word g.subdir
+    ++ (dependency_word g.dependency ++ availability_word g.availability))))
 
 -- the words of a command
 abbrev pub command_words : Command → List Text

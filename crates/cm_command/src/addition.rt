@@ -5,7 +5,8 @@
 
 ghost use Rattle.std.specs.Prelude.{◌≡◌, ℕ, List as Seq, MatchResult};
 ghost use Rattle.cm_names.specs.Rights.{RightSet};
-ghost use Rattle.cm_command.specs.Additions.{IsAddition, IsRightsWord, IsSomeAddition, IsSubdirWord, IsTargetWord};
+ghost use Rattle.cm_command.specs.Additions.{IsAddition, IsRightsWord, IsSomeAddition, IsSubdirWord};
+ghost use Rattle.cm_command.specs.Additions.{IsTargetWord};
 ghost use Rattle.cm_command.specs.Counts.{IsWordFault};
 
 use crate::rights::read_rights;

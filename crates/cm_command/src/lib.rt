@@ -16,6 +16,7 @@
 //! | `Grammar` | which line is which command, and the fault of one that is none |
 //! | `Written` | the line that a command is written as |
 //! | `Scripts`, `FaultText` | a script's lines, the script that they are, and its first fault |
+//! | `Laws` | that a text is one script at most, and none where it has a fault |
 //! | `Counts`, `PathPlaces`, `Additions` | how far a word can go, for the readers of words |
 //! | `Pieces`, `Places` | where a line stands behind some of its words |
 #![tactic(auto)]
@@ -23,6 +24,7 @@
 pub mod addition;
 pub mod command;
 pub mod fault;
+pub mod laws;
 pub mod place;
 pub mod reader;
 pub mod rights;

@@ -2,7 +2,8 @@
 
 ghost use Rattle.std.specs.Prelude.{◌≡◌, ◌≢◌, ◌<◌, ◌^◌, length, IfOk, IfErr, MatchResult};
 ghost use Rattle.cm_command.specs.Counts.{IsWordFault};
-ghost use Rattle.cm_command.specs.Grammar.{BuiltinText, CommandText, IsBuiltinFault, IsCommandFault, ReadsOneWay};
+ghost use Rattle.cm_command.specs.Grammar.{BuiltinText, CommandText, IsBuiltinFault, IsCommandFault};
+ghost use Rattle.cm_command.specs.Grammar.{ReadsOneWay};
 ghost use Rattle.cm_command.specs.Pieces.{Leads, Says};
 ghost use Rattle.cm_command.specs.Places.{Ends, IsShort, IsUnended, Steps, line_fault};
 ghost use Rattle.cm_command.specs.Words.{words_of};

@@ -1,6 +1,8 @@
 //! Reading scripts.
 
-ghost use Rattle.std.specs.Prelude.{◌≡◌, ◌≢◌, ◌<◌, ◌≤◌, ◌^◌, ◌+◌, ◌*◌, ◌++◌, ◌∷◌, ℕ, List as Seq, None, length, codes, IfOk, IfErr, OnOk, min, IsTrue, ◌↔◌, MatchOption, MatchResult};
+ghost use Rattle.std.specs.Prelude.{◌≡◌, ◌≢◌, ◌<◌, ◌≤◌, ◌^◌, ◌+◌, ◌*◌, ◌++◌, ◌∷◌, ℕ, List as Seq, None};
+ghost use Rattle.std.specs.Prelude.{length, codes, IfOk, IfErr, OnOk, min, IsTrue, ◌↔◌, MatchOption};
+ghost use Rattle.std.specs.Prelude.{MatchResult};
 ghost use Rattle.cm_command.specs.Scripts as spec;
 ghost use Rattle.cm_command.specs.Words.{IsUrlText};
 ghost use Rattle.cm_command.specs.Grammar.{BuiltinText, IsBuiltinText};

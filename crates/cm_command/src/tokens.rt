@@ -10,7 +10,8 @@
 //! incarnation is written as `@` and its number, and the limits of 4,096 bytes, are this project's
 //! own choice.
 
-ghost use Rattle.std.specs.Prelude.{◌≡◌, ◌≢◌, ◌<◌, ◌≤◌, ◌^◌, ◌+◌, ◌-◌, ◌*◌, ◌∷◌, ◌++◌, ℕ, List, length, take, get_or, map, false, Contains, IsTrue, MatchOption, MatchResult};
+ghost use Rattle.std.specs.Prelude.{◌≡◌, ◌≢◌, ◌<◌, ◌≤◌, ◌^◌, ◌+◌, ◌-◌, ◌*◌, ◌∷◌, ◌++◌, ℕ, List, length, take};
+ghost use Rattle.std.specs.Prelude.{get_or, map, false, Contains, IsTrue, MatchOption, MatchResult};
 ghost use Rattle.std.specs.List.{take_while};
 ghost use Rattle.std.specs.Str.{IsUtf8};
 ghost use Rattle.cm_names.specs.Name.{IsName, continues_name};

@@ -1,6 +1,8 @@
 //! Pieces of lines.
 
-ghost use Rattle.std.specs.Prelude.{◌≡◌, ◌↔◌, ◌≤◌, ◌<◌, ℕ, List as Seq, ◌∷◌, ◌++◌, false, ◌==◌, length, codes, min, All, IsTrue, MatchOption, IfSome, IfNone, position, Some, None, Bool};
+ghost use Rattle.std.specs.Prelude.{◌≡◌, ◌↔◌, ◌≤◌, ◌<◌, ℕ, List as Seq, ◌∷◌, ◌++◌, false, ◌==◌, length};
+ghost use Rattle.std.specs.Prelude.{codes, min, All, IsTrue, MatchOption, IfSome, IfNone, position, Some};
+ghost use Rattle.std.specs.Prelude.{None, Bool};
 ghost use Rattle.cm_command.specs.Numbers.{is_digit as is_digit_of, IsDecimal, value_behind};
 
 /// The bytes before the first `separator`, and those behind it where it is there.

@@ -1,9 +1,12 @@
 -- Where the manifest of a URL lies in a folder.
-use Rattle.std.specs.Prelude.{ℕ, List, ◌++◌, codes, length, Bool, not, ◌&&◌, ◌==◌, if◌then◌else◌, Option, Some, None, Ok, Err, option_map}
+use Rattle.std.specs.Prelude.{ℕ, List, ◌++◌, codes, length, ◌≤◌, Bool, not, ◌&&◌, ◌==◌, if◌then◌else◌}
+use Rattle.std.specs.Prelude.{Option, Some, None, Ok, Err, option_map}
 use Rattle.std.specs.List.{list_all}
 use Rattle.cm_names.specs.Moniker.{behind_slash}
 use Rattle.cm_names.specs.Path.{is_dots, parts_of}
 use Rattle.cm_gate.specs.declared.asked.Fetch.{Fetch}
+use Rattle.cm_gate.specs.declared.asked.Fetched.{Fetched}
+use Rattle.cm_gate.specs.declared.asked.Fetched.TheVariants as fetched
 use Rattle.url.specs.Host.{host_text}
 use Rattle.url.specs.Parser.{parse_url, Parsed}
 use Rattle.url.specs.Parts.{Parts, nonempty_host}
@@ -16,14 +19,17 @@ is_plain part = not (length part == 0) && not (is_dots part)
 abbrev pub are_plain : List ℕ → Bool
 are_plain text = list_all is_plain (parts_of text)
 
--- the file of a URL's host, path and fragment: in the folder of the host, along the path, the file of the fragment
+-- the file of a URL's host, path and fragment: in the folder of the host, along the path, the file of the
+-- fragment
 abbrev pub file_in : List ℕ → List ℕ → List ℕ → List ℕ → List ℕ
-file_in repo host path fragment = repo ++ (codes "/" ++ (host ++ (codes "/" ++ (path ++ (codes "/" ++ fragment)))))
+file_in repo host path fragment =
+    repo ++ (codes "/" ++ (host ++ (codes "/" ++ (path ++ (codes "/" ++ fragment)))))
 
 -- that file, where all its parts are plain
 abbrev pub place_in : List ℕ → List ℕ → List ℕ → List ℕ → Option (List ℕ)
 place_in repo host path fragment =
-    if is_plain host && (are_plain path && are_plain fragment) then Some (file_in repo host path fragment) else None
+    if is_plain host && (are_plain path && are_plain fragment)
+    then Some (file_in repo host path fragment) else None
 
 -- the file of a URL that has a host and a fragment
 abbrev pub place_with : List ℕ → List ℕ → Option (List ℕ) → Option (List ℕ) → Option (List ℕ)
@@ -47,3 +53,10 @@ place_for (Some repo) url = place_of repo url
 -- where the manifest of a fetch is looked for, if anywhere: in the folder that the fetch names
 abbrev pub place_of_fetch : Fetch → Option (List ℕ)
 place_of_fetch what = place_for what.repo what.url
+
+-- what was found has at most this many bytes
+abbrev pub HasAtMost : ℕ → Fetched → Type 0
+HasAtMost limit (fetched.Found bytes) = length bytes ≤ limit
+HasAtMost limit fetched.Absent = Unit {0}
+HasAtMost limit fetched.Failed = Unit {0}
+HasAtMost limit fetched.Memory = Unit {0}

@@ -1,9 +1,11 @@
 -- Planned gates, as contracts see them.
-use Rattle.std.specs.Prelude.{◌≡◌, ◌⊎◌, ℕ, cond, nat_le, nat_eq, Bool, true, false, List, [], ◌∷◌, ◌++◌, length, Option, Some, None}
+use Rattle.std.specs.Prelude.{◌≡◌, ◌⊎◌, ℕ, cond, nat_le, nat_eq, Bool, true, false}
+use Rattle.std.specs.Prelude.{List, [], ◌∷◌, ◌++◌, length, Option, Some, None}
 use Rattle.std.specs.List.{list_any}
 use Rattle.std.specs.Str.{bytes_eq}
 use Rattle.cm_io.specs.Counts.{one_more, count_after}
 use Rattle.cm_gate.specs.declared.asked.Asked.{Asked}
+use Rattle.cm_gate.specs.declared.asked.Asked.TheVariants as asked
 use Rattle.cm_gate.specs.declared.asked.Fetched.{Fetched}
 use Rattle.cm_gate.specs.declared.asked.Fetched.TheVariants as fetched
 use Rattle.cm_gate.specs.declared.asked.Launched.{Launched}
@@ -49,7 +51,9 @@ planned_fetch g url = cond (fails_next g) fetched.Failed (manifest_at url g.plan
 
 -- the answer that is planned for a launch of this component
 abbrev pub planned_launch : PlanAtWork → List ℕ → Launched
-planned_launch g url = cond (fails_next g) launched.Failed (cond (is_among url g.plan.declined) launched.Declined launched.Running)
+planned_launch g url =
+    cond (fails_next g) launched.Failed
+    (cond (is_among url g.plan.declined) launched.Declined launched.Running)
 
 -- the answer that is planned for a halt
 abbrev pub planned_halt : PlanAtWork → Halted
@@ -72,7 +76,20 @@ Notes old new question = (is_full old ≡ false) × (new ≡ record old { noted 
 abbrev pub counted : Bool → PlanAtWork → PlanAtWork
 counted failed g = record g { calls = one_more g.calls; faults = count_after failed g.faults }
 
--- what a call leaves: it is counted, and its question stands in the log with its answer, or the log isn't told any more
+-- the answer of a call whose question isn't noted: it fails for a full log, and else for want of memory,
+-- which a fetch tells as such and a launch or a halt as a failure
+abbrev pub IsUnnoted : Bool → Asked → Type 0
+IsUnnoted full (asked.Fetch what answer) =
+    ((full ≡ true) × (answer ≡ fetched.Failed)) ⊎ ((full ≡ false) × (answer ≡ fetched.Memory))
+IsUnnoted full (asked.Launch job answer) = answer ≡ launched.Failed
+IsUnnoted full (asked.Halt job answer) = answer ≡ halted.Failed
+
+-- a call isn't noted, and so the log isn't told any more
+abbrev pub Loses : PlanAtWork → PlanAtWork → Asked → Type 0
+Loses old new question = IsUnnoted (is_full old) question × (new ≡ record old { told = false })
+
+-- what a call leaves: it is counted, and its question stands in the log with its answer, or the log isn't
+-- told any more
 abbrev pub Leaves : PlanAtWork → PlanAtWork → Asked → Type 0
 Leaves old new question =
-    Notes (counted (is_failure question) old) new question ⊎ (new ≡ record (counted (is_failure question) old) { told = false })
+    let called = counted (is_failure question) old in Notes called new question ⊎ Loses called new question

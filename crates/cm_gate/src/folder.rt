@@ -1,11 +1,11 @@
 //! Gates to a folder of manifests.
 
-ghost use Rattle.std.specs.Prelude.{◌≡◌, ◌⊎◌, ◌<◌, ◌≤◌, ◌^◌, None};
+ghost use Rattle.std.specs.Prelude.{◌≡◌, ◌⊎◌, ◌<◌, ◌≤◌, ◌^◌, IfOk, None, length};
 ghost use Rattle.std.specs.IoError.{error_kind};
 ghost use Rattle.cm_io.specs.Counts.{count_after};
 ghost use Rattle.cm_io.specs.Outside.{Rose};
 ghost use Rattle.cm_gate.specs.Failures.{fetch_failed};
-ghost use Rattle.cm_gate.specs.Places.{place_of_fetch};
+ghost use Rattle.cm_gate.specs.Places.{HasAtMost, place_of_fetch};
 
 use crate::count::FaultCount;
 use crate::place::place_of;
@@ -83,11 +83,15 @@ fn unread(error: &io::Error) -> Fetched
     }
 }
 
-/// The bytes of a file, or the first 1,048,577 of them.
-fn read_file<F: Files>(files: &F, alloc: Global, place: &str) -> io::Result<Vec<u8>> {
+/// The bytes of a file, or the first 1,048,577 of them. The bound doesn't rest on how many bytes
+/// the system says that it read.
+fn read_file<F: Files>(files: &F, alloc: Global, place: &str) -> io::Result<Vec<u8>>
+    ensures { IfOk result (λ bytes. length bytes.items ≤ 1048577) }
+{
     let file = fs::open(files, place)?;
     let mut bytes = Vec::new(alloc);
     file.take(LONGEST_READ).read_to_end(&mut bytes)?;
+    bytes.truncate(LONGEST_READ as usize);
     Ok(bytes)
 }
 
@@ -96,6 +100,7 @@ fn find_file<F: Files>(files: &F, alloc: Global, what: &Fetch) -> Fetched
     ensures no_repo { what.now.repo ≡ None → result ≡ Fetched.Absent }
     ensures nowhere { place_of_fetch what.now ≡ None →
         (result ≡ Fetched.Absent) ⊎ (result ≡ Fetched.Memory) }
+    ensures length { HasAtMost 1048577 result }
 {
     let Some(repo) = &what.repo else {
         return Fetched::Absent;
@@ -141,6 +146,7 @@ impl<F: Files + Drop> Gates for FolderGates<F> {
         ensures no_repo { what.now.repo ≡ None → result ≡ Fetched.Absent }
         ensures nowhere { place_of_fetch what.now ≡ None →
             (result ≡ Fetched.Absent) ⊎ (result ≡ Fetched.Memory) }
+        ensures length { HasAtMost 1048577 result }
     {
         let answer = find_file(&self.files, alloc, what);
         self.faults.count(answer.is_failed());

@@ -1,41 +1,21 @@
 -- What is kept of a pass and of its gates, from call to call.
-use Rattle.std.proofs.Common.{◌≡◌, ℕ, ◌+◌, List, [], ◌++◌, length, refl, sym, ap, ◌∙◌, subst, append_assoc, append-nil, arith}
-use Rattle.std.proofs.lemmas.List.{length-append}
-use Rattle.std.proofs.lemmas.List.Elements.{filter-append}
+use Rattle.std.proofs.Common.{◌≡◌, List, [], ◌++◌, refl, sym, ap, ◌∙◌, append_assoc, append-nil}
 use Rattle.cm_turn.specs.History.{StartsWith}
 use Rattle.cm_turn.specs.Passes.{seen_up_to}
 use Rattle.cm_world.specs.declared.frame.Frame.{Frame}
 use Rattle.cm_world.specs.declared.reply.Entry.{Entry}
-use Rattle.cm_gate.specs.Logs.{RoseBy}
-use Rattle.cm_gate.proofs.Logs.{grew_nothing, grew_trans, rose_nothing, rose_trans}
 use Rattle.cm_manager.specs.Turns.{Later}
 use Rattle.cm_manager.specs.Closed.{empty}
-use Rattle.cm_manager.specs.Work.{Shelf, WorksWith, nothing, failures, tells_failure}
+use Rattle.cm_manager.specs.Work.{Shelf}
 use Rattle.cm_manager.specs.Contract.{RealmPass, GatesView, Helps}
-use Rattle.cm_manager.proofs.Joining.{starts-trans, works-append}
+use Rattle.cm_manager.proofs.Joining.{starts-trans}
 use Rattle.cm_manager.proofs.Closing.{closed-append}
+use Rattle.cm_manager.proofs.Helping.{works_nothing, works_trans}
 use Rattle.cm_lanes.specs.Kept.{Keeps}
 use Rattle.cm_lanes.specs.Lane.{IsOwnPass}
 
 pub starts_same : (a : List Entry) → StartsWith a a
 starts_same a = ([], sym (append-nil a))
-
-failures_append : (p q : List Entry) → failures (p ++ q) ≡ failures p + failures q
-failures_append p q = ap (λ (l : List Entry). length l) (filter-append tells_failure p q) ∙ length-append (filter_of p) (filter_of q) where
-  filter_of : List Entry → List Entry
-  filter_of l = Rattle.std.specs.Prelude.filter tells_failure l
-
--- the work of one part behind that of another
-pub works_then : (shelf : Shelf) (p q : List Entry) (g h k : GatesView) → WorksWith shelf p g.log h.log g.faults h.faults → WorksWith shelf q h.log k.log h.faults k.faults → WorksWith shelf (p ++ q) g.log k.log g.faults k.faults
-works_then shelf p q g h k v w = record {
-  asked = v.asked ++ w.asked;
-  works = works-append shelf p q v.asked w.asked v.works w.works;
-  log = grew_trans g.log h.log k.log v.asked w.asked v.log w.log;
-  faults = subst (λ (n : ℕ). RoseBy n g.faults k.faults) (sym (failures_append p q)) (rose_trans (failures p) (failures q) g.faults h.faults k.faults v.faults w.faults);
-}
-
-works_nothing : (shelf : Shelf) (g : GatesView) → WorksWith shelf [] g.log g.log g.faults g.faults
-works_nothing shelf g = record { asked = []; works = nothing; log = grew_nothing g.log; faults = rose_nothing g.faults g.faults (grind arith) }
 
 pub keeps_nothing : (shelf : Shelf) (p : RealmPass) (g : GatesView) → IsOwnPass p → Keeps shelf p p g g
 keeps_nothing shelf p g own = record {
@@ -64,7 +44,7 @@ keeps_trans shelf p q r g h k a b = record {
   part = a.part ++ b.part;
   mine = mine_then p.mine q.mine r.mine a.part b.part a.mine b.mine;
   closed = closed-append a.part b.part a.closed b.closed;
-  work = works_then shelf a.part b.part g h k a.work b.work;
+  work = works_trans shelf a.part b.part g h k a.work b.work;
 }
 
 -- a call of the manager keeps a pass

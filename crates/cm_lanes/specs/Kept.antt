@@ -11,6 +11,7 @@ use Rattle.cm_manager.specs.Asking.{no_frame, frame_of}
 use Rattle.cm_manager.specs.Closed.{IsClosed}
 use Rattle.cm_manager.specs.Work.{Shelf, WorksWith}
 use Rattle.cm_manager.specs.Contract.{RealmPass, GatesView}
+pub use Rattle.cm_manager.specs.Gated.{gates_view}
 
 -- the passes of the sixteen callers, from 0 on
 pub record AreSixteen (turn : LockView) (passes : List RealmPass) : Type 0 where
@@ -39,12 +40,10 @@ pub record GoesOn (history : List Entry) (p : RealmPass) : Type 0 where
   pub own : own_entries p.caller history ≡ p.mine
 
 module _ {G : Type 0} (log_of : G → Option (List Asked)) (faults_of : G → ℕ) where
-  -- gates as the manager's contracts see them
-  abbrev pub gates_view : G → GatesView
-  gates_view g = record { log = log_of g; faults = faults_of g }
-
   -- each lane's pass and gates are kept, in their order
   pub record KeepsEach (shelf : Shelf) (old new : List RealmPass) (gates₀ gates₁ : List G) : Type 0 where
     pub passes : length new ≡ length old
     pub gates : length gates₁ ≡ length gates₀
-    pub each : (k : ℕ) (p q : RealmPass) (g h : G) → slice_get old k ≡ Some p → slice_get new k ≡ Some q → slice_get gates₀ k ≡ Some g → slice_get gates₁ k ≡ Some h → Keeps shelf p q (gates_view g) (gates_view h)
+    pub each : (k : ℕ) (p q : RealmPass) (g h : G) → slice_get old k ≡ Some p → slice_get new k ≡ Some q
+        → slice_get gates₀ k ≡ Some g → slice_get gates₁ k ≡ Some h
+        → Keeps shelf p q (gates_view log_of faults_of g) (gates_view log_of faults_of h)

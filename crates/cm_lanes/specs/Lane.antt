@@ -1,5 +1,6 @@
 -- What one lane has in hand, from step to step.
-use Rattle.std.specs.Prelude.{◌≡◌, ◌⊎◌, ℕ, ◌<◌, List, [], ◌∷◌, ◌++◌, map, Bool, false, Option, Some, length, slice_index_or}
+use Rattle.std.specs.Prelude.{◌≡◌, ◌⊎◌, ℕ, ◌<◌, List, [], ◌∷◌, ◌++◌, map, Bool, false, Option, Some, length}
+use Rattle.std.specs.Prelude.{slice_index_or}
 use Rattle.cm_turn.specs.History.{StartsWith}
 use Rattle.cm_turn.specs.Passes.{LockView, seen_up_to}
 use Rattle.cm_world.specs.declared.reply.Entry.{Entry}
@@ -28,7 +29,8 @@ PutsUnless before now old new s = now ≡ false → (before ≡ false) × (new �
 
 module _ {G : Type 0} (log_of : G → Option (List Asked)) (faults_of : G → ℕ) where
   -- a caller has performed its own lines among these
-  pub record Performed (shelf : Shelf) (lines : List Line) (p q : RealmPass) (g h : G) (said₀ said₁ : List Said) (lost : Bool) : Type 0 where
+  pub record Performed (shelf : Shelf) (lines : List Line) (p q : RealmPass) (g h : G)
+      (said₀ said₁ : List Said) (lost : Bool) : Type 0 where
     pub keeps : Keeps shelf p q (gates_view log_of faults_of g) (gates_view log_of faults_of h)
     pub answers : List Answered
     pub own_lines : answered_lines answers ≡ lines_of p.caller lines
@@ -71,7 +73,8 @@ module _ {G : Type 0} where
   pub record MetAll (old new : List (Lane G)) : Type 0 where
     pub seen : List Entry
     pub long : length new ≡ length old
-    pub each : (k : ℕ) (d : Lane G) → k < length old → Met seen (slice_index_or old k d) (slice_index_or new k d)
+    pub each : (k : ℕ) (d : Lane G) → k < length old
+        → Met seen (slice_index_or old k d) (slice_index_or new k d)
 
 module _ {G : Type 0} (log_of : G → Option (List Asked)) (faults_of : G → ℕ) where
   -- a lane has performed its own lines among these
@@ -80,5 +83,6 @@ module _ {G : Type 0} (log_of : G → Option (List Asked)) (faults_of : G → �
     pub q : RealmPass
     pub was : old.pass ≡ Some p
     pub now : new.pass ≡ Some q
-    pub performed : Performed log_of faults_of shelf lines p q old.gates new.gates old.said.items new.said.items new.lost
+    pub performed : Performed log_of faults_of shelf lines p q old.gates new.gates old.said.items
+        new.said.items new.lost
     pub lost : new.lost ≡ false → old.lost ≡ false

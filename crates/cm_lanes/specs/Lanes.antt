@@ -11,7 +11,8 @@ use Rattle.cm_lanes.specs.Kept.{GoesOn, KeepsEach, frame_at}
 
 module _ {G : Type 0} (log_of : G → Option (List Asked)) (faults_of : G → ℕ) where
   -- all lines were performed, phase by phase: the passes met before the first phase and behind each
-  pub record Ran (shelf : Shelf) (phases : List (List Line)) (passes : List RealmPass) (gates : List G) (back : Lanes G) : Type 0 where
+  pub record Ran (shelf : Shelf) (phases : List (List Line)) (passes : List RealmPass) (gates : List G)
+      (back : Lanes G) : Type 0 where
     pub first : List Entry
     pub last : List Entry
     pub begins : All (GoesOn first) passes

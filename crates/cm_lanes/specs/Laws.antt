@@ -12,8 +12,10 @@ use Rattle.cm_manager.specs.Calls.{Runs}
 use Rattle.cm_command.specs.declared.script.Line.{Line}
 use Rattle.cm_lanes.specs.Script.{Answered, Follows, ArePhases}
 
--- what a caller did between two places of a history falls into parts, one for each line, in order and with nothing left over, each of them the run of its line with that answer
-pub record FallsIntoRuns (f : Frame) (history : List Entry) (c : ℕ) (answered : List Answered) (before after : List Entry) : Type 0 where
+-- what a caller did between two places of a history falls into parts, one for each line, in order and with
+-- nothing left over, each of them the run of its line with that answer
+pub record FallsIntoRuns (f : Frame) (history : List Entry) (c : ℕ) (answered : List Answered)
+    (before after : List Entry) : Type 0 where
   pub parts : List (List Entry)
   pub whole : own_entries c after ≡ own_entries c before ++ flat_map (λ part. part) parts
   pub runs : AllZip (λ part a. Runs f history a.line.command c part a.result) parts answered

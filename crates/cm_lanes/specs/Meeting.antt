@@ -34,4 +34,6 @@ module _ {G : Type 0} where
     pub met : (k : ℕ) (d : Lane G) → k < n → MetWithin seen (slice_index_or xs k d) (slice_index_or ys k d)
     pub rest : (k : ℕ) (d : Lane G) → n ≤ k → slice_index_or ys k d ≡ slice_index_or xs k d
     -- where it had seen all that they had
-    pub still : ((k : ℕ) (d : Lane G) → k < length xs → HasSeenWithin pass.seen (slice_index_or xs k d)) → (seen ≡ pass.seen) × ((k : ℕ) (d : Lane G) → k < n → Met seen (slice_index_or xs k d) (slice_index_or ys k d))
+    pub still : ((k : ℕ) (d : Lane G) → k < length xs → HasSeenWithin pass.seen (slice_index_or xs k d))
+        → (seen ≡ pass.seen)
+        × ((k : ℕ) (d : Lane G) → k < n → Met seen (slice_index_or xs k d) (slice_index_or ys k d))

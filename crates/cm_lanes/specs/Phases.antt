@@ -1,5 +1,6 @@
 -- What the lanes have done, phase by phase.
-use Rattle.std.specs.Prelude.{◌≡◌, ℕ, ◌<◌, List, map, flat_map, Option, Some, None, length, slice_index_or, slice_get}
+use Rattle.std.specs.Prelude.{◌≡◌, ℕ, ◌<◌, List, map, flat_map, Option, Some, None, length, slice_index_or}
+use Rattle.std.specs.Prelude.{slice_get}
 use Rattle.cm_turn.specs.Passes.{LockView}
 use Rattle.cm_world.specs.declared.frame.Frame.{Frame}
 use Rattle.cm_world.specs.declared.reply.Entry.{Entry}
@@ -57,10 +58,12 @@ module _ {G : Type 0} (log_of : G → Option (List Asked)) (faults_of : G → �
   pub record PassedAll (shelf : Shelf) (lines : List Line) (old new : List (Lane G)) : Type 0 where
     pub last : List Entry
     pub long : length new ≡ length old
-    pub each : (k : ℕ) (d : Lane G) → k < length old → Passed shelf lines last (slice_index_or old k d) (slice_index_or new k d)
+    pub each : (k : ℕ) (d : Lane G) → k < length old
+        → Passed shelf lines last (slice_index_or old k d) (slice_index_or new k d)
 
   -- what has become of a lane behind these phases
-  pub record LaneRan (shelf : Shelf) (answered : List (List Answered)) (last : List Entry) (k : ℕ) (old new : Lane G) : Type 0 where
+  pub record LaneRan (shelf : Shelf) (answered : List (List Answered)) (last : List Entry) (k : ℕ)
+      (old new : Lane G) : Type 0 where
     pub p : RealmPass
     pub q : RealmPass
     pub was : old.pass ≡ Some p
@@ -68,7 +71,8 @@ module _ {G : Type 0} (log_of : G → Option (List Asked)) (faults_of : G → �
     pub caller : p.caller ≡ k
     pub seen : q.seen ≡ last
     pub own : IsOwnPass q
-    pub keeps : Keeps shelf p q (gates_view log_of faults_of old.gates) (gates_view log_of faults_of new.gates)
+    pub keeps : Keeps shelf p q (gates_view log_of faults_of old.gates)
+        (gates_view log_of faults_of new.gates)
     pub said : GrewUnless new.lost old.said.items new.said.items (told_to k answered)
 
   -- the lanes have performed these phases
@@ -80,4 +84,5 @@ module _ {G : Type 0} (log_of : G → Option (List Asked)) (faults_of : G → �
     pub answered : List (List Answered)
     pub lines : map answered_lines answered ≡ phases
     pub performed : ArePhases (lane_frames old) answered first last
-    pub each : (k : ℕ) (d : Lane G) → k < 16 → LaneRan shelf answered last k (slice_index_or old k d) (slice_index_or new k d)
+    pub each : (k : ℕ) (d : Lane G) → k < 16
+        → LaneRan shelf answered last k (slice_index_or old k d) (slice_index_or new k d)

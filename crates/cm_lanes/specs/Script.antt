@@ -38,9 +38,13 @@ pub record IsFit (l : Line) : Type 0 where
 -- a caller performs these lines in order, each by one call, and makes no entry besides
 pub data Follows (f : Frame) (c : ℕ) : List Answered → List Entry → List Entry → Type 0 where
   rests : {h₀ h₁ : List Entry} → Later c h₀ h₁ → Follows f c [] h₀ h₁
-  performs : {a : Answered} {others : List Answered} {h₀ h₁ h₂ : List Entry} → Goes f c a.line.command h₀ h₁ a.result → Follows f c others h₁ h₂ → Follows f c (a ∷ others) h₀ h₂
+  performs : {a : Answered} {others : List Answered} {h₀ h₁ h₂ : List Entry}
+      → Goes f c a.line.command h₀ h₁ a.result
+      → Follows f c others h₁ h₂
+      → Follows f c (a ∷ others) h₀ h₂
 
--- between two places of the history each lane performs its lines of this phase; each lane's caller has a frame
+-- between two places of the history each lane performs its lines of this phase; each lane's caller has a
+-- frame
 pub record IsPhase (frames : ℕ → Frame) (answered : List Answered) (h₀ h₁ : List Entry) : Type 0 where
   pub grows : StartsWith h₁ h₀
   pub lanes : (c : ℕ) → c < 16 → Follows (frames c) c (answers_of c answered) h₀ h₁
@@ -48,4 +52,7 @@ pub record IsPhase (frames : ℕ → Frame) (answered : List Answered) (h₀ h�
 -- phase after phase, each from where the one before it ended
 pub data ArePhases (frames : ℕ → Frame) : List (List Answered) → List Entry → List Entry → Type 0 where
   none_left : {h : List Entry} → ArePhases frames [] h h
-  one_first : {answered : List Answered} {others : List (List Answered)} {h₀ h₁ h₂ : List Entry} → IsPhase frames answered h₀ h₁ → ArePhases frames others h₁ h₂ → ArePhases frames (answered ∷ others) h₀ h₂
+  one_first : {answered : List Answered} {others : List (List Answered)} {h₀ h₁ h₂ : List Entry}
+      → IsPhase frames answered h₀ h₁
+      → ArePhases frames others h₁ h₂
+      → ArePhases frames (answered ∷ others) h₀ h₂

@@ -1,5 +1,6 @@
 -- What was said to the lanes, put in the order of the script.
-use Rattle.std.specs.Prelude.{◌≡◌, ◌≢◌, ℕ, ◌<◌, List, [], ◌++◌, map, IfNone, length, option_to_list, Option, slice_index_or}
+use Rattle.std.specs.Prelude.{◌≡◌, ◌≢◌, ℕ, ◌<◌, List, [], ◌++◌, map, IfNone, length, option_to_list, Option}
+use Rattle.std.specs.Prelude.{slice_index_or}
 use Rattle.std.specs.declared.alloc.Global.{Global}
 use Rattle.std.specs.declared.collections.VecDeque.{VecDeque}
 use Rattle.cm_command.specs.declared.script.Line.{Line}
@@ -14,7 +15,8 @@ Queue = VecDeque Said Global
 -- the first item of one queue is taken, if there is one, and the others stay
 pub record Takes (lane : ℕ) (old new : List Queue) (taken : Option Said) : Type 0 where
   pub long : length new ≡ length old
-  pub here : (d : Queue) → (slice_index_or old lane d).items ≡ option_to_list taken ++ (slice_index_or new lane d).items
+  pub here : (d : Queue)
+      → (slice_index_or old lane d).items ≡ option_to_list taken ++ (slice_index_or new lane d).items
   pub none : IfNone taken ((d : Queue) → (slice_index_or old lane d).items ≡ [])
   pub others : (k : ℕ) (d : Queue) → k ≢ lane → slice_index_or new k d ≡ slice_index_or old k d
 
@@ -23,7 +25,8 @@ pub record BeginsWith (lines : List Line) (queues : List Queue) : Type 0 where
   pub answered : List Answered
   pub lines_are : answered_lines answered ≡ lines
   pub behind : ℕ → List Said
-  pub each : (k : ℕ) (d : Queue) → k < 16 → (slice_index_or queues k d).items ≡ map said_of (answers_of k answered) ++ behind k
+  pub each : (k : ℕ) (d : Queue) → k < 16
+      → (slice_index_or queues k d).items ≡ map said_of (answers_of k answered) ++ behind k
 
 -- each queue has the answers to its lane's lines
 pub record HasAll (phases : List (List Line)) (queues : List Queue) : Type 0 where

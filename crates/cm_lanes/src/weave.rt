@@ -1,6 +1,7 @@
 //! What was said to the lanes, put in the order of the script.
 
-ghost use Rattle.std.specs.Prelude.{◌≡◌, ◌<◌, ◌++◌, ℕ, All, IfOk, OnOk, flat_map, length, map, slice_index_or};
+ghost use Rattle.std.specs.Prelude.{◌≡◌, ◌<◌, ◌++◌, ℕ, All, IfOk, OnOk};
+ghost use Rattle.std.specs.Prelude.{flat_map, length, map, slice_index_or};
 ghost use Rattle.cm_lanes.specs.Script.{IsFit, said_of};
 ghost use Rattle.cm_lanes.specs.Weave.{BeginsWith, HasAll, Queue, Takes};
 

@@ -18,7 +18,7 @@ use Rattle.cm_world.specs.World.{start, rows_fit}
 use Rattle.cm_world.specs.End.{fits_kind, outcome_by}
 use Rattle.cm_world.specs.Step.{MayEnd}
 use Rattle.cm_world.specs.Legal.{Legal}
-use Rattle.cm_steps.specs.Laws.{IsJoined}
+use Rattle.cm_laws.specs.Laws.{IsJoined}
 use Rattle.cm_manager.specs.Turns.{Makes, Asks, world_after}
 use Rattle.cm_manager.specs.Runs.{is_started}
 use Rattle.cm_manager.specs.Acting.{BeginsBy}
@@ -90,7 +90,7 @@ begun_help shelf k i w end o eager p q r g h first asked did fits children secon
     let c = p.caller in
     let last = behind p q r first second in
     let makes = subst (λ (c : ℕ). Makes c q.seen (event.End w.action end) (reply.Ended o) r.seen) first.caller told.makes in
-    helps_acted shelf f (λ a b. BeginsBy f c k i (Ok (began.Ended w.action o eager)) a b) p q r g h (event.Begin k i) (reply.Begun w) k w end o refl refl first last
+    helps_acted shelf f (λ a b. BeginsBy f c k i (Ok (began.Ended w.action o eager)) a b) p q r g h (event.Begin k i) (reply.Begun w) k w end o refl first last
     (record {
       work = w;
       finish = end;

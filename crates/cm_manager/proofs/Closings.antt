@@ -4,8 +4,8 @@ use Rattle.cm_turn.specs.Passes.{IsKnown, HasCaller}
 use Rattle.cm_world.specs.declared.reply.Entry.{Entry}
 use Rattle.cm_world.specs.World.{start}
 use Rattle.cm_world.specs.Legal.{Legal}
-use Rattle.cm_steps.specs.Story.{Story, IsLegal}
-use Rattle.cm_steps.proofs.AllLaws.{histories_keep_laws}
+use Rattle.cm_laws.specs.Story.{Story, IsLegal}
+use Rattle.cm_laws.proofs.AllLaws.{histories_keep_laws}
 use Rattle.cm_manager.specs.Contract.{RealmPass}
 use Rattle.cm_manager.specs.Managers.{Closes}
 

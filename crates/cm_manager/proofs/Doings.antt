@@ -1,5 +1,5 @@
 -- Why the work of an action is what it is said to be.
-use Rattle.std.proofs.Common.{◌≡◌, ◌≢◌, inl, inr, ℕ, ◌≤◌, List, [], ◌∷◌, Option, Some, None, Result, Ok, Err, Bool, true, false, refl, sym, ap, subst, ◌∙◌}
+use Rattle.std.proofs.Common.{◌≡◌, ◌≢◌, inl, inr, ℕ, ◌≤◌, List, [], ◌∷◌, Option, Some, None, Result, Ok, Err, IsTrue, false, true≢false, refl, sym, ap, subst, ◌∙◌}
 use Rattle.std.proofs.Math.Nat.{le_refl}
 use Rattle.cm_io.specs.Outside.{Rose}
 use Rattle.cm_decl.specs.declared.decl.Decl.{Decl}
@@ -37,11 +37,11 @@ use Rattle.cm_gate.specs.declared.asked.Launched.{Launched}
 use Rattle.cm_gate.specs.declared.asked.Launched.TheVariants as launched
 use Rattle.cm_gate.specs.declared.asked.Halted.{Halted}
 use Rattle.cm_gate.specs.declared.asked.Halted.TheVariants as halted
-use Rattle.cm_gate.specs.Logs.{Grew, RoseBy}
-use Rattle.cm_gate.proofs.Logs.{grew_nothing, rose_nothing}
+use Rattle.cm_gate.specs.Logs.{Grew}
+use Rattle.cm_gate.proofs.Logs.{grew_nothing}
 use Rattle.cm_manager.specs.Contract.{GatesView}
 use Rattle.cm_manager.specs.Work.{Judges, note_of, resolved_by, Shelf, Does, FetchEnds, job_of, is_gate_failure}
-use Rattle.cm_manager.specs.Doing.{JudgesBy, EndsBy, Fits, Did, failures_of, unread_outcome, invalid_outcome, launched_outcome, halted_outcome}
+use Rattle.cm_manager.specs.Doing.{JudgesBy, EndsBy, Fits, Did, unread_outcome, invalid_outcome, launched_outcome, halted_outcome}
 
 -- ---- manifests
 
@@ -71,12 +71,16 @@ not_failed : (url : List ℕ) (judged : Result Decl FaultNote) → is_gate_failu
 not_failed url (Ok d) = refl
 not_failed url (Err note) = refl
 
+-- an end that tells of no failure needs no rise
+unrisen : (end : Finish) (n m : ℕ) → is_gate_failure end ≡ false → IsTrue (is_gate_failure end) → Rose n m
+unrisen end n m none is = absurd (true≢false (sym is ∙ none))
+
 quiet : (shelf : Shelf) (w : Work) (k : ActKind) (end : Finish) (g : GatesView) → is_gate_failure end ≡ false → Does shelf w k end [] → Did shelf w k end g g
 quiet shelf w k end g none does = record {
   asked = [];
   does = does;
   log = grew_nothing g.log;
-  faults = subst (λ (b : Bool). RoseBy (failures_of b) g.faults g.faults) (sym none) (rose_nothing g.faults g.faults (le_refl g.faults));
+  counts = record { later = le_refl g.faults; still = λ _. refl; rose = unrisen end g.faults g.faults none };
 }
 
 pub did_kept : (shelf : Shelf) (w : Work) (url bytes : List ℕ) (end : Finish) (g : GatesView) → absolute_of w.base w.url ≡ Ok url → block_at shelf.blocks url ≡ Some bytes → EndsBy url bytes end → Did shelf w kind.Resolve end g g
@@ -110,15 +114,15 @@ asked_well shelf w k end q g h none does grew later = record {
   asked = q ∷ [];
   does = does;
   log = grew;
-  faults = subst (λ (b : Bool). RoseBy (failures_of b) g.faults h.faults) (sym none) (rose_nothing g.faults h.faults later);
+  counts = record { later = later; still = λ e. absurd (cc e); rose = unrisen end g.faults h.faults none };
 }
 
-asked_badly : (shelf : Shelf) (w : Work) (k : ActKind) (end : Finish) (q : Asked) (g h : GatesView) → is_gate_failure end ≡ true → Does shelf w k end (q ∷ []) → Grew g.log h.log (q ∷ []) → Rose g.faults h.faults → Did shelf w k end g h
-asked_badly shelf w k end q g h fails does grew rose = record {
+asked_badly : (shelf : Shelf) (w : Work) (k : ActKind) (end : Finish) (q : Asked) (g h : GatesView) → Does shelf w k end (q ∷ []) → Grew g.log h.log (q ∷ []) → g.faults ≤ h.faults → Rose g.faults h.faults → Did shelf w k end g h
+asked_badly shelf w k end q g h does grew later rose = record {
   asked = q ∷ [];
   does = does;
   log = grew;
-  faults = subst (λ (b : Bool). RoseBy (failures_of b) g.faults h.faults) (sym fails) rose;
+  counts = record { later = later; still = λ e. absurd (cc e); rose = λ _. rose };
 }
 
 -- what a fetch was asked for a URL of the shelf
@@ -141,13 +145,13 @@ did_absent shelf w url g h at none grew later = asked_well shelf w kind.Resolve 
 pub did_want : (shelf : Shelf) (w : Work) (url : List ℕ) (g h : GatesView) → absolute_of w.base w.url ≡ Ok url → block_at shelf.blocks url ≡ None → Grew g.log h.log (fetch_of shelf url fetched.Memory ∷ []) → g.faults ≤ h.faults → Did shelf w kind.Resolve (finish.Other outcome.NoMemory) g h
 did_want shelf w url g h at none grew later = asked_well shelf w kind.Resolve (finish.Other outcome.NoMemory) (fetch_of shelf url fetched.Memory) g h refl (Does.fetches at none FetchEnds.no_memory) grew later
 
-pub did_fail : (shelf : Shelf) (w : Work) (url : List ℕ) (g h : GatesView) → absolute_of w.base w.url ≡ Ok url → block_at shelf.blocks url ≡ None → Grew g.log h.log (fetch_of shelf url fetched.Failed ∷ []) → Rose g.faults h.faults → Did shelf w kind.Resolve (finish.Other outcome.GateFailed) g h
-did_fail shelf w url g h at none grew rose = asked_badly shelf w kind.Resolve (finish.Other outcome.GateFailed) (fetch_of shelf url fetched.Failed) g h refl (Does.fetches at none FetchEnds.failed) grew rose
+pub did_fail : (shelf : Shelf) (w : Work) (url : List ℕ) (g h : GatesView) → absolute_of w.base w.url ≡ Ok url → block_at shelf.blocks url ≡ None → Grew g.log h.log (fetch_of shelf url fetched.Failed ∷ []) → g.faults ≤ h.faults → Rose g.faults h.faults → Did shelf w kind.Resolve (finish.Other outcome.GateFailed) g h
+did_fail shelf w url g h at none grew later rose = asked_badly shelf w kind.Resolve (finish.Other outcome.GateFailed) (fetch_of shelf url fetched.Failed) g h (Does.fetches at none FetchEnds.failed) grew later rose
 
 launch_did : (shelf : Shelf) (w : Work) (runner : List ℕ) (answer : Launched) (g h : GatesView) → w.runner ≡ Some runner → Grew g.log h.log (Launch (job_of w runner) answer ∷ []) → g.faults ≤ h.faults → (answer ≡ launched.Failed → Rose g.faults h.faults) → Did shelf w kind.Start (finish.Other (launched_outcome answer)) g h
 launch_did shelf w runner launched.Running g h is grew later rose = asked_well shelf w kind.Start (finish.Other outcome.Started) (Launch (job_of w runner) launched.Running) g h refl (Does.launches is) grew later
 launch_did shelf w runner launched.Declined g h is grew later rose = asked_well shelf w kind.Start (finish.Other outcome.Declined) (Launch (job_of w runner) launched.Declined) g h refl (Does.launches is) grew later
-launch_did shelf w runner launched.Failed g h is grew later rose = asked_badly shelf w kind.Start (finish.Other outcome.GateFailed) (Launch (job_of w runner) launched.Failed) g h refl (Does.launches is) grew (rose refl)
+launch_did shelf w runner launched.Failed g h is grew later rose = asked_badly shelf w kind.Start (finish.Other outcome.GateFailed) (Launch (job_of w runner) launched.Failed) g h (Does.launches is) grew later (rose refl)
 
 pub did_launch : (shelf : Shelf) (w : Work) (runner : List ℕ) (answer : Launched) (o : Outcome) (g h : GatesView) → o ≡ launched_outcome answer → w.runner ≡ Some runner → Grew g.log h.log (Launch (job_of w runner) answer ∷ []) → g.faults ≤ h.faults → (answer ≡ launched.Failed → Rose g.faults h.faults) → Did shelf w kind.Start (finish.Other o) g h
 did_launch shelf w runner answer o g h by is grew later rose =
@@ -155,7 +159,7 @@ did_launch shelf w runner answer o g h by is grew later rose =
 
 halt_did : (shelf : Shelf) (w : Work) (runner : List ℕ) (answer : Halted) (g h : GatesView) → w.runner ≡ Some runner → Grew g.log h.log (Halt (job_of w runner) answer ∷ []) → g.faults ≤ h.faults → (answer ≡ halted.Failed → Rose g.faults h.faults) → Did shelf w kind.Stop (finish.Other (halted_outcome answer)) g h
 halt_did shelf w runner halted.Stopped g h is grew later rose = asked_well shelf w kind.Stop (finish.Other outcome.Stopped) (Halt (job_of w runner) halted.Stopped) g h refl (Does.halts is) grew later
-halt_did shelf w runner halted.Failed g h is grew later rose = asked_badly shelf w kind.Stop (finish.Other outcome.Killed) (Halt (job_of w runner) halted.Failed) g h refl (Does.halts is) grew (rose refl)
+halt_did shelf w runner halted.Failed g h is grew later rose = asked_badly shelf w kind.Stop (finish.Other outcome.Killed) (Halt (job_of w runner) halted.Failed) g h (Does.halts is) grew later (rose refl)
 
 pub did_halt : (shelf : Shelf) (w : Work) (runner : List ℕ) (answer : Halted) (o : Outcome) (g h : GatesView) → o ≡ halted_outcome answer → w.runner ≡ Some runner → Grew g.log h.log (Halt (job_of w runner) answer ∷ []) → g.faults ≤ h.faults → (answer ≡ halted.Failed → Rose g.faults h.faults) → Did shelf w kind.Stop (finish.Other o) g h
 did_halt shelf w runner answer o g h by is grew later rose =

@@ -8,8 +8,8 @@ use Rattle.cm_world.specs.declared.reply.Entry.{Entry}
 use Rattle.cm_world.specs.World.{World, start}
 use Rattle.cm_world.specs.Legal.{Legal, replay}
 use Rattle.cm_world.proofs.Histories.{Legal-split, replay-append}
-use Rattle.cm_steps.specs.Shutdowns.{IsLeaving, IsMarked, IsOver, MarksStay, MarkedMayClose, OverStays, OverMayPurge}
-use Rattle.cm_steps.specs.Story.{Story, world_of, IsLegal}
+use Rattle.cm_laws.specs.Shutdowns.{IsLeaving, IsMarked, IsOver, MarksStay, MarkedMayClose, OverStays, OverMayPurge}
+use Rattle.cm_laws.specs.Story.{Story, world_of, IsLegal}
 use Rattle.cm_manager.specs.Turns.{world_after}
 use Rattle.cm_manager.specs.Asking.{frame_in, frame_of, is_plain, IsDue, IsOpen, DueStays, DueIsOpen}
 use Rattle.cm_manager.specs.Contract.{RealmPass, IsSamePass}

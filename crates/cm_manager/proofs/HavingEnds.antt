@@ -14,7 +14,7 @@ use Rattle.cm_world.specs.declared.reply.Entry.{Entry}
 use Rattle.cm_manager.specs.Turns.{own_entries}
 use Rattle.cm_manager.specs.Work.{begins}
 use Rattle.cm_turn.specs.Passes.{IsKnown, HasCaller}
-use Rattle.cm_steps.specs.Story.{Story}
+use Rattle.cm_laws.specs.Story.{Story}
 use Rattle.cm_world.proofs.Finding.{some_same}
 use Rattle.cm_manager.specs.Closed.{joins, IsClosed, empty, plain, acted, awaited, BeginsWork, EndsAction, HasEnds}
 use Rattle.cm_manager.specs.Contract.{RealmPass}

@@ -34,8 +34,8 @@ eagers-split f c (x ∷ xs) ys a d end (next_one act fine rest) =
 eagers-split f c (x ∷ xs) ys a d end (cut_at {x = y} act is) = inr (y, refl, Eagers.cut_at act is)
 
 -- the work of two parts, one behind the other
-pub works-append : (shelf : Shelf) (p q : List Entry) (a b : List Asked) → Works shelf p a → Works shelf q b → Works shelf (p ++ q) (a ++ b)
+pub works-append : (shelf : Shelf) (p q : List Entry) (a b : List Asked) {n k m : ℕ} → Works shelf p a n k → Works shelf q b k m → Works shelf (p ++ q) (a ++ b) n m
 works-append shelf p q a b nothing w = w
-works-append shelf p q a b (passes is rest) w = Works.passes is (works-append shelf _ q _ b rest w)
-works-append shelf p q a b (ends {now = now} {later = later} is end rest) w =
-    subst (λ (l : List Asked). Works shelf (p ++ q) l) (sym (append_assoc now later b)) (Works.ends is end (works-append shelf _ q _ b rest w))
+works-append shelf p q a b (passes is apart rest) w = Works.passes is apart (works-append shelf _ q _ b rest w)
+works-append shelf p q a b {n} {k} {m} (ends {now = now} {later = later} is end rest) w =
+    subst (λ (l : List Asked). Works shelf (p ++ q) l n m) (sym (append_assoc now later b)) (Works.ends is end (works-append shelf _ q _ b rest w))

@@ -7,14 +7,17 @@ pub mod Doings
 pub mod Closings
 pub mod HavingEnds
 pub mod Turning
+pub mod Counting
 pub mod Helping
 pub mod Due
 pub mod ShuttingDown
+pub mod Answering
 pub mod BeginReplies
 pub mod Onward
 pub mod Begins
 pub mod Launches
 pub mod Starts
+pub mod Readings
 pub mod Tryings
 pub mod Calling
 pub mod DoctorLines

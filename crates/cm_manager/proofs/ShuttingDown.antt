@@ -16,8 +16,8 @@ use Rattle.cm_world.specs.World.{start}
 use Rattle.cm_world.specs.Step.{MayEnd, IsPickReply}
 use Rattle.cm_world.specs.Legal.{Legal}
 use Rattle.cm_world.proofs.Histories.{Legal-split}
-use Rattle.cm_steps.specs.Shutdowns.{IsLeaving, IsMarked, IsOver, MarksMark, MarksStay, DoneIsOver, PickersMayEnd}
-use Rattle.cm_steps.specs.Story.{IsLegal, world_of}
+use Rattle.cm_laws.specs.Shutdowns.{IsLeaving, IsMarked, IsOver, MarksMark, MarksStay, DoneIsOver, PickersMayEnd}
+use Rattle.cm_laws.specs.Story.{IsLegal, world_of}
 use Rattle.cm_manager.specs.Turns.{Makes, Asks, IsCut, world_after}
 use Rattle.cm_manager.specs.Answers.{answer_unless}
 use Rattle.cm_manager.specs.Shutdowns.{unmarked, unmarked_by, Stops, Shuts, Destroys}
@@ -81,7 +81,7 @@ on_help shelf t w end o p q r g h first asked did second told =
     let f = frame_of p in
     let c = p.caller in
     let makes = subst (λ (c : ℕ). Makes c q.seen (event.End w.action end) (reply.Ended o) r.seen) first.caller told.makes in
-    helps_acted shelf f (λ a b. PicksBy f c t picked.Further a b) p q r g h (event.Pick t) (reply.Stopping w) kind.Stop w end o refl refl first
+    helps_acted shelf f (λ a b. PicksBy f c t picked.Further a b) p q r g h (event.Pick t) (reply.Stopping w) kind.Stop w end o refl first
     (subst (λ (f : Frame). IsSamePass f q r) (frame_kept p q first.frame) second)
     (λ b end rest. Stops.was_on asked.0 makes rest)
     asked.1 told.mine did
@@ -132,7 +132,7 @@ done_over stays done shelf t by p q g h leaving is help =
 
 -- ---- marks
 
-unmarked_not : (r : Reply) → unmarked r ≡ None → (r ≡ reply.Marked) ⊎ (r ≡ reply.Already)
+pub unmarked_not : (r : Reply) → unmarked r ≡ None → (r ≡ reply.Marked) ⊎ (r ≡ reply.Already)
 unmarked_not reply.Marked is = inl refl
 unmarked_not reply.Already is = inr refl
 unmarked_not _ is = absurd (cc is)

@@ -1,5 +1,5 @@
 -- What the turns of an event come to that is made again until a reply decides it.
-use Rattle.std.proofs.Common.{◌≡◌, ℕ, List, Some, None, Result, Ok, Err, IsTrue, refl, sym, subst}
+use Rattle.std.proofs.Common.{◌≡◌, ℕ, List, Some, None, Result, Ok, Err, IsTrue, IsFalse, refl, sym, subst}
 use Rattle.cm_world.specs.declared.action.ActKind.{ActKind}
 use Rattle.cm_world.specs.declared.answer.Refusal.{Refusal}
 use Rattle.cm_world.specs.declared.event.Event.{Event}
@@ -12,9 +12,9 @@ use Rattle.cm_manager.specs.Runs.{Acts, Tries, ends_call, needed}
 use Rattle.cm_manager.specs.Asking.{Asked, frame_of, is_asked, is_plain}
 use Rattle.cm_manager.specs.Closed.{joins}
 use Rattle.cm_manager.specs.Contract.{RealmPass, GatesView, IsSamePass, Helps}
-use Rattle.cm_manager.specs.Work.{Shelf, begins}
+use Rattle.cm_manager.specs.Work.{Shelf, begins, is_end}
 use Rattle.cm_manager.specs.declared.acted.Acted.{Acted}
-use Rattle.cm_manager.proofs.Helping.{is_no_end, helps_as, helps_nothing, helps_plain}
+use Rattle.cm_manager.proofs.Helping.{helps_as, helps_nothing, helps_plain}
 use Rattle.cm_manager.proofs.Onward.{Ways, Onward, onward_next, then_acts}
 
 -- an event that is tried, by what it came to
@@ -26,7 +26,7 @@ abbrev pub Replying : Event → Reply → Frame → ℕ → List Entry → List 
 Replying e r f c a b = Asks f c a e r b
 
 -- it begins, joins and ends no action
-apart_of : (e : Event) (r : Reply) → IsTrue (is_asked e) → IsTrue (is_plain e) → IsTrue (is_no_end e) × (begins e r ≡ None) × (joins e r ≡ None)
+apart_of : (e : Event) (r : Reply) → IsTrue (is_asked e) → IsTrue (is_plain e) → IsFalse (is_end e) × (begins e r ≡ None) × (joins e r ≡ None)
 apart_of (event.Find m) r asked plain = (refl, refl, refl)
 apart_of (event.Begin k i) r asked plain = absurd (cc plain)
 apart_of (event.Create i coll name url gives) r asked plain = (refl, refl, refl)

@@ -17,9 +17,9 @@ use Rattle.cm_world.specs.World.{start}
 use Rattle.cm_world.specs.Step.{MayEnd}
 use Rattle.cm_world.specs.Legal.{Legal}
 use Rattle.cm_world.proofs.Histories.{Legal-push}
-use Rattle.cm_steps.specs.Story.{Story, world_of, IsLegal}
-use Rattle.cm_steps.specs.Steps.{Tells, HasRoom, LacksRoom, Refuses, entry_of}
-use Rattle.cm_steps.specs.Laws.{IsJoined}
+use Rattle.cm_laws.specs.Story.{Story, world_of, IsLegal, Tells, entry_of}
+use Rattle.cm_steps.specs.Steps.{HasRoom, LacksRoom, Refuses}
+use Rattle.cm_laws.specs.Laws.{IsJoined}
 use Rattle.cm_steps.specs.declared.nostep.NoStep.{NoStep}
 use Rattle.cm_steps.specs.declared.nostep.NoStep.TheVariants as nostep
 use Rattle.cm_manager.specs.Turns.{world_after, own_entries, wanted, need, Later, Makes, Asks, IsCut}

@@ -1,5 +1,6 @@
 -- What the begin of an action, and a pick, came to, in the turns of one caller.
-use Rattle.std.specs.Prelude.{◌≡◌, ◌≢◌, ℕ, List, Bool, true, false, Option, Some, None, Result, Ok, Err, IsTrue, IsFalse}
+use Rattle.std.specs.Prelude.{◌≡◌, ◌≢◌, ℕ, List, Bool, true, false, Option, Some, None, Result, Ok, Err}
+use Rattle.std.specs.Prelude.{IsTrue, IsFalse}
 use Rattle.cm_world.specs.declared.action.ActKind.{ActKind}
 use Rattle.cm_world.specs.declared.action.ActKind.TheVariants as kind
 use Rattle.cm_world.specs.declared.action.Finish.{Finish}
@@ -27,7 +28,8 @@ use Rattle.cm_manager.specs.declared.began.Demand.{Demand}
 use Rattle.cm_manager.specs.declared.began.Demand.TheVariants as demand
 
 -- it was begun and ended; only a start ends in Started
-pub record Ends (f : Frame) (c : ℕ) (k : ActKind) (i a : ℕ) (o : Outcome) (eager : List ℕ) (h₀ h₂ : List Entry) : Type 0 where
+pub record Ends (f : Frame) (c : ℕ) (k : ActKind) (i a : ℕ) (o : Outcome) (eager : List ℕ)
+    (h₀ h₂ : List Entry) : Type 0 where
   pub work : Work
   pub finish : Finish
   pub h₁ : List Entry
@@ -48,7 +50,8 @@ abbrev pub BeginsBy : Frame → ℕ → ActKind → ℕ → Result Began Refusal
 BeginsBy f c k i (Ok (began.Ended a o eager)) h₀ h₁ = Ends f c k i a o eager h₀ h₁
 BeginsBy f c k i (Ok (began.Joined a o)) h₀ h₁ = Joins f c k i a o h₀ h₁
 BeginsBy f c k i (Ok (began.Quiet r)) h₀ h₁ = Asks f c h₀ (event.Begin k i) r h₁ × IsTrue (is_quiet r)
-BeginsBy f c k i (Ok (began.Needs j)) h₀ h₁ = Asks f c h₀ (event.Begin k i) (reply.Need j) h₁ × (k ≡ kind.Start)
+BeginsBy f c k i (Ok (began.Needs j)) h₀ h₁ =
+    Asks f c h₀ (event.Begin k i) (reply.Need j) h₁ × (k ≡ kind.Start)
 BeginsBy f c k i (Err x) h₀ h₁ = IsCut f c h₀ (event.Begin k i) h₁ x
 
 -- whether an action went well
@@ -73,14 +76,16 @@ behind_eager a (Some x) = Err x
 abbrev pub StartsBy : Frame → ℕ → ℕ → Launch → List Entry → List Entry → Type 0
 StartsBy f c i (launch.Settled went) h₀ h₁ = Acts f c kind.Start i h₀ h₁ went
 StartsBy f c i (launch.Children a eager) h₀ h₁ =
-    (h₂ : List Entry) (end : Option Refusal) → Eagers f c eager h₁ h₂ end → Acts f c kind.Start i h₀ h₂ (behind_eager a end)
+    (h₂ : List Entry) (end : Option Refusal) → Eagers f c eager h₁ h₂ end
+    → Acts f c kind.Start i h₀ h₂ (behind_eager a end)
 
 -- the same of its begin alone, which may need that a row is resolved first
 abbrev pub LaunchesBy : Frame → ℕ → ℕ → Result Launch ℕ → List Entry → List Entry → Type 0
 LaunchesBy f c i (Ok started) h₀ h₁ = StartsBy f c i started h₀ h₁
 LaunchesBy f c i (Err j) h₀ h₁ = Asks f c h₀ (event.Begin kind.Start i) (reply.Need j) h₁
 
--- what one pick came to: all is done, or the call is cut, or the stops are made whole by whatever the later picks come to
+-- what one pick came to: all is done, or the call is cut, or the stops are made whole by whatever the later
+-- picks come to
 abbrev pub PicksBy : Frame → ℕ → ℕ → Picked → List Entry → List Entry → Type 0
 PicksBy f c t picked.Done h₀ h₁ = Asks f c h₀ (event.Pick t) reply.Done h₁
 PicksBy f c t picked.Further h₀ h₁ =

@@ -62,7 +62,10 @@ found_by (Err x) = Err x
 -- what a call that acts answers: the action, or none where it was so already
 abbrev pub acted_answer : (Option ℕ → Outcome → Answer) → Result Acted Refusal → Result Answer Refusal
 acted_answer made (Ok (acted.Ended k a o)) =
-    elim (ends_call (Ok (acted.Ended k a o))) as (λ _. Result Answer Refusal) [ None ↦ Ok (made (Some a) o) | Some x ↦ Err x ]
+    elim (ends_call (Ok (acted.Ended k a o))) as (λ _. Result Answer Refusal) [
+      | None ↦ Ok (made (Some a) o)
+      | Some x ↦ Err x
+    ]
 acted_answer made (Ok (acted.Quiet reply.Already)) = Ok (made None outcome.Resolved)
 acted_answer made (Ok (acted.Quiet r)) = Err (refusal_of r)
 acted_answer made (Err x) = Err x

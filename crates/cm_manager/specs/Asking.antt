@@ -1,5 +1,6 @@
 -- What a turn gives, whose event may get any reply.
-use Rattle.std.specs.Prelude.{◌≡◌, ℕ, List, [], ◌∷◌, ◌++◌, Bool, true, false, Option, Some, None, Result, Ok, Err, IsTrue}
+use Rattle.std.specs.Prelude.{◌≡◌, ℕ, List, [], ◌∷◌, ◌++◌, Bool, true, false, Option, Some, None, Result, Ok}
+use Rattle.std.specs.Prelude.{Err, IsTrue}
 use Rattle.cm_turn.specs.History.{StartsWith}
 use Rattle.cm_world.specs.declared.action.Outcome.{Outcome}
 use Rattle.cm_world.specs.declared.event.Event.{Event}
@@ -13,9 +14,9 @@ use Rattle.cm_world.specs.declared.answer.Refusal.TheVariants as refusal
 use Rattle.cm_world.specs.World.{World, start}
 use Rattle.cm_world.specs.Step.{may_close, may_purge}
 use Rattle.cm_world.specs.Legal.{Legal}
-use Rattle.cm_steps.specs.Story.{Story}
-use Rattle.cm_steps.specs.Shutdowns.{IsLeaving, IsMarked, IsOver}
-use Rattle.cm_steps.specs.Steps.{Tells, HasRoom, LacksRoom, entry_of}
+use Rattle.cm_laws.specs.Story.{Story, Tells, entry_of}
+use Rattle.cm_laws.specs.Shutdowns.{IsLeaving, IsMarked, IsOver}
+use Rattle.cm_steps.specs.Steps.{HasRoom, LacksRoom}
 use Rattle.cm_steps.specs.declared.nostep.NoStep.{NoStep}
 use Rattle.cm_steps.specs.declared.nostep.NoStep.TheVariants as nostep
 use Rattle.cm_manager.specs.Turns.{Later, Makes, Asks, IsCut, need, world_after}
@@ -61,7 +62,8 @@ is_plain (event.Pick t) = false
 is_plain (event.Purge i) = false
 is_plain _ = true
 
--- what a caller has to have seen before it makes an event: that the target of a pick is leaving, and that what it purges is to be destroyed, and shut with all below it
+-- what a caller has to have seen before it makes an event: that the target of a pick is leaving, and that
+-- what it purges is to be destroyed, and shut with all below it
 abbrev pub IsDue : World → Event → Type 0
 IsDue w (event.Pick t) = IsLeaving w t
 IsDue w (event.Purge i) = IsMarked true w i × IsOver w i
@@ -108,12 +110,16 @@ IsTurned f c old e new nostep.Memory = IsCut f c old e new refusal.Memory
 
 -- one turn with this event: its entry is the caller's newest, or there is none
 abbrev pub Turned : Event → RealmPass → RealmPass → Result Reply NoStep → Type 0
-Turned e old new (Ok r) = Asks (frame_of old) old.caller old.seen e r new.seen × (new.mine ≡ old.mine ++ entry_of old.caller e r ∷ [])
+Turned e old new (Ok r) =
+    Asks (frame_of old) old.caller old.seen e r new.seen
+    × (new.mine ≡ old.mine ++ entry_of old.caller e r ∷ [])
 Turned e old new (Err x) = IsTurned (frame_of old) old.caller old.seen e new.seen x × (new.mine ≡ old.mine)
 
 -- turns until the event has an entry, or the call is cut
 abbrev pub Asked : Event → RealmPass → RealmPass → Result Reply Refusal → Type 0
-Asked e old new (Ok r) = Asks (frame_of old) old.caller old.seen e r new.seen × (new.mine ≡ old.mine ++ entry_of old.caller e r ∷ [])
+Asked e old new (Ok r) =
+    Asks (frame_of old) old.caller old.seen e r new.seen
+    × (new.mine ≡ old.mine ++ entry_of old.caller e r ∷ [])
 Asked e old new (Err x) = IsCut (frame_of old) old.caller old.seen e new.seen x × (new.mine ≡ old.mine)
 
 -- one turn with an entry of this event and its outcome, which needs no room

@@ -22,7 +22,8 @@ use Rattle.cm_manager.specs.declared.acted.Acted.{Acted}
 use Rattle.cm_manager.specs.Turns.{own_entries}
 use Rattle.cm_manager.specs.Runs.{Acts, Tries}
 use Rattle.cm_manager.specs.Doctor.{Doctors}
-use Rattle.cm_manager.specs.Answers.{answer_unless, decided_by, found_by, resolved_answer, started_answer, stopped_answer}
+use Rattle.cm_manager.specs.Answers.{answer_unless, decided_by, found_by, resolved_answer, started_answer}
+use Rattle.cm_manager.specs.Answers.{stopped_answer}
 use Rattle.cm_manager.specs.Shutdowns.{Shuts, Destroys}
 
 -- a way from one history to a later one, with what it ends in
@@ -32,7 +33,8 @@ Way A = List Entry → List Entry → A → Type 0
 -- the row that a target names: a moniker is looked for, an incarnation is taken as it stands
 abbrev pub Finding : Frame → ℕ → Target → Way (Result ℕ Refusal)
 Finding f c (target.Inc n) h₀ h₁ row = (h₁ ≡ h₀) × (row ≡ Ok n)
-Finding f c (target.Named m) h₀ h₁ row = (went : Result Reply Refusal) × Tries f c (event.Find m) h₀ h₁ went × (row ≡ found_by went)
+Finding f c (target.Named m) h₀ h₁ row =
+    (went : Result Reply Refusal) × Tries f c (event.Find m) h₀ h₁ went × (row ≡ found_by went)
 
 -- a call on the row, or the end of it where none was found
 abbrev pub Behind : Result ℕ Refusal → (ℕ → Way (Result Answer Refusal)) → Way (Result Answer Refusal)
@@ -40,7 +42,8 @@ Behind (Ok i) call h₀ h₁ a = call i h₀ h₁ a
 Behind (Err x) call h₀ h₁ a = (h₁ ≡ h₀) × (a ≡ Err x)
 
 -- the row is found, and the call goes on from there
-pub record OnRow (f : Frame) (c : ℕ) (t : Target) (call : ℕ → Way (Result Answer Refusal)) (h₀ h₂ : List Entry) (a : Result Answer Refusal) : Type 0 where
+pub record OnRow (f : Frame) (c : ℕ) (t : Target) (call : ℕ → Way (Result Answer Refusal))
+    (h₀ h₂ : List Entry) (a : Result Answer Refusal) : Type 0 where
   pub row : Result ℕ Refusal
   pub h₁ : List Entry
   pub finding : Finding f c t h₀ h₁ row
@@ -51,7 +54,8 @@ abbrev pub Tried : Frame → ℕ → (ℕ → Event) → ℕ → Way (Result Ans
 Tried f c e i h₀ h₁ a = (went : Result Reply Refusal) × Tries f c (e i) h₀ h₁ went × (a ≡ decided_by went)
 
 -- a call with one action
-abbrev pub ActedOn : Frame → ℕ → ActKind → (Result Acted Refusal → Result Answer Refusal) → ℕ → Way (Result Answer Refusal)
+abbrev pub ActedOn : Frame → ℕ → ActKind → (Result Acted Refusal → Result Answer Refusal) → ℕ
+    → Way (Result Answer Refusal)
 ActedOn f c k value i h₀ h₁ a = (went : Result Acted Refusal) × Acts f c k i h₀ h₁ went × (a ≡ value went)
 
 -- a call that comes to one answer unless something ends it before
@@ -64,7 +68,8 @@ Calls f c (command.Resolve t) = OnRow f c t (ActedOn f c kind.Resolve resolved_a
 Calls f c (command.Start t) = OnRow f c t (ActedOn f c kind.Start started_answer)
 Calls f c (command.Stop t) = OnRow f c t (ActedOn f c kind.Stop stopped_answer)
 Calls f c (command.Shutdown t) = OnRow f c t (λ i. Reaches answer.Shut (Shuts f c false i))
-Calls f c (command.Create t coll name url gives) = OnRow f c t (Tried f c (λ i. event.Create i coll name url gives))
+Calls f c (command.Create t coll name url gives) =
+    OnRow f c t (Tried f c (λ i. event.Create i coll name url gives))
 Calls f c (command.Destroy t) = OnRow f c t (λ i. Reaches answer.Destroyed (Destroys f c i))
 Calls f c (command.ListChildren t coll) = OnRow f c t (Tried f c (λ i. event.Listing i coll))
 Calls f c (command.OpenUse t path) = OnRow f c t (Tried f c (λ i. event.OpenUse i path))
@@ -77,10 +82,12 @@ Calls f c (command.Exited t) = OnRow f c t (Tried f c event.Exited)
 
 -- a call, whose answer may be lost for want of memory
 abbrev pub Goes : Frame → ℕ → Command → Way (Result Answer Refusal)
-Goes f c cmd h₀ h₁ a = Calls f c cmd h₀ h₁ a ⊎ ((a ≡ Err refusal.Memory) × ((b : Result Answer Refusal) × Calls f c cmd h₀ h₁ b))
+Goes f c cmd h₀ h₁ a =
+    Calls f c cmd h₀ h₁ a ⊎ ((a ≡ Err refusal.Memory) × ((b : Result Answer Refusal) × Calls f c cmd h₀ h₁ b))
 
 -- these entries of the caller, in a legal history, are a whole call with this answer
-pub record Runs (f : Frame) (history : List Entry) (cmd : Command) (c : ℕ) (part : List Entry) (a : Result Answer Refusal) : Type 0 where
+pub record Runs (f : Frame) (history : List Entry) (cmd : Command) (c : ℕ) (part : List Entry)
+    (a : Result Answer Refusal) : Type 0 where
   pub legal : Legal (start f) history
   pub before : List Entry
   pub after : List Entry

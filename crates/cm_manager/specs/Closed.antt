@@ -12,6 +12,7 @@ use Rattle.cm_turn.specs.History.{StartsWith}
 use Rattle.cm_manager.specs.Turns.{own_entries}
 use Rattle.cm_manager.specs.Work.{begins}
 
+-- the action that an entry joins
 abbrev pub joins : Event → Reply → Option ℕ
 joins (event.Begin k i) (reply.Joined a) = Some a
 joins _ _ = None
@@ -19,9 +20,21 @@ joins _ _ = None
 -- each action that is begun has its End behind it, and each join its Await
 pub data IsClosed : List Entry → Type 0 where
   empty : IsClosed []
-  plain : {e : Entry} {es : List Entry} → begins e.event e.reply ≡ None → joins e.event e.reply ≡ None → IsClosed es → IsClosed (e ∷ es)
-  acted : {e e' : Entry} {es : List Entry} {b : ActKind × Work} {finish : Finish} → begins e.event e.reply ≡ Some b → e'.event ≡ event.End b.1.action finish → IsClosed es → IsClosed (e ∷ e' ∷ es)
-  awaited : {e e' : Entry} {es : List Entry} {a : ℕ} → joins e.event e.reply ≡ Some a → e'.event ≡ event.Await a → IsClosed es → IsClosed (e ∷ e' ∷ es)
+  plain : {e : Entry} {es : List Entry}
+      → begins e.event e.reply ≡ None
+      → joins e.event e.reply ≡ None
+      → IsClosed es
+      → IsClosed (e ∷ es)
+  acted : {e e' : Entry} {es : List Entry} {b : ActKind × Work} {finish : Finish}
+      → begins e.event e.reply ≡ Some b
+      → e'.event ≡ event.End b.1.action finish
+      → IsClosed es
+      → IsClosed (e ∷ e' ∷ es)
+  awaited : {e e' : Entry} {es : List Entry} {a : ℕ}
+      → joins e.event e.reply ≡ Some a
+      → e'.event ≡ event.Await a
+      → IsClosed es
+      → IsClosed (e ∷ e' ∷ es)
 
 -- from h to h₁ the caller made a part that is closed
 pub record Grows (c : ℕ) (h h₁ : List Entry) : Type 0 where

@@ -34,7 +34,8 @@ pub record IsSamePass (f : Frame) (old new : RealmPass) : Type 0 where
   pub legal : Legal (start f) new.seen
 
 -- a way of its own from what the pass had seen to what it has seen then, with the work of its part
-pub record Helps (shelf : Shelf) (f : Frame) (Way : List Entry → List Entry → Type 0) (old new : RealmPass) (gates₀ gates₁ : GatesView) : Type 0 where
+pub record Helps (shelf : Shelf) (f : Frame) (Way : List Entry → List Entry → Type 0) (old new : RealmPass)
+    (gates₀ gates₁ : GatesView) : Type 0 where
   pub same : IsSamePass f old new
   pub way : Way old.seen new.seen
   pub part : List Entry
@@ -43,5 +44,7 @@ pub record Helps (shelf : Shelf) (f : Frame) (Way : List Entry → List Entry �
   pub work : WorksWith shelf part gates₀.log gates₁.log gates₀.faults gates₁.faults
 
 -- one call of the manager, with its answer
-abbrev pub Performs : Shelf → Frame → Command → RealmPass → RealmPass → GatesView → GatesView → Result Answer Refusal → Type 0
-Performs shelf f command old new gates₀ gates₁ a = Helps shelf f (λ h₀ h₁. Goes f old.caller command h₀ h₁ a) old new gates₀ gates₁
+abbrev pub Performs : Shelf → Frame → Command → RealmPass → RealmPass → GatesView → GatesView
+    → Result Answer Refusal → Type 0
+Performs shelf f command old new gates₀ gates₁ a =
+    Helps shelf f (λ h₀ h₁. Goes f old.caller command h₀ h₁ a) old new gates₀ gates₁

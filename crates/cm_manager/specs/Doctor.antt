@@ -1,4 +1,5 @@
--- The run of a check of all routes: a survey of a row, and the routes of all paths that the rows of the survey use.
+-- The run of a check of all routes: a survey of a row, and the routes of all paths that the rows of the
+-- survey use.
 use Rattle.std.specs.Prelude.{◌≡◌, ◌⊎◌, ℕ, List, [], ◌∷◌, ◌++◌, Some, None, Result, Ok, Err, IsTrue, IsFalse}
 use Rattle.cm_names.specs.declared.moniker.Moniker.{Moniker}
 use Rattle.cm_world.specs.declared.frame.Frame.{Frame}
@@ -24,7 +25,8 @@ route_by (Ok (reply.Given route)) = Ok route
 route_by (Ok r) = Err (refusal_of r)
 route_by (Err x) = Err x
 
--- the line of a path, with its route or its refusal; want of memory and a full history end the call in its place
+-- the line of a path, with its route or its refusal; want of memory and a full history end the call in its
+-- place
 abbrev pub line_of : Moniker → List ℕ → Result Route Refusal → Result (List Checked) Refusal
 line_of m p (Err refusal.Memory) = Err refusal.Memory
 line_of m p (Err refusal.HistoryFull) = Err refusal.HistoryFull
@@ -46,26 +48,43 @@ abbrev pub Checks : Type 1
 Checks = List Entry → List Entry → Result (List Checked) Refusal → Type 0
 
 -- items in order, each by its rule, with the lines of all of them
-pub data Each {A : Type 0} (Item : A → Checks) : List A → List Entry → List Entry → Result (List Checked) Refusal → Type 0 where
+pub data Each {A : Type 0} (Item : A → Checks)
+    : List A → List Entry → List Entry → Result (List Checked) Refusal → Type 0 where
   -- no item, no line
   no_item : {h : List Entry} → Each Item [] h h (Ok [])
   -- the lines of the first item, and then those of the others
-  next_item : {x : A} {xs : List A} {h₀ h₁ h₂ : List Entry} {lines : List Checked} {end : Result (List Checked) Refusal} → Item x h₀ h₁ (Ok lines) → Each Item xs h₁ h₂ end → Each Item (x ∷ xs) h₀ h₂ (in_front lines end)
+  next_item : {x : A} {xs : List A} {h₀ h₁ h₂ : List Entry} {lines : List Checked}
+      {end : Result (List Checked) Refusal}
+      → Item x h₀ h₁ (Ok lines)
+      → Each Item xs h₁ h₂ end
+      → Each Item (x ∷ xs) h₀ h₂ (in_front lines end)
   -- the call ends at the first item
-  cut_item : {x : A} {xs : List A} {h₀ h₁ : List Entry} {e : Refusal} → Item x h₀ h₁ (Err e) → Each Item (x ∷ xs) h₀ h₁ (Err e)
+  cut_item : {x : A} {xs : List A} {h₀ h₁ : List Entry} {e : Refusal}
+      → Item x h₀ h₁ (Err e)
+      → Each Item (x ∷ xs) h₀ h₁ (Err e)
   -- memory is wanting behind it
-  lost_item : {x : A} {xs : List A} {h₀ h₁ : List Entry} {lines : List Checked} → Item x h₀ h₁ (Ok lines) → Each Item (x ∷ xs) h₀ h₁ (Err refusal.Memory)
+  lost_item : {x : A} {xs : List A} {h₀ h₁ : List Entry} {lines : List Checked}
+      → Item x h₀ h₁ (Ok lines)
+      → Each Item (x ∷ xs) h₀ h₁ (Err refusal.Memory)
 
 -- a path of a row: its route is asked for at the row's incarnation, and its line has the row's moniker
 abbrev pub OfPath : Frame → ℕ → SurveyRow → List ℕ → Checks
-OfPath f c row p h₀ h₁ end = (went : Result Reply Refusal) × Tries f c (event.Route row.inc p) h₀ h₁ went × (end ≡ line_of row.moniker p (route_by went))
+OfPath f c row p h₀ h₁ end =
+    (went : Result Reply Refusal) × Tries f c (event.Route row.inc p) h₀ h₁ went
+    × (end ≡ line_of row.moniker p (route_by went))
 
 -- a row of a survey
-pub data OfRow (f : Frame) (c : ℕ) (row : SurveyRow) : List Entry → List Entry → Result (List Checked) Refusal → Type 0 where
+pub data OfRow (f : Frame) (c : ℕ) (row : SurveyRow)
+    : List Entry → List Entry → Result (List Checked) Refusal → Type 0 where
   -- where it isn't resolved it has one line, and no event is made
-  unresolved : {h : List Entry} → IsFalse row.resolved → OfRow f c row h h (Ok (unresolved_line row.moniker ∷ []))
+  unresolved : {h : List Entry}
+      → IsFalse row.resolved
+      → OfRow f c row h h (Ok (unresolved_line row.moniker ∷ []))
   -- where it is, it has the lines of its paths
-  resolved : {h₀ h₁ : List Entry} {end : Result (List Checked) Refusal} → IsTrue row.resolved → Each (OfPath f c row) row.paths h₀ h₁ end → OfRow f c row h₀ h₁ end
+  resolved : {h₀ h₁ : List Entry} {end : Result (List Checked) Refusal}
+      → IsTrue row.resolved
+      → Each (OfPath f c row) row.paths h₀ h₁ end
+      → OfRow f c row h₀ h₁ end
 
 -- the rows that a survey gives, or the refusal that the reply, or what was needed before it, stands for
 abbrev pub surveyed_by : Result Reply Refusal → Result (List SurveyRow) Refusal
@@ -81,9 +100,17 @@ doctored_by (Err x) = Err x
 -- the check of the row of this incarnation
 pub data Doctors (f : Frame) (c i : ℕ) : List Entry → List Entry → Result Answer Refusal → Type 0 where
   -- it is surveyed, and then each row of the survey has its lines
-  surveyed : {h₀ h₁ h₂ : List Entry} {went : Result Reply Refusal} {rows : List SurveyRow} {end : Result (List Checked) Refusal} → Tries f c (event.Survey i) h₀ h₁ went → surveyed_by went ≡ Ok rows → Each (OfRow f c) rows h₁ h₂ end → Doctors f c i h₀ h₂ (doctored_by end)
+  surveyed : {h₀ h₁ h₂ : List Entry} {went : Result Reply Refusal} {rows : List SurveyRow}
+      {end : Result (List Checked) Refusal}
+      → Tries f c (event.Survey i) h₀ h₁ went
+      → surveyed_by went ≡ Ok rows
+      → Each (OfRow f c) rows h₁ h₂ end
+      → Doctors f c i h₀ h₂ (doctored_by end)
   -- its survey is refused, and so is the call
-  not_surveyed : {h₀ h₁ : List Entry} {went : Result Reply Refusal} {x : Refusal} → Tries f c (event.Survey i) h₀ h₁ went → surveyed_by went ≡ Err x → Doctors f c i h₀ h₁ (Err x)
+  not_surveyed : {h₀ h₁ : List Entry} {went : Result Reply Refusal} {x : Refusal}
+      → Tries f c (event.Survey i) h₀ h₁ went
+      → surveyed_by went ≡ Err x
+      → Doctors f c i h₀ h₁ (Err x)
 
 -- ---- what the functions promise that gather the lines
 
@@ -98,8 +125,10 @@ Adding Rule lines h₀ h₁ end = (more : Result (List Checked) Refusal) × Rule
 
 -- by this rule, with the lines from before in front
 abbrev pub Gathering : Checks → List Checked → Checks
-Gathering Rule lines h₀ h₁ end = (more : Result (List Checked) Refusal) × Rule h₀ h₁ more × (end ≡ in_front lines more)
+Gathering Rule lines h₀ h₁ end =
+    (more : Result (List Checked) Refusal) × Rule h₀ h₁ more × (end ≡ in_front lines more)
 
 -- the rows of a survey that was tried
 abbrev pub Surveying : Frame → ℕ → ℕ → List Entry → List Entry → Result (List SurveyRow) Refusal → Type 0
-Surveying f c i h₀ h₁ rows = (went : Result Reply Refusal) × Tries f c (event.Survey i) h₀ h₁ went × (rows ≡ surveyed_by went)
+Surveying f c i h₀ h₁ rows =
+    (went : Result Reply Refusal) × Tries f c (event.Survey i) h₀ h₁ went × (rows ≡ surveyed_by went)

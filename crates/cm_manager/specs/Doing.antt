@@ -1,5 +1,5 @@
 -- What the functions promise that do the work of an action.
-use Rattle.std.specs.Prelude.{◌≡◌, ◌⊎◌, ℕ, List, Bool, true, false, Result, Ok, Err, IsTrue}
+use Rattle.std.specs.Prelude.{◌≡◌, ◌⊎◌, ℕ, List, Result, Ok, Err, IsTrue}
 use Rattle.cm_decl.specs.declared.decl.Decl.{Decl}
 use Rattle.cm_world.specs.declared.action.ActKind.{ActKind}
 use Rattle.cm_world.specs.declared.action.FaultNote.{FaultNote}
@@ -18,30 +18,35 @@ use Rattle.cm_gate.specs.declared.asked.Launched.{Launched}
 use Rattle.cm_gate.specs.declared.asked.Launched.TheVariants as launched
 use Rattle.cm_gate.specs.declared.asked.Halted.{Halted}
 use Rattle.cm_gate.specs.declared.asked.Halted.TheVariants as halted
-use Rattle.cm_gate.specs.Logs.{Grew, RoseBy}
-use Rattle.cm_manager.specs.Work.{Judges, resolved_by, Shelf, Does, is_gate_failure}
+use Rattle.cm_gate.specs.Logs.{Grew}
+use Rattle.cm_manager.specs.Work.{Judges, resolved_by, Shelf, Does, Counts}
 use Rattle.cm_manager.specs.Contract.{GatesView}
 
 -- ---- manifests
 
 -- how a resolve ends where its manifest isn't read
 abbrev pub unread_outcome : ReadFault → Outcome
-unread_outcome (read.Bad number section index field) = outcome.Invalid (record { number = number; section = section; index = index })
+unread_outcome (read.Bad number section index field) =
+    outcome.Invalid (record { number = number; section = section; index = index })
 unread_outcome read.Memory = outcome.NoMemory
 
 -- and where its declaration isn't valid
 abbrev pub invalid_outcome : ValidFault → Outcome
-invalid_outcome (valid.Bad number section index against cycle) = outcome.Invalid (record { number = number; section = section; index = index })
+invalid_outcome (valid.Bad number section index against cycle) =
+    outcome.Invalid (record { number = number; section = section; index = index })
 invalid_outcome valid.Memory = outcome.NoMemory
 
 -- the declaration of a manifest, or its fault; or memory was wanting
 abbrev pub JudgesBy : List ℕ → Result Decl Outcome → Type 0
 JudgesBy bytes (Ok d) = Judges bytes (Ok d)
-JudgesBy bytes (Err o) = (o ≡ outcome.NoMemory) ⊎ ((note : FaultNote) × (o ≡ outcome.Invalid note) × Judges bytes (Err note))
+JudgesBy bytes (Err o) =
+    (o ≡ outcome.NoMemory) ⊎ ((note : FaultNote) × (o ≡ outcome.Invalid note) × Judges bytes (Err note))
 
 -- the end of a resolve by the manifest of this URL, or by want of memory
 abbrev pub EndsBy : List ℕ → List ℕ → Finish → Type 0
-EndsBy url bytes end = ((judged : Result Decl FaultNote) × Judges bytes judged × (end ≡ resolved_by url judged)) ⊎ (end ≡ finish.Other outcome.NoMemory)
+EndsBy url bytes end =
+    ((judged : Result Decl FaultNote) × Judges bytes judged × (end ≡ resolved_by url judged))
+    ⊎ (end ≡ finish.Other outcome.NoMemory)
 
 -- ---- questions
 
@@ -61,13 +66,10 @@ pub record Fits (kind : ActKind) (end : Finish) : Type 0 where
   pub fitting : IsTrue (fits_kind kind end)
   pub valid : HasValid end
 
-abbrev pub failures_of : Bool → ℕ
-failures_of true = 1
-failures_of false = 0
-
--- the work was done: what the gates were asked for it is in their log, if that is told, and a failure in their count
+-- the work was done: what the gates were asked for it is in their log, if that is told, and a failure in
+-- their count
 pub record Did (shelf : Shelf) (w : Work) (kind : ActKind) (end : Finish) (old new : GatesView) : Type 0 where
   pub asked : List Asked
   pub does : Does shelf w kind end asked
   pub log : Grew old.log new.log asked
-  pub faults : RoseBy (failures_of (is_gate_failure end)) old.faults new.faults
+  pub counts : Counts end asked old.faults new.faults

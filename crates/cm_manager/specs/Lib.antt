@@ -12,3 +12,5 @@ pub mod Doing
 pub mod Acting
 pub mod Parts
 pub mod Doctor
+pub mod Gated
+pub mod Laws

@@ -4,8 +4,8 @@ use Rattle.cm_turn.specs.Passes.{LockView, IsKnown, HasCaller}
 use Rattle.cm_world.specs.declared.reply.Entry.{Entry}
 use Rattle.cm_world.specs.World.{start}
 use Rattle.cm_world.specs.Legal.{Legal}
-use Rattle.cm_steps.specs.Story.{Story}
-use Rattle.cm_steps.specs.Histories.{KeepsLaws}
+use Rattle.cm_laws.specs.Story.{Story}
+use Rattle.cm_laws.specs.Histories.{KeepsLaws}
 use Rattle.cm_manager.specs.Contract.{RealmPass}
 use Rattle.cm_manager.specs.Work.{Shelf}
 
@@ -14,7 +14,9 @@ pub record ManagerView : Type 0 where
   pub turn : LockView
   pub shelf : Shelf
 
--- a history that bears these passes out: it is legal in their frame, begins with what each has seen, has those entries of each caller that its pass has, and no entry of anybody else. It keeps the laws of every legal history
+-- a history that bears these passes out: it is legal in their frame, begins with what each has seen, has
+-- those entries of each caller that its pass has, and no entry of anybody else. It keeps the laws of every
+-- legal history
 pub record Closes (history : List Entry) (passes : List RealmPass) : Type 0 where
   pub story : Story
   pub entries : history ≡ story.entries

@@ -16,16 +16,19 @@ use Rattle.cm_manager.specs.Work.{Shelf}
 use Rattle.cm_manager.specs.Contract.{RealmPass, GatesView, Helps}
 
 -- an incarnation is taken as it stands, and nothing is done; a moniker is looked for
-abbrev pub Finds : Shelf → Frame → Target → RealmPass → RealmPass → GatesView → GatesView → Result ℕ Refusal → Type 0
+abbrev pub Finds : Shelf → Frame → Target → RealmPass → RealmPass → GatesView → GatesView → Result ℕ Refusal
+    → Type 0
 Finds shelf f (target.Inc n) old new gates₀ gates₁ row = (new ≡ old) × (gates₁ ≡ gates₀) × (row ≡ Ok n)
-Finds shelf f (target.Named m) old new gates₀ gates₁ row = Helps shelf f (λ h₀ h₁. Finding f old.caller (target.Named m) h₀ h₁ row) old new gates₀ gates₁
+Finds shelf f (target.Named m) old new gates₀ gates₁ row =
+    Helps shelf f (λ h₀ h₁. Finding f old.caller (target.Named m) h₀ h₁ row) old new gates₀ gates₁
 
 -- an event is made until a reply decides it, and the call answers so
 abbrev pub Settles : Frame → ℕ → Event → Way (Result Answer Refusal)
 Settles f c e h₀ h₁ a = (went : Result Reply Refusal) × Tries f c e h₀ h₁ went × (a ≡ decided_by went)
 
 -- the answer that is made of an action and its outcome
-abbrev pub answer_of : (Option ℕ → Outcome → Answer) → Result (Option ℕ × Outcome) Refusal → Result Answer Refusal
+abbrev pub answer_of : (Option ℕ → Outcome → Answer) → Result (Option ℕ × Outcome) Refusal
+    → Result Answer Refusal
 answer_of made (Ok ended) = Ok (made ended.0 ended.1)
 answer_of made (Err x) = Err x
 

@@ -1,5 +1,7 @@
--- What a call does between its first turn and its last, as rules. Each fact tells from which history to which later one it goes, and how it ended.
-use Rattle.std.specs.Prelude.{◌≡◌, ℕ, List, [], ◌∷◌, Bool, true, false, Option, Some, None, Result, Ok, Err, IsTrue, IsFalse}
+-- What a call does between its first turn and its last, as rules. Each fact tells from which history to which
+-- later one it goes, and how it ended.
+use Rattle.std.specs.Prelude.{◌≡◌, ℕ, List, [], ◌∷◌, Bool, true, false, Option, Some, None, Result, Ok, Err}
+use Rattle.std.specs.Prelude.{IsTrue, IsFalse}
 use Rattle.cm_world.specs.declared.frame.Frame.{Frame}
 use Rattle.cm_world.specs.declared.action.ActKind.{ActKind}
 use Rattle.cm_world.specs.declared.action.ActKind.TheVariants as kind
@@ -59,36 +61,94 @@ is_started _ = false
 
 mutual
   -- an action of this kind on a row
-  pub data Acts (f : Frame) (c : ℕ) : ActKind → ℕ → List Entry → List Entry → Result Acted Refusal → Type 0 where
+  pub data Acts (f : Frame) (c : ℕ)
+      : ActKind → ℕ → List Entry → List Entry → Result Acted Refusal → Type 0 where
     -- it is begun and ended
-    ended : {k : ActKind} {i : ℕ} {h₀ h₁ h₂ : List Entry} {w : Work} {finish : Finish} {o : Outcome} → Asks f c h₀ (event.Begin k i) (reply.Begun w) h₁ → Makes c h₁ (event.End w.action finish) (reply.Ended o) h₂ → IsFalse (is_started o) → Acts f c k i h₀ h₂ (Ok (acted.Ended k w.action o))
+    ended : {k : ActKind} {i : ℕ} {h₀ h₁ h₂ : List Entry} {w : Work} {finish : Finish} {o : Outcome}
+        → Asks f c h₀ (event.Begin k i) (reply.Begun w) h₁
+        → Makes c h₁ (event.End w.action finish) (reply.Ended o) h₂
+        → IsFalse (is_started o)
+        → Acts f c k i h₀ h₂ (Ok (acted.Ended k w.action o))
     -- it is begun and ends in Started, and the eager children come after it
-    started : {k : ActKind} {i : ℕ} {h₀ h₁ h₂ h₃ : List Entry} {w : Work} {finish : Finish} → Asks f c h₀ (event.Begin k i) (reply.Begun w) h₁ → Makes c h₁ (event.End w.action finish) (reply.Ended outcome.Started) h₂ → Eagers f c w.eager h₂ h₃ None → Acts f c k i h₀ h₃ (Ok (acted.Ended k w.action outcome.Started))
+    started : {k : ActKind} {i : ℕ} {h₀ h₁ h₂ h₃ : List Entry} {w : Work} {finish : Finish}
+        → Asks f c h₀ (event.Begin k i) (reply.Begun w) h₁
+        → Makes c h₁ (event.End w.action finish) (reply.Ended outcome.Started) h₂
+        → Eagers f c w.eager h₂ h₃ None
+        → Acts f c k i h₀ h₃ (Ok (acted.Ended k w.action outcome.Started))
     -- and the call ends among them
-    started_cut : {k : ActKind} {i : ℕ} {h₀ h₁ h₂ h₃ : List Entry} {w : Work} {finish : Finish} {x : Refusal} → Asks f c h₀ (event.Begin k i) (reply.Begun w) h₁ → Makes c h₁ (event.End w.action finish) (reply.Ended outcome.Started) h₂ → Eagers f c w.eager h₂ h₃ (Some x) → Acts f c k i h₀ h₃ (Err x)
+    started_cut : {k : ActKind} {i : ℕ} {h₀ h₁ h₂ h₃ : List Entry} {w : Work} {finish : Finish} {x : Refusal}
+        → Asks f c h₀ (event.Begin k i) (reply.Begun w) h₁
+        → Makes c h₁ (event.End w.action finish) (reply.Ended outcome.Started) h₂
+        → Eagers f c w.eager h₂ h₃ (Some x)
+        → Acts f c k i h₀ h₃ (Err x)
     -- another caller has begun it, and its end is awaited
-    joined : {k : ActKind} {i a : ℕ} {h₀ h₁ h₂ : List Entry} {o : Outcome} → Asks f c h₀ (event.Begin k i) (reply.Joined a) h₁ → Makes c h₁ (event.Await a) (reply.Ended o) h₂ → Acts f c k i h₀ h₂ (Ok (acted.Ended k a o))
+    joined : {k : ActKind} {i a : ℕ} {h₀ h₁ h₂ : List Entry} {o : Outcome}
+        → Asks f c h₀ (event.Begin k i) (reply.Joined a) h₁
+        → Makes c h₁ (event.Await a) (reply.Ended o) h₂
+        → Acts f c k i h₀ h₂ (Ok (acted.Ended k a o))
     -- there is nothing to begin
-    quiet : {k : ActKind} {i : ℕ} {h₀ h₁ : List Entry} {r : Reply} → Asks f c h₀ (event.Begin k i) r h₁ → IsTrue (is_quiet r) → Acts f c k i h₀ h₁ (Ok (acted.Quiet r))
+    quiet : {k : ActKind} {i : ℕ} {h₀ h₁ : List Entry} {r : Reply}
+        → Asks f c h₀ (event.Begin k i) r h₁
+        → IsTrue (is_quiet r)
+        → Acts f c k i h₀ h₁ (Ok (acted.Quiet r))
     -- a row is resolved first, and then it is tried again
-    resolved_first : {k : ActKind} {i j : ℕ} {h₀ h₁ h₂ h₃ : List Entry} {went end : Result Acted Refusal} → Asks f c h₀ (event.Begin k i) (reply.Need j) h₁ → Acts f c kind.Resolve j h₁ h₂ went → ends_call went ≡ None → Acts f c k i h₂ h₃ end → Acts f c k i h₀ h₃ end
+    resolved_first : {k : ActKind} {i j : ℕ} {h₀ h₁ h₂ h₃ : List Entry} {went end : Result Acted Refusal}
+        → Asks f c h₀ (event.Begin k i) (reply.Need j) h₁
+        → Acts f c kind.Resolve j h₁ h₂ went
+        → ends_call went ≡ None
+        → Acts f c k i h₂ h₃ end
+        → Acts f c k i h₀ h₃ end
     -- a row was to be resolved first, and that failed or was cut
-    not_resolved : {k : ActKind} {i j : ℕ} {h₀ h₁ h₂ : List Entry} {went : Result Acted Refusal} {x : Refusal} → Asks f c h₀ (event.Begin k i) (reply.Need j) h₁ → Acts f c kind.Resolve j h₁ h₂ went → ends_call went ≡ Some x → Acts f c k i h₀ h₂ went
+    not_resolved : {k : ActKind} {i j : ℕ} {h₀ h₁ h₂ : List Entry} {went : Result Acted Refusal} {x : Refusal}
+        → Asks f c h₀ (event.Begin k i) (reply.Need j) h₁
+        → Acts f c kind.Resolve j h₁ h₂ went
+        → ends_call went ≡ Some x
+        → Acts f c k i h₀ h₂ went
     -- the call ends before it is begun
-    cut : {k : ActKind} {i : ℕ} {h₀ h₁ : List Entry} {x : Refusal} → IsCut f c h₀ (event.Begin k i) h₁ x → Acts f c k i h₀ h₁ (Err x)
+    cut : {k : ActKind} {i : ℕ} {h₀ h₁ : List Entry} {x : Refusal}
+        → IsCut f c h₀ (event.Begin k i) h₁ x
+        → Acts f c k i h₀ h₁ (Err x)
     -- memory is wanting behind it
-    lost : {k : ActKind} {i : ℕ} {h₀ h₁ : List Entry} {a : Acted} → Acts f c k i h₀ h₁ (Ok a) → Acts f c k i h₀ h₁ (Err refusal.Memory)
+    lost : {k : ActKind} {i : ℕ} {h₀ h₁ : List Entry} {a : Acted}
+        → Acts f c k i h₀ h₁ (Ok a)
+        → Acts f c k i h₀ h₁ (Err refusal.Memory)
 
   -- these rows are started in order, and what ended the call there, if anything did
   pub data Eagers (f : Frame) (c : ℕ) : List ℕ → List Entry → List Entry → Option Refusal → Type 0 where
     all_done : {h : List Entry} → Eagers f c [] h h None
-    next_one : {e : ℕ} {es : List ℕ} {h₀ h₁ h₂ : List Entry} {went : Result Acted Refusal} {end : Option Refusal} → Acts f c kind.Start e h₀ h₁ went → ends_eager went ≡ None → Eagers f c es h₁ h₂ end → Eagers f c (e ∷ es) h₀ h₂ end
-    cut_at : {e : ℕ} {es : List ℕ} {h₀ h₁ : List Entry} {went : Result Acted Refusal} {x : Refusal} → Acts f c kind.Start e h₀ h₁ went → ends_eager went ≡ Some x → Eagers f c (e ∷ es) h₀ h₁ (Some x)
+    next_one : {e : ℕ} {es : List ℕ} {h₀ h₁ h₂ : List Entry} {went : Result Acted Refusal}
+        {end : Option Refusal}
+        → Acts f c kind.Start e h₀ h₁ went
+        → ends_eager went ≡ None
+        → Eagers f c es h₁ h₂ end
+        → Eagers f c (e ∷ es) h₀ h₂ end
+    cut_at : {e : ℕ} {es : List ℕ} {h₀ h₁ : List Entry} {went : Result Acted Refusal} {x : Refusal}
+        → Acts f c kind.Start e h₀ h₁ went
+        → ends_eager went ≡ Some x
+        → Eagers f c (e ∷ es) h₀ h₁ (Some x)
 
 -- an event is made again until a reply decides it
 pub data Tries (f : Frame) (c : ℕ) : Event → List Entry → List Entry → Result Reply Refusal → Type 0 where
-  decided : {e : Event} {h₀ h₁ : List Entry} {r : Reply} → Asks f c h₀ e r h₁ → needed r ≡ None → Tries f c e h₀ h₁ (Ok r)
-  needs : {e : Event} {h₀ h₁ h₂ h₃ : List Entry} {r : Reply} {n : ActKind × ℕ} {went : Result Acted Refusal} {end : Result Reply Refusal} → Asks f c h₀ e r h₁ → needed r ≡ Some n → Acts f c n.0 n.1 h₁ h₂ went → ends_call went ≡ None → Tries f c e h₂ h₃ end → Tries f c e h₀ h₃ end
-  failed : {e : Event} {h₀ h₁ h₂ : List Entry} {r : Reply} {n : ActKind × ℕ} {went : Result Acted Refusal} {x : Refusal} → Asks f c h₀ e r h₁ → needed r ≡ Some n → Acts f c n.0 n.1 h₁ h₂ went → ends_call went ≡ Some x → Tries f c e h₀ h₂ (Err x)
+  decided : {e : Event} {h₀ h₁ : List Entry} {r : Reply}
+      → Asks f c h₀ e r h₁
+      → needed r ≡ None
+      → Tries f c e h₀ h₁ (Ok r)
+  needs : {e : Event} {h₀ h₁ h₂ h₃ : List Entry} {r : Reply} {n : ActKind × ℕ} {went : Result Acted Refusal}
+      {end : Result Reply Refusal}
+      → Asks f c h₀ e r h₁
+      → needed r ≡ Some n
+      → Acts f c n.0 n.1 h₁ h₂ went
+      → ends_call went ≡ None
+      → Tries f c e h₂ h₃ end
+      → Tries f c e h₀ h₃ end
+  failed : {e : Event} {h₀ h₁ h₂ : List Entry} {r : Reply} {n : ActKind × ℕ} {went : Result Acted Refusal}
+      {x : Refusal}
+      → Asks f c h₀ e r h₁
+      → needed r ≡ Some n
+      → Acts f c n.0 n.1 h₁ h₂ went
+      → ends_call went ≡ Some x
+      → Tries f c e h₀ h₂ (Err x)
   cut_try : {e : Event} {h₀ h₁ : List Entry} {x : Refusal} → IsCut f c h₀ e h₁ x → Tries f c e h₀ h₁ (Err x)
-  lost_try : {e : Event} {h₀ h₁ : List Entry} {r : Reply} → Tries f c e h₀ h₁ (Ok r) → Tries f c e h₀ h₁ (Err refusal.Memory)
+  lost_try : {e : Event} {h₀ h₁ : List Entry} {r : Reply}
+      → Tries f c e h₀ h₁ (Ok r)
+      → Tries f c e h₀ h₁ (Err refusal.Memory)

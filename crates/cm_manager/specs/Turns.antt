@@ -30,7 +30,8 @@ pub record Makes (c : ℕ) (old : List Entry) (event : Event) (reply : Reply) (n
   pub later : Later c old found
   pub entries : new ≡ found ++ record { caller = c; event = event; reply = reply } ∷ []
 
--- how many entries there must be room for, so that an event can come: one that begins an action needs room for its end too
+-- how many entries there must be room for, so that an event can come: one that begins an action needs room
+-- for its end too
 abbrev pub need : Event → ℕ
 need (event.Begin kind i) = 2
 need (event.Pick t) = 2
@@ -41,7 +42,8 @@ abbrev pub wanted : Frame → List Entry → Event → ℕ
 wanted f found event = length found + owed_by (world_after f found) + need event
 
 -- a turn that makes an entry, for which there was room
-pub record Asks (f : Frame) (c : ℕ) (old : List Entry) (event : Event) (reply : Reply) (new : List Entry) : Type 0 where
+pub record Asks (f : Frame) (c : ℕ) (old : List Entry) (event : Event) (reply : Reply) (new : List Entry)
+    : Type 0 where
   pub made : Makes c old event reply new
   pub room : wanted f made.found event ≤ f.limits.entries
 

@@ -1,5 +1,7 @@
 -- What the ends of a caller's own actions owe to the repository and to its gates.
-use Rattle.std.specs.Prelude.{◌≡◌, ℕ, List, [], ◌∷◌, ◌++◌, length, filter, Bool, true, false, Option, Some, None, Result, Ok, Err}
+use Rattle.std.specs.Prelude.{◌≡◌, ℕ, ◌≤◌, List, [], ◌∷◌, ◌++◌, length, filter, Bool, true, false, IsTrue}
+use Rattle.std.specs.Prelude.{IsFalse, Option, Some, None, Result, Ok, Err}
+use Rattle.cm_io.specs.Outside.{Rose}
 use Rattle.cm_names.specs.Rights.{index_of}
 use Rattle.cm_decl.specs.declared.decl.Decl.{Decl}
 use Rattle.cm_decl.specs.declared.section.Section.{Section}
@@ -39,11 +41,17 @@ use Rattle.cm_gate.specs.Logs.{Grew, RoseBy}
 abbrev pub note_of : ℕ → Section → ℕ → FaultNote
 note_of number section index = record { number = number; section = section; index = index_of index }
 
--- the valid declaration that the bytes of a manifest are, or their first fault: by reading, and then by validity
+-- the valid declaration that the bytes of a manifest are, or their first fault: by reading, and then by
+-- validity
 pub data Judges (bytes : List ℕ) : Result Decl FaultNote → Type 0 where
   valid : {d : Decl} → decl_of_bytes bytes ≡ Ok d → IsValid d → Judges bytes (Ok d)
-  unread : {number index : ℕ} {section : Section} {field : List ℕ} → decl_of_bytes bytes ≡ Err (read.Bad number section index field) → Judges bytes (Err (record { number = number; section = section; index = index }))
-  invalid : {d : Decl} {f : Fault} → decl_of_bytes bytes ≡ Ok d → IsFaultOf d f → Judges bytes (Err (note_of f.number f.section f.index))
+  unread : {number index : ℕ} {section : Section} {field : List ℕ}
+      → decl_of_bytes bytes ≡ Err (read.Bad number section index field)
+      → Judges bytes (Err (record { number = number; section = section; index = index }))
+  invalid : {d : Decl} {f : Fault}
+      → decl_of_bytes bytes ≡ Ok d
+      → IsFaultOf d f
+      → Judges bytes (Err (note_of f.number f.section f.index))
 
 -- the end of a resolve by the manifest of this URL
 abbrev pub resolved_by : List ℕ → Result Decl FaultNote → Finish
@@ -52,14 +60,17 @@ resolved_by url (Err note) = finish.Other (outcome.Invalid note)
 
 -- ---- questions to the gates
 
--- where manifests are looked for: blocks by their URLs, and the name of the repository of which the gates are asked for others
+-- where manifests are looked for: blocks by their URLs, and the name of the repository of which the gates are
+-- asked for others
 pub record Shelf : Type 0 where
   pub repo : Option (List ℕ)
   pub blocks : Blocks
 
 -- the end of a resolve by what the gates fetched for its URL; memory may be wanting to read what was found
 pub data FetchEnds (url : List ℕ) : Fetched → Finish → Type 0 where
-  found : {bytes : List ℕ} {judged : Result Decl FaultNote} → Judges bytes judged → FetchEnds url (fetched.Found bytes) (resolved_by url judged)
+  found : {bytes : List ℕ} {judged : Result Decl FaultNote}
+      → Judges bytes judged
+      → FetchEnds url (fetched.Found bytes) (resolved_by url judged)
   unread : {bytes : List ℕ} → FetchEnds url (fetched.Found bytes) (finish.Other outcome.NoMemory)
   absent : FetchEnds url fetched.Absent (finish.Other outcome.Absent)
   failed : FetchEnds url fetched.Failed (finish.Other outcome.GateFailed)
@@ -82,16 +93,30 @@ halt_ends halted.Failed = finish.Other outcome.Killed
 
 -- the work of an action: its end, and what the gates were asked for it, with their answers
 pub data Does (shelf : Shelf) (w : Work) : ActKind → Finish → List Asked → Type 0 where
-  no_url : {fault : UrlFault} → absolute_of w.base w.url ≡ Err fault → Does shelf w kind.Resolve (finish.Other outcome.BadUrl) []
-  kept : {url bytes : List ℕ} {judged : Result Decl FaultNote} → absolute_of w.base w.url ≡ Ok url → block_at shelf.blocks url ≡ Some bytes → Judges bytes judged → Does shelf w kind.Resolve (resolved_by url judged) []
-  fetches : {url : List ℕ} {answer : Fetched} {end : Finish} → absolute_of w.base w.url ≡ Ok url → block_at shelf.blocks url ≡ None → FetchEnds url answer end → Does shelf w kind.Resolve end (Fetch (record { repo = shelf.repo; url = url }) answer ∷ [])
+  no_url : {fault : UrlFault}
+      → absolute_of w.base w.url ≡ Err fault
+      → Does shelf w kind.Resolve (finish.Other outcome.BadUrl) []
+  kept : {url bytes : List ℕ} {judged : Result Decl FaultNote}
+      → absolute_of w.base w.url ≡ Ok url
+      → block_at shelf.blocks url ≡ Some bytes
+      → Judges bytes judged
+      → Does shelf w kind.Resolve (resolved_by url judged) []
+  fetches : {url : List ℕ} {answer : Fetched} {end : Finish}
+      → absolute_of w.base w.url ≡ Ok url
+      → block_at shelf.blocks url ≡ None
+      → FetchEnds url answer end
+      → Does shelf w kind.Resolve end (Fetch (record { repo = shelf.repo; url = url }) answer ∷ [])
   -- memory is wanting before a question
   wanting : Does shelf w kind.Resolve (finish.Other outcome.NoMemory) []
   -- an instance without a program starts and stops without a question
   starts : w.runner ≡ None → Does shelf w kind.Start (finish.Other outcome.Started) []
-  launches : {runner : List ℕ} {answer : Launched} → w.runner ≡ Some runner → Does shelf w kind.Start (launch_ends answer) (Launch (job_of w runner) answer ∷ [])
+  launches : {runner : List ℕ} {answer : Launched}
+      → w.runner ≡ Some runner
+      → Does shelf w kind.Start (launch_ends answer) (Launch (job_of w runner) answer ∷ [])
   stops : w.runner ≡ None → Does shelf w kind.Stop (finish.Other outcome.Stopped) []
-  halts : {runner : List ℕ} {answer : Halted} → w.runner ≡ Some runner → Does shelf w kind.Stop (halt_ends answer) (Halt (job_of w runner) answer ∷ [])
+  halts : {runner : List ℕ} {answer : Halted}
+      → w.runner ≡ Some runner
+      → Does shelf w kind.Stop (halt_ends answer) (Halt (job_of w runner) answer ∷ [])
 
 -- ---- the entries of a caller
 
@@ -101,15 +126,10 @@ begins (event.Begin k i) (reply.Begun w) = Some (k, w)
 begins (event.Pick t) (reply.Stopping w) = Some (kind.Stop, w)
 begins _ _ = None
 
--- an entry is the end of that work, for which this was asked
-abbrev pub IsEndOf : Shelf → ActKind × Work → Entry → List Asked → Type 0
-IsEndOf shelf b e asked = (end : Finish) × (e.event ≡ event.End b.1.action end) × Does shelf b.1 b.0 end asked
-
--- the part of a caller, in which each work is ended by the next entry, and all that its gates were asked for it, in order
-pub data Works (shelf : Shelf) : List Entry → List Asked → Type 0 where
-  nothing : Works shelf [] []
-  passes : {e : Entry} {es : List Entry} {asked : List Asked} → begins e.event e.reply ≡ None → Works shelf es asked → Works shelf (e ∷ es) asked
-  ends : {e e' : Entry} {es : List Entry} {b : ActKind × Work} {now later : List Asked} → begins e.event e.reply ≡ Some b → IsEndOf shelf b e' now → Works shelf es later → Works shelf (e ∷ e' ∷ es) (now ++ later)
+-- whether an event ends an action
+abbrev pub is_end : Event → Bool
+is_end (event.End a end) = true
+is_end _ = false
 
 -- whether an end says that a gate failed
 abbrev pub is_gate_failure : Finish → Bool
@@ -117,15 +137,48 @@ is_gate_failure (finish.Other outcome.GateFailed) = true
 is_gate_failure (finish.Other outcome.Killed) = true
 is_gate_failure _ = false
 
+-- the count of faults before a work and behind it: it doesn't fall, and without a question it stays; an end
+-- says that a gate failed only where it rose in this very work
+pub record Counts (end : Finish) (asked : List Asked) (before behind : ℕ) : Type 0 where
+  pub later : before ≤ behind
+  pub still : asked ≡ [] → behind ≡ before
+  pub rose : IsTrue (is_gate_failure end) → Rose before behind
+
+-- an entry is the end of that work, for which this was asked, with the count of faults before and behind it
+abbrev pub IsEndOf : Shelf → ActKind × Work → Entry → List Asked → ℕ → ℕ → Type 0
+IsEndOf shelf b e asked before behind =
+    (end : Finish) × (e.event ≡ event.End b.1.action end) × Does shelf b.1 b.0 end asked
+    × Counts end asked before behind
+
+-- the part of a caller, in which each work is ended by the next entry and no other entry is an end, and all
+-- that its gates were asked for it, in order, with their count of faults from work to work
+pub data Works (shelf : Shelf) : List Entry → List Asked → ℕ → ℕ → Type 0 where
+  nothing : {faults : ℕ} → Works shelf [] [] faults faults
+  passes : {e : Entry} {es : List Entry} {asked : List Asked} {before behind : ℕ}
+      → begins e.event e.reply ≡ None
+      → IsFalse (is_end e.event)
+      → Works shelf es asked before behind
+      → Works shelf (e ∷ es) asked before behind
+  ends : {e e' : Entry} {es : List Entry} {b : ActKind × Work} {now later : List Asked}
+      {before between behind : ℕ}
+      → begins e.event e.reply ≡ Some b
+      → IsEndOf shelf b e' now before between
+      → Works shelf es later between behind
+      → Works shelf (e ∷ e' ∷ es) (now ++ later) before behind
+
+-- whether an entry is an end that says that a gate failed
 abbrev pub tells_failure : Entry → Bool
 tells_failure e = elim e.event as (λ _. Bool) [ event.End a end ↦ is_gate_failure end | _ ↦ false ]
 
+-- how many ends of a part say that a gate failed
 abbrev pub failures : List Entry → ℕ
 failures part = length (filter tells_failure part)
 
 -- a caller's part with its gates: their log before and after, and their count of faults
-pub record WorksWith (shelf : Shelf) (part : List Entry) (log₀ log₁ : Option (List Asked)) (faults₀ faults₁ : ℕ) : Type 0 where
+pub record WorksWith (shelf : Shelf) (part : List Entry) (log₀ log₁ : Option (List Asked))
+    (faults₀ faults₁ : ℕ) : Type 0 where
   pub asked : List Asked
-  pub works : Works shelf part asked
+  pub works : Works shelf part asked faults₀ faults₁
   pub log : Grew log₀ log₁ asked
+  -- so the count rose at least as often as ends say
   pub faults : RoseBy (failures part) faults₀ faults₁

@@ -4,8 +4,9 @@ ghost use Rattle.std.specs.Prelude.{◌≡◌, ◌≢◌};
 ghost use Rattle.cm_world.specs.declared.event.Event.TheVariants as event;
 ghost use Rattle.cm_manager.specs.Asking.{Asked, frame_of};
 ghost use Rattle.cm_manager.specs.Acting.{BeginsBy};
-ghost use Rattle.cm_manager.specs.Contract.{Helps, IsSamePass};
+ghost use Rattle.cm_manager.specs.Contract.{IsSamePass};
 ghost use Rattle.cm_manager.specs.Runs.{Acts};
+ghost use Rattle.cm_manager.specs.Gated.{HelpsWith};
 
 use crate::began::Began;
 use crate::{Acted, Manager};
@@ -45,11 +46,9 @@ impl Manager {
         inc: u64,
     ) -> (Pass<Entry, Frame>, Result<Began, Refusal>)
         requires lock { pass.lock ≡ self.now.turn.lock }
-        ensures helps { let f = frame_of pass in
-            Helps self.now.shelf f (λ a b. BeginsBy f pass.caller kind inc result.1 a b)
-            pass result.0
-            (record { log = G.log gates.old; faults = G.faults gates.old })
-            (record { log = G.log gates.new; faults = G.faults gates.new }) }
+        ensures helps { HelpsWith G.log G.faults self.now.shelf
+            (λ f c a b. BeginsBy f c kind inc result.1 a b)
+            pass result.0 gates.old gates.new }
     {
         let (pass, asked) = self.ask_begin(rt, alloc, pass, kind, inc);
         let reply = match asked {
@@ -84,11 +83,9 @@ impl Manager {
     ) -> (Pass<Entry, Frame>, Result<Acted, Refusal>)
         requires lock { pass.lock ≡ self.now.turn.lock }
         requires kind { kind ≢ ActKind.Start }
-        ensures helps { let f = frame_of pass in
-            Helps self.now.shelf f (λ a b. Acts f pass.caller kind inc a b result.1)
-            pass result.0
-            (record { log = G.log gates.old; faults = G.faults gates.old })
-            (record { log = G.log gates.new; faults = G.faults gates.new }) }
+        ensures helps { HelpsWith G.log G.faults self.now.shelf
+            (λ f c a b. Acts f c kind inc a b result.1)
+            pass result.0 gates.old gates.new }
     {
         let (pass, began) = self.begin(rt, alloc, pass, gates, kind, inc);
         match began {
@@ -117,11 +114,9 @@ impl Manager {
         inc: u64,
     ) -> (Pass<Entry, Frame>, Result<Acted, Refusal>)
         requires lock { pass.lock ≡ self.now.turn.lock }
-        ensures helps { let f = frame_of pass in
-            Helps self.now.shelf f (λ a b. Acts f pass.caller kind inc a b result.1)
-            pass result.0
-            (record { log = G.log gates.old; faults = G.faults gates.old })
-            (record { log = G.log gates.new; faults = G.faults gates.new }) }
+        ensures helps { HelpsWith G.log G.faults self.now.shelf
+            (λ f c a b. Acts f c kind inc a b result.1)
+            pass result.0 gates.old gates.new }
     {
         match kind {
             ActKind::Start => self.start_row(rt, alloc, pass, gates, inc),

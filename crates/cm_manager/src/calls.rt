@@ -10,14 +10,17 @@
 //! history has no room for the next event. What was begun is ended before, and the entries that
 //! were made stay.
 
-ghost use Rattle.std.specs.Prelude.{◌≡◌, IsTrue};
+ghost use Rattle.std.specs.Prelude.{◌≡◌, IfOk};
 ghost use Rattle.cm_command.specs.declared.command.Command.TheVariants as command;
+ghost use Rattle.cm_laws.specs.Shutdowns.{IsOver};
 ghost use Rattle.cm_manager.specs.Asking.{frame_of};
-ghost use Rattle.cm_manager.specs.Contract.{Performs};
+ghost use Rattle.cm_manager.specs.Gated.{PerformsWith};
+ghost use Rattle.cm_manager.specs.Laws.{IsRemoved, Leaves};
 
 use crate::Manager;
 use crate::answers::unless_ended;
 use crate::ended::{resolved, started, stopped};
+use crate::laws::answers_hold;
 use cm_command::Command;
 use cm_decl::Give;
 use cm_gate::Gates;
@@ -46,11 +49,9 @@ impl Manager {
         target: &Target,
     ) -> (Pass<Entry, Frame>, Result<Answer, Refusal>)
         requires lock { pass.lock ≡ self.now.turn.lock }
-        ensures performs { let f = frame_of pass in
-            Performs self.now.shelf f (command.Resolve target.now) pass result.0
-            (record { log = G.log gates.old; faults = G.faults gates.old })
-            (record { log = G.log gates.new; faults = G.faults gates.new })
-            result.1 }
+        ensures performs { PerformsWith G.log G.faults self.now.shelf
+            (command.Resolve target.now)
+            pass result.0 gates.old gates.new result.1 }
     {
         let (pass, row) = self.find_row(rt, alloc, pass, gates, target);
         match row {
@@ -80,11 +81,9 @@ impl Manager {
         target: &Target,
     ) -> (Pass<Entry, Frame>, Result<Answer, Refusal>)
         requires lock { pass.lock ≡ self.now.turn.lock }
-        ensures performs { let f = frame_of pass in
-            Performs self.now.shelf f (command.Start target.now) pass result.0
-            (record { log = G.log gates.old; faults = G.faults gates.old })
-            (record { log = G.log gates.new; faults = G.faults gates.new })
-            result.1 }
+        ensures performs { PerformsWith G.log G.faults self.now.shelf
+            (command.Start target.now)
+            pass result.0 gates.old gates.new result.1 }
     {
         let (pass, row) = self.find_row(rt, alloc, pass, gates, target);
         match row {
@@ -114,11 +113,9 @@ impl Manager {
         target: &Target,
     ) -> (Pass<Entry, Frame>, Result<Answer, Refusal>)
         requires lock { pass.lock ≡ self.now.turn.lock }
-        ensures performs { let f = frame_of pass in
-            Performs self.now.shelf f (command.Stop target.now) pass result.0
-            (record { log = G.log gates.old; faults = G.faults gates.old })
-            (record { log = G.log gates.new; faults = G.faults gates.new })
-            result.1 }
+        ensures performs { PerformsWith G.log G.faults self.now.shelf
+            (command.Stop target.now)
+            pass result.0 gates.old gates.new result.1 }
     {
         let (pass, row) = self.find_row(rt, alloc, pass, gates, target);
         match row {
@@ -131,7 +128,8 @@ impl Manager {
     }
 
     /// Shuts an instance down, with all below it: they are stopped one by one, each before what it
-    /// strongly depends on, and won't start again. `Shut`, also where all was shut before.
+    /// strongly depends on, and won't start again. `Shut`, also where all was shut before: then all
+    /// of them are shut in the tree that the pass has seen.
     ///
     /// A stop that has to be made by force counts as one. Where the call ends early, the instance
     /// stays marked, and a later call goes on from there.
@@ -151,12 +149,13 @@ impl Manager {
         target: &Target,
     ) -> (Pass<Entry, Frame>, Result<Answer, Refusal>)
         requires lock { pass.lock ≡ self.now.turn.lock }
-        ensures performs { let f = frame_of pass in
-            Performs self.now.shelf f (command.Shutdown target.now) pass result.0
-            (record { log = G.log gates.old; faults = G.faults gates.old })
-            (record { log = G.log gates.new; faults = G.faults gates.new })
-            result.1 }
+        ensures performs { PerformsWith G.log G.faults self.now.shelf
+            (command.Shutdown target.now)
+            pass result.0 gates.old gates.new result.1 }
+        ensures shut { let f = frame_of pass in
+            IfOk result.1 (λ _. Leaves f pass.caller target.now IsOver pass.seen result.0.seen) }
     {
+        answers_hold();
         let (pass, row) = self.find_row(rt, alloc, pass, gates, target);
         match row {
             Ok(inc) => {
@@ -196,11 +195,9 @@ impl Manager {
         gives: &List<Give>,
     ) -> (Pass<Entry, Frame>, Result<Answer, Refusal>)
         requires lock { pass.lock ≡ self.now.turn.lock }
-        ensures performs { let f = frame_of pass in
-            Performs self.now.shelf f (command.Create parent.now coll.now name.now url.now gives.now) pass result.0
-            (record { log = G.log gates.old; faults = G.faults gates.old })
-            (record { log = G.log gates.new; faults = G.faults gates.new })
-            result.1 }
+        ensures performs { PerformsWith G.log G.faults self.now.shelf
+            (command.Create parent.now coll.now name.now url.now gives.now)
+            pass result.0 gates.old gates.new result.1 }
     {
         let (pass, row) = self.find_row(rt, alloc, pass, gates, parent);
         match row {
@@ -210,7 +207,8 @@ impl Manager {
     }
 
     /// Destroys a child in a collection, as `DestroyChild` of `fuchsia.component.Realm` does: it
-    /// is shut down with all below it, and then removed. `Destroyed`, by this call or by another.
+    /// is shut down with all below it, and then removed. `Destroyed`, by this call or by another:
+    /// then it isn't in the tree any more that the pass has seen.
     ///
     /// Where the call ends early, the child stays marked to be destroyed; its name is free, and a
     /// later call that names its incarnation goes on from there.
@@ -231,12 +229,13 @@ impl Manager {
         target: &Target,
     ) -> (Pass<Entry, Frame>, Result<Answer, Refusal>)
         requires lock { pass.lock ≡ self.now.turn.lock }
-        ensures performs { let f = frame_of pass in
-            Performs self.now.shelf f (command.Destroy target.now) pass result.0
-            (record { log = G.log gates.old; faults = G.faults gates.old })
-            (record { log = G.log gates.new; faults = G.faults gates.new })
-            result.1 }
+        ensures performs { PerformsWith G.log G.faults self.now.shelf
+            (command.Destroy target.now)
+            pass result.0 gates.old gates.new result.1 }
+        ensures removed { let f = frame_of pass in
+            IfOk result.1 (λ _. Leaves f pass.caller target.now IsRemoved pass.seen result.0.seen) }
     {
+        answers_hold();
         let (pass, row) = self.find_row(rt, alloc, pass, gates, target);
         match row {
             Ok(inc) => {
@@ -266,11 +265,9 @@ impl Manager {
         coll: &Name,
     ) -> (Pass<Entry, Frame>, Result<Answer, Refusal>)
         requires lock { pass.lock ≡ self.now.turn.lock }
-        ensures performs { let f = frame_of pass in
-            Performs self.now.shelf f (command.ListChildren target.now coll.now) pass result.0
-            (record { log = G.log gates.old; faults = G.faults gates.old })
-            (record { log = G.log gates.new; faults = G.faults gates.new })
-            result.1 }
+        ensures performs { PerformsWith G.log G.faults self.now.shelf
+            (command.ListChildren target.now coll.now)
+            pass result.0 gates.old gates.new result.1 }
     {
         let (pass, row) = self.find_row(rt, alloc, pass, gates, target);
         match row {
@@ -300,11 +297,9 @@ impl Manager {
         path: &CapPath,
     ) -> (Pass<Entry, Frame>, Result<Answer, Refusal>)
         requires lock { pass.lock ≡ self.now.turn.lock }
-        ensures performs { let f = frame_of pass in
-            Performs self.now.shelf f (command.OpenUse target.now path.now) pass result.0
-            (record { log = G.log gates.old; faults = G.faults gates.old })
-            (record { log = G.log gates.new; faults = G.faults gates.new })
-            result.1 }
+        ensures performs { PerformsWith G.log G.faults self.now.shelf
+            (command.OpenUse target.now path.now)
+            pass result.0 gates.old gates.new result.1 }
     {
         let (pass, row) = self.find_row(rt, alloc, pass, gates, target);
         match row {
@@ -333,11 +328,9 @@ impl Manager {
         name: &Name,
     ) -> (Pass<Entry, Frame>, Result<Answer, Refusal>)
         requires lock { pass.lock ≡ self.now.turn.lock }
-        ensures performs { let f = frame_of pass in
-            Performs self.now.shelf f (command.OpenExposed target.now name.now) pass result.0
-            (record { log = G.log gates.old; faults = G.faults gates.old })
-            (record { log = G.log gates.new; faults = G.faults gates.new })
-            result.1 }
+        ensures performs { PerformsWith G.log G.faults self.now.shelf
+            (command.OpenExposed target.now name.now)
+            pass result.0 gates.old gates.new result.1 }
     {
         let (pass, row) = self.find_row(rt, alloc, pass, gates, target);
         match row {
@@ -366,11 +359,9 @@ impl Manager {
         path: &CapPath,
     ) -> (Pass<Entry, Frame>, Result<Answer, Refusal>)
         requires lock { pass.lock ≡ self.now.turn.lock }
-        ensures performs { let f = frame_of pass in
-            Performs self.now.shelf f (command.RouteOf target.now path.now) pass result.0
-            (record { log = G.log gates.old; faults = G.faults gates.old })
-            (record { log = G.log gates.new; faults = G.faults gates.new })
-            result.1 }
+        ensures performs { PerformsWith G.log G.faults self.now.shelf
+            (command.RouteOf target.now path.now)
+            pass result.0 gates.old gates.new result.1 }
     {
         let (pass, row) = self.find_row(rt, alloc, pass, gates, target);
         match row {
@@ -395,11 +386,9 @@ impl Manager {
         target: &Target,
     ) -> (Pass<Entry, Frame>, Result<Answer, Refusal>)
         requires lock { pass.lock ≡ self.now.turn.lock }
-        ensures performs { let f = frame_of pass in
-            Performs self.now.shelf f (command.Show target.now) pass result.0
-            (record { log = G.log gates.old; faults = G.faults gates.old })
-            (record { log = G.log gates.new; faults = G.faults gates.new })
-            result.1 }
+        ensures performs { PerformsWith G.log G.faults self.now.shelf
+            (command.Show target.now)
+            pass result.0 gates.old gates.new result.1 }
     {
         let (pass, row) = self.find_row(rt, alloc, pass, gates, target);
         match row {
@@ -428,11 +417,9 @@ impl Manager {
         target: &Target,
     ) -> (Pass<Entry, Frame>, Result<Answer, Refusal>)
         requires lock { pass.lock ≡ self.now.turn.lock }
-        ensures performs { let f = frame_of pass in
-            Performs self.now.shelf f (command.Survey target.now) pass result.0
-            (record { log = G.log gates.old; faults = G.faults gates.old })
-            (record { log = G.log gates.new; faults = G.faults gates.new })
-            result.1 }
+        ensures performs { PerformsWith G.log G.faults self.now.shelf
+            (command.Survey target.now)
+            pass result.0 gates.old gates.new result.1 }
     {
         let (pass, row) = self.find_row(rt, alloc, pass, gates, target);
         match row {
@@ -461,11 +448,9 @@ impl Manager {
         target: &Target,
     ) -> (Pass<Entry, Frame>, Result<Answer, Refusal>)
         requires lock { pass.lock ≡ self.now.turn.lock }
-        ensures performs { let f = frame_of pass in
-            Performs self.now.shelf f (command.Exited target.now) pass result.0
-            (record { log = G.log gates.old; faults = G.faults gates.old })
-            (record { log = G.log gates.new; faults = G.faults gates.new })
-            result.1 }
+        ensures performs { PerformsWith G.log G.faults self.now.shelf
+            (command.Exited target.now)
+            pass result.0 gates.old gates.new result.1 }
     {
         let (pass, row) = self.find_row(rt, alloc, pass, gates, target);
         match row {
@@ -487,11 +472,9 @@ impl Manager {
         command: &Command,
     ) -> (Pass<Entry, Frame>, Result<Answer, Refusal>)
         requires lock { pass.lock ≡ self.now.turn.lock }
-        ensures performs { let f = frame_of pass in
-            Performs self.now.shelf f command.now pass result.0
-            (record { log = G.log gates.old; faults = G.faults gates.old })
-            (record { log = G.log gates.new; faults = G.faults gates.new })
-            result.1 }
+        ensures performs { PerformsWith G.log G.faults self.now.shelf
+            command.now
+            pass result.0 gates.old gates.new result.1 }
     {
         match command {
             Command::Resolve(target) => self.resolve(rt, alloc, pass, gates, target),

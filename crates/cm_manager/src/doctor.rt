@@ -4,10 +4,11 @@ ghost use Rattle.std.specs.Prelude.{◌≡◌, ◌∷◌, ◌++◌, [], Some, Ok
 ghost use Rattle.cm_world.specs.declared.event.Event.TheVariants as event;
 ghost use Rattle.cm_command.specs.declared.command.Command.TheVariants as command;
 ghost use Rattle.cm_manager.specs.Asking.{frame_of};
-ghost use Rattle.cm_manager.specs.Contract.{Helps, IsSamePass, Performs};
+ghost use Rattle.cm_manager.specs.Contract.{IsSamePass};
 ghost use Rattle.cm_manager.specs.Doctor.{route_by, line_of, unresolved_line, surveyed_by, doctored_by};
 ghost use Rattle.cm_manager.specs.Doctor.{Each, OfPath, OfRow, Doctors, Adds, Adding, Gathering, Surveying};
 ghost use Rattle.cm_manager.specs.Runs.{Tries};
+ghost use Rattle.cm_manager.specs.Gated.{HelpsWith, PerformsWith};
 
 use crate::Manager;
 use crate::answers::refusing;
@@ -130,12 +131,9 @@ impl Manager {
     ) -> (Pass<Entry, Frame>, Result<Reply, Refusal>)
         requires lock { pass.lock ≡ self.now.turn.lock }
         requires known { IsSamePass (frame_of pass) pass pass }
-        ensures helps { let f = frame_of pass in
-            Helps self.now.shelf f
-            (λ a b. Tries f pass.caller (event.Route inc path.now) a b result.1)
-            pass result.0
-            (record { log = G.log gates.old; faults = G.faults gates.old })
-            (record { log = G.log gates.new; faults = G.faults gates.new }) }
+        ensures helps { HelpsWith G.log G.faults self.now.shelf
+            (λ f c a b. Tries f c (event.Route inc path.now) a b result.1)
+            pass result.0 gates.old gates.new }
     {
         match path.clone() {
             Ok(path) => {
@@ -156,11 +154,9 @@ impl Manager {
         inc: u64,
     ) -> (Pass<Entry, Frame>, Result<List<SurveyRow>, Refusal>)
         requires lock { pass.lock ≡ self.now.turn.lock }
-        ensures helps { let f = frame_of pass in
-            Helps self.now.shelf f (λ a b. Surveying f pass.caller inc a b result.1)
-            pass result.0
-            (record { log = G.log gates.old; faults = G.faults gates.old })
-            (record { log = G.log gates.new; faults = G.faults gates.new }) }
+        ensures helps { HelpsWith G.log G.faults self.now.shelf
+            (λ f c a b. Surveying f c inc a b result.1)
+            pass result.0 gates.old gates.new }
     {
         let event = Event::Survey(inc);
         let (pass, went) = self.try_event(rt, alloc, pass, gates, &event);
@@ -180,12 +176,9 @@ impl Manager {
     ) -> (Pass<Entry, Frame>, Result<List<Checked>, Refusal>)
         requires lock { pass.lock ≡ self.now.turn.lock }
         requires known { IsSamePass (frame_of pass) pass pass }
-        ensures helps { let f = frame_of pass in
-            Helps self.now.shelf f
-            (λ a b. Adding (OfPath f pass.caller row.now path.now) lines a b result.1)
-            pass result.0
-            (record { log = G.log gates.old; faults = G.faults gates.old })
-            (record { log = G.log gates.new; faults = G.faults gates.new }) }
+        ensures helps { HelpsWith G.log G.faults self.now.shelf
+            (λ f c a b. Adding (OfPath f c row.now path.now) lines a b result.1)
+            pass result.0 gates.old gates.new }
     {
         let (pass, went) = self.try_route(rt, alloc, pass, gates, row.inc, path);
         (pass, found_at(lines, row, path, route_in(went)))
@@ -204,12 +197,9 @@ impl Manager {
     ) -> (Pass<Entry, Frame>, Result<List<Checked>, Refusal>)
         requires lock { pass.lock ≡ self.now.turn.lock }
         requires known { IsSamePass (frame_of pass) pass pass }
-        ensures helps { let f = frame_of pass in
-            Helps self.now.shelf f
-            (λ a b. Gathering (Each (OfPath f pass.caller row.now) row.now.paths) lines a b result.1)
-            pass result.0
-            (record { log = G.log gates.old; faults = G.faults gates.old })
-            (record { log = G.log gates.new; faults = G.faults gates.new }) }
+        ensures helps { HelpsWith G.log G.faults self.now.shelf
+            (λ f c a b. Gathering (Each (OfPath f c row.now) row.now.paths) lines a b result.1)
+            pass result.0 gates.old gates.new }
     {
         let mut idle = pass;
         let mut all = lines;
@@ -239,12 +229,9 @@ impl Manager {
     ) -> (Pass<Entry, Frame>, Result<List<Checked>, Refusal>)
         requires lock { pass.lock ≡ self.now.turn.lock }
         requires known { IsSamePass (frame_of pass) pass pass }
-        ensures helps { let f = frame_of pass in
-            Helps self.now.shelf f
-            (λ a b. Adding (OfRow f pass.caller row.now) lines a b result.1)
-            pass result.0
-            (record { log = G.log gates.old; faults = G.faults gates.old })
-            (record { log = G.log gates.new; faults = G.faults gates.new }) }
+        ensures helps { HelpsWith G.log G.faults self.now.shelf
+            (λ f c a b. Adding (OfRow f c row.now) lines a b result.1)
+            pass result.0 gates.old gates.new }
     {
         if !row.resolved {
             return (pass, or_memory(with_unresolved(lines, row)));
@@ -264,12 +251,9 @@ impl Manager {
     ) -> (Pass<Entry, Frame>, Result<List<Checked>, Refusal>)
         requires lock { pass.lock ≡ self.now.turn.lock }
         requires known { IsSamePass (frame_of pass) pass pass }
-        ensures helps { let f = frame_of pass in
-            Helps self.now.shelf f
-            (λ a b. Gathering (Each (OfRow f pass.caller) rows) [] a b result.1)
-            pass result.0
-            (record { log = G.log gates.old; faults = G.faults gates.old })
-            (record { log = G.log gates.new; faults = G.faults gates.new }) }
+        ensures helps { HelpsWith G.log G.faults self.now.shelf
+            (λ f c a b. Gathering (Each (OfRow f c) rows) [] a b result.1)
+            pass result.0 gates.old gates.new }
     {
         let mut idle = pass;
         let mut all = List::new(alloc);
@@ -296,11 +280,9 @@ impl Manager {
         inc: u64,
     ) -> (Pass<Entry, Frame>, Result<Answer, Refusal>)
         requires lock { pass.lock ≡ self.now.turn.lock }
-        ensures helps { let f = frame_of pass in
-            Helps self.now.shelf f (λ a b. Doctors f pass.caller inc a b result.1)
-            pass result.0
-            (record { log = G.log gates.old; faults = G.faults gates.old })
-            (record { log = G.log gates.new; faults = G.faults gates.new }) }
+        ensures helps { HelpsWith G.log G.faults self.now.shelf
+            (λ f c a b. Doctors f c inc a b result.1)
+            pass result.0 gates.old gates.new }
     {
         let (after, surveyed) = self.try_survey(rt, alloc, pass, gates, inc);
         match surveyed {
@@ -341,11 +323,9 @@ impl Manager {
         target: &Target,
     ) -> (Pass<Entry, Frame>, Result<Answer, Refusal>)
         requires lock { pass.lock ≡ self.now.turn.lock }
-        ensures performs { let f = frame_of pass in
-            Performs self.now.shelf f (command.Doctor target.now) pass result.0
-            (record { log = G.log gates.old; faults = G.faults gates.old })
-            (record { log = G.log gates.new; faults = G.faults gates.new })
-            result.1 }
+        ensures performs { PerformsWith G.log G.faults self.now.shelf
+            (command.Doctor target.now)
+            pass result.0 gates.old gates.new result.1 }
     {
         let (pass, row) = self.find_row(rt, alloc, pass, gates, target);
         match row {

@@ -12,6 +12,7 @@ mod began;
 mod calls;
 mod doctor;
 mod ended;
+pub mod laws;
 pub mod manager;
 mod parts;
 mod shutting;

@@ -3,7 +3,7 @@
 ghost use Rattle.std.specs.Prelude.{◌≡◌, ◌<◌, ◌≤◌, ◌⊎◌, [], All, IfOk, IfErr};
 ghost use Rattle.cm_turn.specs.Passes.{new_passes, seen_up_to, AreAll, IsOwn};
 ghost use Rattle.cm_turn.specs.History.{StartsWith};
-ghost use Rattle.cm_steps.specs.Story.{IsLegal};
+ghost use Rattle.cm_laws.specs.Story.{IsLegal};
 ghost use Rattle.cm_manager.specs.Managers.{Closes};
 ghost use Rattle.cm_manager.specs.Closed.{HasEnds};
 
@@ -93,7 +93,7 @@ impl Manager {
     /// as every call of the manager leaves it.
     ///
     /// The history bears each pass out, has no entry of anybody else, and keeps the laws of
-    /// [`histories_keep_laws`](cm_steps::laws::histories_keep_laws). Each action that was ever begun
+    /// [`histories_keep_laws`](cm_laws::histories_keep_laws). Each action that was ever begun
     /// has its end in it.
     pub fn close(self, passes: List<Pass<Entry, Frame>>) -> Book
         requires passes { AreAll self.turn passes }

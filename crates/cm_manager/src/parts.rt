@@ -6,8 +6,9 @@ ghost use Rattle.cm_world.specs.declared.event.Target.TheVariants as target;
 ghost use Rattle.cm_manager.specs.Turns.{Later};
 ghost use Rattle.cm_manager.specs.Asking.{frame_of, is_asked, is_plain};
 ghost use Rattle.cm_manager.specs.Calls.{Finding};
-ghost use Rattle.cm_manager.specs.Contract.{Helps, IsSamePass};
-ghost use Rattle.cm_manager.specs.Parts.{Finds, Settles};
+ghost use Rattle.cm_manager.specs.Contract.{IsSamePass};
+ghost use Rattle.cm_manager.specs.Parts.{Settles};
+ghost use Rattle.cm_manager.specs.Gated.{HelpsWith, FindsWith};
 
 use crate::Manager;
 use crate::answers::{decided, found};
@@ -62,12 +63,9 @@ impl Manager {
         moniker: &Moniker,
     ) -> (Pass<Entry, Frame>, Result<u64, Refusal>)
         requires lock { pass.lock ≡ self.now.turn.lock }
-        ensures helps { let f = frame_of pass in
-            Helps self.now.shelf f
-            (λ a b. Finding f pass.caller (target.Named moniker.now) a b result.1)
-            pass result.0
-            (record { log = G.log gates.old; faults = G.faults gates.old })
-            (record { log = G.log gates.new; faults = G.faults gates.new }) }
+        ensures helps { HelpsWith G.log G.faults self.now.shelf
+            (λ f c a b. Finding f c (target.Named moniker.now) a b result.1)
+            pass result.0 gates.old gates.new }
     {
         match moniker.clone() {
             Ok(moniker) => {
@@ -90,10 +88,8 @@ impl Manager {
     ) -> (Pass<Entry, Frame>, Result<u64, Refusal>)
         requires lock { pass.lock ≡ self.now.turn.lock }
         ensures lock { result.0.lock ≡ pass.lock }
-        ensures finds { Finds self.now.shelf (frame_of pass) target.now pass result.0
-            (record { log = G.log gates.old; faults = G.faults gates.old })
-            (record { log = G.log gates.new; faults = G.faults gates.new })
-            result.1 }
+        ensures finds { FindsWith G.log G.faults self.now.shelf target.now
+            pass result.0 gates.old gates.new result.1 }
     {
         match target {
             Target::Named(moniker) => self.find_named(rt, alloc, pass, gates, moniker),
@@ -113,11 +109,9 @@ impl Manager {
         requires lock { pass.lock ≡ self.now.turn.lock }
         requires asked { IsTrue (is_asked event.now) }
         requires plain { IsTrue (is_plain event.now) }
-        ensures helps { let f = frame_of pass in
-            Helps self.now.shelf f (λ a b. Settles f pass.caller event.now a b result.1)
-            pass result.0
-            (record { log = G.log gates.old; faults = G.faults gates.old })
-            (record { log = G.log gates.new; faults = G.faults gates.new }) }
+        ensures helps { HelpsWith G.log G.faults self.now.shelf
+            (λ f c a b. Settles f c event.now a b result.1)
+            pass result.0 gates.old gates.new }
     {
         let (pass, went) = self.try_event(rt, alloc, pass, gates, event);
         (pass, decided(went))
@@ -134,12 +128,9 @@ impl Manager {
         path: &CapPath,
     ) -> (Pass<Entry, Frame>, Result<Answer, Refusal>)
         requires lock { pass.lock ≡ self.now.turn.lock }
-        ensures helps { let f = frame_of pass in
-            Helps self.now.shelf f
-            (λ a b. Settles f pass.caller (event.OpenUse inc path.now) a b result.1)
-            pass result.0
-            (record { log = G.log gates.old; faults = G.faults gates.old })
-            (record { log = G.log gates.new; faults = G.faults gates.new }) }
+        ensures helps { HelpsWith G.log G.faults self.now.shelf
+            (λ f c a b. Settles f c (event.OpenUse inc path.now) a b result.1)
+            pass result.0 gates.old gates.new }
     {
         match path.clone() {
             Ok(path) => {
@@ -161,12 +152,9 @@ impl Manager {
         path: &CapPath,
     ) -> (Pass<Entry, Frame>, Result<Answer, Refusal>)
         requires lock { pass.lock ≡ self.now.turn.lock }
-        ensures helps { let f = frame_of pass in
-            Helps self.now.shelf f
-            (λ a b. Settles f pass.caller (event.Route inc path.now) a b result.1)
-            pass result.0
-            (record { log = G.log gates.old; faults = G.faults gates.old })
-            (record { log = G.log gates.new; faults = G.faults gates.new }) }
+        ensures helps { HelpsWith G.log G.faults self.now.shelf
+            (λ f c a b. Settles f c (event.Route inc path.now) a b result.1)
+            pass result.0 gates.old gates.new }
     {
         match path.clone() {
             Ok(path) => {
@@ -188,12 +176,9 @@ impl Manager {
         name: &Name,
     ) -> (Pass<Entry, Frame>, Result<Answer, Refusal>)
         requires lock { pass.lock ≡ self.now.turn.lock }
-        ensures helps { let f = frame_of pass in
-            Helps self.now.shelf f
-            (λ a b. Settles f pass.caller (event.OpenExposed inc name.now) a b result.1)
-            pass result.0
-            (record { log = G.log gates.old; faults = G.faults gates.old })
-            (record { log = G.log gates.new; faults = G.faults gates.new }) }
+        ensures helps { HelpsWith G.log G.faults self.now.shelf
+            (λ f c a b. Settles f c (event.OpenExposed inc name.now) a b result.1)
+            pass result.0 gates.old gates.new }
     {
         match name.clone() {
             Ok(name) => {
@@ -218,13 +203,9 @@ impl Manager {
         gives: &List<Give>,
     ) -> (Pass<Entry, Frame>, Result<Answer, Refusal>)
         requires lock { pass.lock ≡ self.now.turn.lock }
-        ensures helps { let f = frame_of pass in
-            Helps self.now.shelf f
-            (λ a b. Settles f pass.caller
-            (event.Create parent coll.now name.now url.now gives.now) a b result.1)
-            pass result.0
-            (record { log = G.log gates.old; faults = G.faults gates.old })
-            (record { log = G.log gates.new; faults = G.faults gates.new }) }
+        ensures helps { HelpsWith G.log G.faults self.now.shelf
+            (λ f c a b. Settles f c (event.Create parent coll.now name.now url.now gives.now) a b result.1)
+            pass result.0 gates.old gates.new }
     {
         match creation(parent, coll, name, url, gives) {
             Ok(event) => self.settle(rt, alloc, pass, gates, &event),
@@ -243,12 +224,9 @@ impl Manager {
         coll: &Name,
     ) -> (Pass<Entry, Frame>, Result<Answer, Refusal>)
         requires lock { pass.lock ≡ self.now.turn.lock }
-        ensures helps { let f = frame_of pass in
-            Helps self.now.shelf f
-            (λ a b. Settles f pass.caller (event.Listing inc coll.now) a b result.1)
-            pass result.0
-            (record { log = G.log gates.old; faults = G.faults gates.old })
-            (record { log = G.log gates.new; faults = G.faults gates.new }) }
+        ensures helps { HelpsWith G.log G.faults self.now.shelf
+            (λ f c a b. Settles f c (event.Listing inc coll.now) a b result.1)
+            pass result.0 gates.old gates.new }
     {
         match coll.clone() {
             Ok(coll) => {

@@ -7,19 +7,20 @@
 
 ghost use Rattle.std.specs.Prelude.{◌≡◌, IfNone, true};
 ghost use Rattle.cm_world.specs.declared.event.Event.TheVariants as event;
-ghost use Rattle.cm_steps.specs.Shutdowns.{IsLeaving, IsMarked, IsOver};
+ghost use Rattle.cm_laws.specs.Shutdowns.{IsLeaving, IsMarked, IsOver};
 ghost use Rattle.cm_manager.specs.Turns.{world_after};
 ghost use Rattle.cm_manager.specs.Asking.{Asked, frame_of};
 ghost use Rattle.cm_manager.specs.Acting.{PicksBy};
-ghost use Rattle.cm_manager.specs.Contract.{Helps, IsSamePass};
+ghost use Rattle.cm_manager.specs.Contract.{IsSamePass};
 ghost use Rattle.cm_manager.specs.Shutdowns as spec;
 ghost use Rattle.cm_manager.specs.Shutdowns.{Stops, Shuts, Destroys};
+ghost use Rattle.cm_manager.specs.Gated.{HelpsWith};
 
 use crate::Manager;
 use crate::answers::refusing;
 use crate::began::Picked;
 use cm_gate::Gates;
-use cm_steps::laws::{marks_stay, pickers_end, shutdowns_last};
+use cm_laws::{marks_stay, pickers_end, shutdowns_last};
 use cm_turn::Pass;
 use cm_world::{ActKind, Entry, Event, Frame, Refusal, Reply};
 use std::alloc::Global;
@@ -102,11 +103,9 @@ impl Manager {
     ) -> (Pass<Entry, Frame>, Picked)
         requires lock { pass.lock ≡ self.now.turn.lock }
         requires leaving { IsLeaving (world_after (frame_of pass) pass.seen) target }
-        ensures helps { let f = frame_of pass in
-            Helps self.now.shelf f (λ a b. PicksBy f pass.caller target result.1 a b)
-            pass result.0
-            (record { log = G.log gates.old; faults = G.faults gates.old })
-            (record { log = G.log gates.new; faults = G.faults gates.new }) }
+        ensures helps { HelpsWith G.log G.faults self.now.shelf
+            (λ f c a b. PicksBy f c target result.1 a b)
+            pass result.0 gates.old gates.new }
     {
         pickers_end();
         let (pass, asked) = self.ask_pick(rt, alloc, pass, target);
@@ -140,11 +139,9 @@ impl Manager {
     ) -> (Pass<Entry, Frame>, Option<Refusal>)
         requires lock { pass.lock ≡ self.now.turn.lock }
         requires leaving { IsLeaving (world_after (frame_of pass) pass.seen) target }
-        ensures helps { let f = frame_of pass in
-            Helps self.now.shelf f (λ a b. Stops f pass.caller target a b result.1)
-            pass result.0
-            (record { log = G.log gates.old; faults = G.faults gates.old })
-            (record { log = G.log gates.new; faults = G.faults gates.new }) }
+        ensures helps { HelpsWith G.log G.faults self.now.shelf
+            (λ f c a b. Stops f c target a b result.1)
+            pass result.0 gates.old gates.new }
         ensures over { let world = world_after (frame_of result.0) result.0.seen in
             IfNone result.1 (IsOver world target) }
     {
@@ -174,11 +171,9 @@ impl Manager {
         inc: u64,
     ) -> (Pass<Entry, Frame>, Option<Refusal>)
         requires lock { pass.lock ≡ self.now.turn.lock }
-        ensures helps { let f = frame_of pass in
-            Helps self.now.shelf f (λ a b. Shuts f pass.caller doom inc a b result.1)
-            pass result.0
-            (record { log = G.log gates.old; faults = G.faults gates.old })
-            (record { log = G.log gates.new; faults = G.faults gates.new }) }
+        ensures helps { HelpsWith G.log G.faults self.now.shelf
+            (λ f c a b. Shuts f c doom inc a b result.1)
+            pass result.0 gates.old gates.new }
         ensures marked { let world = world_after (frame_of result.0) result.0.seen in
             IfNone result.1 (IsMarked doom world inc) }
         ensures over { let world = world_after (frame_of result.0) result.0.seen in
@@ -203,11 +198,9 @@ impl Manager {
         inc: u64,
     ) -> (Pass<Entry, Frame>, Option<Refusal>)
         requires lock { pass.lock ≡ self.now.turn.lock }
-        ensures helps { let f = frame_of pass in
-            Helps self.now.shelf f (λ a b. Destroys f pass.caller inc a b result.1)
-            pass result.0
-            (record { log = G.log gates.old; faults = G.faults gates.old })
-            (record { log = G.log gates.new; faults = G.faults gates.new }) }
+        ensures helps { HelpsWith G.log G.faults self.now.shelf
+            (λ f c a b. Destroys f c inc a b result.1)
+            pass result.0 gates.old gates.new }
     {
         let (pass, end) = self.shut_row(rt, alloc, pass, gates, true, inc);
         if let Some(refusal) = end {

@@ -5,8 +5,9 @@ ghost use Rattle.cm_world.specs.declared.frame.Frame.{Frame as TheFrame};
 ghost use Rattle.cm_world.specs.declared.reply.Entry.{Entry as TheEntry};
 ghost use Rattle.cm_manager.specs.Asking.{frame_of};
 ghost use Rattle.cm_manager.specs.Acting.{BeginsBy, StartsBy, LaunchesBy, FailsBy, is_well};
-ghost use Rattle.cm_manager.specs.Contract.{Helps, IsSamePass};
+ghost use Rattle.cm_manager.specs.Contract.{IsSamePass};
 ghost use Rattle.cm_manager.specs.Runs.{Acts, Eagers, ends_eager};
+ghost use Rattle.cm_manager.specs.Gated.{HelpsWith};
 
 use crate::began::{Began, Launch};
 use crate::{Acted, Manager};
@@ -100,11 +101,9 @@ impl Manager {
         inc: u64,
     ) -> (Pass<Entry, Frame>, Launch)
         requires lock { pass.lock ≡ self.now.turn.lock }
-        ensures helps { let f = frame_of pass in
-            Helps self.now.shelf f (λ a b. StartsBy f pass.caller inc result.1 a b)
-            pass result.0
-            (record { log = G.log gates.old; faults = G.faults gates.old })
-            (record { log = G.log gates.new; faults = G.faults gates.new }) }
+        ensures helps { HelpsWith G.log G.faults self.now.shelf
+            (λ f c a b. StartsBy f c inc result.1 a b)
+            pass result.0 gates.old gates.new }
     {
         let mut idle = pass;
         for _ in rt.forever() {
@@ -136,11 +135,9 @@ impl Manager {
     ) -> (Pass<Entry, Frame>, Option<Refusal>)
         requires lock { pass.lock ≡ self.now.turn.lock }
         requires known { IsSamePass (frame_of pass) pass pass }
-        ensures helps { let f = frame_of pass in
-            Helps self.now.shelf f (λ a b. Eagers f pass.caller rows.items a b result.1)
-            pass result.0
-            (record { log = G.log gates.old; faults = G.faults gates.old })
-            (record { log = G.log gates.new; faults = G.faults gates.new }) }
+        ensures helps { HelpsWith G.log G.faults self.now.shelf
+            (λ f c a b. Eagers f c rows.items a b result.1)
+            pass result.0 gates.old gates.new }
     {
         let mut idle = pass;
         let mut left = rows;
@@ -175,11 +172,9 @@ impl Manager {
         inc: u64,
     ) -> (Pass<Entry, Frame>, Result<Acted, Refusal>)
         requires lock { pass.lock ≡ self.now.turn.lock }
-        ensures helps { let f = frame_of pass in
-            Helps self.now.shelf f (λ a b. Acts f pass.caller ActKind.Start inc a b result.1)
-            pass result.0
-            (record { log = G.log gates.old; faults = G.faults gates.old })
-            (record { log = G.log gates.new; faults = G.faults gates.new }) }
+        ensures helps { HelpsWith G.log G.faults self.now.shelf
+            (λ f c a b. Acts f c ActKind.Start inc a b result.1)
+            pass result.0 gates.old gates.new }
     {
         let (after, launch) = self.start_one(rt, alloc, pass, gates, inc);
         match launch {

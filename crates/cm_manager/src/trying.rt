@@ -1,10 +1,10 @@
 //! Events that are made again until a reply decides them.
 
 ghost use Rattle.std.specs.Prelude.{◌≡◌, IsTrue};
-ghost use Rattle.cm_manager.specs.Asking.{frame_of, is_asked, is_plain};
+ghost use Rattle.cm_manager.specs.Asking.{is_asked, is_plain};
 ghost use Rattle.cm_manager.specs.Acting.{ReadsBy};
-ghost use Rattle.cm_manager.specs.Contract.{Helps};
 ghost use Rattle.cm_manager.specs.Runs.{Tries};
+ghost use Rattle.cm_manager.specs.Gated.{HelpsWith};
 
 use crate::Manager;
 use crate::answers::ending;
@@ -44,11 +44,9 @@ impl Manager {
         requires lock { pass.lock ≡ self.now.turn.lock }
         requires asked { IsTrue (is_asked event.now) }
         requires plain { IsTrue (is_plain event.now) }
-        ensures helps { let f = frame_of pass in
-            Helps self.now.shelf f (λ a b. Tries f pass.caller event.now a b result.1)
-            pass result.0
-            (record { log = G.log gates.old; faults = G.faults gates.old })
-            (record { log = G.log gates.new; faults = G.faults gates.new }) }
+        ensures helps { HelpsWith G.log G.faults self.now.shelf
+            (λ f c a b. Tries f c event.now a b result.1)
+            pass result.0 gates.old gates.new }
     {
         let mut idle = pass;
         for _ in rt.forever() {

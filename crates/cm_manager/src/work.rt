@@ -12,7 +12,9 @@ ghost use Rattle.cm_repo.specs.Urls.{absolute_of};
 ghost use Rattle.cm_world.specs.declared.action.Work.{Work as TheWork};
 ghost use Rattle.cm_steps.specs.Ends.{finish_of};
 ghost use Rattle.cm_manager.specs.Work.{Shelf};
-ghost use Rattle.cm_manager.specs.Doing.{JudgesBy, EndsBy, Fits, Did, unread_outcome, invalid_outcome, launched_outcome, halted_outcome};
+ghost use Rattle.cm_manager.specs.Doing.{JudgesBy, EndsBy, Fits};
+ghost use Rattle.cm_manager.specs.Doing.{unread_outcome, invalid_outcome, launched_outcome, halted_outcome};
+ghost use Rattle.cm_manager.specs.Gated.{DidWith};
 
 use crate::Manager;
 use cm_decl::Decl;
@@ -124,9 +126,8 @@ fn launch<R: Threads + Wait + Sync, G: Gates>(
     idle: &Pass<Entry, Frame>,
     work: Work,
 ) -> (Ending, List<u64>)
-    ensures did { (shelf : Shelf) → Did shelf work ActKind.Start (finish_of result.0)
-        (record { log = G.log gates.old; faults = G.faults gates.old })
-        (record { log = G.log gates.new; faults = G.faults gates.new }) }
+    ensures did { (shelf : Shelf) → DidWith G.log G.faults shelf work ActKind.Start (finish_of result.0)
+        gates.old gates.new }
     ensures fits { Fits ActKind.Start (finish_of result.0) }
     ensures eager { result.1 ≡ work.eager }
 {
@@ -160,9 +161,8 @@ fn halt<R: Threads + Wait + Sync, G: Gates>(
     idle: &Pass<Entry, Frame>,
     work: Work,
 ) -> Ending
-    ensures did { (shelf : Shelf) → Did shelf work ActKind.Stop (finish_of result)
-        (record { log = G.log gates.old; faults = G.faults gates.old })
-        (record { log = G.log gates.new; faults = G.faults gates.new }) }
+    ensures did { (shelf : Shelf) → DidWith G.log G.faults shelf work ActKind.Stop (finish_of result)
+        gates.old gates.new }
     ensures fits { Fits ActKind.Stop (finish_of result) }
 {
     let Work {
@@ -197,9 +197,8 @@ impl Manager {
         idle: &Pass<Entry, Frame>,
         work: &Work,
     ) -> Ending
-        ensures did { Did self.now.shelf work.now ActKind.Resolve (finish_of result)
-            (record { log = G.log gates.old; faults = G.faults gates.old })
-            (record { log = G.log gates.new; faults = G.faults gates.new }) }
+        ensures did { DidWith G.log G.faults self.now.shelf work.now ActKind.Resolve (finish_of result)
+            gates.old gates.new }
         ensures fits { Fits ActKind.Resolve (finish_of result) }
     {
         match absolute(alloc, work.base.as_str(), work.url.as_str()) {
@@ -221,9 +220,8 @@ impl Manager {
         url: Text,
     ) -> Ending
         ensures did { (w : TheWork) → absolute_of w.base w.url ≡ Ok url
-            → Did self.now.shelf w ActKind.Resolve (finish_of result)
-            (record { log = G.log gates.old; faults = G.faults gates.old })
-            (record { log = G.log gates.new; faults = G.faults gates.new }) }
+            → DidWith G.log G.faults self.now.shelf w ActKind.Resolve (finish_of result)
+            gates.old gates.new }
         ensures fits { Fits ActKind.Resolve (finish_of result) }
     {
         match self.repository.find(url.as_str()) {
@@ -253,9 +251,8 @@ impl Manager {
     ) -> Ending
         requires { block_at self.now.shelf.blocks url ≡ None }
         ensures did { (w : TheWork) → absolute_of w.base w.url ≡ Ok url
-            → Did self.now.shelf w ActKind.Resolve (finish_of result)
-            (record { log = G.log gates.old; faults = G.faults gates.old })
-            (record { log = G.log gates.new; faults = G.faults gates.new }) }
+            → DidWith G.log G.faults self.now.shelf w ActKind.Resolve (finish_of result)
+            gates.old gates.new }
         ensures fits { Fits ActKind.Resolve (finish_of result) }
     {
         let Ok(what) = self.question(&url) else {
@@ -280,9 +277,8 @@ impl Manager {
         kind: ActKind,
         work: Work,
     ) -> (Ending, List<u64>)
-        ensures did { Did self.now.shelf work kind (finish_of result.0)
-            (record { log = G.log gates.old; faults = G.faults gates.old })
-            (record { log = G.log gates.new; faults = G.faults gates.new }) }
+        ensures did { DidWith G.log G.faults self.now.shelf work kind (finish_of result.0)
+            gates.old gates.new }
         ensures fits { Fits kind (finish_of result.0) }
         ensures eager { kind ≡ ActKind.Start → result.1 ≡ work.eager }
     {

@@ -9,7 +9,7 @@ use Rattle.cm_command.specs.declared.fault.ScriptNumber.{ScriptNumber}
 use Rattle.cm_command.specs.declared.fault.ScriptNumber.TheVariants as fault
 use Rattle.cm_command.specs.declared.script.Script.{Script}
 use Rattle.cm_command.specs.declared.script_reader.Draft.{Draft}
-use Rattle.component_manager.specs.Written.{OfKnown}
+use Rattle.component_manager.specs.Written.{OfKnown, OfSome}
 use Rattle.component_manager.specs.Stock.{Serves, Refuses, IsFault}
 use Rattle.component_manager.specs.declared.stock.Served.{Served}
 use Rattle.component_manager.specs.declared.fault.Fault.{Fault}
@@ -192,8 +192,8 @@ served_known (Some whole) None front served gone all h = absurd gone
 served_known (Some whole) (Some rest) front served gone all h =
     subst (λ bytes. Serves bytes served) (sym gone) (served_whole front rest served all h)
 
-pub fault_known : (old new : Option (List ℕ)) (front : List ℕ) (f : Fault) → Consumes old new front → (length front ≤ read_limit → IsAtEnd new) → IsFault front f → OfKnown (λ bytes. IsFault bytes f) old
-fault_known None new front f gone all h = tt
+pub fault_known : (old new : Option (List ℕ)) (front : List ℕ) (f : Fault) → Consumes old new front → (length front ≤ read_limit → IsAtEnd new) → IsFault front f → OfSome (λ bytes. IsFault bytes f) old
+fault_known None new front f gone all h = (front, h)
 fault_known (Some whole) None front f gone all h = absurd gone
 fault_known (Some whole) (Some rest) front f gone all h =
     subst (λ bytes. IsFault bytes f) (sym gone) (fault_whole front rest f all h)

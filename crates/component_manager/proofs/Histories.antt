@@ -12,7 +12,7 @@ use Rattle.cm_world.specs.Legal.{Legal}
 use Rattle.cm_world.proofs.Finding.{some_same}
 use Rattle.cm_command.specs.declared.script.Line.{Line}
 use Rattle.cm_gate.specs.declared.asked.Asked.{Asked}
-use Rattle.cm_steps.specs.Story.{Story}
+use Rattle.cm_laws.specs.Story.{Story}
 use Rattle.cm_manager.specs.Turns.{own_entries}
 use Rattle.cm_manager.specs.Asking.{no_frame, frame_in, frame_of}
 use Rattle.cm_manager.specs.Contract.{RealmPass}

@@ -3,6 +3,7 @@ mod FrontLemmas
 mod Histories
 mod Printing
 mod RunLemmas
+mod Saying
 mod ScriptLaws
 mod Sixteen
 mod StockLemmas

@@ -1,5 +1,5 @@
 -- What a run of a script promises, from what its parts did.
-use Rattle.std.proofs.Common.{◌≡◌, ◌≢◌, inl, inr, ℕ, List, [], ◌++◌, All, map, flat_map, length, Option, Some, None, IfSome, Err, refl, sym, ap, subst, ◌∙◌}
+use Rattle.std.proofs.Common.{◌≡◌, ◌≢◌, ◌⊎◌, inl, inr, ℕ, List, [], ◌++◌, All, map, flat_map, length, Option, Some, None, IfSome, Err, refl, sym, ap, subst, ◌∙◌}
 use Rattle.std.proofs.Math.Nat.{le_refl}
 use Rattle.std.specs.List.{slice_get}
 use Rattle.cm_turn.specs.Passes.{LockView, new_passes}
@@ -14,51 +14,48 @@ use Rattle.cm_command.specs.declared.script.Line.{Line}
 use Rattle.cm_gate.specs.declared.asked.Asked.{Asked}
 use Rattle.cm_gate.proofs.Logs.{grew_nothing, rose_nothing}
 use Rattle.cm_reply.specs.Journal.{header_text}
-use Rattle.cm_steps.proofs.AllLaws.{histories_keep_laws}
+use Rattle.cm_laws.proofs.AllLaws.{histories_keep_laws}
 use Rattle.cm_manager.specs.Turns.{own_entries}
+use Rattle.cm_manager.specs.Asking.{no_frame}
 use Rattle.cm_manager.specs.Closed.{HasEnds}
 use Rattle.cm_manager.specs.Contract.{RealmPass}
 use Rattle.cm_manager.specs.Managers.{Closes}
 use Rattle.cm_manager.specs.Work.{Shelf, WorksWith, nothing}
 use Rattle.cm_manager.proofs.HavingEnds.{none_has_ends}
-use Rattle.cm_command.proofs.LineGrammar.{reads_one_way_lem}
 use Rattle.cm_lanes.specs.declared.said.Said.{Said}
 use Rattle.cm_lanes.specs.declared.said.Lanes.{Lanes}
 use Rattle.cm_lanes.specs.Script.{Answered, said_of, answered_lines}
 use Rattle.cm_lanes.specs.Kept.{AreSixteen}
 use Rattle.cm_lanes.specs.Lanes.{RanOrNot}
-use Rattle.component_manager.specs.Headline.{EndsWell, WorksEach, RunsScript, shelf_of}
+use Rattle.component_manager.specs.Headline.{EndsWell, IsHistory, WorksEach, RunsScript, shelf_of}
 use Rattle.component_manager.specs.Performing.{Performs}
 use Rattle.component_manager.specs.Printed.{IsPrinted, phases_text, journal_of, printed_text, texts_of}
-use Rattle.component_manager.specs.Run.{IsFaulty, IsRefusal, RunsAsServed}
-use Rattle.component_manager.specs.Stock.{IsFault, Serves, served_script}
-use Rattle.component_manager.specs.Written.{AppendsFront, OfKnown}
+use Rattle.component_manager.specs.Run.{IsFaulty, RunsAsServed}
+use Rattle.component_manager.specs.Stock.{IsFault, Serves}
+use Rattle.component_manager.specs.Written.{AppendsFront, OfKnown, OfSome}
 use Rattle.component_manager.specs.declared.call.RunOptions.{RunOptions}
 use Rattle.component_manager.specs.declared.fault.Fault.{Fault}
 use Rattle.component_manager.specs.declared.performing.Performed.{Performed}
 use Rattle.component_manager.specs.declared.stock.Served.{Served}
 use Rattle.component_manager.proofs.Histories.{makes_by, works_by, nothing_happened, legal_nothing}
 use Rattle.component_manager.proofs.Printing.{texts_all, no_want_all, nothing_written, front_of_nothing}
-use Rattle.component_manager.proofs.ScriptLaws.{one_script, served_faultless}
+use Rattle.component_manager.proofs.ScriptLaws.{served_are_not_refused_lem, bytes_ask_for_one_lem}
 use Rattle.component_manager.proofs.Wanting.{all_wanting, makes_nothing}
 
 -- bytes that are served aren't faulty, so that all may be said of those that are
-pub not_faulty : (left : Option (List ℕ)) (served : Served) (status : ℕ) → OfKnown (λ bytes. Serves bytes served) left → OfKnown (λ bytes. IsFaulty bytes → IsRefusal status) left
-not_faulty None served status h = tt
-not_faulty (Some bytes) served status h = λ faulty. absurd (served_faultless bytes served h faulty)
+pub not_faulty : (P : Type 0) (left : Option (List ℕ)) (served : Served) → OfKnown (λ bytes. Serves bytes served) left → OfKnown (λ bytes. IsFaulty bytes → P) left
+not_faulty P None served h = tt
+not_faulty P (Some bytes) served h = λ faulty. absurd (served_are_not_refused_lem bytes served h faulty)
 
--- ---- bytes are served in one way
+-- what holds of a run holds of faulty bytes
+pub of_faulty : (P : Type 0) (left : Option (List ℕ)) → P → OfKnown (λ bytes. IsFaulty bytes → P) left
+of_faulty P None is = tt
+of_faulty P (Some bytes) is = λ faulty. is
 
-one_served : (bytes : List ℕ) (a b : Served) → Serves bytes a → Serves bytes b → a ≡ b
-one_served bytes a b h k =
-    let same = one_script reads_one_way_lem bytes h.script k.script h.reads k.reads in
-    let asks : served_script h.script ≡ served_script k.script = ap served_script same in
-    cc (h.asks, k.asks, asks)
-
--- so what holds of the script that was served holds of whichever the bytes are
+-- what holds of the script that was served holds of whichever the bytes are, since they are served in one way
 pub as_served : (P : Served → Type 0) (left : Option (List ℕ)) (served : Served) → OfKnown (λ bytes. Serves bytes served) left → P served → OfKnown (RunsAsServed P) left
 as_served P None served known is = tt
-as_served P (Some bytes) served known is = λ other serves. subst P (one_served bytes served other known serves) is
+as_served P (Some bytes) served known is = λ other serves. subst P (bytes_ask_for_one_lem bytes served other known serves) is
 
 -- ---- runs
 
@@ -71,7 +68,21 @@ nothing_ends history none = subst HasEnds (sym none) none_has_ends
 ends_well : (f : Frame) (history : List Entry) → Legal (start f) history → HasEnds history → EndsWell f history
 ends_well f history legal ends = record { laws = histories_keep_laws f history legal; ends = ends }
 
+-- a run that made no realm leaves a history all the same
+pub empty_history : (history : List Entry) → history ≡ [] → IsHistory history
+empty_history history none =
+    let legal = subst (Legal (start no_frame)) (sym none) (nothing_legal no_frame) in
+    record { frame = no_frame; legal = legal; laws = ends_well no_frame history legal (nothing_ends history none) }
+
+not_six : (status : ℕ) → status ≡ 6 → (status ≡ 0) ⊎ (status ≡ 4) → ⊥
+not_six status is (inl none) = absurd (cc (is, none))
+not_six status is (inr four) = absurd (cc (is, four))
+
 module _ {G : Type 0} (log_of : G → Option (List Asked)) (faults_of : G → ℕ) where
+  -- the history of a script's run
+  pub history_of : (options : RunOptions) (served : Served) (gates₀ gates₁ : List G) (history : List Entry) (status : ℕ) (old new : Option (List ℕ)) → RunsScript log_of faults_of options served gates₀ gates₁ history status old new → IsHistory history
+  history_of options served gates₀ gates₁ history status old new runs = record { frame = served.frame; legal = runs.makes.legal; laws = runs.laws }
+
   -- gates that were asked nothing
   works_nothing : (shelf : Shelf) (history : List Entry) (gates₀ gates₁ : List G) → history ≡ [] → gates₁ ≡ gates₀ → WorksEach log_of faults_of shelf history gates₀ gates₁
   works_nothing shelf history gates₀ gates₁ none same k g h at now =
@@ -132,7 +143,7 @@ module _ {G : Type 0} (log_of : G → Option (List Asked)) (faults_of : G → �
       by : (o : Option (List Said)) → done.said ≡ o → IfSome o (λ said. said ≡ flat_map (λ phase. map said_of phase) p.answered) → RunsScript log_of faults_of options served gates done.gates done.book.entries status old new
       by None is said =
           let none = untold is in
-          record { answered = p.answered; makes = p.makes; laws = ends_well served.frame done.book.entries p.makes.legal p.ends; work = p.work; text = text; prints = refl; all = λ ended. absurd (cc (ended, none.0)); front = front_of_nothing old new text none.1 }
+          record { answered = p.answered; makes = p.makes; laws = ends_well served.frame done.book.entries p.makes.legal p.ends; work = p.work; text = text; prints = refl; all = λ ended. absurd (cc (ended, none.0)); no_want = λ ended. absurd (not_six status none.0 ended); front = front_of_nothing old new text none.1 }
       by (Some said) is same =
           let printed = told said is in
           let the_text : printed_text served.phases said options.journal (header_text served.frame) done.book.entries ≡ text = text_is options served p.answered said done.book.entries p.makes.lines same in
@@ -143,7 +154,8 @@ module _ {G : Type 0} (log_of : G → Option (List Asked)) (faults_of : G → �
             work = p.work;
             text = printed_text served.phases said options.journal (header_text served.frame) done.book.entries;
             prints = the_text;
-            all = λ ended. (printed.all ended, no_want_all p.answered (subst (All (λ s. s.result ≢ Err refusal.Memory)) same (printed.no_want ended)));
+            all = printed.all;
+            no_want = λ ended. no_want_all p.answered (subst (All (λ s. s.result ≢ Err refusal.Memory)) same (printed.no_want ended));
             front = printed.front;
           }
 
@@ -176,6 +188,7 @@ module _ {G : Type 0} (log_of : G → Option (List Asked)) (faults_of : G → �
         text = text;
         prints = refl;
         all = λ ended. absurd (cc (ended, is));
+        no_want = λ ended. absurd (not_six status is ended);
         front = nothing_written out text;
       }
 
@@ -187,6 +200,9 @@ module _ {G : Type 0} (log_of : G → Option (List Asked)) (faults_of : G → �
 -- ---- runs of other bytes
 
 -- bytes that are refused are served in no way
-pub refused_runs : (P : Served → Type 0) (left : Option (List ℕ)) (fault : Fault) → OfKnown (λ bytes. IsFault bytes fault) left → OfKnown (RunsAsServed P) left
+pub refused_runs : (P : Served → Type 0) (left : Option (List ℕ)) (fault : Fault) → OfSome (λ bytes. IsFault bytes fault) left → OfKnown (RunsAsServed P) left
 refused_runs P None fault is = tt
-refused_runs P (Some bytes) fault is = λ served serves. absurd (served_faultless bytes served serves (IsFaulty.refused fault is))
+refused_runs P (Some bytes) fault is = λ served serves. absurd (served_are_not_refused_lem bytes served serves (IsFaulty.refused fault is))
+
+-- what is said of a run that made no realm
+pub ruleset idle = (empty_history, of_faulty)

@@ -13,7 +13,7 @@ use Rattle.cm_lanes.specs.Script.{IsFit}
 use Rattle.component_manager.specs.Reading.{Read, ◌>>=◌, Gives}
 use Rattle.component_manager.specs.Run.{Stops, stop_of}
 use Rattle.component_manager.specs.Stock.{frame_of, accepted, stocked, stock_of, served_script, IsFault, Serves}
-use Rattle.component_manager.specs.Written.{OfKnown}
+use Rattle.component_manager.specs.Written.{OfSome}
 use Rattle.component_manager.specs.declared.fault.Fault.{Fault}
 use Rattle.component_manager.specs.declared.fault.Fault.TheVariants.{Unread, Unserved, Memory}
 use Rattle.component_manager.specs.declared.stock.Served.{Served}
@@ -54,7 +54,7 @@ fault_of_script bytes s (Err Memory) h gives = λ none. absurd (none refl)
 fault_of_script bytes s (Err (Unread line number at)) h gives = λ _. absurd (subst (λ r. IsOfScript r) gives (script_told s))
 
 -- why a run stops, where its bytes are known
-pub stops_for : (left : Option (List ℕ)) (f : Fault) → ((f ≡ Memory → ⊥) → OfKnown (λ bytes. IsFault bytes f) left) → Stops (stop_of f) left
+pub stops_for : (left : Option (List ℕ)) (f : Fault) → ((f ≡ Memory → ⊥) → OfSome (λ bytes. IsFault bytes f) left) → Stops (stop_of f) left
 stops_for left (Unserved line problem) h = h (λ e. absurd (cc))
 stops_for left (Unread line number at) h = h (λ e. absurd (cc))
 stops_for left Memory h = tt

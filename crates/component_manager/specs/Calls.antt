@@ -1,5 +1,6 @@
 -- What the words behind the program's name ask for.
-use Rattle.std.specs.Prelude.{◌≡◌, ℕ, Bool, true, false, List, [], ◌∷◌, codes, Option, Some, None, Result, Ok, Err, if◌then◌else◌}
+use Rattle.std.specs.Prelude.{◌≡◌, ℕ, Bool, true, false, List, [], ◌∷◌, codes}
+use Rattle.std.specs.Prelude.{Option, Some, None, Result, Ok, Err, if◌then◌else◌}
 use Rattle.std.specs.Str.{bytes_eq}
 use Rattle.clap.specs.Words.{first_of, found_of}
 use Rattle.clap.specs.Walk.{Rule, Row, Text, rows_of}
@@ -60,7 +61,8 @@ is_yes None = false
 is_yes (Some text) = bytes_eq text (codes "true")
 
 abbrev pub options_in : List Row → RunOptions
-options_in rows = record { journal = is_yes (first_of (codes "journal") rows); repository = first_of (codes "repo") rows }
+options_in rows =
+    record { journal = is_yes (first_of (codes "journal") rows); repository = first_of (codes "repo") rows }
 
 abbrev pub on_rows : {X : Type 0} → (List Row → X) → Read (List Row) → Read X
 on_rows f (Ok rows) = Ok (f rows)

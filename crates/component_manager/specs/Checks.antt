@@ -11,11 +11,15 @@ use Rattle.cm_read.specs.declared.fault.ReadFault.TheVariants as read_fault
 use Rattle.cm_valid.specs.Texts as valid_text
 use Rattle.cm_valid.specs.Reports.{reported}
 
--- the status and the line of what was read of a manifest: its first fault, by reading and then by validity, or that it is valid
+-- the status and the line of what was read of a manifest: its first fault, by reading and then by validity,
+-- or that it is valid
 pub data IsJudged (read : Result Decl ReadFault) : ℕ → List ℕ → Type 0 where
   valid : {d : Decl} → read ≡ Ok d → IsValid d → IsJudged read 0 (codes "valid\n")
-  unread : {number index : ℕ} {section : Section} {field : List ℕ} → read ≡ Err (read_fault.Bad number section index field) → IsJudged read 1 (read_text.fault_text (read_fault.Bad number section index field) ++ codes "\n")
-  invalid : {d : Decl} {f : Fault} → read ≡ Ok d → IsFaultOf d f → IsJudged read 1 (valid_text.fault_text (reported f) ++ codes "\n")
+  unread : {number index : ℕ} {section : Section} {field : List ℕ}
+      → read ≡ Err (read_fault.Bad number section index field)
+      → IsJudged read 1 (read_text.fault_text (read_fault.Bad number section index field) ++ codes "\n")
+  invalid : {d : Decl} {f : Fault} → read ≡ Ok d → IsFaultOf d f
+      → IsJudged read 1 (valid_text.fault_text (reported f) ++ codes "\n")
 
 -- the status and the line of the manifest that the bytes are
 abbrev pub IsVerdict : List ℕ → ℕ → List ℕ → Type 0

@@ -1,5 +1,6 @@
 -- The headline: what `run` promises of a script that it serves.
-use Rattle.std.specs.Prelude.{◌≡◌, ◌≢◌, ◌⊎◌, ℕ, ◌<◌, List, [], ◌++◌, map, All, Option, Some, Result, Ok, Err, slice_get}
+use Rattle.std.specs.Prelude.{◌≡◌, ◌≢◌, ◌⊎◌, ℕ, ◌<◌, List, [], ◌++◌, map, All}
+use Rattle.std.specs.Prelude.{Option, Some, Result, Ok, Err, slice_get}
 use Rattle.std.specs.Io.KnownBytes.{Appends}
 use Rattle.cm_world.specs.declared.answer.Refusal.TheVariants as refusal
 use Rattle.cm_world.specs.declared.frame.Frame.{Frame}
@@ -8,7 +9,7 @@ use Rattle.cm_world.specs.World.{start}
 use Rattle.cm_world.specs.Legal.{Legal}
 use Rattle.cm_command.specs.declared.script.Line.{Line}
 use Rattle.cm_gate.specs.declared.asked.Asked.{Asked}
-use Rattle.cm_steps.specs.Histories.{KeepsLaws}
+use Rattle.cm_laws.specs.Histories.{KeepsLaws}
 use Rattle.cm_manager.specs.Turns.{own_entries}
 use Rattle.cm_manager.specs.Closed.{HasEnds}
 use Rattle.cm_manager.specs.Work.{Shelf, WorksWith}
@@ -26,33 +27,53 @@ shelf_of options served = record { repo = options.repository; blocks = served.re
 abbrev pub IsNoWant : Answered → Type 0
 IsNoWant a = a.result ≢ Err refusal.Memory
 
--- what the lanes make of these lines is this history: a legal one from that frame, in which each lane's entries are those of its own lines in order, phase after phase
-pub record MakesHistory (f : Frame) (phases : List (List Line)) (answered : List (List Answered)) (history : List Entry) : Type 0 where
+-- what the lanes make of these lines is this history: a legal one from that frame, in which each lane's
+-- entries are those of its own lines in order, phase after phase
+pub record MakesHistory
+    (f : Frame) (phases : List (List Line)) (answered : List (List Answered)) (history : List Entry)
+    : Type 0 where
   pub lines : map answered_lines answered ≡ phases
   pub legal : Legal (start f) history
   pub performed : ArePhases (λ c. f) answered [] history
   pub callers : All (λ (e : Entry). e.caller < 16) history
 
--- what holds of the history of every run: it keeps the laws of every legal history, and each action that was begun has its end
+-- what holds of the history of every run: it keeps the laws of every legal history, and each action that was
+-- begun has its end
 pub record EndsWell (f : Frame) (history : List Entry) : Type 0 where
   pub laws : KeepsLaws f history
   pub ends : HasEnds history
 
+-- a history that a run leaves, whatever was asked and wherever the script came from: a legal one of some
+-- realm
+pub record IsHistory (history : List Entry) : Type 0 where
+  pub frame : Frame
+  pub legal : Legal (start frame) history
+  pub laws : EndsWell frame history
+
+-- nothing was run: the history is empty, and the gates are as they were
+abbrev pub RunsNothing : {G : Type 0} → List Entry → List G → List G → Type 0
+RunsNothing history gates₀ gates₁ = (history ≡ []) × (gates₁ ≡ gates₀)
+
 module _ {G : Type 0} (log_of : G → Option (List Asked)) (faults_of : G → ℕ) where
   -- each lane's entries owe their ends to the shelf and to that lane's gates
   abbrev pub WorksEach : Shelf → List Entry → List G → List G → Type 0
-  WorksEach shelf history gates₀ gates₁ = (k : ℕ) (g h : G) → slice_get gates₀ k ≡ Some g → slice_get gates₁ k ≡ Some h
+  WorksEach shelf history gates₀ gates₁ =
+      (k : ℕ) (g h : G) → slice_get gates₀ k ≡ Some g → slice_get gates₁ k ≡ Some h
       → WorksWith shelf (own_entries k history) (log_of g) (log_of h) (faults_of g) (faults_of h)
 
   -- the run of a script that is served: its history, its text, and what was written of it
-  pub record RunsScript (options : RunOptions) (served : Served) (gates₀ gates₁ : List G) (history : List Entry) (status : ℕ) (out₀ out₁ : Option (List ℕ)) : Type 0 where
+  pub record RunsScript
+      (options : RunOptions) (served : Served) (gates₀ gates₁ : List G) (history : List Entry)
+      (status : ℕ) (out₀ out₁ : Option (List ℕ)) : Type 0 where
     pub answered : List (List Answered)
     pub makes : MakesHistory served.frame served.phases answered history
     pub laws : EndsWell served.frame history
     pub work : WorksEach (shelf_of options served) history gates₀ gates₁
     pub text : List ℕ
     pub prints : text ≡ phases_text answered ++ journal_of options.journal served.frame history
-    -- at 0 all of it was written, and no line was answered for want of memory
-    pub all : status ≡ 0 → Appends out₀ out₁ text × All (All IsNoWant) answered
+    -- at 0 all of it was written
+    pub all : status ≡ 0 → Appends out₀ out₁ text
+    -- at 0 and at 4 no line was answered for want of memory
+    pub no_want : (status ≡ 0) ⊎ (status ≡ 4) → All (All IsNoWant) answered
     -- at 4 and 6 a front of it was written
     pub front : AppendsFront out₀ out₁ text

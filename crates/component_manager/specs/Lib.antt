@@ -8,3 +8,4 @@ pub mod Printed
 pub mod Headline
 pub mod Performing
 pub mod Run
+pub mod Laws

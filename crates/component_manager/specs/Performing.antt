@@ -10,8 +10,11 @@ use Rattle.component_manager.specs.Headline.{MakesHistory, WorksEach}
 use Rattle.component_manager.specs.declared.performing.Performed.{Performed}
 
 module _ {G : Type 0} (log_of : G → Option (List Asked)) (faults_of : G → ℕ) where
-  -- the lines of all phases were run, and these are the history, the gates and, if there was memory for them, the answers
-  pub record Performs (shelf : Shelf) (f : Frame) (phases : List (List Line)) (gates₀ : List G) (done : Performed G) : Type 0 where
+  -- the lines of all phases were run, and these are the history, the gates and, if there was memory for them,
+  -- the answers
+  pub record Performs
+      (shelf : Shelf) (f : Frame) (phases : List (List Line)) (gates₀ : List G) (done : Performed G)
+      : Type 0 where
     pub answered : List (List Answered)
     pub makes : MakesHistory f phases answered done.book.entries
     pub ends : HasEnds done.book.entries

@@ -1,5 +1,6 @@
 -- What `run` prints: the answer to each line of the script, and the journal behind them where it is wanted.
-use Rattle.std.specs.Prelude.{◌≡◌, ◌≢◌, ℕ, List, [], ◌∷◌, ◌++◌, All, flat_map, codes, decimal, Bool, if◌then◌else◌, Option, Result, Err}
+use Rattle.std.specs.Prelude.{◌≡◌, ◌≢◌, ◌⊎◌, ℕ, List, [], ◌∷◌, ◌++◌, All, flat_map, codes, decimal}
+use Rattle.std.specs.Prelude.{Bool, if◌then◌else◌, Option, Result, Err}
 use Rattle.std.specs.Io.KnownBytes.{Appends}
 use Rattle.cm_world.specs.declared.answer.Answer.{Answer}
 use Rattle.cm_world.specs.declared.answer.Refusal.{Refusal}
@@ -38,10 +39,14 @@ texts_of (l ∷ ls) (s ∷ others) = line_text l s.result ++ texts_of ls others
 
 -- all that is printed
 abbrev pub printed_text : List (List Line) → List Said → Bool → Text → List Entry → Text
-printed_text phases said wanted head entries = texts_of (flat_map (λ lines. lines) phases) said ++ (if wanted then head ++ entries_text 1 entries else [])
+printed_text phases said wanted head entries =
+    texts_of (flat_map (λ lines. lines) phases) said
+    ++ (if wanted then head ++ entries_text 1 entries else [])
 
--- what was written of it, by the status: all of it at 0, where no answer was want of memory, and a front of it else
-pub record IsPrinted (text : Text) (said : List Said) (status : ℕ) (old new : Option (List ℕ)) : Type 0 where
+-- what was written of it, by the status: all of it at 0, and a front of it else; no answer was want of memory
+-- at 0 and 4
+pub record IsPrinted
+    (text : Text) (said : List Said) (status : ℕ) (old new : Option (List ℕ)) : Type 0 where
   pub all : status ≡ 0 → Appends old new text
-  pub no_want : status ≡ 0 → All (λ s. s.result ≢ Err refusal.Memory) said
+  pub no_want : (status ≡ 0) ⊎ (status ≡ 4) → All (λ s. s.result ≢ Err refusal.Memory) said
   pub front : AppendsFront old new text

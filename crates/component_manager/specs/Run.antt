@@ -1,10 +1,9 @@
 -- What a run promises.
 use Rattle.std.specs.Prelude.{◌≡◌, ◌⊎◌, ℕ, List, Option, Ok}
-use Rattle.std.specs.Io.KnownBytes.{Keeps}
 use Rattle.component_manager.specs.Calls.{words_of}
 use Rattle.component_manager.specs.Stock.{IsFault, Serves}
 use Rattle.component_manager.specs.Texts.{fault_line}
-use Rattle.component_manager.specs.Written.{AppendsFront, OfKnown}
+use Rattle.component_manager.specs.Written.{IsSaid, OfSome}
 use Rattle.component_manager.specs.declared.call.Call.TheVariants.{Run, Check}
 use Rattle.component_manager.specs.declared.call.RunOptions.{RunOptions}
 use Rattle.component_manager.specs.declared.fault.Fault.{Fault}
@@ -21,12 +20,13 @@ AsksRun words = (options : RunOptions) × (words_of words ≡ Ok (Run options))
 abbrev pub AsksCheck : List (List ℕ) → Type 0
 AsksCheck words = words_of words ≡ Ok Check
 
--- the bytes are refused, and a front of the line that says why was written on the error stream
-pub record IsRefused (out_old out_new err_old err_new : Option (List ℕ)) (bytes : List ℕ) : Type 0 where
-  pub fault : Fault
-  pub faulty : IsFault bytes fault
-  pub out : Keeps out_old out_new
-  pub err : AppendsFront err_old err_new (fault_line fault)
+-- the bytes that a source had left are refused, or bytes that it gave are where it tells none; and the line
+-- that says why is said on the error stream
+module _ {E : Type 0} (written_of : E → Option (List ℕ)) (faults_of : E → ℕ) where
+  pub record IsRefused (left : Option (List ℕ)) (err_old err_new : E) : Type 0 where
+    pub fault : Fault
+    pub faulty : OfSome (λ bytes. IsFault bytes fault) left
+    pub said : IsSaid written_of faults_of err_old err_new (fault_line fault)
 
 -- whichever script that is served the bytes are, this holds of it; they are one at most
 abbrev pub RunsAsServed : (Served → Type 0) → List ℕ → Type 0
@@ -43,11 +43,11 @@ stop_of (fault.Unread line number at) = Refused (fault.Unread line number at)
 stop_of (fault.Unserved line problem) = Refused (fault.Unserved line problem)
 stop_of fault.Memory = Memory
 
--- why a script stopped a run, where its bytes are known
+-- why a script stopped a run
 abbrev pub Stops : Stop → Option (List ℕ) → Type 0
 Stops ReadFault left = Unit {0}
 Stops Memory left = Unit {0}
-Stops (Refused fault) left = OfKnown (λ bytes. IsFault bytes fault) left
+Stops (Refused fault) left = OfSome (λ bytes. IsFault bytes fault) left
 
 -- a faulty script's statuses: refused, or the source failed or memory ran out before that was known
 abbrev pub IsRefusal : ℕ → Type 0
@@ -61,4 +61,5 @@ abbrev pub IsScriptStatus : ℕ → Type 0
 IsScriptStatus status = IsScriptRun status ⊎ ((status ≡ 3) ⊎ (status ≡ 7))
 
 abbrev pub IsCheckStatus : ℕ → Type 0
-IsCheckStatus status = (status ≡ 0) ⊎ ((status ≡ 1) ⊎ ((status ≡ 3) ⊎ ((status ≡ 4) ⊎ (status ≡ 6))))
+IsCheckStatus status =
+    (status ≡ 0) ⊎ ((status ≡ 1) ⊎ ((status ≡ 3) ⊎ ((status ≡ 4) ⊎ (status ≡ 6))))

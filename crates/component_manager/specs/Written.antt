@@ -1,12 +1,42 @@
 -- What is known of the bytes of a source or a sink.
-use Rattle.std.specs.Prelude.{ℕ, List, take, Option, Some, None}
-use Rattle.std.specs.Io.KnownBytes.{Appends}
+use Rattle.std.specs.Prelude.{◌≡◌, ◌⊎◌, ℕ, List, take, codes, Option, Some, None}
+use Rattle.std.specs.Io.KnownBytes.{Appends, Keeps}
+use Rattle.cm_io.specs.Outside.{Rose}
 
 -- a fact of the bytes, where they are known
 abbrev pub OfKnown : (List ℕ → Type 0) → Option (List ℕ) → Type 0
 OfKnown P None = Unit {0}
 OfKnown P (Some bytes) = P bytes
 
+-- a fact of the bytes, and of some bytes where they aren't known
+abbrev pub OfSome : (List ℕ → Type 0) → Option (List ℕ) → Type 0
+OfSome P None = (bytes : List ℕ) × P bytes
+OfSome P (Some bytes) = P bytes
+
 -- known bytes grew by a front of this text
 abbrev pub AppendsFront : Option (List ℕ) → Option (List ℕ) → List ℕ → Type 0
 AppendsFront old new text = (n : ℕ) × Appends old new (take n text)
+
+-- the fixed lines of the error stream
+abbrev pub usage_line : List ℕ
+usage_line = codes "usage: run, check, serve, audit, generate\n"
+
+abbrev pub read_fault_line : List ℕ
+read_fault_line = codes "read fault\n"
+
+abbrev pub want_line : List ℕ
+want_line = codes "want of memory\n"
+
+module _ {E : Type 0} (written_of : E → Option (List ℕ)) (faults_of : E → ℕ) where
+  -- the whole line stands on the sink, or the sink failed and a front of it does
+  abbrev pub IsSaid : E → E → List ℕ → Type 0
+  IsSaid old new line =
+      Appends (written_of old) (written_of new) line
+      ⊎ (Rose (faults_of old) (faults_of new) × AppendsFront (written_of old) (written_of new) line)
+
+  -- what is said on the error stream at a status: a line of its own at 2, 3 and 6, and nothing at 0, 1 and 4
+  pub record Says (old new : E) (status : ℕ) : Type 0 where
+    pub usage : status ≡ 2 → IsSaid old new usage_line
+    pub read : status ≡ 3 → IsSaid old new read_fault_line
+    pub memory : status ≡ 6 → IsSaid old new want_line
+    pub nothing : (status ≡ 0) ⊎ ((status ≡ 1) ⊎ (status ≡ 4)) → Keeps (written_of old) (written_of new)

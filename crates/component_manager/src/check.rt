@@ -11,7 +11,7 @@ ghost use Rattle.cm_valid.specs.Reports.{Reports};
 ghost use Rattle.cm_valid.specs.Texts as valid_text;
 ghost use Rattle.component_manager.specs.Checks.{IsChecked, IsJudged, IsTold, IsVerdict};
 ghost use Rattle.component_manager.specs.Run.{IsCheckStatus};
-ghost use Rattle.component_manager.specs.Written.{AppendsFront, OfKnown};
+ghost use Rattle.component_manager.specs.Written.{AppendsFront, OfKnown, Says};
 
 use crate::ran::{read_fault, want_of_memory};
 use cm_io::{Put, Sink, Source, SourceFault, put_all, read_up_to};
@@ -142,6 +142,7 @@ fn read_verdict<R: Threads + Wait + Sync, S: Source>(
 
 /// Says whether the manifest that the source has left is valid, or else its first fault.
 /// The result is the status.
+#[tactic(auto, using(crate::proofs::Saying::says))]
 pub fn run_check<R: Threads + Wait + Sync, S: Source, K: Sink, E: Sink>(
     rt: &R,
     alloc: Global,
@@ -162,6 +163,7 @@ pub fn run_check<R: Threads + Wait + Sync, S: Source, K: Sink, E: Sink>(
         (S.left source.old) }
     ensures silent { (result ≡ 3) ⊎ (result ≡ 6) →
         Keeps (K.written out.old) (K.written out.new) }
+    ensures err { Says E.written E.faults err.old err.new result }
     ensures others { IsCheckStatus result }
 {
     match read_verdict(rt, alloc, source) {

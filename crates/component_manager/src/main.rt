@@ -8,6 +8,7 @@ mod answers;
 mod call;
 mod check;
 mod fault;
+mod laws;
 mod performing;
 mod ran;
 mod run;

@@ -1,7 +1,7 @@
 //! What a run comes to, and the lines of the error stream.
 
 ghost use Rattle.std.specs.Prelude.{◌≡◌, []};
-ghost use Rattle.component_manager.specs.Written.{AppendsFront};
+ghost use Rattle.component_manager.specs.Written.{IsSaid, read_fault_line, want_line};
 
 use cm_book::Book;
 use cm_io::{Put, Sink, put_all};
@@ -15,12 +15,14 @@ use std::thread::Threads;
 pub struct Ran<G> {
     /// The status that the program ends with.
     ///
-    /// - 0: the input was read to its end, and everything was written.
+    /// - 0: what the source had left was answered, and everything was written.
     /// - 1: the manifest that was checked has a fault, which was written on `out`.
-    /// - 2: the words ask for nothing.
-    /// - 3: the source failed; nothing was written on `out`.
+    /// - 2: the words ask for nothing, and `err` tells what they may be; nothing was written on
+    ///   `out`.
+    /// - 3: the source failed, which `err` tells; nothing was written on `out`.
     /// - 4: `out` failed; a front of the text was written.
-    /// - 6: memory ran out, or a line was answered so; a front of the text was written.
+    /// - 6: memory ran out, or a line was answered so, which `err` tells; a front of the text was
+    ///   written.
     /// - 7: the script is refused, and the line on `err` says where and why; nothing was written
     ///   on `out`.
     pub status: u8,
@@ -43,9 +45,9 @@ pub fn ended<G>(alloc: Global, status: u8, gates: List<G>) -> Ran<G>
     }
 }
 
-/// Writes a line on the error stream, as far as it goes.
+/// Writes a line on the error stream: the whole of it, or a front where the stream fails.
 pub fn tell<R: Threads + Wait + Sync, E: Sink>(rt: &R, err: &mut E, line: &[u8])
-    ensures { AppendsFront (E.written err.old) (E.written err.new) line.now }
+    ensures { IsSaid E.written E.faults err.old err.new line.now }
 {
     match put_all(rt, err, line) {
         Put::Done => {}
@@ -55,7 +57,8 @@ pub fn tell<R: Threads + Wait + Sync, E: Sink>(rt: &R, err: &mut E, line: &[u8])
 
 /// Says that memory ran out. The result is the status.
 pub fn want_of_memory<R: Threads + Wait + Sync, E: Sink>(rt: &R, err: &mut E) -> u8
-    ensures { result ≡ 6 }
+    ensures status { result ≡ 6 }
+    ensures said { IsSaid E.written E.faults err.old err.new want_line }
 {
     tell(rt, err, b"want of memory\n");
     6
@@ -63,7 +66,8 @@ pub fn want_of_memory<R: Threads + Wait + Sync, E: Sink>(rt: &R, err: &mut E) ->
 
 /// Says that the source failed. The result is the status.
 pub fn read_fault<R: Threads + Wait + Sync, E: Sink>(rt: &R, err: &mut E) -> u8
-    ensures { result ≡ 3 }
+    ensures status { result ≡ 3 }
+    ensures said { IsSaid E.written E.faults err.old err.new read_fault_line }
 {
     tell(rt, err, b"read fault\n");
     3

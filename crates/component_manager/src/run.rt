@@ -1,14 +1,16 @@
 //! The top call.
 
-ghost use Rattle.std.specs.Prelude.{◌≡◌, ◌⊎◌, [], Ok, Err, length};
+ghost use Rattle.std.specs.Prelude.{◌≡◌, ◌⊎◌, Ok, Err, length};
 ghost use Rattle.std.specs.Io.KnownBytes.{Appends, Keeps};
 ghost use Rattle.cm_io.specs.Outside.{Rose};
 ghost use Rattle.component_manager.specs.Calls.{words_of};
 ghost use Rattle.component_manager.specs.Checks.{IsChecked, IsTold};
-ghost use Rattle.component_manager.specs.Headline.{RunsScript};
-ghost use Rattle.component_manager.specs.Run.{AsksCheck, AsksRun, IsCheckStatus, IsFaulty, IsRefusal, IsRefused, IsScriptRun, IsScriptStatus, RunsAsServed};
+ghost use Rattle.component_manager.specs.Headline.{IsHistory, RunsNothing, RunsScript};
+ghost use Rattle.component_manager.specs.Run.{AsksCheck, AsksRun, IsCheckStatus, IsFaulty};
+ghost use Rattle.component_manager.specs.Run.{IsRefusal, IsRefused, IsScriptRun, IsScriptStatus};
+ghost use Rattle.component_manager.specs.Run.{RunsAsServed};
 ghost use Rattle.component_manager.specs.declared.call.RunOptions.{RunOptions as TheOptions};
-ghost use Rattle.component_manager.specs.Written.{AppendsFront, OfKnown};
+ghost use Rattle.component_manager.specs.Written.{AppendsFront, OfKnown, Says};
 
 use crate::call::{Call, WordsFault, read_words};
 use crate::check::run_check;
@@ -36,6 +38,7 @@ use std::thread::Threads;
 /// - 70 to 76: it is no script, by [`read_script`](cm_command::read_script);
 /// - 77 and 78: a manifest that [`Repository::add`](cm_repo::Repository::add) refuses, for its URL
 ///   and as one that is repeated.
+#[tactic(auto, using(crate::proofs::Saying::says, crate::proofs::RunLemmas::idle))]
 pub fn run<R: Threads + Wait + Sync, S: Source, K: Sink, E: Sink, G: Gates + Send + Drop>(
     rt: &R,
     alloc: Global,
@@ -55,19 +58,30 @@ pub fn run<R: Threads + Wait + Sync, S: Source, K: Sink, E: Sink, G: Gates + Sen
     // 3 comes only where the source failed in this run, and 4 only where `out` did.
     ensures read { result.status ≡ 3 → Rose (S.faults input.old) (S.faults input.new) }
     ensures write { result.status ≡ 4 → Rose (K.faults out.old) (K.faults out.new) }
-    ensures silent { (result.status ≡ 2) ⊎ (result.status ≡ 3) →
-        Keeps (K.written out.old) (K.written out.new) }
 
-    // The gates come back. Without a run of a script they are as they were, and the book is empty.
+    // Nothing is written on `out` at 2, 3 and 7, and at 6 only for `run`. What is said on `err` goes
+    // by the status; at 7 it is the line of the script's fault.
+    ensures silent { (result.status ≡ 2) ⊎ ((result.status ≡ 3) ⊎ (result.status ≡ 7)) →
+        Keeps (K.written out.old) (K.written out.new) }
+    ensures kept { (AsksRun words.now → ⊥) → result.status ≡ 6 →
+        Keeps (K.written out.old) (K.written out.new) }
+    ensures err { Says E.written E.faults err.old err.new result.status }
+
+    // The history is a legal one and keeps all laws, wherever the script came from. The gates come
+    // back. Without a run of a script that is served they are as they were, and the book is empty.
+    ensures history { IsHistory result.book.entries }
     ensures gates { length result.gates ≡ 16 }
     ensures empty { (result.status ≡ 2) ⊎ ((result.status ≡ 3) ⊎ (result.status ≡ 7)) →
-        (result.book.entries ≡ []) × (result.gates ≡ gates) }
+        RunsNothing result.book.entries gates result.gates }
+    ensures other { (AsksRun words.now → ⊥) →
+        RunsNothing result.book.entries gates result.gates }
+    ensures unserved { OfKnown (λ bytes. IsFaulty bytes →
+        RunsNothing result.book.entries gates result.gates) (S.left input.old) }
 
     // For `run`: 7 comes only for a script that is refused, and all that is refused or isn't served
     // gets it unless the source failed or memory ran out.
     ensures refused { AsksRun words.now → result.status ≡ 7 →
-        OfKnown (IsRefused (K.written out.old) (K.written out.new) (E.written err.old)
-        (E.written err.new)) (S.left input.old) }
+        IsRefused E.written E.faults (S.left input.old) err.old err.new }
     ensures faulty { AsksRun words.now → OfKnown (λ bytes. IsFaulty bytes →
         IsRefusal result.status) (S.left input.old) }
     ensures script { AsksRun words.now → IsScriptStatus result.status }

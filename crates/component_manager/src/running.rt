@@ -8,7 +8,7 @@ ghost use Rattle.cm_lanes.specs.Script.{IsFit};
 ghost use Rattle.component_manager.specs.Headline.{RunsScript};
 ghost use Rattle.component_manager.specs.Printed.{IsPrinted, printed_text};
 ghost use Rattle.component_manager.specs.Run.{IsScriptRun};
-ghost use Rattle.component_manager.specs.Written.{AppendsFront};
+ghost use Rattle.component_manager.specs.Written.{AppendsFront, Says};
 
 use crate::answers::{push_answers, push_entries};
 use crate::call::RunOptions;
@@ -111,13 +111,17 @@ fn print<R: Threads + Wait + Sync, K: Sink>(
 }
 
 /// Says on the error stream what the status is for, where it is want of memory.
-fn report<R: Threads + Wait + Sync, E: Sink>(rt: &R, err: &mut E, status: u8) {
+#[tactic(auto, using(crate::proofs::Saying::says))]
+fn report<R: Threads + Wait + Sync, E: Sink>(rt: &R, err: &mut E, status: u8)
+    ensures { IsScriptRun status → Says E.written E.faults err.old err.new status }
+{
     if status == 6 {
         want_of_memory(rt, err);
     }
 }
 
 /// Writes what was made of a script.
+#[tactic(auto, using(crate::proofs::Saying::says))]
 fn print_performed<R: Threads + Wait + Sync, K: Sink, E: Sink, G>(
     rt: &R,
     alloc: Global,
@@ -136,6 +140,7 @@ fn print_performed<R: Threads + Wait + Sync, K: Sink, E: Sink, G>(
     ensures book { result.book ≡ done.book }
     ensures gates { result.gates ≡ done.gates }
     ensures cause { result.status ≡ 4 → Rose (K.faults out.old) (K.faults out.new) }
+    ensures err { Says E.written E.faults err.old err.new result.status }
     ensures others { IsScriptRun result.status }
 {
     let Performed { book, gates, said } = done;
@@ -161,6 +166,7 @@ fn print_performed<R: Threads + Wait + Sync, K: Sink, E: Sink, G>(
 }
 
 /// Runs a script that is served, and writes the answers and, if it is wanted, the journal.
+#[tactic(auto, using(crate::proofs::Saying::says))]
 pub fn run_served<R: Threads + Wait + Sync, K: Sink, E: Sink, G: Gates + Send + Drop>(
     rt: &R,
     alloc: Global,
@@ -176,6 +182,7 @@ pub fn run_served<R: Threads + Wait + Sync, K: Sink, E: Sink, G: Gates + Send + 
     ensures runs { RunsScript G.log G.faults options served gates result.gates
         result.book.entries result.status (K.written out.old) (K.written out.new) }
     ensures cause { result.status ≡ 4 → Rose (K.faults out.old) (K.faults out.new) }
+    ensures err { Says E.written E.faults err.old err.new result.status }
     ensures others { IsScriptRun result.status }
 {
     let RunOptions {

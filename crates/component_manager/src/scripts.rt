@@ -1,15 +1,16 @@
 //! The command `run`: a script is read and run.
 
-ghost use Rattle.std.specs.Prelude.{◌≡◌, ◌⊎◌, [], All, IfOk, IfErr, length};
+ghost use Rattle.std.specs.Prelude.{◌≡◌, ◌⊎◌, All, IfOk, IfErr, length};
 ghost use Rattle.std.specs.Io.KnownBytes.{Keeps};
 ghost use Rattle.cm_io.specs.Outside.{Rose};
 ghost use Rattle.cm_lanes.specs.Script.{IsFit};
-ghost use Rattle.component_manager.specs.Headline.{RunsScript};
-ghost use Rattle.component_manager.specs.Run.{IsFaulty, IsRefusal, IsRefused, IsScriptRun, IsScriptStatus, RunsAsServed, Stops};
+ghost use Rattle.component_manager.specs.Headline.{IsHistory, RunsNothing, RunsScript};
+ghost use Rattle.component_manager.specs.Run.{IsFaulty, IsRefusal, IsRefused, IsScriptRun};
+ghost use Rattle.component_manager.specs.Run.{IsScriptStatus, RunsAsServed, Stops};
 ghost use Rattle.component_manager.specs.Run as run;
 ghost use Rattle.component_manager.specs.Stock.{Serves};
 ghost use Rattle.component_manager.specs.Texts as spec;
-ghost use Rattle.component_manager.specs.Written.{AppendsFront, OfKnown};
+ghost use Rattle.component_manager.specs.Written.{IsSaid, OfKnown, Says};
 
 use crate::call::RunOptions;
 use crate::fault::Fault;
@@ -80,9 +81,11 @@ fn fault_line(alloc: Global, fault: Fault) -> Result<Text, Memory>
 }
 
 /// Says why the script is refused. The result is the status.
+#[tactic(auto, using(crate::proofs::Saying::says))]
 fn refuse<R: Threads + Wait + Sync, E: Sink>(rt: &R, alloc: Global, err: &mut E, fault: Fault) -> u8
     ensures refused { result ≡ 7 →
-        AppendsFront (E.written err.old) (E.written err.new) (spec.fault_line fault) }
+        IsSaid E.written E.faults err.old err.new (spec.fault_line fault) }
+    ensures err { Says E.written E.faults err.old err.new result }
     ensures others { (result ≡ 7) ⊎ (result ≡ 6) }
 {
     match fault_line(alloc, fault) {
@@ -95,6 +98,7 @@ fn refuse<R: Threads + Wait + Sync, E: Sink>(rt: &R, alloc: Global, err: &mut E,
 }
 
 /// Runs the script that the source has left.
+#[tactic(auto, using(crate::proofs::Saying::says, crate::proofs::RunLemmas::idle))]
 pub fn run_script<R: Threads + Wait + Sync, S: Source, K: Sink, E: Sink, G: Gates + Send + Drop>(
     rt: &R,
     alloc: Global,
@@ -109,17 +113,21 @@ pub fn run_script<R: Threads + Wait + Sync, S: Source, K: Sink, E: Sink, G: Gate
     ensures read { result.status ≡ 3 → Rose (S.faults script.old) (S.faults script.new) }
     ensures write { result.status ≡ 4 → Rose (K.faults out.old) (K.faults out.new) }
     ensures refused { result.status ≡ 7 →
-        OfKnown (IsRefused (K.written out.old) (K.written out.new) (E.written err.old)
-        (E.written err.new)) (S.left script.old) }
+        IsRefused E.written E.faults (S.left script.old) err.old err.new }
     ensures faulty { OfKnown (λ bytes. IsFaulty bytes →
         IsRefusal result.status) (S.left script.old) }
     ensures headline { IsScriptRun result.status →
         OfKnown (RunsAsServed (λ served. RunsScript G.log G.faults options served gates
         result.gates result.book.entries result.status (K.written out.old)
         (K.written out.new))) (S.left script.old) }
+    ensures history { IsHistory result.book.entries }
     ensures empty { (result.status ≡ 3) ⊎ (result.status ≡ 7) →
-        (result.book.entries ≡ []) × (result.gates ≡ gates) }
-    ensures silent { result.status ≡ 3 → Keeps (K.written out.old) (K.written out.new) }
+        RunsNothing result.book.entries gates result.gates }
+    ensures unserved { OfKnown (λ bytes. IsFaulty bytes →
+        RunsNothing result.book.entries gates result.gates) (S.left script.old) }
+    ensures silent { (result.status ≡ 3) ⊎ (result.status ≡ 7) →
+        Keeps (K.written out.old) (K.written out.new) }
+    ensures err { Says E.written E.faults err.old err.new result.status }
     ensures others { IsScriptStatus result.status }
 {
     match read_served(rt, alloc, script) {

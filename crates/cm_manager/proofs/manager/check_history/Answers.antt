@@ -1,4 +1,4 @@
-use Rattle.cm_steps.specs.Story.{IsLegal}
+use Rattle.cm_laws.specs.Story.{IsLegal}
 use Rattle.cm_manager.proofs.manager.check_history.Goals as goal
 
 pub returns : goal.returns

@@ -1,6 +1,6 @@
 use Rattle.std.proofs.Common.{ℕ, subst, sym}
-use Rattle.cm_steps.specs.Story.{world_of}
-use Rattle.cm_steps.specs.Laws.{IsJoined}
+use Rattle.cm_laws.specs.Story.{world_of}
+use Rattle.cm_laws.specs.Laws.{IsJoined}
 use Rattle.cm_manager.proofs.Turning.{enters_at, entered_by, may_await, may_leave, took_by, same_pass, awaits_on, awaited_as}
 use Rattle.cm_manager.proofs.manager.Manager.await_once.Goals as goal
 

@@ -18,7 +18,7 @@ returns-in-Absent-clause-did g c = λ w at. did_absent c.args.self.now.shelf w c
 
 pub returns-in-Failed-clause-did : goal.returns-in-Failed-clause-did
 returns-in-Failed-clause-did g c = λ w at. did_fail c.args.self.now.shelf w c.args.url _ _ at c.requires
-    (fetched_for c.args.self.now.shelf c.args.url c.in-Ok.what _ _ _ c.in-Ok.ensures c.in-Failed.ensures.log) (c.fetch.ensures.fault c.in-Failed.is)
+    (fetched_for c.args.self.now.shelf c.args.url c.in-Ok.what _ _ _ c.in-Ok.ensures c.in-Failed.ensures.log) c.fetch.ensures.later (c.fetch.ensures.fault c.in-Failed.is)
 
 pub returns-in-Memory-clause-did : goal.returns-in-Memory-clause-did
 returns-in-Memory-clause-did g c = λ w at. did_want c.args.self.now.shelf w c.args.url _ _ at c.requires

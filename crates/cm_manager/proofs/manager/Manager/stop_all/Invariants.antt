@@ -1,4 +1,4 @@
-use Rattle.cm_steps.specs.Shutdowns.{IsLeaving}
+use Rattle.cm_laws.specs.Shutdowns.{IsLeaving}
 use Rattle.cm_manager.specs.Turns.{world_after}
 use Rattle.cm_manager.specs.Asking.{frame_of}
 use Rattle.cm_manager.specs.Shutdowns.{Stops}
