@@ -1,10 +1,12 @@
 #!/usr/bin/env python3
-"""Runs each of two scripts again and again. In each run one request for memory is refused: the first, the second, and so on, until a run makes no such request.
+"""Runs each of two scripts again and again. In each run one request for memory is refused: the first,
+the second, and so on, until a run makes no such request.
 
-A run must end with status 0 and the whole text, or with status 6, `want of memory` on the error stream, and a front of the text or another text, in
-which lines may be answered `refused want-of-memory`. Where a journal was written, each action that was begun must have its end in it. Prints how many
-runs had each status, and each run that broke a rule. Needs a C compiler.
-Run it from anywhere: bench/allocations.py [PROGRAM]
+A run must end with status 0 and the whole text, or with status 6, `want of memory` on the error
+stream, and a front of the text or another text, in which lines may be answered `refused
+want-of-memory`. Where a journal was written, each action that was begun must have its end in it.
+Prints how many runs had each status, and each run that broke a rule. Needs a C compiler. Run it
+from anywhere: bench/allocations.py [PROGRAM]
 """
 import collections
 import os
@@ -59,10 +61,12 @@ int posix_memalign(void **place, size_t align, size_t size) {
 """
 
 REALM = """manifest fuchsia-pkg://t/a#meta/root.cm
-{"children":[{"name":"logger","url":"#meta/logger.cm"},{"name":"client","url":"#meta/client.cm"}],"offer":[{"protocol":"fuchsia.logger.LogSink","from":"#logger","to":"#client"}]}
+{"children":[{"name":"logger","url":"#meta/logger.cm"},{"name":"client","url":"#meta/client.cm"}],
+"offer":[{"protocol":"fuchsia.logger.LogSink","from":"#logger","to":"#client"}]}
 %%
 manifest fuchsia-pkg://t/a#meta/logger.cm
-{"program":{"runner":"elf"},"capabilities":[{"protocol":"fuchsia.logger.LogSink"}],"expose":[{"protocol":"fuchsia.logger.LogSink","from":"self"}]}
+{"program":{"runner":"elf"},"capabilities":[{"protocol":"fuchsia.logger.LogSink"}],
+"expose":[{"protocol":"fuchsia.logger.LogSink","from":"self"}]}
 %%
 manifest fuchsia-pkg://t/a#meta/client.cm
 {"program":{"runner":"elf"},"use":[{"protocol":"fuchsia.logger.LogSink"}]}
@@ -72,7 +76,8 @@ root fuchsia-pkg://t/a#meta/root.cm
 
 SCRIPTS = {
     "one lane": "0 route client /svc/fuchsia.logger.LogSink\n",
-    "two lanes": "0 start client\n1 start client\n0 open client /svc/fuchsia.logger.LogSink\n1 show logger\nsync\n0 stop logger\n1 open-exposed logger x\n1 exited client\n",
+    "two lanes": "0 start client\n1 start client\n0 open client /svc/fuchsia.logger.LogSink\n"
+                 "1 show logger\nsync\n0 stop logger\n1 open-exposed logger x\n1 exited client\n",
 }
 
 

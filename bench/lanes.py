@@ -1,8 +1,9 @@
 #!/usr/bin/env python3
-"""Runs the same 16,000 commands from 1, 4 and 16 lanes over a realm of 100 instances, and prints commands per second, and bytes of memory for each entry of the history.
+"""Runs the same 16,000 commands from 1, 4 and 16 lanes over a realm of 100 instances, and prints
+commands per second, and bytes of memory for each entry of the history.
 
-The commands show, start and route in turns. Each command makes two entries or three: it looks for the instance, and then makes its own event.
-Run it from anywhere: bench/lanes.py [PROGRAM]
+The commands show, start and route in turns. Each command makes two entries or three: it looks for
+the instance, and then makes its own event. Run it from anywhere: bench/lanes.py [PROGRAM]
 """
 import os
 import sys
@@ -14,8 +15,14 @@ PROGRAM = sys.argv[1] if len(sys.argv) > 1 else os.path.join(HERE, "..", "compon
 INSTANCES = 100
 COMMANDS = 16000
 
-ROOT = 'manifest fuchsia-pkg://bench/p#meta/root.cm\n{"children":[%s],"capabilities":[{"protocol":"p"}],"offer":[{"protocol":"p","from":"self","to":[%s]}]}\n%%%%\n'
-LEAF = 'manifest fuchsia-pkg://bench/p#meta/leaf.cm\n{"program":{"runner":"elf"},"use":[{"protocol":"p"}]}\n%%\n'
+ROOT = (
+    'manifest fuchsia-pkg://bench/p#meta/root.cm\n{"children":[%s],"capabilities":[{"protocol":"p"}],'
+    '"offer":[{"protocol":"p","from":"self","to":[%s]}]}\n%%%%\n'
+)
+LEAF = (
+    'manifest fuchsia-pkg://bench/p#meta/leaf.cm\n'
+    '{"program":{"runner":"elf"},"use":[{"protocol":"p"}]}\n%%\n'
+)
 
 
 def script(path, lanes, commands):
@@ -34,12 +41,16 @@ def script(path, lanes, commands):
 
 
 def measure(path, out):
-    """Seconds of the clock and of the processor, the most KiB of memory, and the status of one run in a process of its own."""
+    """Seconds of the clock and of the processor, the most KiB of memory, and the status of one run.
+
+    It runs in a process of its own.
+    """
     begin = time.monotonic()
     child = os.fork()
     if child:
         _, status, usage = os.wait4(child, 0)
-        return time.monotonic() - begin, usage.ru_utime + usage.ru_stime, usage.ru_maxrss, os.waitstatus_to_exitcode(status)
+        clock, processor = time.monotonic() - begin, usage.ru_utime + usage.ru_stime
+        return clock, processor, usage.ru_maxrss, os.waitstatus_to_exitcode(status)
     with open(path) as source, open(out, "w") as lines:
         os.dup2(source.fileno(), 0)
         os.dup2(lines.fileno(), 1)

@@ -1,8 +1,9 @@
 #!/usr/bin/env python3
-"""Checks manifests of 1,000, 4,000 and 16,000 children with an offer to each, and prints time and memory for each, and their growth.
+"""Checks manifests of 1,000, 4,000 and 16,000 children with an offer to each, and prints time and
+memory for each, and their growth.
 
-The memory that is told for a byte is that which the run takes above the run on a manifest of no bytes, parted by the bytes read.
-Run it from anywhere: bench/manifests.py [PROGRAM]
+The memory that is told for a byte is that which the run takes above the run on a manifest of no
+bytes, parted by the bytes read. Run it from anywhere: bench/manifests.py [PROGRAM]
 """
 import os
 import sys
@@ -25,7 +26,8 @@ def name(number):
 def manifest(children):
     """A manifest of so many children, each of which is offered something by the one before."""
     rows = ",".join("{name:'%s',url:'#c'}" % name(k) for k in range(children))
-    offers = ",".join("{protocol:'p',from:'#%s',to:'#%s'}" % (name(k - 1), name(k)) for k in range(1, children))
+    pairs = [(name(k - 1), name(k)) for k in range(1, children)]
+    offers = ",".join("{protocol:'p',from:'#%s',to:'#%s'}" % pair for pair in pairs)
     return "{children:[%s],offer:[%s]}" % (rows, offers)
 
 
@@ -52,7 +54,8 @@ def main():
         seconds, kib, status, out = measure(text)
         growth = "" if earlier is None else "  %.2f times the time of a quarter" % (seconds / earlier)
         print("%6d children, %8d bytes: %6.2f s  %6.1f MiB, %5.1f bytes for each byte read  status %d: %s%s"
-              % (children, len(text), seconds, kib / 1024, (kib - least) * 1024 / len(text), status, out.strip(), growth))
+              % (children, len(text), seconds, kib / 1024, (kib - least) * 1024 / len(text), status,
+                 out.strip(), growth))
         earlier = seconds
 
 

@@ -1,10 +1,12 @@
 #!/usr/bin/env python3
-"""Runs the program on scripts of 4, 16 and 64 MiB, and prints time and memory for each, and their growth.
+"""Runs the program on scripts of 4, 16 and 64 MiB, and prints time and memory for each, and their
+growth.
 
-The largest has 1,000 manifests besides the example's, of about 62 KiB each, and 100,000 command lines; the others have a sixteenth and a quarter of both.
-The memory that is told is never less than that of this script, of which each run begins as a copy; the example alone shows it.
-Then it tries the limit itself: a script of 64 MiB has no root line, and one with a line more is too large.
-Run it from anywhere: bench/scripts.py [PROGRAM]
+The largest has 1,000 manifests besides the example's, of about 62 KiB each, and 100,000 command
+lines; the others have a sixteenth and a quarter of both. The memory that is told is never less than
+that of this script, of which each run begins as a copy; the example alone shows it. Then it tries
+the limit itself: a script of 64 MiB has no root line, and one with a line more is too large. Run it
+from anywhere: bench/scripts.py [PROGRAM]
 """
 import os
 import subprocess
@@ -59,7 +61,8 @@ def measure(path):
 def refusal(path):
     """The status of a run, and its line on the error stream."""
     with open(path) as source:
-        ran = subprocess.run([PROGRAM, "run"], stdin=source, stdout=subprocess.DEVNULL, stderr=subprocess.PIPE, text=True)
+        ran = subprocess.run([PROGRAM, "run"], stdin=source, stdout=subprocess.DEVNULL,
+                             stderr=subprocess.PIPE, text=True)
     return ran.returncode, ran.stderr
 
 
@@ -90,7 +93,8 @@ def main():
         if status != 0:
             sys.exit("the program ended with status %d" % status)
         growth = "" if earlier is None else "  %.2f times the time of a quarter" % (seconds / earlier)
-        print("%9d bytes: %6.2f s  %7.1f MiB of memory, %.2f times the size%s" % (whole, seconds, kib / 1024, kib * 1024 / whole, growth))
+        print("%9d bytes: %6.2f s  %7.1f MiB of memory, %.2f times the size%s"
+              % (whole, seconds, kib / 1024, kib * 1024 / whole, growth))
         earlier = seconds
     limits()
 

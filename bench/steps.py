@@ -1,9 +1,12 @@
 #!/usr/bin/env python3
-"""Prints the time of a step of a realm, as it grows with the realm: of 10,000 commands that show an instance among 250, 1,000 and 4,000, of 100 commands that walk a route of 250, 500 and 1,000 hops, and of the picks of a shutdown of 50, 100 and 200 instances.
+"""Prints the time of a step of a realm, as it grows with the realm: of 10,000 commands that show an
+instance among 250, 1,000 and 4,000, of 100 commands that walk a route of 250, 500 and 1,000 hops,
+and of the picks of a shutdown of 50, 100 and 200 instances.
 
-Each command that shows or routes makes two entries of the history: it looks for the instance, and then makes its own event. What the realm takes to be made is measured by a run with one such command, and taken off.
-In a shutdown each instance is off, and is shut by one pick.
-Run it from anywhere: bench/steps.py [PROGRAM]
+Each command that shows or routes makes two entries of the history: it looks for the instance, and
+then makes its own event. What the realm takes to be made is measured by a run with one such
+command, and taken off. In a shutdown each instance is off, and is shut by one pick. Run it from
+anywhere: bench/steps.py [PROGRAM]
 """
 import os
 import sys
@@ -12,14 +15,21 @@ import tempfile
 HERE = os.path.dirname(os.path.abspath(__file__))
 PROGRAM = sys.argv[1] if len(sys.argv) > 1 else os.path.join(HERE, "..", "component_manager")
 
-FIRST = 'manifest fuchsia-pkg://bench/p#meta/first.cm\n{"children":[{"name":"c","url":"#meta/link.cm"}],"capabilities":[{"protocol":"p"}],"offer":[{"protocol":"p","from":"self","to":"#c"}]}\n%%\n'
-LINK = 'manifest fuchsia-pkg://bench/p#meta/link.cm\n{"children":[{"name":"c","url":"#meta/link.cm"}],"use":[{"protocol":"p"}],"offer":[{"protocol":"p","from":"parent","to":"#c"}]}\n%%\n'
+FIRST = (
+    'manifest fuchsia-pkg://bench/p#meta/first.cm\n{"children":[{"name":"c","url":"#meta/link.cm"}],'
+    '"capabilities":[{"protocol":"p"}],"offer":[{"protocol":"p","from":"self","to":"#c"}]}\n%%\n'
+)
+LINK = (
+    'manifest fuchsia-pkg://bench/p#meta/link.cm\n{"children":[{"name":"c","url":"#meta/link.cm"}],'
+    '"use":[{"protocol":"p"}],"offer":[{"protocol":"p","from":"parent","to":"#c"}]}\n%%\n'
+)
 
 
 def wide(instances, commands):
     """A root with so many instances below it, which are shown in turns."""
     children = ",\n".join('{"name":"i%d","url":"#meta/leaf.cm"}' % number for number in range(1, instances))
-    yield 'manifest fuchsia-pkg://bench/p#meta/wide.cm\n{"children":[%s]}\n%%%%\nroot fuchsia-pkg://bench/p#meta/wide.cm\n' % children
+    yield 'manifest fuchsia-pkg://bench/p#meta/wide.cm\n{"children":[%s]}\n%%%%\n' % children
+    yield "root fuchsia-pkg://bench/p#meta/wide.cm\n"
     for number in range(commands):
         yield "0 show i%d\n" % (1 + number % (instances - 1))
 

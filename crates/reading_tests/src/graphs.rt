@@ -1,125 +1,105 @@
-use cm_decl::{Child, Decl, DynChild, Give, Kind, Node, Offer, Origin};
+//! Graphs of declarations and of children in a collection: their order, a cycle, and what depends.
+
+use crate::readers::{command_of, decl_of};
+use cm_command::Command;
+use cm_decl::{DynChild, Give, Node};
 use cm_deps::{Graph, Order, order_of};
-use cm_names::{Availability, ChildName, Dependency, List, Name, Text};
+use cm_names::{ChildName, List, Moniker, Name, Text};
 use std::alloc::Global;
 use std::test::Fail;
 
-fn name(alloc: Global, text: &str) -> Result<Name, Fail> {
-    Ok(Name::read(alloc, text)?)
-}
+/// Two children, a and b: a strong offer of p from a to b, and a weak one of q from b to a.
+const TWO_WAYS: &str = "{children:[{name:'a',url:'#meta/x.cm'},{name:'b',url:'#meta/x.cm'}],\
+     offer:[{protocol:'p',from:'#a',to:'#b'},\
+     {protocol:'q',from:'#b',to:'#a',dependency:'weak'}]}";
 
-/// The child that is written `name`, or `collection:name` where a collection is given.
-fn child(alloc: Global, coll: Option<&str>, text: &str) -> Result<ChildName, Fail> {
-    let coll = match coll {
-        None => None,
-        Some(coll) => Some(name(alloc, coll)?),
-    };
-    Ok(ChildName {
-        coll,
-        name: name(alloc, text)?,
-    })
-}
+/// The same, where both offers are strong.
+const RING: &str = "{children:[{name:'a',url:'#meta/x.cm'},{name:'b',url:'#meta/x.cm'}],\
+     offer:[{protocol:'p',from:'#a',to:'#b'},{protocol:'q',from:'#b',to:'#a'}]}";
 
-fn give(alloc: Global, text: &str, from: ChildName, dependency: Dependency) -> Result<Give, Fail> {
-    Ok(Give {
-        kind: Kind::Protocol,
-        source_name: name(alloc, text)?,
-        from: Origin::Child(from),
-        target_name: name(alloc, text)?,
-        rights: None,
-        subdir: None,
-        dependency,
-        availability: Availability::Required,
-    })
-}
-
-/// Two children, a and b: a strong offer of p from a to b, and one of q from b to a.
-fn two_ways(alloc: Global, back: Dependency) -> Result<Decl, Fail> {
-    let mut children = List::new(alloc);
-    for text in ["a", "b"] {
-        children.push(Child {
-            name: name(alloc, text)?,
-            url: Text::from_str(alloc, "#meta/x.cm")?,
-            eager: false,
-        })?;
+/// The child that a command creates.
+fn created(alloc: Global, line: &str) -> Result<DynChild, Fail> {
+    match command_of(alloc, line.as_bytes())? {
+        Command::Create {
+            parent: _parent,
+            coll,
+            name,
+            url: _url,
+            gives,
+        } => Ok(DynChild {
+            name: ChildName {
+                coll: Some(coll),
+                name,
+            },
+            gives,
+        }),
+        _other => Err(Fail::from("not a create")),
     }
-    let mut offers = List::new(alloc);
-    offers.push(Offer {
-        to: name(alloc, "b")?,
-        give: give(alloc, "p", child(alloc, None, "a")?, Dependency::Strong)?,
-    })?;
-    offers.push(Offer {
-        to: name(alloc, "a")?,
-        give: give(alloc, "q", child(alloc, None, "b")?, back)?,
-    })?;
-    Ok(Decl {
-        runner: None,
-        children,
-        collections: List::new(alloc),
-        capabilities: List::new(alloc),
-        uses: List::new(alloc),
-        offers,
-        exposes: List::new(alloc),
-    })
 }
 
-/// A child of the collection dyn, with a strong offer from another.
-fn created(alloc: Global, text: &str, from: &str) -> Result<DynChild, Fail> {
-    let mut gives = List::new(alloc);
-    let source = child(alloc, Some("dyn"), from)?;
-    gives.push(give(alloc, "p", source, Dependency::Strong)?)?;
-    Ok(DynChild {
-        name: child(alloc, Some("dyn"), text)?,
-        gives,
-    })
+fn all_created(alloc: Global, lines: &[&str]) -> Result<List<DynChild>, Fail> {
+    let mut children = List::new(alloc);
+    for line in lines {
+        children.push(created(alloc, line)?)?;
+    }
+    Ok(children)
 }
 
 /// The order or the cycle, in words.
 fn written(alloc: Global, order: &Order) -> Result<Text, Fail> {
-    let mut text = Text::new(alloc);
-    let nodes = match order {
-        Order::Ordered(nodes) => nodes,
-        Order::Cycle(nodes) => {
-            text.push_str("cycle: ")?;
-            nodes
-        }
-    };
-    for node in nodes.as_slice() {
+    match order {
+        Order::Ordered(nodes) => nodes_text(alloc, "", nodes.as_slice()),
+        Order::Cycle(nodes) => nodes_text(alloc, "cycle: ", nodes.as_slice()),
+    }
+}
+
+/// The nodes behind a front, each with a space behind it.
+pub fn nodes_text(alloc: Global, front: &str, nodes: &[Node]) -> Result<Text, Fail> {
+    let mut text = Text::from_str(alloc, front)?;
+    for node in nodes {
         text.push(format_args!("{node} "))?;
     }
     Ok(text)
 }
 
-/// The order or the cycle of the two children.
-fn order_text(alloc: Global, back: Dependency) -> Result<Text, Fail> {
-    let decl = two_ways(alloc, back)?;
+/// The order of a declaration alone.
+fn order_text(alloc: Global, manifest: &str) -> Result<Text, Fail> {
+    let decl = decl_of(alloc, manifest.as_bytes())?;
     let order = order_of(alloc, &decl, &[])?;
     written(alloc, &order)
 }
 
-/// The order or the cycle of the two children and of these in the collection.
-fn graph_text(alloc: Global, dynamic: &[DynChild]) -> Result<Text, Fail> {
-    let decl = two_ways(alloc, Dependency::Weak)?;
-    let graph = Graph::of(alloc, &decl, dynamic)?;
+/// The outcome of the graph of a declaration and of the children that commands create.
+fn graph_text(alloc: Global, manifest: &str, lines: &[&str]) -> Result<Text, Fail> {
+    let decl = decl_of(alloc, manifest.as_bytes())?;
+    let children = all_created(alloc, lines)?;
+    let graph = Graph::of(alloc, &decl, children.as_slice())?;
     written(alloc, graph.outcome())
 }
 
-/// That of two children in the collection which depend on each other.
-fn ring_text(alloc: Global) -> Result<Text, Fail> {
-    let dynamic = [created(alloc, "x", "z")?, created(alloc, "z", "x")?];
-    graph_text(alloc, dynamic.as_slice())
-}
+/// A declaration, what commands create in it, and the order or the cycle of all.
+const GRAPHS: [(&str, &[&str], &str); 3] = [
+    (RING, &[], "cycle: a b a "),
+    (TWO_WAYS, &[], "b a self "),
+    (
+        TWO_WAYS,
+        &[
+            "create . dyn x u + protocol p #dyn:z",
+            "create . dyn z u + protocol p #dyn:x",
+        ],
+        "cycle: dyn:x dyn:z dyn:x ",
+    ),
+];
 
 #[test]
 fn orders_or_picks_a_cycle(rt: HostRuntime) -> Result<(), Fail> {
-    let alloc = rt.alloc();
-    assert_eq!(rt;
-        order_text(alloc, Dependency::Strong)?.as_str(),
-        "cycle: a b a "
-    );
-    assert_eq!(rt; order_text(alloc, Dependency::Weak)?.as_str(), "b a self ");
-    assert_eq!(rt; graph_text(alloc, &[])?.as_str(), "b a self ");
-    assert_eq!(rt; ring_text(alloc)?.as_str(), "cycle: dyn:x dyn:z dyn:x ");
+    for (manifest, lines, expected) in GRAPHS {
+        let text = graph_text(rt.alloc(), manifest, lines)?;
+        assert_eq!(rt; text.as_str(), expected);
+        if lines.is_empty() {
+            assert_eq!(rt; order_text(rt.alloc(), manifest)?.as_str(), expected);
+        }
+    }
     Ok(())
 }
 
@@ -128,12 +108,26 @@ fn node(alloc: Global, text: &str) -> Result<Node, Fail> {
     if text == "self" {
         return Ok(Node::Own);
     }
-    Ok(Node::Child(child(alloc, None, text)?))
+    child(alloc, text)
 }
 
+/// The child of that name, which may stand in a collection.
+pub fn child(alloc: Global, text: &str) -> Result<Node, Fail> {
+    let moniker = Moniker::read(alloc, text)?;
+    match moniker.parts.as_slice().last() {
+        Some(name) => Ok(Node::Child(name.clone()?)),
+        None => Err(Fail::from("no child")),
+    }
+}
+
+/// Whether the one child depends on the other.
 fn depends(alloc: Global, from: &str, to: &str) -> Result<bool, Fail> {
-    let decl = two_ways(alloc, Dependency::Weak)?;
+    let decl = decl_of(alloc, TWO_WAYS.as_bytes())?;
     let graph = Graph::of(alloc, &decl, &[])?;
+    graph_depends(alloc, &graph, from, to)
+}
+
+fn graph_depends(alloc: Global, graph: &Graph, from: &str, to: &str) -> Result<bool, Fail> {
     let from = node(alloc, from)?;
     let to = node(alloc, to)?;
     Ok(graph.depends(&from, &to))
@@ -141,32 +135,43 @@ fn depends(alloc: Global, from: &str, to: &str) -> Result<bool, Fail> {
 
 #[test]
 fn tells_what_depends(rt: HostRuntime) -> Result<(), Fail> {
-    for (from, to, is_so) in [("b", "a", true), ("a", "b", false), ("a", "self", true)].as_slice() {
-        assert_eq!(rt; depends(rt.alloc(), from, to)?, *is_so, "{from} on {to}");
+    for (from, to, is_so) in [("b", "a", true), ("a", "b", false), ("a", "self", true)] {
+        assert_eq!(rt; depends(rt.alloc(), from, to)?, is_so, "{from} on {to}");
     }
     Ok(())
 }
 
-/// Whether a new child of the collection, with what is offered to it, would depend on the other.
-fn would_depend(alloc: Global, gives: &[Give], to: &str) -> Result<bool, Fail> {
-    let decl = two_ways(alloc, Dependency::Weak)?;
+/// Whether a child that a command creates would depend on the other.
+fn would_depend(alloc: Global, line: &str, to: &str) -> Result<bool, Fail> {
+    let decl = decl_of(alloc, TWO_WAYS.as_bytes())?;
     let graph = Graph::of(alloc, &decl, &[])?;
-    let to = node(alloc, to)?;
-    let coll = name(alloc, "dyn")?;
-    Ok(graph.would_depend(&coll, gives, &to))
+    let child = created(alloc, line)?;
+    graph_would_depend(alloc, &graph, child.gives.as_slice(), to)
 }
 
-/// The same, where something of b is offered to it.
-fn would_depend_by_b(alloc: Global, to: &str) -> Result<bool, Fail> {
-    let gives = [give(alloc, "p", child(alloc, None, "b")?, Dependency::Strong)?];
-    would_depend(alloc, gives.as_slice(), to)
+fn graph_would_depend(
+    alloc: Global,
+    graph: &Graph,
+    gives: &[Give],
+    to: &str,
+) -> Result<bool, Fail> {
+    let coll = Name::read(alloc, "dyn")?;
+    let to = node(alloc, to)?;
+    Ok(graph.would_depend(&coll, gives, &to))
 }
 
 #[test]
 fn tells_what_would_depend(rt: HostRuntime) -> Result<(), Fail> {
-    let alloc = rt.alloc();
-    assert!(rt; would_depend_by_b(alloc, "a")?);
-    assert!(rt; would_depend(alloc, &[], "self")?);
-    assert!(rt; !would_depend(alloc, &[], "a")?);
+    for (line, to, is_so) in [
+        ("create . dyn n u + protocol p #b", "a", true),
+        ("create . dyn n u", "self", true),
+        ("create . dyn n u", "a", false),
+    ] {
+        assert_eq!(rt;
+            would_depend(rt.alloc(), line, to)?,
+            is_so,
+            "{line} on {to}"
+        );
+    }
     Ok(())
 }

@@ -1,19 +1,18 @@
-//! Tests of the crates that read what comes in: names, streams, texts, manifests, scripts,
-//! commands and URLs. They stand here, above those crates, so that each crate is proved once.
+//! Tests of the crates that read: names, streams, texts, declarations, manifests, graphs, validity,
+//! repositories and commands. They stand here, above those crates, so that each crate is proved once.
+//!
+//! Most cases are rows of `cases`: a reader, what it reads, and the text that it tells, so that one
+//! more costs no proof.
 #![tactic(auto)]
 
 #[cfg(test)]
-mod commands;
-#[cfg(test)]
-mod declarations;
+mod cases;
 #[cfg(test)]
 mod graphs;
 #[cfg(test)]
-mod manifests;
+mod readers;
 #[cfg(test)]
-mod monikers;
-#[cfg(test)]
-mod names;
+mod reading;
 #[cfg(test)]
 mod repositories;
 #[cfg(test)]
@@ -21,6 +20,4 @@ mod rights;
 #[cfg(test)]
 mod streams;
 #[cfg(test)]
-mod tokens;
-#[cfg(test)]
-mod validity;
+mod values;

@@ -1,5 +1,36 @@
-use cm_names::*;
+//! Rights: words are read and written, or have their first fault.
+
+use crate::readers::fault;
+use cm_names::{List, Memory, Rights, Text};
 use std::alloc::Global;
+use std::test::Fail;
+
+/// Words, and the rights that they stand for or the first fault.
+const ROWS: [(&[&str], &str); 10] = [
+    (
+        &["r*"],
+        "connect,enumerate,get_attributes,read_bytes,traverse",
+    ),
+    (
+        &["w*"],
+        "connect,enumerate,modify_directory,traverse,update_attributes,write_bytes",
+    ),
+    (&["x*"], "connect,enumerate,execute,traverse"),
+    (
+        &["rx*", "connect"],
+        "connect,enumerate,execute,get_attributes,read_bytes,traverse",
+    ),
+    (&["write_bytes", "traverse"], "traverse,write_bytes"),
+    (
+        &["rw*"],
+        "connect,enumerate,get_attributes,modify_directory,read_bytes,traverse,\
+         update_attributes,write_bytes",
+    ),
+    (&[], "fault Empty"),
+    (&["r*", "read"], "fault UnknownRight(1)"),
+    (&["r*", "w*", "r*", "R*"], "fault RepeatedRight(2)"),
+    (&["", "r*", "r*"], "fault UnknownRight(0)"),
+];
 
 fn texts(alloc: Global, words: &[&str]) -> Result<List<Text>, Memory> {
     let mut texts = List::new(alloc);
@@ -9,55 +40,37 @@ fn texts(alloc: Global, words: &[&str]) -> Result<List<Text>, Memory> {
     Ok(texts)
 }
 
-#[test]
-fn reads_and_writes(rt: HostRuntime) -> Result<(), Memory> {
-    let alloc = rt.alloc();
-    let rows: [(&[&str], &str); 6] = [
-        (
-            &["r*"],
-            "connect,enumerate,get_attributes,read_bytes,traverse",
-        ),
-        (
-            &["w*"],
-            "connect,enumerate,modify_directory,traverse,update_attributes,write_bytes",
-        ),
-        (&["x*"], "connect,enumerate,execute,traverse"),
-        (
-            &["rx*", "connect"],
-            "connect,enumerate,execute,get_attributes,read_bytes,traverse",
-        ),
-        (&["write_bytes", "traverse"], "traverse,write_bytes"),
-        (
-            &["rw*"],
-            "connect,enumerate,get_attributes,modify_directory,read_bytes,traverse,\
-             update_attributes,write_bytes",
-        ),
-    ];
-    for (words, text) in rows {
-        let words = texts(alloc, words)?;
-        let Ok(rights) = Rights::read_words(words.as_slice()) else {
-            panic!(rt; "no rights: {text}");
-        };
-        assert_eq!(rt; rights.text(alloc)?.as_str(), text);
-        assert!(rt; rights.contains(rights) && !Rights::none().contains(rights));
-        assert!(rt; !rights.is_empty() && rights == rights.union(Rights::none()));
-        assert_eq!(rt; Rights::of_words(words.as_slice()), Some(rights));
+/// The rights of the words, or the first fault.
+fn told(alloc: Global, words: &[&str]) -> Result<Text, Fail> {
+    let words = texts(alloc, words)?;
+    match Rights::read_words(words.as_slice()) {
+        Ok(rights) => written(alloc, words.as_slice(), rights),
+        Err(found) => fault(alloc, found),
     }
-    Ok(())
+}
+
+/// Rights as they are written, where they are those of the words and all operations know them.
+fn written(alloc: Global, words: &[Text], rights: Rights) -> Result<Text, Fail> {
+    if Rights::of_words(words) != Some(rights) {
+        return Err(Fail::from("other rights"));
+    }
+    if !is_known(rights) {
+        return Err(Fail::from("mistaken rights"));
+    }
+    Ok(rights.text(alloc)?)
+}
+
+/// Whether some rights contain themselves, are more than none, and are kept by a union.
+fn is_known(rights: Rights) -> bool {
+    let none = Rights::none();
+    let contained = rights.contains(rights) && !none.contains(rights);
+    contained && !rights.is_empty() && rights == rights.union(none)
 }
 
 #[test]
-fn finds_the_first_fault(rt: HostRuntime) -> Result<(), Memory> {
-    let alloc = rt.alloc();
-    let rows: [(&[&str], RightsFault); 4] = [
-        (&[], RightsFault::Empty),
-        (&["r*", "read"], RightsFault::UnknownRight(1)),
-        (&["r*", "w*", "r*", "R*"], RightsFault::RepeatedRight(2)),
-        (&["", "r*", "r*"], RightsFault::UnknownRight(0)),
-    ];
-    for (words, fault) in rows {
-        let words = texts(alloc, words)?;
-        assert_eq!(rt; Rights::read_words(words.as_slice()), Err(fault));
+fn reads_rights(rt: HostRuntime) -> Result<(), Fail> {
+    for (words, text) in ROWS {
+        assert_eq!(rt; told(rt.alloc(), words)?.as_str(), text);
     }
     Ok(())
 }

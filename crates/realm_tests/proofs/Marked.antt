@@ -3,10 +3,9 @@ use Rattle.std.proofs.Common.{ℕ, Bool, [], ◌∷◌, sym, subst}
 use Rattle.cm_world.specs.declared.event.Event.{Event}
 use Rattle.cm_world.specs.declared.reply.Reply.{Reply}
 use Rattle.cm_world.specs.World.{World}
-use Rattle.cm_steps.specs.Story.{Story, world_of}
-use Rattle.cm_steps.specs.Steps.{Tells, entry_of}
-use Rattle.cm_steps.specs.Shutdowns.{IsMarked, MarksStay}
-use Rattle.cm_steps.proofs.Beginners.{told_world}
+use Rattle.cm_laws.specs.Story.{Story, world_of, Tells, entry_of}
+use Rattle.cm_laws.specs.Shutdowns.{IsMarked, MarksStay}
+use Rattle.cm_laws.proofs.actions.Beginners.{told_world}
 
 -- what is marked is marked behind a step
 pub still_marked : MarksStay → (old new : Story) (caller i : ℕ) (doom : Bool) (event : Event) (r : Reply) → Tells old new caller event r → IsMarked doom (world_of old) i → IsMarked doom (world_of new) i

@@ -96,20 +96,137 @@ fn job_of(alloc: Global, url: &str) -> Result<Job, Fail> {
     })
 }
 
-/// Fetches once through any gates, and gives back the answer.
-fn fetch_once<R: Threads + Wait + Sync, G: Gates>(
+/// What is asked of gates: to fetch from a repository, to launch, or to halt.
+#[derive(Clone, Copy)]
+enum Question {
+    Fetch(Option<&'static str>),
+    Launch,
+    Halt,
+}
+
+/// A question, and the URL that it is asked of.
+type Ask = (Question, &'static str);
+
+/// Five questions, of which each answer is one word.
+const ALL: [Ask; 5] = [
+    (Question::Fetch(None), "a"),
+    (Question::Fetch(None), "c"),
+    (Question::Launch, "a"),
+    (Question::Launch, "b"),
+    (Question::Halt, "b"),
+];
+
+/// What gates answer to these questions, a word each.
+fn asked<R: Threads + Wait + Sync, G: Gates>(
+    rt: &R,
+    alloc: Global,
+    gates: &mut G,
+    asks: &[Ask],
+) -> Result<String, Fail> {
+    let (idle, _) = passes(alloc)?;
+    let mut words = String::new(alloc);
+    ask_each(rt, alloc, gates, &idle, asks, &mut words)?;
+    Ok(words)
+}
+
+/// Puts down what gates answer to these questions.
+fn ask_each<R: Threads + Wait + Sync, G: Gates>(
     rt: &R,
     alloc: Global,
     gates: &mut G,
     idle: &Pass<Entry, Frame>,
-    what: &Fetch,
-) -> Result<String, AllocError> {
-    match gates.fetch(rt, alloc, idle, what) {
-        Fetched::Found(bytes) => String::from_utf8(bytes.into_vec()).map_err(|_| AllocError),
-        Fetched::Absent => String::from_str(alloc, "absent"),
-        Fetched::Failed => String::from_str(alloc, "failed"),
-        Fetched::Memory => String::from_str(alloc, "memory"),
+    asks: &[Ask],
+    words: &mut String,
+) -> Result<(), Fail> {
+    for (question, url) in asks {
+        if !words.is_empty() {
+            words.push_str(" ")?;
+        }
+        ask(rt, alloc, gates, idle, *question, url, words)?;
     }
+    Ok(())
+}
+
+/// Puts down what gates answer to a question.
+fn ask<R: Threads + Wait + Sync, G: Gates>(
+    rt: &R,
+    alloc: Global,
+    gates: &mut G,
+    idle: &Pass<Entry, Frame>,
+    question: Question,
+    url: &str,
+    words: &mut String,
+) -> Result<(), Fail> {
+    match question {
+        Question::Fetch(repo) => Ok(fetch(rt, alloc, gates, idle, repo, url, words)?),
+        Question::Launch => launch(rt, alloc, gates, idle, url, words),
+        Question::Halt => halt(rt, alloc, gates, idle, url, words),
+    }
+}
+
+fn fetch<R: Threads + Wait + Sync, G: Gates>(
+    rt: &R,
+    alloc: Global,
+    gates: &mut G,
+    idle: &Pass<Entry, Frame>,
+    repo: Option<&str>,
+    url: &str,
+    words: &mut String,
+) -> Result<(), AllocError> {
+    let what = fetch_of(alloc, repo, url)?;
+    let found = gates.fetch(rt, alloc, idle, &what);
+    push_found(found, words)
+}
+
+/// Puts down what was fetched, or one word.
+fn push_found(found: Fetched, words: &mut String) -> Result<(), AllocError> {
+    match found {
+        Fetched::Found(bytes) => push_bytes(bytes, words),
+        Fetched::Absent => words.push_str("absent"),
+        Fetched::Failed => words.push_str("failed"),
+        Fetched::Memory => words.push_str("memory"),
+    }
+}
+
+/// Puts down bytes that are a text, and nothing where they are none.
+fn push_bytes(bytes: Bytes, words: &mut String) -> Result<(), AllocError> {
+    match String::from_utf8(bytes.into_vec()) {
+        Ok(found) => words.push_str(found.as_str()),
+        Err(_) => Ok(()),
+    }
+}
+
+fn launch<R: Threads + Wait + Sync, G: Gates>(
+    rt: &R,
+    alloc: Global,
+    gates: &mut G,
+    idle: &Pass<Entry, Frame>,
+    url: &str,
+    words: &mut String,
+) -> Result<(), Fail> {
+    let job = job_of(alloc, url)?;
+    let word = match gates.launch(rt, idle, &job) {
+        Launched::Running => "Running",
+        Launched::Declined => "Declined",
+        Launched::Failed => "Failed",
+    };
+    Ok(words.push_str(word)?)
+}
+
+fn halt<R: Threads + Wait + Sync, G: Gates>(
+    rt: &R,
+    alloc: Global,
+    gates: &mut G,
+    idle: &Pass<Entry, Frame>,
+    url: &str,
+    words: &mut String,
+) -> Result<(), Fail> {
+    let job = job_of(alloc, url)?;
+    let word = match gates.halt(rt, idle, &job) {
+        Halted::Stopped => "Stopped",
+        Halted::Failed => "Failed",
+    };
+    Ok(words.push_str(word)?)
 }
 
 /// Fetches twice: what any gates tell of two calls.
@@ -132,36 +249,15 @@ fn fetch_twice<R: Threads + Wait + Sync, G: Gates>(
     (first, second)
 }
 
-/// Fetches `a` and `c`, launches `a` and `b`, and halts `b`: five calls, of which each answer is
-/// one word.
-fn ask_all<R: Threads + Wait + Sync, G: Gates>(
-    rt: &R,
-    alloc: Global,
-    gates: &mut G,
-    idle: &Pass<Entry, Frame>,
-) -> Result<String, Fail> {
-    let mut words = String::new(alloc);
-    for url in ["a", "c"] {
-        let what = fetch_of(alloc, None, url)?;
-        words.push_str(fetch_once(rt, alloc, gates, idle, &what)?.as_str())?;
-        words.push_str(" ")?;
-    }
-    for url in ["a", "b"] {
-        let answer = gates.launch(rt, idle, &job_of(alloc, url)?);
-        words.push_str(format!(in alloc; "{answer:?} ")?.as_str())?;
-    }
-    let answer = gates.halt(rt, idle, &job_of(alloc, "b")?);
-    words.push_str(format!(in alloc; "{answer:?}")?.as_str())?;
-    Ok(words)
-}
-
+/// Planned gates that decline `b`.
 fn planned(alloc: Global, failing: &[u64], room: u64) -> Result<PlannedGates, Fail> {
     let mut declined = Vec::new(alloc);
     declined.push(text(alloc, "b")?)?;
+    let failing = List::from_vec(failing.to_vec(alloc)?);
     let plan = GatePlan {
         manifests: manifests(alloc)?,
         declined: List::from_vec(declined),
-        failing: List::from_vec(failing.to_vec(alloc)?),
+        failing,
         room,
     };
     Ok(PlannedGates::new(alloc, plan))
@@ -174,34 +270,37 @@ fn ask_planned<R: Threads + Wait + Sync>(
     failing: &[u64],
     room: u64,
 ) -> Result<(String, Option<usize>, u64), Fail> {
-    let (idle, _) = passes(alloc)?;
     let mut gates = planned(alloc, failing, room)?;
-    let words = ask_all(rt, alloc, &mut gates, &idle)?;
+    let words = asked(rt, alloc, &mut gates, ALL.as_slice())?;
     Ok((words, gates.log().map(|log| log.len()), gates.faults()))
 }
 
+/// The calls that fail, the room for notes, and what comes of all questions.
+type Plan = (&'static [u64], u64, &'static str, Option<usize>, u64);
+
+const PLANS: [Plan; 5] = [
+    (&[], 5, "first absent Running Declined Stopped", Some(5), 0),
+    (
+        &[0, 3],
+        9,
+        "failed absent Running Failed Stopped",
+        Some(5),
+        2,
+    ),
+    (
+        &[4, 9],
+        5,
+        "first absent Running Declined Failed",
+        Some(5),
+        1,
+    ),
+    (&[], 2, "first absent Failed Failed Failed", None, 3),
+    (&[1], 0, "failed failed Failed Failed Failed", None, 5),
+];
+
 #[test]
 fn answers_by_the_plan(rt: HostRuntime) -> Result<(), Fail> {
-    let rows: [(&[u64], u64, &str, Option<usize>, u64); 5] = [
-        (&[], 5, "first absent Running Declined Stopped", Some(5), 0),
-        (
-            &[0, 3],
-            9,
-            "failed absent Running Failed Stopped",
-            Some(5),
-            2,
-        ),
-        (
-            &[4, 9],
-            5,
-            "first absent Running Declined Failed",
-            Some(5),
-            1,
-        ),
-        (&[], 2, "first absent Failed Failed Failed", None, 3),
-        (&[1], 0, "failed failed Failed Failed Failed", None, 5),
-    ];
-    for (failing, room, words, noted, faults) in rows {
+    for (failing, room, words, noted, faults) in PLANS {
         let asked = ask_planned(&rt, rt.alloc(), failing, room)?;
         assert_eq!(rt; asked.0.as_str(), words, "room {room}");
         assert_eq!(rt; asked.1, noted, "room {room}");
@@ -210,16 +309,16 @@ fn answers_by_the_plan(rt: HostRuntime) -> Result<(), Fail> {
     Ok(())
 }
 
-/// Planned gates that were asked for `c`, and to launch and to halt `a`.
-fn note_three<R: Threads + Wait + Sync>(rt: &R, alloc: Global) -> Result<PlannedGates, Fail> {
-    let (idle, _) = passes(alloc)?;
-    let what = fetch_of(alloc, Some("repo"), "c")?;
-    let job = job_of(alloc, "a")?;
+/// Whether planned gates that are asked three questions note these, and in which order.
+fn notes_three<R: Threads + Wait + Sync>(rt: &R, alloc: Global) -> Result<bool, Fail> {
     let mut gates = planned(alloc, &[2], 3)?;
-    gates.fetch(rt, alloc, &idle, &what);
-    gates.launch(rt, &idle, &job);
-    gates.halt(rt, &idle, &job);
-    Ok(gates)
+    let asks = [
+        (Question::Fetch(Some("repo")), "c"),
+        (Question::Launch, "a"),
+        (Question::Halt, "a"),
+    ];
+    asked(rt, alloc, &mut gates, asks.as_slice())?;
+    Ok(gates.log().is_some_and(|log| are_three(log)))
 }
 
 /// Whether these are the questions, and in which order.
@@ -236,29 +335,23 @@ fn are_three(log: &[Asked]) -> bool {
 
 #[test]
 fn notes_questions(rt: HostRuntime) -> Result<(), Fail> {
-    let gates = note_three(&rt, rt.alloc())?;
-    assert!(rt; gates.log().is_some_and(|log| are_three(log)));
+    assert!(rt; notes_three(&rt, rt.alloc())?);
     Ok(())
 }
 
-/// What quiet gates answer to all questions, and to two fetches more.
-fn ask_quiet<R: Threads + Wait + Sync>(
-    rt: &R,
-    alloc: Global,
-) -> Result<(String, Fetched, Fetched), Fail> {
-    let (idle, _) = passes(alloc)?;
+/// Whether two fetches of quiet gates fail.
+fn fails_twice<R: Threads + Wait + Sync>(rt: &R, alloc: Global) -> Result<(bool, bool), Fail> {
     let what = fetch_of(alloc, None, "a")?;
-    let mut gates = QuietGates;
-    let words = ask_all(rt, alloc, &mut gates, &idle)?;
-    let (first, second) = fetch_twice(rt, alloc, &mut gates, &idle, &what);
-    Ok((words, first, second))
+    let (idle, _) = passes(alloc)?;
+    let (first, second) = fetch_twice(rt, alloc, &mut QuietGates, &idle, &what);
+    Ok((first.is_failed(), second.is_failed()))
 }
 
 #[test]
 fn is_quiet(rt: HostRuntime) -> Result<(), Fail> {
-    let (words, first, second) = ask_quiet(&rt, rt.alloc())?;
+    let words = asked(&rt, rt.alloc(), &mut QuietGates, ALL.as_slice())?;
     assert_eq!(rt; words.as_str(), "absent absent Running Running Stopped");
-    assert!(rt; !first.is_failed() && !second.is_failed());
+    assert_eq!(rt; fails_twice(&rt, rt.alloc())?, (false, false));
     Ok(())
 }
 
@@ -267,31 +360,37 @@ fn is_quiet(rt: HostRuntime) -> Result<(), Fail> {
 struct Caller {
     pass: Pass<Entry, Frame>,
     gates: MeetingGates,
-    what: Fetch,
+    url: &'static str,
     found: String,
 }
 
 /// Two callers, of which one asks for `a` and the other for `b`.
 fn two_callers(alloc: Global) -> Result<Vec<Caller>, Fail> {
-    let (first, second) = passes(alloc)?;
-    let (one, other) = MeetingGates::pair(alloc, manifests(alloc)?)?;
-    let mut callers = Vec::new(alloc);
-    for (pass, gates, url) in [(first, one, "a"), (second, other, "b")] {
-        callers.push(Caller {
-            pass,
-            gates,
-            what: fetch_of(alloc, None, url)?,
-            found: String::new(alloc),
-        })?;
-    }
-    Ok(callers)
+    let (pass, other_pass) = passes(alloc)?;
+    let (gates, other_gates) = MeetingGates::pair(alloc, manifests(alloc)?)?;
+    let first = Caller {
+        pass,
+        gates,
+        url: "a",
+        found: String::new(alloc),
+    };
+    let second = Caller {
+        pass: other_pass,
+        gates: other_gates,
+        url: "b",
+        found: String::new(alloc),
+    };
+    Ok(vec![in alloc; first, second]?)
 }
 
 fn fetch_for<R: Threads + Wait + Sync>(rt: &R, alloc: Global, caller: &mut Caller) {
-    let found = fetch_once(rt, alloc, &mut caller.gates, &caller.pass, &caller.what);
-    if let Ok(found) = found {
-        caller.found = found;
-    }
+    let Caller {
+        pass,
+        gates,
+        url,
+        found,
+    } = caller;
+    let _ = fetch(rt, alloc, gates, pass, None, url, found);
 }
 
 /// Two callers that have fetched side by side.
@@ -308,10 +407,8 @@ fn meet<R: Threads + Wait + Sync>(rt: &R, alloc: Global) -> Result<Vec<Caller>, 
 
 /// What a caller fetches that the other doesn't meet, and how often its gates failed.
 fn wait_alone<R: Threads + Wait + Sync>(rt: &R, alloc: Global) -> Result<(String, u64), Fail> {
-    let (idle, _) = passes(alloc)?;
-    let what = fetch_of(alloc, None, "a")?;
     let (mut alone, _other) = MeetingGates::pair(alloc, manifests(alloc)?)?;
-    let found = fetch_once(rt, alloc, &mut alone, &idle, &what)?;
+    let found = asked(rt, alloc, &mut alone, &[(Question::Fetch(None), "a")])?;
     Ok((found, alone.faults()))
 }
 
@@ -343,48 +440,47 @@ fn make_folder<R: Files + Alloc<A = Global>>(rt: &R) -> Result<(), Fail> {
 fn read_folder<R: Threads + Wait + Sync + Files>(
     rt: &R,
     alloc: Global,
-    url: &str,
+    url: &'static str,
 ) -> Result<(String, u64), Fail> {
-    let (idle, _) = passes(alloc)?;
-    let what = fetch_of(alloc, Some("gate_folder"), url)?;
     let mut gates = FolderGates::new(rt);
-    let found = fetch_once(rt, alloc, &mut gates, &idle, &what)?;
+    let ask = (Question::Fetch(Some("gate_folder")), url);
+    let found = asked(rt, alloc, &mut gates, &[ask])?;
     Ok((found, gates.faults()))
 }
 
 /// What gates to a folder answer to all questions, of which none names a folder.
 fn ask_folder<R: Threads + Wait + Sync + Files>(rt: &R, alloc: Global) -> Result<String, Fail> {
-    let (idle, _) = passes(alloc)?;
     let mut gates = FolderGates::new(rt);
-    ask_all(rt, alloc, &mut gates, &idle)
+    asked(rt, alloc, &mut gates, ALL.as_slice())
 }
+
+/// A URL, what is read under it, and how often the gates failed.
+const READS: [(&str, &str, u64); 16] = [
+    ("fuchsia-pkg://t/a/b#meta/root.cm", "{}", 0),
+    ("fuchsia-pkg://t/a/b?hash=1#meta/root.cm", "{}", 0),
+    ("fuchsia-pkg://t:80/a/./c/../b#meta/root.cm", "{}", 0),
+    ("fuchsia-pkg://t/a/b#meta/none.cm", "absent", 0),
+    ("fuchsia-pkg://t/file/x#meta/root.cm", "absent", 0),
+    ("fuchsia-pkg://t/a/b#meta/../meta/root.cm", "absent", 0),
+    ("fuchsia-pkg://t/a/b#meta/./root.cm", "absent", 0),
+    ("fuchsia-pkg://t/a/b#meta//root.cm", "absent", 0),
+    ("fuchsia-pkg://t/a/b/#meta/root.cm", "absent", 0),
+    ("fuchsia-pkg://../a/b#meta/root.cm", "absent", 0),
+    ("fuchsia-pkg://t/a/b#%6Deta/root.cm", "absent", 0),
+    ("fuchsia-pkg://t/a/b", "absent", 0),
+    ("fuchsia-boot:///#meta/root.cm", "absent", 0),
+    ("fuchsia-pkg:a#meta/root.cm", "absent", 0),
+    ("meta/root.cm", "absent", 0),
+    ("fuchsia-pkg://t/a/b#meta/folder.cm", "failed", 1),
+];
 
 #[test]
 fn reads_a_folder(rt: HostRuntime) -> Result<(), Fail> {
     make_folder(&rt)?;
-    for (url, words, faults) in [
-        ("fuchsia-pkg://t/a/b#meta/root.cm", "{}", 0),
-        ("fuchsia-pkg://t/a/b?hash=1#meta/root.cm", "{}", 0),
-        ("fuchsia-pkg://t:80/a/./c/../b#meta/root.cm", "{}", 0),
-        ("fuchsia-pkg://t/a/b#meta/none.cm", "absent", 0),
-        ("fuchsia-pkg://t/file/x#meta/root.cm", "absent", 0),
-        ("fuchsia-pkg://t/a/b#meta/../meta/root.cm", "absent", 0),
-        ("fuchsia-pkg://t/a/b#meta/./root.cm", "absent", 0),
-        ("fuchsia-pkg://t/a/b#meta//root.cm", "absent", 0),
-        ("fuchsia-pkg://t/a/b/#meta/root.cm", "absent", 0),
-        ("fuchsia-pkg://../a/b#meta/root.cm", "absent", 0),
-        ("fuchsia-pkg://t/a/b#%6Deta/root.cm", "absent", 0),
-        ("fuchsia-pkg://t/a/b", "absent", 0),
-        ("fuchsia-boot:///#meta/root.cm", "absent", 0),
-        ("fuchsia-pkg:a#meta/root.cm", "absent", 0),
-        ("meta/root.cm", "absent", 0),
-        ("fuchsia-pkg://t/a/b#meta/folder.cm", "failed", 1),
-    ]
-    .as_slice()
-    {
+    for (url, words, faults) in READS {
         let read = read_folder(&rt, rt.alloc(), url)?;
-        assert_eq!(rt; read.0.as_str(), *words, "{url}");
-        assert_eq!(rt; read.1, *faults, "{url}");
+        assert_eq!(rt; read.0.as_str(), words, "{url}");
+        assert_eq!(rt; read.1, faults, "{url}");
     }
     let long = read_folder(&rt, rt.alloc(), "fuchsia-pkg://t/a/b#meta/long.cm")?;
     assert_eq!(rt; long.0.len(), 1_048_577);

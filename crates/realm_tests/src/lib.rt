@@ -1,24 +1,27 @@
 //! Tests of the crates that keep the realm tree and speak of it: its types, history, rows, walks,
 //! steps, gates and texts. They stand here, above those crates, so that each crate is proved once.
+//!
+//! Realms are played: a case is a row of `cases`, with the steps and the lines that they tell, so
+//! that one more costs no proof.
 #![tactic(auto)]
 
 #[cfg(test)]
-mod actions;
-#[cfg(test)]
 mod book;
+#[cfg(test)]
+mod cases;
 #[cfg(test)]
 mod gates;
 #[cfg(test)]
-mod openings;
+mod joins;
+#[cfg(test)]
+mod player;
 #[cfg(test)]
 mod realms;
-#[cfg(test)]
-mod replies;
 #[cfg(test)]
 mod shutdowns;
 #[cfg(test)]
 mod table;
 #[cfg(test)]
-mod walks;
+mod texts;
 #[cfg(test)]
-mod world;
+mod walks;

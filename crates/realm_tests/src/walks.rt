@@ -57,7 +57,7 @@ fn finds_nothing(rt: HostRuntime) -> Result<(), Fail> {
     let name = Name::read(alloc, "p")?;
     let walked = walk(alloc, &Bare, Start::ExposeAt(0, name)).map_err(|_| "memory")?;
     let Walked::Failed(hop, why) = walked else {
-        return Err("a route")?;
+        return Err(Fail::from("a route"));
     };
     assert!(rt; hop.step == StepKind::ExposeHop && hop.moniker.is_root());
     assert_eq!(rt; why, Why::NoExpose);

@@ -1,4 +1,4 @@
-use Rattle.cm_steps.specs.Story.{world_of}
+use Rattle.cm_laws.specs.Story.{world_of}
 use Rattle.realm_tests.proofs.shutdowns.destroyed.Goals as goal
 
 pub purge-requires : goal.purge-requires

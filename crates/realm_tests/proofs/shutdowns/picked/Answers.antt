@@ -2,8 +2,7 @@ use Rattle.std.proofs.Common.{refl, subst}
 use Rattle.cm_world.specs.declared.action.Finish.TheVariants as finish
 use Rattle.cm_world.specs.declared.action.Outcome.TheVariants as outcome
 use Rattle.cm_world.specs.declared.event.Event.TheVariants.{Pick, End}
-use Rattle.cm_steps.specs.Story.{world_of}
-use Rattle.cm_steps.specs.Steps.{Tells}
+use Rattle.cm_laws.specs.Story.{world_of, Tells}
 use Rattle.realm_tests.proofs.Marked.{still_marked}
 use Rattle.realm_tests.proofs.shutdowns.picked.Goals as goal
 

@@ -1,5 +1,5 @@
-use Rattle.cm_steps.specs.Story.{world_of}
-use Rattle.cm_steps.specs.Shutdowns.{IsMarked}
+use Rattle.cm_laws.specs.Story.{world_of}
+use Rattle.cm_laws.specs.Shutdowns.{IsMarked}
 use Rattle.realm_tests.proofs.shutdowns.picked_all.Given as goal
 
 -- the instance is marked still

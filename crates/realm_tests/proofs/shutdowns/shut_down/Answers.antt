@@ -1,5 +1,5 @@
 use Rattle.std.proofs.Common.{false, inl}
-use Rattle.cm_steps.specs.Story.{IsLegal}
+use Rattle.cm_laws.specs.Story.{IsLegal}
 use Rattle.realm_tests.proofs.shutdowns.shut_down.Goals as goal
 
 pub picked_all-requires : goal.picked_all-requires

@@ -1,9 +1,9 @@
 use Rattle.std.proofs.Common.{subst}
 use Rattle.cm_world.specs.declared.event.Event.TheVariants.{Begin}
 use Rattle.cm_steps.specs.Ends.{finish_of}
-use Rattle.cm_steps.specs.Steps.{Tells}
-use Rattle.cm_steps.proofs.Beginners.{beginners_may_end}
-use Rattle.realm_tests.proofs.realms.act.Goals as goal
+use Rattle.cm_laws.specs.Story.{Tells}
+use Rattle.cm_laws.proofs.actions.Beginners.{beginners_may_end}
+use Rattle.realm_tests.proofs.player.act.Goals as goal
 
 pub end-requires : goal.end-requires
 end-requires c = record {
