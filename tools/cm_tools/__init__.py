@@ -1,0 +1,1 @@
+"""What the tools beside the component manager share. Python's standard library alone."""

@@ -1,0 +1,62 @@
+"""The command line of `check-all`."""
+
+from __future__ import annotations
+
+import argparse
+import os
+import subprocess
+from pathlib import Path
+
+from cm_tools.console import Unusable
+
+BESIDE = Path(__file__).resolve().parent.parent.parent / "component_manager"
+VARIABLE = "COMPONENT_MANAGER"
+
+
+def main(words: list[str]) -> int:
+    """Checks each manifest below a folder; 0 where all are valid, else 1."""
+    options = _parser().parse_args(words)
+    program = Path(options.program or os.environ.get(VARIABLE) or BESIDE)
+    if not os.access(program, os.X_OK) or program.is_dir():
+        raise Unusable(f"{program} is no program that can be run; name it with --program")
+    manifests = _manifests(Path(options.folder))
+    faulty = 0
+    for manifest in manifests:
+        verdict, is_valid = _check(program, manifest)
+        print(f"{manifest}: {verdict}", flush=True)
+        faulty += not is_valid
+    return 1 if faulty else 0
+
+
+def _parser() -> argparse.ArgumentParser:
+    parser = argparse.ArgumentParser(
+        prog="check-all", description="Checks each manifest (*.cml) below a folder, a line for each."
+    )
+    parser.add_argument("folder", metavar="DIR")
+    parser.add_argument(
+        "--program", metavar="FILE",
+        help=f"the component manager; by default what {VARIABLE} names, or the one beside tools/",
+    )
+    return parser
+
+
+def _manifests(folder: Path) -> list[Path]:
+    if not folder.is_dir():
+        raise Unusable(f"{folder} is no folder")
+    found = sorted(path for path in folder.rglob("*.cml") if path.is_file())
+    if not found:
+        raise Unusable(f"there is no manifest (*.cml) below {folder}")
+    return found
+
+
+def _check(program: Path, manifest: Path) -> tuple[str, bool]:
+    """What the program says of the manifest, and whether it is valid."""
+    try:
+        with open(manifest, "rb") as source:
+            ran = subprocess.run([program.absolute(), "check"], stdin=source, capture_output=True)
+    except OSError as fault:
+        raise Unusable(f"{fault.filename or program}: {fault.strerror}") from None
+    if ran.returncode not in (0, 1):
+        told = ran.stderr.decode("utf-8", "replace").strip().split("\n")[-1]
+        raise Unusable(f"{program} ended with status {ran.returncode} on {manifest}: {told}")
+    return ran.stdout.decode("utf-8", "replace").strip(), ran.returncode == 0

@@ -1,0 +1,144 @@
+"""The command line of `explain`."""
+
+from __future__ import annotations
+
+import argparse
+import sys
+
+from cm_tools.console import Unusable, read_bytes, write_text
+from cm_tools.explaining import (
+    advice, command_of, explain_manifest, explain_refusal, explain_script, heading,
+)
+from cm_tools.numbers import NUMBERS
+from cm_tools.pointing import Document
+from cm_tools.said import ManifestFault, Refusal, ScriptFault, is_reply, read_said
+from cm_tools.scripts import Command, Script, Sketch, looks_like_script, read_script
+
+NOT_UTF8 = 30
+WANT_OF_MEMORY = " refused want-of-memory"
+
+
+def main(words: list[str]) -> int:
+    """Explains each line of what the program said that refuses something."""
+    options = _parser().parse_args(words)
+    if options.number is not None:
+        write_text(None, "\n".join(_number_lines(options.number)) + "\n")
+        return 0
+    if options.file is None:
+        raise Unusable("name the manifest or the script that the program was given")
+    said = _said_lines(options.said)
+    data = read_bytes(options.file)
+    write_text(None, _explained(options.file, data, said, options.repo) + "\n")
+    return 0
+
+
+def _parser() -> argparse.ArgumentParser:
+    parser = argparse.ArgumentParser(
+        prog="explain",
+        description="Explains what component_manager said of a manifest or a script.",
+        epilog="Pipe both streams of the program into it: component_manager run < FILE 2>&1 |"
+        " explain FILE.",
+    )
+    parser.add_argument("file", nargs="?", help="the manifest or the script")
+    parser.add_argument(
+        "said", nargs="*", help="what the program said, as one argument; else it is read from"
+        " the standard input",
+    )
+    parser.add_argument("--repo", metavar="DIR", help="the folder that `run` was given by --repo")
+    parser.add_argument("--number", type=int, metavar="N", help="only say what the number N means")
+    return parser
+
+
+def _number_lines(number: int) -> list[str]:
+    if number not in NUMBERS:
+        raise Unusable(f"there is no number {number}")
+    return [f"{number} {NUMBERS[number].name}"] + advice(number)
+
+
+def _said_lines(words: list[str]) -> list[str]:
+    text = " ".join(words) if words else sys.stdin.buffer.read().decode("utf-8", "replace")
+    lines = [line for line in text.split("\n") if line.strip()]
+    if not lines:
+        raise Unusable("the program said nothing; give it as an argument or on the standard input")
+    return lines
+
+
+def _explained(path: str, data: bytes, said: list[str], repo: str | None) -> str:
+    try:
+        text = data.decode("utf-8")
+    except UnicodeDecodeError as fault:
+        if not looks_like_script(data.decode("utf-8", "replace")):
+            return "\n".join(_not_utf8(path, data, fault.start))
+        text = data.decode("utf-8", "surrogateescape")
+    is_script = any(isinstance(read_said(line), ScriptFault) for line in said)
+    if is_script or looks_like_script(text):
+        parts = _explain_run(read_script(path, text), said, repo)
+    else:
+        parts = _explain_check(Document(path, text), said)
+    if not parts:
+        raise Unusable(f"nothing that is refused is found in: {said[0]}")
+    return "\n\n".join("\n".join(part) for part in parts)
+
+
+def _not_utf8(path: str, data: bytes, place: int) -> list[str]:
+    line = data.count(b"\n", 0, place) + 1
+    column = place - (data.rfind(b"\n", 0, place) + 1) + 1
+    told = f"The byte 0x{data[place]:02X} at byte {column} of line {line} is no UTF-8."
+    return [heading(NOT_UTF8, f"{path}:{line}:{column}"), told] + advice(NOT_UTF8)
+
+
+def _explain_check(document: Document, said: list[str]) -> list[list[str]]:
+    parts = []
+    for line in said:
+        fault = read_said(line)
+        if isinstance(fault, ManifestFault):
+            parts.append(explain_manifest(document, fault))
+        elif isinstance(fault, Refusal):
+            raise Unusable(f"{document.label} is a manifest; give the script that was run")
+        elif line == "valid":
+            parts.append([f"{document.label}: the manifest is valid"])
+    return parts
+
+
+def _explain_run(script: Script, said: list[str], repo: str | None) -> list[list[str]]:
+    sketch = Sketch(script, repo)
+    parts, replies, command = [], 0, None
+    are_whole = sum(map(is_reply, _before_journal(said))) == len(script.commands)
+    for line in _before_journal(said):
+        if is_reply(line):
+            command = script.commands[replies] if are_whole else None
+            replies += 1
+        fault = read_said(line)
+        if line.endswith(WANT_OF_MEMORY):
+            parts.append([f"{script.label}: memory ran out while this line was answered: {line}"])
+        elif isinstance(fault, Refusal):
+            parts.append(_refused(sketch, fault, command, are_whole))
+        elif isinstance(fault, ScriptFault):
+            parts.append(explain_script(script, fault))
+        elif isinstance(fault, ManifestFault):
+            raise Unusable(f"{script.label} is a script; give the manifest that was checked")
+    if not parts and are_whole:
+        parts.append([f"{script.label}: nothing was refused"])
+    return parts
+
+
+def _before_journal(said: list[str]) -> list[str]:
+    return said[: said.index("journal")] if "journal" in said else said
+
+
+def _refused(
+    sketch: Sketch, refusal: Refusal, command: Command | None, is_known: bool
+) -> list[str]:
+    if refusal.client:
+        return explain_refusal(sketch, refusal, None)
+    if is_known:
+        return explain_refusal(sketch, refusal, command)
+    candidates = command_of(sketch.script, refusal)
+    if len(candidates) == 1:
+        return explain_refusal(sketch, refusal, candidates[0])
+    lines = explain_refusal(sketch, refusal, None)
+    if candidates:
+        numbers = ", ".join(str(one.line) for one in candidates[:8])
+        told = f"It can be the reply to one of the lines {numbers}; give all that was printed to know."
+        lines.insert(1, told)
+    return lines

@@ -1,0 +1,229 @@
+"""Explanations: what the program said, with the lines that it is about and what to do."""
+
+from __future__ import annotations
+
+from cm_tools.console import Unusable
+from cm_tools.locating import locate
+from cm_tools.numbers import NUMBERS, advice_words
+from cm_tools.pointing import Document
+from cm_tools.relaxed import SpellingFault, read_relaxed
+from cm_tools.said import ManifestFault, Refusal, ScriptFault
+from cm_tools.scripts import Command, Script, Sketch
+from cm_tools.tracing import Stop, trace, trace_exposed
+
+SPELLING = 31
+BYTES_LIMITS = frozenset({30, 41})
+LINE_SHOWN = 60
+WEAK_FIELDS = {"rights-too-weak": "rights", "availability-too-weak": "availability"}
+
+# Which commands a refusal can come of, where it isn't all of them.
+COMMANDS_OF: dict[int, frozenset[str]] = {
+    60: frozenset({"create", "list"}),
+    61: frozenset({"create"}),
+    62: frozenset({"create"}),
+    63: frozenset({"create"}),
+    64: frozenset({"create"}),
+    65: frozenset({"create"}),
+    68: frozenset({"destroy"}),
+    84: frozenset({"start", "open", "open-exposed"}),
+    85: frozenset({"open"}),
+    86: frozenset({"open", "route"}),
+    87: frozenset({"open", "route", "open-exposed"}),
+    88: frozenset({"open", "route", "open-exposed"}),
+    89: frozenset({"open", "open-exposed"}),
+}
+
+
+def heading(number: int, position: str) -> str:
+    """The first line: where, and the number with its name."""
+    known = NUMBERS.get(number)
+    name = f" {known.name}" if known else ""
+    return f"{position}: {number}{name}"
+
+
+def advice(number: int, words: str = "") -> list[str]:
+    """When the number comes, and what to do; the words are those behind a refusal's number."""
+    known = NUMBERS.get(number)
+    if known is None:
+        return ["This number isn't known here."]
+    return [f"It comes where {known.comes}.", f"Hint: {advice_words(number, words)}"]
+
+
+# ---- manifests
+
+
+def explain_manifest(document: Document, fault: ManifestFault) -> list[str]:
+    """The lines that explain a manifest's fault."""
+    try:
+        root = read_relaxed(document.text)
+    except SpellingFault as spelling:
+        return _explain_spelling(document, fault, spelling)
+    if fault.number == SPELLING or fault.number in BYTES_LIMITS:
+        told = [f"No such fault is found in {document.label}; is it the file that was checked?"]
+        return [heading(fault.number, document.label)] + told + advice(fault.number)
+    places = locate(root, fault)
+    if not places:
+        raise Unusable(
+            f"{document.label} has no {fault.section} {fault.index} that could have fault"
+            f" {fault.number}; is it the file that was checked?"
+        )
+    lines = [heading(fault.number, document.position(places[0].start))]
+    for place in places:
+        lines += [document.pointed(place.start, place.end), f"      {place.note}"]
+    if fault.cycle:
+        lines.append("The circle: " + " -> ".join(fault.cycle))
+    return lines + advice(fault.number)
+
+
+def _explain_spelling(document: Document, fault: ManifestFault, spelling: SpellingFault) -> list[str]:
+    place = spelling.place
+    lines = [heading(fault.number, document.position(place)), document.pointed(place, place + 1)]
+    if fault.number != SPELLING:
+        lines.append("The manifest can't be read here, so the place of the fault isn't found.")
+    line, column = document.line_and_column(place)
+    return lines + [f"Line {line}, column {column}: {spelling.why}."] + advice(fault.number)
+
+
+# ---- scripts
+
+
+def explain_script(script: Script, fault: ScriptFault) -> list[str]:
+    """The lines that explain a script's fault."""
+    # Behind the last line feed stands no line.
+    count = len(script.lines) - (not script.lines[-1])
+    if fault.line > count + 1:
+        raise Unusable(f"{script.label} has {count} lines; is it the script that was run?")
+    if fault.line > count:
+        return [
+            heading(fault.number, f"{script.label}:{fault.line}"),
+            f"{fault.line:>5} | (the end of the script)",
+        ] + advice(fault.number)
+    text = script.lines[fault.line - 1]
+    document = Document(script.label, text, fault.line)
+    start, end = _script_stretch(text, fault)
+    lines = [heading(fault.number, document.position(start)), document.pointed(start, end)]
+    return lines + _beside(script, text, fault) + advice(fault.number)
+
+
+def _script_stretch(text: str, fault: ScriptFault) -> tuple[int, int]:
+    """What of the line is meant. Positions of the program count bytes."""
+    if fault.number == 70:
+        front = text.encode("utf-8", "surrogateescape")[: fault.at]
+        place = len(front.decode("utf-8", "surrogateescape"))
+        return place, place + 1
+    if fault.number in (77, 78):
+        return len("manifest "), len(text)
+    return 0, len(text.split(" ")[0]) or 1
+
+
+def _beside(script: Script, text: str, fault: ScriptFault) -> list[str]:
+    if fault.number == 70 and fault.at:
+        return [f"So far it could go on: {text[: fault.at][-LINE_SHOWN:]!r}"]
+    if fault.number == 78:
+        earlier = script.lines.index(text) + 1
+        return [f"The earlier one stands at line {earlier}."] if earlier != fault.line else []
+    return []
+
+
+# ---- refusals
+
+
+def explain_refusal(sketch: Sketch, refusal: Refusal, command: Command | None) -> list[str]:
+    """The lines that explain a refused command, or a refused line of a check of all routes."""
+    script = sketch.script
+    if command is None:
+        use = f" {refusal.client} {refusal.path}:" if refusal.client else ""
+        lines = [f"{script.label}:{use} {refusal.number} {refusal.words}"]
+    else:
+        text = script.lines[command.line - 1]
+        document = Document(script.label, text, command.line)
+        lines = [f"{document.position(0)}: {refusal.number} {refusal.words}"]
+        lines.append(document.pointed(len(text.split(" ")[0]) + 1, len(text)))
+    if refusal.fault is not None:
+        return lines + _inner_fault(sketch, refusal.fault, command)
+    told = _absent_lines if refusal.words.endswith(" absent") else _route_lines
+    return lines + told(sketch, refusal, command) + advice(refusal.number, refusal.words)
+
+
+def command_of(script: Script, refusal: Refusal) -> list[Command]:
+    """The commands that can have been refused so, where only the refusal is known."""
+    kinds = COMMANDS_OF.get(refusal.number)
+    return [
+        command
+        for command in script.commands
+        if refusal.lane in (None, command.lane) and (kinds is None or command.words[0] in kinds)
+    ]
+
+
+def _route_lines(sketch: Sketch, refusal: Refusal, command: Command | None) -> list[str]:
+    """The hop at which the route fails, in the manifest that states it or lacks it."""
+    stops = _stops(sketch, refusal, command)
+    for stop in stops:
+        if (stop.step, stop.moniker) == (refusal.step, refusal.moniker):
+            return _stop_lines(sketch, stop, WEAK_FIELDS.get(refusal.words.split(" ")[0], ""))
+    return []
+
+
+def _absent_lines(sketch: Sketch, refusal: Refusal, command: Command | None) -> list[str]:
+    """Which manifest is absent: the target's, or that of an instance on the route."""
+    target = refusal.client or (command.words[1] if command and len(command.words) > 1 else "")
+    monikers = [target] + [stop.moniker for stop in _stops(sketch, refusal, command)]
+    for moniker in monikers:
+        url = sketch.url(moniker) if moniker and not moniker.startswith("@") else None
+        if url is not None and sketch.document(url) is None:
+            return [f"      no manifest is found for {moniker}: {url}"]
+    return []
+
+
+def _stops(sketch: Sketch, refusal: Refusal, command: Command | None) -> list[Stop]:
+    if refusal.client:
+        return trace(sketch, refusal.client, refusal.path)
+    words = command.words if command else ()
+    if len(words) < 3 or words[1].startswith("@"):
+        return []
+    if words[0] in ("open", "route"):
+        return trace(sketch, words[1], words[2])
+    return trace_exposed(sketch, words[1], words[2]) if words[0] == "open-exposed" else []
+
+
+def _stop_lines(sketch: Sketch, stop: Stop, weak: str) -> list[str]:
+    """The item of the hop, by its field that is too weak where one is; or what is missing, and where."""
+    if stop.command is not None:
+        text = sketch.script.lines[stop.command.line - 1]
+        shown = Document(sketch.script.label, text, stop.command.line)
+        return [shown.pointed(0, len(text)), "      the offer of this command"]
+    url = sketch.url(stop.moniker)
+    document = sketch.document(url) if url else None
+    root = sketch.value(url) if url else None
+    if document is None or root is None:
+        return []
+    if stop.item is not None:
+        node = stop.item.get(weak) or stop.item
+        position = document.position(node.start)
+        told = f"      the {stop.step} of {stop.moniker} at which it fails ({position})"
+        return [document.pointed(node.start, node.end), told]
+    section = root.member({"offer": "offer", "expose": "expose"}.get(stop.step, "capabilities"))
+    start, end = (section.key.start, section.key.end) if section else (root.start, root.start + 1)
+    return [document.pointed(start, end), f"      {stop.wish} ({document.position(start)})"]
+
+
+def _inner_fault(sketch: Sketch, fault: ManifestFault, command: Command | None) -> list[str]:
+    """The fault of the manifest that was to be resolved: the target's, or the one that has it."""
+    target = command.words[1] if command and len(command.words) > 1 else ""
+    url = sketch.url(target) if target and not target.startswith("@") else None
+    urls = ([url] if url else []) + [one for one in sketch.script.manifests if one != url]
+    for one in urls:
+        document = sketch.document(one)
+        if document is not None and _may_have(document, fault):
+            return [f"In the manifest {one}:"] + explain_manifest(document, fault)
+    return advice(fault.number)
+
+
+def _may_have(document: Document, fault: ManifestFault) -> bool:
+    try:
+        root = read_relaxed(document.text)
+    except SpellingFault:
+        return fault.number == SPELLING
+    if fault.number == SPELLING or fault.number in BYTES_LIMITS:
+        return False
+    return bool(locate(root, fault))

@@ -1,0 +1,63 @@
+"""The command line of `realm`."""
+
+from __future__ import annotations
+
+import argparse
+
+from cm_tools.console import Unusable, read_bytes, write_text
+from cm_tools.entries import Journal
+from cm_tools.graph_views import dot_text, mermaid_text
+from cm_tools.html_view import html_text
+from cm_tools.journal import parse_journal
+from cm_tools.json_view import json_text
+from cm_tools.text_views import routes_text, timeline_text, tree_text
+from cm_tools.world import World, replay
+
+VIEWS = {
+    "tree": ("the tree of instances with their states (the default)", tree_text),
+    "timeline": ("the entries in order, with a column for each caller", timeline_text),
+    "routes": ("the routes, with their hops indented", lambda _, world: routes_text(world)),
+    "json": ("everything as JSON", json_text),
+    "dot": ("a graph for Graphviz", lambda _, world: dot_text(world)),
+    "mermaid": ("a graph for Mermaid", lambda _, world: mermaid_text(world)),
+    "html": ("one page to look at in a browser, which needs no network", html_text),
+}
+
+
+def main(words: list[str]) -> int:
+    """Reads the journal, replays it, and writes the view that was asked for."""
+    options = _parser().parse_args(words)
+    journal = parse_journal(read_bytes(options.file), options.partial)
+    world = replay(journal, options.at)
+    if options.at is None and not options.partial:
+        _require_whole(journal, world)
+    view = VIEWS[options.view or "tree"][1]
+    write_text(options.output, view(journal, world))
+    return 0
+
+
+def _parser() -> argparse.ArgumentParser:
+    parser = argparse.ArgumentParser(
+        prog="realm",
+        description="Shows the realm that a journal leaves: what `component_manager run --journal`"
+        " prints, from a file or the standard input.",
+    )
+    parser.add_argument("file", nargs="?", default="-", help="the journal; `-` is standard input")
+    views = parser.add_mutually_exclusive_group()
+    for name, (told, _) in VIEWS.items():
+        views.add_argument(f"--{name}", dest="view", action="store_const", const=name, help=told)
+    parser.add_argument("--at", type=int, metavar="N", help="the state behind entry N, 0 for the start")
+    parser.add_argument("--partial", action="store_true", help="read a journal that is cut, too")
+    parser.add_argument("-o", "--output", metavar="FILE", help="write to a file")
+    return parser
+
+
+def _require_whole(journal: Journal, world: World) -> None:
+    """A run ends every action that it begins, so an action without an end says that lines are lost."""
+    left = world.pending()
+    if left:
+        numbers = ", ".join(str(action.number) for action in left[:5])
+        raise Unusable(
+            f"the journal is cut behind entry {len(journal.entries)}: no end of action {numbers}"
+            " (--partial reads it all the same)"
+        )

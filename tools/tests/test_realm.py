@@ -1,0 +1,319 @@
+"""Tests of `realm`: the parser, the replay and each view."""
+
+from __future__ import annotations
+
+import json
+import os
+import re
+import resource
+import subprocess
+import sys
+import tempfile
+import unittest
+from pathlib import Path
+
+from cm_tools.html_view import PAGE, page_data
+from cm_tools.instances import STATES
+from cm_tools.journal import parse_journal
+from cm_tools.world import replay
+from tests.make_journal import make
+from tests.support import JOURNALS, ROOT, TESTS, TOOLS, quoted, run, run_process
+
+TABLES = ROOT / "crates" / "cm_reply" / "specs" / "Tables.antt"
+ROUTE = str(JOURNALS / "route.txt")
+COMINGS = str(JOURNALS / "comings.txt")
+HEAD = "journal\nroot fuchsia-pkg://t/a#meta/root.cm\n"
+
+ROUTE_TREE = """\
+root fuchsia-pkg://t/a#meta/root.cm, behind entry 11 of 11
+.          resolved    @0
+├─ logger  resolved    @1
+└─ client  resolved    @2
+3 instances: 3 resolved
+"""
+
+ROUTE_ROUTES = """\
+client /svc/fuchsia.logger.LogSink -> logger /svc/fuchsia.logger.LogSink  (entry 11)
+  use client
+    offer .
+      expose logger
+        capability logger
+"""
+
+COMINGS_TREE = """\
+root fuchsia-pkg://t/a#meta/root.cm, behind entry 34 of 34
+.               resolved    @0
+├─ eager        discovered  @1     failed: absent, eager
+├─ elements:e1  destroyed   @2
+└─ elements:e1  closing     @3
+4 instances: 1 discovered, 1 resolved, 1 closing, 1 destroyed
+"""
+
+PRODUCT_TREE = [line.split() for line in """\
+. resolved @0
+core resolved @1
+logger started @2
+storage started @3
+network resolved @4
+netstack started @10
+dns resolved @11
+http started @12
+session started @5
+shell started @6
+input started @7
+settings shut @8
+theme discovered @9
+elements:mail destroyed @13
+elements:editor stopped @14
+elements:browser started @15
+elements:mail discovered @16""".split("\n")]
+
+PRODUCT_ROUTE = """\
+  use core/session/elements:browser
+    offer core/session
+      offer core
+        expose core/network
+          expose core/network/http
+            capability core/network/http
+"""
+
+# The state of the second instance `elements:e1` behind each of these entries.
+COMINGS_STATES = [
+    (15, "discovered"), (18, "resolving"), (19, "resolved"), (20, "starting"), (21, "started"),
+    (22, "stopped"), (25, "starting"), (26, "started"), (27, "closing"), (28, "stopping"),
+    (29, "closing"),
+]
+
+BAD_JOURNALS: list[tuple[bytes, str]] = [
+    (b"", "the input is empty"),
+    (b"\n\n", "the input is empty"),
+    (b"0 started client action 3\n", "no line `journal`"),
+    (b"\xff\xfe\x00\x01", "no line `journal`"),
+    (b"{\"children\":[]}\n", "no line `journal`"),
+    (b"line 1: 72 no-root\n", "no line `journal`"),
+    (b"0 shut .\njourn", "cut short, before the journal began"),
+    (b"journal\n", "cut before its root line"),
+    (b"journal\nbuiltin protocol p\n", "cut before its root line"),
+    (b"journal\nbuiltin service p\nroot u\n", "neither a builtin line nor the root line"),
+    (HEAD.encode() + b"1 0 find . => fou", "cut short"),
+    (HEAD.encode() + b"1 0 find . => found 0", "cut short"),
+    (HEAD.encode() + b"1 0 find .\n", "no entry of a journal"),
+    (HEAD.encode() + b"1 0 dance 0 => found 0\n", "no entry of a journal"),
+    (HEAD.encode() + b"1 0 find . => danced\n", "no entry of a journal"),
+    (HEAD.encode() + b"2 0 find . => found 0\n", "1 should follow"),
+    (HEAD.encode() + b"1 0 begin resolve 0 => begun 1\n", "no end of action 1"),
+    (HEAD.encode() + b"1 0 begin resolve 7 => begun 1\n", "incarnation 7, which was never made"),
+    (HEAD.encode() + b"1 0 end 3 started => ended started\n", "action 3, which was never begun"),
+    (HEAD.encode() + b"1 0 route 0 /svc/p => given nonsense\n", "no route that can be read"),
+    (HEAD.encode() + b"1 0 begin resolve 0 => begun 1\n2 0 end 1 resolved u {} => ended resolved\n",
+     "no declaration that can be read"),
+    (HEAD.encode() + b"1 0 begin resolve 0 => begun 1\n2 0 end 1 resolved u " + b"[" * 100_000
+     + b" => ended resolved\n", "no declaration that can be read"),
+    (HEAD.encode() + b"1 0 show " + b"9" * 5000 + b" => shown resolved off\n", "no entry of a journal"),
+]
+
+
+class RealmTests(unittest.TestCase):
+    """What `realm` shows of small journals."""
+
+    def test_tree(self) -> None:
+        """the tree of two journals, letter by letter"""
+        self.assertEqual(run("realm", ROUTE).out, ROUTE_TREE)
+        self.assertEqual(run("realm", "--tree", COMINGS).out, COMINGS_TREE)
+
+    def test_standard_input(self) -> None:
+        """a journal on the standard input"""
+        data = Path(ROUTE).read_bytes()
+        self.assertEqual(run("realm", data=data).out, ROUTE_TREE)
+        self.assertEqual(run_process("realm", "--tree", "-", data=data).out, ROUTE_TREE)
+
+    def test_routes(self) -> None:
+        """routes as indented hops, and refused ones with their reason"""
+        self.assertEqual(run("realm", "--routes", ROUTE).out, ROUTE_ROUTES)
+        refused = "elements:e1 /svc/q -> refused: no-offer at offer .  (entry 31, asked 2 times)\n"
+        self.assertEqual(run("realm", "--routes", COMINGS).out, refused)
+
+    def test_timeline(self) -> None:
+        """the timeline, with a column for each caller"""
+        lines = run("realm", "--timeline", COMINGS).out.split("\n")
+        self.assertEqual(lines[0].split("(")[0].split(), ["0", "1"])
+        self.assertEqual(lines[5], " 5   ●  ·  create . elements e1 #meta/x.cm + protocol p parent as=q"
+                                   " weak => created elements:e1")
+        self.assertEqual(lines[6], " 6   ·  ●  find elements:e1 => found elements:e1")
+        self.assertEqual(len(lines), 36)
+
+    def test_states(self) -> None:
+        """each state of an instance, behind each entry that makes it so (--at)"""
+        for number, state in COMINGS_STATES:
+            shown = json.loads(run("realm", "--json", "--at", str(number), COMINGS).out)
+            self.assertEqual(shown["instances"][3]["state"], state, number)
+        doomed = run("realm", "--at", "12", COMINGS).out
+        self.assertIn("elements:e1  doomed", doomed)
+        self.assertIn("@0\n1 instance: 1 discovered", run("realm", "--at", "0", COMINGS).out)
+        self.assertEqual({state for _, state in COMINGS_STATES} - set(STATES), set())
+
+    def test_json(self) -> None:
+        """the JSON, with instances, actions, routes and the timeline"""
+        shown = json.loads(run("realm", "--json", ROUTE).out)
+        self.assertEqual([one["moniker"] for one in shown["instances"]], [".", "logger", "client"])
+        self.assertEqual([one["outcome"] for one in shown["actions"]], ["resolved"] * 3)
+        self.assertEqual(shown["routes"][0]["provider"], 1)
+        self.assertEqual([hop["step"] for hop in shown["routes"][0]["hops"]],
+                         ["use", "offer", "expose", "capability"])
+        self.assertEqual([one["number"] for one in shown["timeline"]], list(range(1, 12)))
+        self.assertEqual(shown["timeline"][10]["instances"], [2, 1])
+
+    def test_graphs(self) -> None:
+        """the graphs for Graphviz and Mermaid"""
+        dot = run("realm", "--dot", ROUTE).out
+        self.assertTrue(dot.startswith("digraph realm {\n") and dot.endswith("}\n"))
+        self.assertIn('  i1 [label="logger\\nresolved"', dot)
+        self.assertIn("  i0 -> i2;\n", dot)
+        self.assertIn('  i2 -> i1 [label="/svc/fuchsia.logger.LogSink"', dot)
+        mermaid = run("realm", "--mermaid", ROUTE).out
+        self.assertTrue(mermaid.startswith("flowchart LR\n"))
+        self.assertIn('  i2 -.->|"/svc/fuchsia.logger.LogSink"| i1\n', mermaid)
+
+    def test_page(self) -> None:
+        """the page: its data is the realm's, and nothing in it asks for a network"""
+        text = run("realm", "--html", COMINGS).out
+        data = re.search(r'<script id="data" type="application/json">(.*?)</script>', text, re.DOTALL)
+        assert data is not None
+        journal = parse_journal(Path(COMINGS).read_bytes())
+        expected = json.loads(json.dumps(page_data(journal, replay(journal))))
+        self.assertEqual(json.loads(data[1]), expected)
+        frame = "".join((PAGE / name).read_text("utf-8") for name in ("page.html", "page.css", "page.js"))
+        for word in ("http:", "https:", "src=", "href=", "@import", "url(", "fetch(", "XMLHttp"):
+            self.assertNotIn(word, frame)
+        self.assertEqual(text.count("<script"), 2)
+
+    def test_page_is_safe(self) -> None:
+        """a text that looks like the end of a script stays inside the page's data"""
+        line = "1 0 find </script><script>alert(1)</script> => not-found .\n"
+        text = run("realm", "--html", data=(HEAD + line).encode()).out
+        self.assertEqual(text.count("</script>"), 2)
+
+    def test_output_file(self) -> None:
+        """a view written to a file"""
+        with tempfile.TemporaryDirectory() as folder:
+            path = Path(folder) / "tree"
+            ran = run("realm", ROUTE, "-o", str(path))
+            self.assertEqual((ran.status, ran.out), (0, ""))
+            self.assertEqual(path.read_text("utf-8"), ROUTE_TREE)
+
+    def test_words_of_the_sources(self) -> None:
+        """each event and each reply in the table that the program's texts are proved to meet"""
+        events, replies = quoted(TABLES, "event_texts"), quoted(TABLES, "reply_texts")
+        self.assertGreaterEqual(len(events), 19)
+        self.assertGreaterEqual(len(replies), 37)
+        pairs = [(event, "done") for event in events] + [("pick 0", reply) for reply in replies]
+        text = HEAD + "".join(
+            f"{number} 0 {event} => {reply}\n" for number, (event, reply) in enumerate(pairs, 1)
+        )
+        self.assertEqual(len(parse_journal(text.encode()).entries), len(pairs))
+
+
+class ProductTests(unittest.TestCase):
+    """A product's journal, as the program printed it."""
+
+    def test_product(self) -> None:
+        """the tree of a product's journal, and the way of a route of six hops"""
+        tree = run("realm", str(JOURNALS / "product.txt")).out.split("\n")
+        told = [line.lstrip("│├└─ ").split()[:3] for line in tree[1:-2]]
+        self.assertEqual(told, PRODUCT_TREE)
+        routes = run("realm", "--routes", str(JOURNALS / "product.txt")).out
+        self.assertIn(PRODUCT_ROUTE, routes)
+
+    def test_program(self) -> None:
+        """the replay of a run against the program's own survey (where COMPONENT_MANAGER names it)"""
+        program = os.environ.get("COMPONENT_MANAGER")
+        if not program:
+            self.skipTest("COMPONENT_MANAGER names no program")
+        script = (TESTS / "scripts" / "product.txt").read_text("utf-8")
+        data = (script + "sync\n0 survey .\n").encode()
+        ran = subprocess.run([program, "run", "--journal"], input=data, capture_output=True)
+        self.assertEqual(ran.returncode, 0)
+        journal = parse_journal(ran.stdout)
+        surveyed = journal.replies[journal.replies.index("0 survey . 16") + 1 :]
+        world = replay(journal)
+        shown = [
+            f"  {one.moniker} incarnation {one.incarnation}"
+            f" {'resolved' if one.is_resolved else 'unresolved'} {'on' if one.is_on else 'off'}"
+            f"{' shut' if one.is_shut else ''}"
+            for one in world.instances.values() if not one.is_destroyed
+        ]
+        self.assertEqual(sorted(surveyed), sorted(shown))
+
+
+class BadInputTests(unittest.TestCase):
+    """What `realm` says where it can't go on."""
+
+    def test_bad_journals(self) -> None:
+        """a journal that is cut, is something else or is nothing: one line, status 2"""
+        for data, told in BAD_JOURNALS:
+            ran = run("realm", data=data)
+            self.assertEqual((ran.status, ran.out), (2, ""), data)
+            self.assertTrue(ran.err.startswith("realm: ") and ran.err.count("\n") == 1, ran.err)
+            self.assertIn(told, ran.err)
+        ran = run_process("realm", data=b"nothing of the kind")
+        self.assertEqual((ran.status, ran.out, ran.err.count("\n")), (2, "", 1))
+
+    def test_every_front(self) -> None:
+        """each front of a journal is shown or refused in one line"""
+        data = Path(COMINGS).read_bytes()
+        for size in range(0, len(data), 131):
+            ran = run("realm", data=data[:size])
+            self.assertEqual(ran.status, 2, size)
+            self.assertEqual(ran.err.count("\n"), 1, ran.err)
+
+    def test_partial(self) -> None:
+        """--partial reads a journal that is cut up to its last whole line"""
+        data = Path(COMINGS).read_bytes()
+        ran = run("realm", "--partial", data=data[: data.index(b"19 0 end") + 20])
+        self.assertEqual(ran.status, 0)
+        self.assertIn("behind entry 18 of 18", ran.out)
+        self.assertIn("elements:e1  resolving   @3", ran.out)
+
+    def test_words(self) -> None:
+        """a file that isn't there, an entry that isn't there, an unknown option"""
+        self.assertEqual(run("realm", "no-such-file").err, "realm: no-such-file: No such file or directory\n")
+        self.assertEqual(run("realm", "--at", "12", ROUTE).err,
+                         "realm: there is no entry 12; the journal has 11\n")
+        self.assertEqual(run("realm", "--colour", ROUTE).status, 2)
+
+    def test_closed_output(self) -> None:
+        """an output that is closed early, as by head, ends quietly"""
+        data = make(300, 3000).encode()
+        command = [sys.executable, str(TOOLS / "realm"), "--timeline"]
+        with subprocess.Popen(command, stdin=subprocess.PIPE, stdout=subprocess.PIPE,
+                              stderr=subprocess.PIPE) as tool:
+            assert tool.stdin and tool.stdout and tool.stderr
+            tool.stdin.write(data)
+            tool.stdin.close()
+            tool.stdout.readline()
+            tool.stdout.close()
+            self.assertEqual(tool.stderr.read(), b"")
+
+
+class LargeTests(unittest.TestCase):
+    """Journals of 2,000 instances and of 100,000 entries."""
+
+    def test_many_instances(self) -> None:
+        """a journal of 2,000 instances: the tree, and the page's data"""
+        data = make(2000, 0)
+        ran = run("realm", data=data.encode())
+        self.assertEqual(ran.out.count("\n"), 2003)
+        self.assertTrue(ran.out.endswith("2001 instances: 2000 started, 1 destroyed\n"))
+        page = run("realm", "--html", data=data.encode()).out
+        self.assertLess(len(page), 4_000_000)
+
+    def test_many_entries(self) -> None:
+        """a journal of 100,000 entries in at most 5 seconds: the tree, the JSON, the page"""
+        data = make(2000, 100_000).encode()
+        for view in ("--tree", "--json", "--html"):
+            before = resource.getrusage(resource.RUSAGE_CHILDREN)
+            ran = run_process("realm", view, "-o", "/dev/null", data=data)
+            after = resource.getrusage(resource.RUSAGE_CHILDREN)
+            taken = after.ru_utime + after.ru_stime - before.ru_utime - before.ru_stime
+            self.assertEqual((ran.status, ran.err), (0, ""))
+            self.assertLess(taken, 5.0, view)
