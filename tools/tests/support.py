@@ -59,7 +59,10 @@ def run_process(tool: str, *words: str, data: bytes = b"") -> Ran:
 
 
 def quoted(source: Path, name: str) -> list[str]:
-    """The texts of a table of `codes "..."` in a file of specifications, behind its name."""
+    """The texts of a table of `codes "..."` in a file of specifications, behind its name.
+
+    A line that begins with `++` goes on with the text of the line before it.
+    """
     found: list[str] = []
     lines = iter(source.read_text("utf-8").split("\n"))
     for line in lines:
@@ -68,5 +71,9 @@ def quoted(source: Path, name: str) -> list[str]:
     for line in lines:
         if 'codes "' not in line:
             return found
-        found.append(line.partition('codes "')[2].rpartition('"')[0])
+        text = line.partition('codes "')[2].rpartition('"')[0]
+        if line.strip().startswith("++"):
+            found[-1] += text
+        else:
+            found.append(text)
     return found
