@@ -138,16 +138,19 @@ def costs_of(processes):
 
 
 def longest_chain(crates, costs):
-    """The chain of crates, each of which uses the one before it, whose proofs took longest together."""
-    chains = {}
+    """The chain of crates, each of which uses the one before it, whose proofs took longest together.
+
+    Crates that weren't proved in this run are left out.
+    """
+    proved, chains = [name for name in crates if costs[name].seconds["proof"]], {}
 
     def chain_to(name):
         if name not in chains:
-            below = max((chain_to(it) for it in crates[name]), default=(0.0, []))
+            below = max((chain_to(it) for it in crates[name] if it in proved), default=(0.0, []))
             chains[name] = (below[0] + costs[name].seconds["proof"], [*below[1], name])
         return chains[name]
 
-    return max(chain_to(name) for name in crates)
+    return max((chain_to(name) for name in proved), default=(0.0, ["none"]))
 
 
 def count_of_edits(folder, crate):
