@@ -32,7 +32,7 @@ def manifest(number, size):
 
 
 def script(path, size):
-    """Writes a script of that size or a little less; the example has the root, the client and its question."""
+    """Writes a script of that size or a little less; the example has the root, the client and its line."""
     with open(EXAMPLE) as example:
         end = example.read()
     question = [line for line in end.splitlines(keepends=True) if line.startswith("0 ")][-1]
