@@ -1,8 +1,8 @@
 #!/bin/sh
 # Prints turns per second at one counter, of the turn lock and of std's Mutex, for 1, 2, 4 and 16 threads.
 # It builds the program over copies of this repository's crates, in a temporary repository of its own. The
-# copies take along what earlier checks kept, so that little is proved again. (The sources end in .txt, since a
-# repository has no .rt or .antt file outside its listed crates.)
+# copies take along what earlier checks kept, so that little is proved again. (The sources end in .txt, since
+# a repository has no .rt or .antt file outside its listed crates.)
 set -eu
 here=$(cd "$(dirname "$0")" && pwd)
 root=$(mktemp -d)
