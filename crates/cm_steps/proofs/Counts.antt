@@ -1,6 +1,7 @@
 -- How many items pass a test behind a change of one, and how long lists are then.
-use Rattle.std.proofs.Common.{◌≡◌, ℕ, ◌+◌, ◌≤◌, List, [], ◌∷◌, ◌++◌, Bool, true, false, cond, ◌||◌, ◌&&◌, ◌==◌, true≢false, Some, is_none, length, find, refl, sym, ◌∙◌, ap, subst, arith, IsTrue}
+use Rattle.std.proofs.Common.{◌≡◌, ℕ, ◌+◌, ◌≤◌, List, [], ◌∷◌, ◌++◌, Bool, true, false, cond, ◌||◌, ◌&&◌, ◌==◌, true≢false, Option, Some, None, is_none, length, find, refl, sym, ◌∙◌, ap, subst, arith, IsTrue}
 use Rattle.std.proofs.lemmas.List.Sums.{sum_by_push}
+use Rattle.std.specs.Option.{option_map_or}
 use Rattle.std.specs.List.{count_by, list_any}
 use Rattle.cm_decl.specs.declared.decl.Decl.{Decl}
 use Rattle.cm_world.specs.declared.action.Act.{Act}
@@ -59,6 +60,25 @@ le_by false p q f y ys differ more =
 pub count_le : {A : Type 0} (p q : A → Bool) (f : A → A) (xs : List A) → ((x : A) → q (f x) ≡ false) → count_by q (edit_first p f xs) ≤ count_by q xs
 count_le p q f [] differ = omega arith
 count_le p q f (y ∷ ys) differ = le_by (p y) p q f y ys differ (count_le p q f ys differ)
+
+one_by : {A : Type 0} (o : Option A) (p q : A → Bool) (f : A → A) (xs : List A) → find p xs ≡ o → ((x : A) → q (f x) ≡ false) → option_map_or q o false ≡ true → count_by q (edit_first p f xs) + 1 ≡ count_by q xs
+one_by None p q f xs found differ hit = absurd (true≢false (sym hit))
+one_by (Some x) p q f xs found differ hit = count_less p q f xs x found hit (differ x)
+
+-- the first that passes p passes q too, and then no more
+pub count_one : {A : Type 0} (p q : A → Bool) (f : A → A) (xs : List A) → ((x : A) → q (f x) ≡ false) → option_map_or q (find p xs) false ≡ true → count_by q (edit_first p f xs) + 1 ≡ count_by q xs
+count_one p q f xs differ hit = one_by (find p xs) p q f xs refl differ hit
+
+same_by : {A : Type 0} (b : Bool) (p q : A → Bool) (f : A → A) (y : A) (ys : List A) → ((x : A) → q (f x) ≡ false) → (option_map_or q (find p ys) false ≡ false → count_by q (edit_first p f ys) ≡ count_by q ys) → option_map_or q (cond b (Some y) (find p ys)) false ≡ false → count_by q (cond b (f y ∷ ys) (y ∷ edit_first p f ys)) ≡ count_by q (y ∷ ys)
+same_by true p q f y ys differ more miss =
+    count-cons q (f y) ys ∙ ap (λ t. cond t 1 0 + count_by q ys) (differ y ∙ sym miss) ∙ sym (count-cons q y ys)
+same_by false p q f y ys differ more miss =
+    count-cons q y (edit_first p f ys) ∙ ap (λ n. cond (q y) 1 0 + n) (more miss) ∙ sym (count-cons q y ys)
+
+-- the first that passes p, if there is one, doesn't pass q
+pub count_same : {A : Type 0} (p q : A → Bool) (f : A → A) (xs : List A) → ((x : A) → q (f x) ≡ false) → option_map_or q (find p xs) false ≡ false → count_by q (edit_first p f xs) ≡ count_by q xs
+count_same p q f [] differ miss = refl
+count_same p q f (y ∷ ys) differ miss = same_by (p y) p q f y ys differ (λ e. count_same p q f ys differ e) miss
 
 pub count_more : {A : Type 0} (q : A → Bool) (xs : List A) (x : A) → count_by q (xs ++ x ∷ []) ≡ count_by q xs + cond (q x) 1 0
 count_more q xs x = sum_by_push (λ z. cond (q z) 1 0) xs x

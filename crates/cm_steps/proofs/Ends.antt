@@ -29,7 +29,7 @@ use Rattle.cm_laws.specs.Tasks.{IsNumbered, HasRow, IsTasked}
 use Rattle.cm_steps.specs.Tasks.{is_open_resolve}
 use Rattle.cm_steps.specs.Inside.{story_of, world_in, IsKept}
 use Rattle.cm_steps.specs.Ends.{inc_of, finish_of, takes_of, CanTake}
-use Rattle.cm_steps.proofs.Counts.{open_less, resolve_less, count_le}
+use Rattle.cm_steps.proofs.Counts.{open_less, resolve_less, count_le, count_one, count_same}
 use Rattle.cm_laws.proofs.actions.Tasks.{numbered_ended}
 use Rattle.cm_laws.proofs.actions.Ends.{kind_of_resolve, tasked_by}
 use Rattle.cm_steps.proofs.Going.{goes_on, one_longer}
@@ -51,6 +51,14 @@ inc-ended acts caller a f may = ap (λ o. option_map_or (λ x. x.inc) o 0) may.t
 never_open : (b : Bool) → (b && false) ≡ false
 never_open true = refl
 never_open false = refl
+
+-- one open resolve less where it was one, whatever becomes of it
+pub one_left : (acts : List Act) (a : ℕ) (o : Outcome) → option_map_or is_open_resolve (act_of acts a) false ≡ true → count_by is_open_resolve (ended a o acts) + 1 ≡ count_by is_open_resolve acts
+one_left acts a o h = count_one (λ (x : Act). x.action == a) is_open_resolve (put_outcome o) acts (λ x. never_open (same_act x.kind Resolve)) h
+
+-- and as many where it wasn't
+pub same_left : (acts : List Act) (a : ℕ) (o : Outcome) → option_map_or is_open_resolve (act_of acts a) false ≡ false → count_by is_open_resolve (ended a o acts) ≡ count_by is_open_resolve acts
+same_left acts a o h = count_same (λ (x : Act). x.action == a) is_open_resolve (put_outcome o) acts (λ x. never_open (same_act x.kind Resolve)) h
 
 -- where a resolve has ended, there is one less that is open
 pub resolves_left : (acts : List Act) (caller a : ℕ) (f : Finish) (o : Outcome) → MayEnd acts caller a f → count_by is_open_resolve (ended a o acts) + takes_of f ≤ count_by is_open_resolve acts
@@ -85,6 +93,7 @@ pub record IsEnded (old new : Inside) (caller a i : ℕ) (f : Finish) (o : Outco
   pub limit : new.table.limit ≡ old.table.limit
   pub builtins : new.table.builtins ≡ old.table.builtins
   pub acts : new.acts.items ≡ ended a o old.acts.items
+  pub resolves : new.resolves ≡ count_by is_open_resolve (ended a o old.acts.items)
   pub joins : new.joins.items ≡ old.joins.items
   pub entries : new.book.entries ≡ old.book.entries ++ entry_of caller (End a f) (Ended o) ∷ []
   pub reserved : new.book.reserved ≡ old.book.reserved - 1
@@ -122,6 +131,7 @@ kept_ended old new caller a f o may named kept e = record {
       let was = kept.owes in
       let left = e.reserved in
       omega arith;
+  counted = e.resolves ∙ ap (count_by is_open_resolve) (sym e.acts);
   spare =
       let less = resolves_left old.acts.items caller a f o may in
       let same = ap (count_by is_open_resolve) e.acts in

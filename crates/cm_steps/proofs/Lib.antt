@@ -13,3 +13,4 @@ pub mod Begun
 pub mod Joined
 pub mod Waits
 pub mod Ends
+pub mod Numbered

@@ -30,10 +30,11 @@ stands_new a table acts joins entries =
     }
 
 -- the fields of a new realm are the tree that no entry leaves
-pub kept_new : (a : Inside) → a.table ≡ first_tree a.frame.root a.frame.builtins a.frame.limits.rows → a.acts.items ≡ [] → a.joins.items ≡ [] → a.book ≡ record { entries = []; reserved = 0; limit = a.frame.limits.entries } → IsKept a
-kept_new a table acts joins book = record {
+pub kept_new : (a : Inside) → a.table ≡ first_tree a.frame.root a.frame.builtins a.frame.limits.rows → a.acts.items ≡ [] → a.resolves ≡ 0 → a.joins.items ≡ [] → a.book ≡ record { entries = []; reserved = 0; limit = a.frame.limits.entries } → IsKept a
+kept_new a table acts resolves joins book = record {
   stands = stands_new a table acts joins (ap (λ (h : History). h.entries) book);
   owes = ap (λ (h : History). h.reserved) book ∙ sym (ap (λ xs. owed xs a.joins.items) acts ∙ ap (owed []) joins);
+  counted = resolves ∙ ap (count_by is_open_resolve) (sym acts);
   spare = subst (λ xs. count_by is_open_resolve xs ≤ a.table.spare) (sym acts) (omega arith);
   rows = ap (λ (t : Tree). t.limit) table;
   entries = ap (λ (h : History). h.limit) book;

@@ -33,6 +33,7 @@ pub record IsRowStep (old new : Inside) (e : Entry) (rows : List Row) (next : �
   pub frame : new.frame ≡ old.frame
   pub table : new.table ≡ record old.table { rows = rows; next_inc = next }
   pub acts : new.acts.items ≡ old.acts.items
+  pub resolves : new.resolves ≡ old.resolves
   pub joins : new.joins.items ≡ old.joins.items
   pub book : new.book ≡ record old.book { entries = old.book.entries ++ e ∷ [] }
 
@@ -61,6 +62,7 @@ kept_rows old new e rows next kept step moves tasked s = record {
       ∙ kept.owes
       ∙ ap (λ xs. owed xs old.joins.items) (sym s.acts)
       ∙ ap (owed new.acts.items) (sym s.joins);
+  counted = s.resolves ∙ kept.counted ∙ ap (count_by is_open_resolve) (sym s.acts);
   spare =
       let same = ap (count_by is_open_resolve) s.acts in
       let was = kept.spare in

@@ -27,11 +27,12 @@ pub record Stands (s : Story) (w : World) : Type 0 where
   pub legal : IsLegal s
   pub world : world_of s ≡ w
 
--- the fields are the tree that the book leaves; room is kept for the entries that are owed, and for each open
--- resolve
+-- the fields are the tree that the book leaves; open resolves are counted, and room is kept for each of them
+-- and for the entries that are owed
 pub record IsKept (a : Inside) : Type 0 where
   pub stands : Stands (story_of a) (world_in a)
   pub owes : a.book.reserved ≡ owed a.acts.items a.joins.items
+  pub counted : a.resolves ≡ count_by is_open_resolve a.acts.items
   pub spare : count_by is_open_resolve a.acts.items ≤ a.table.spare
   pub rows : a.table.limit ≡ a.frame.limits.rows
   pub entries : a.book.limit ≡ a.frame.limits.entries

@@ -39,6 +39,7 @@ pub struct Realm {
     frame: Frame,
     table: Table,
     acts: Vec<Act>,
+    resolves: u32,
     joins: Vec<Join>,
     book: Book,
 }
@@ -92,6 +93,7 @@ impl Realm {
             },
             table,
             acts: Vec::new(alloc),
+            resolves: 0,
             joins: Vec::new(alloc),
             book: Book::new(alloc, limits.entries),
         })
@@ -114,6 +116,7 @@ impl Realm {
             frame: _,
             table: _,
             acts: _,
+            resolves: _,
             joins: _,
             book,
         } = self;
@@ -426,8 +429,15 @@ impl Realm {
         ensures refused { IfErr result (Refuses self.old 2 (λ a. ⊥)) }
         ensures err { OnErr result (self.new ≡ self.old) }
     {
-        make_room(&mut self.acts, &mut self.table, &mut self.book, kind)?;
+        let resolves = make_room(
+            &mut self.acts,
+            self.resolves,
+            &mut self.table,
+            &mut self.book,
+            kind,
+        )?;
         let action = next_action(self.acts.as_slice());
+        self.resolves = resolves;
         self.table.set_pending(inc, Some((kind, action)));
         self.acts.push_reserved(Act {
             action,

@@ -1,11 +1,15 @@
 //! Room for what a step needs and leaves to come: entries, also those of ends and awaits, and rows.
 
 ghost use Rattle.std.specs.Prelude.{◌≡◌, ◌+◌, ◌-◌, ◌≤◌, ◌<◌, ◌^◌, length, cond, count_by};
-ghost use Rattle.std.specs.Prelude.{Some, None, IsTrue, IfOk, OnOk, OnErr, IfErr};
+ghost use Rattle.std.specs.Prelude.{Some, None, IsTrue, IfOk, OnOk, OnErr, IfErr, false};
+ghost use Rattle.std.specs.Option.{option_map_or};
 ghost use Rattle.std.specs.List.{list_any};
 ghost use Rattle.std.specs.Vec.{vec_len, vec_capacity};
 ghost use Rattle.cm_world.specs.Rows.{is_resolved, child_of};
-ghost use Rattle.cm_world.specs.World.{new_row};
+ghost use Rattle.cm_world.specs.World.{new_row, act_of};
+ghost use Rattle.cm_world.specs.End.{ended};
+ghost use Rattle.cm_world.specs.declared.action.Outcome.{Outcome};
+ghost use Rattle.cm_laws.specs.Tasks.{IsNumbered};
 ghost use Rattle.cm_world.specs.Begin.{same_act};
 ghost use Rattle.cm_world.specs.Step as step;
 ghost use Rattle.cm_world.specs.After.{joined};
@@ -16,6 +20,7 @@ ghost use Rattle.cm_steps.specs.Tasks as tasks;
 ghost use Rattle.cm_steps.specs.Rooms.{Lacks};
 
 use crate::nostep::NoStep;
+use crate::pending::act_at;
 use cm_book::Book;
 use cm_decl::Give;
 use cm_names::{ChildName, List, Text};
@@ -31,48 +36,52 @@ pub fn next_action(acts: &[Act]) -> u64
 }
 
 /// Makes room for an action more: for itself, for the entries of its begin and its end, and,
-/// where it is a resolve, for the rows that it may add.
+/// where it is a resolve, for the rows that it may add. `Ok` is how many resolves haven't ended,
+/// with it.
 pub fn make_room(
     acts: &mut Vec<Act>,
+    resolves: u32,
     table: &mut Table,
     book: &mut Book,
     kind: ActKind,
-) -> Result<(), NoStep>
-    requires { count_by tasks.is_open_resolve acts.old.items ≤ table.old.spare }
+) -> Result<u32, NoStep>
+    requires { resolves ≤ table.old.spare }
     ensures acts { acts.new.items ≡ acts.old.items }
     ensures room { OnOk result (vec_len acts.new < vec_capacity acts.new) }
     ensures table { table.new ≡ record table.old { spare = table.new.spare } }
     ensures later { table.old.spare ≤ table.new.spare }
-    ensures spare { let begun = count_by tasks.is_open_resolve acts.old.items in
-        OnOk result (begun + cond (same_act kind ActKind.Resolve) 1 0 ≤ table.new.spare) }
+    ensures count { let more = cond (same_act kind ActKind.Resolve) 1 0 in
+        IfOk result (λ begun. begun ≡ resolves + more) }
+    ensures spare { IfOk result (λ begun. begun ≤ table.new.spare) }
     ensures book { let reserved = book.old.reserved + 2 in
         OnOk result (book.new ≡ record book.old { reserved = reserved }) }
     ensures err { OnErr result (book.new ≡ book.old) }
     ensures refused { IfErr result (Lacks book.old 2) }
 {
     acts.reserve(1)?;
-    room_for_rows(acts.as_slice(), table, kind)?;
+    let begun = room_for_rows(resolves, table, kind)?;
     book.reserve(2)?;
-    Ok(())
+    Ok(begun)
 }
 
-/// Makes room for the rows of a resolve more, if it is one.
-fn room_for_rows(acts: &[Act], table: &mut Table, kind: ActKind) -> Result<(), NoStep>
-    requires { count_by tasks.is_open_resolve acts.now ≤ table.old.spare }
+/// Makes room for the rows of a resolve more, if it is one. `Ok` is how many there are then.
+fn room_for_rows(resolves: u32, table: &mut Table, kind: ActKind) -> Result<u32, NoStep>
+    requires { resolves ≤ table.old.spare }
     ensures table { table.new ≡ record table.old { spare = table.new.spare } }
     ensures later { table.old.spare ≤ table.new.spare }
-    ensures spare { let begun = count_by tasks.is_open_resolve acts.now in
-        OnOk result (begun + cond (same_act kind ActKind.Resolve) 1 0 ≤ table.new.spare) }
+    ensures count { let more = cond (same_act kind ActKind.Resolve) 1 0 in
+        IfOk result (λ begun. begun ≡ resolves + more) }
+    ensures spare { IfOk result (λ begun. begun ≤ table.new.spare) }
     ensures refused { IfErr result (λ e. e ≡ NoStep.Memory) }
 {
     if !is_resolve(kind) {
-        return Ok(());
+        return Ok(resolves);
     }
-    let Ok(resolves) = u32::try_from(open_resolves(acts) + 1) else {
+    let Some(begun) = resolves.checked_add(1) else {
         return Err(NoStep::Memory);
     };
-    table.reserve(resolves)?;
-    Ok(())
+    table.reserve(begun)?;
+    Ok(begun)
 }
 
 fn is_resolve(kind: ActKind) -> bool
@@ -88,12 +97,28 @@ fn is_open_resolve(act: &Act) -> bool
     is_resolve(act.kind) && act.outcome.is_none()
 }
 
-/// How many resolves haven't ended.
-fn open_resolves(acts: &[Act]) -> usize
-    ensures count { result ≡ count_by tasks.is_open_resolve acts.now }
-    ensures bound { result ≤ length acts.now }
+/// Whether the action of that number is a resolve that hasn't ended.
+fn resolves_at(acts: &[Act], action: u64) -> bool
+    requires { IsNumbered 1 acts.now }
+    ensures { result ≡ option_map_or tasks.is_open_resolve (act_of acts.now action) false }
 {
-    acts.iter().filter(|act| is_open_resolve(act)).count()
+    match act_at(acts, action) {
+        None => false,
+        Some(act) => is_open_resolve(act),
+    }
+}
+
+/// How many resolves haven't ended once that action has, whatever becomes of it.
+pub fn resolves_left(acts: &[Act], resolves: u32, action: u64) -> u32
+    requires numbers { IsNumbered 1 acts.now }
+    requires count { resolves ≡ count_by tasks.is_open_resolve acts.now }
+    ensures { (o : Outcome) →
+        result ≡ count_by tasks.is_open_resolve (ended action o acts.now) }
+{
+    if !resolves_at(acts, action) {
+        return resolves;
+    }
+    resolves - 1
 }
 
 /// Puts down that a caller waits for an action, with room for the entry that says so, and for

@@ -13,12 +13,10 @@ use Rattle.cm_world.specs.Rows.{row_of, is_resolved, child_of}
 use Rattle.cm_world.specs.World.{new_row}
 use Rattle.cm_world.specs.Sound.{IsOrderly}
 use Rattle.cm_world.proofs.Finding.{some_same, none_some}
-use Rattle.cm_table.specs.Blocks.{flat}
 use Rattle.cm_table.specs.Reading.{is_there}
-use Rattle.cm_table.proofs.Edits.{flat-push}
 use Rattle.cm_table.proofs.Growth.{Joins, orderly_push}
 
-resolved_by : (o : Option Row) → is_some (option_and_then (λ r. r.decl) o) ≡ true → (q : Row) × (o ≡ Some q) × IsSome q.decl
+pub resolved_by : (o : Option Row) → is_some (option_and_then (λ r. r.decl) o) ≡ true → (q : Row) × (o ≡ Some q) × IsSome q.decl
 resolved_by None h = absurd (true≢false (sym h))
 resolved_by (Some q) h = (q, refl, h)
 
@@ -73,8 +71,3 @@ added_joins rows next p c url gives resolved unused =
 pub orderly_added : (rows : List Row) (next p : ℕ) (c : ChildName) (url : List ℕ) (gives : List Give) → IsOrderly rows next → IsTrue (is_resolved rows p) → child_of rows p c ≡ None → IsOrderly (rows ++ new_row next (Some p) (Some c) url gives ∷ []) (next + 1)
 orderly_added rows next p c url gives o resolved unused =
     orderly_push rows next (new_row next (Some p) (Some c) url gives) o (added_joins rows next p c url gives resolved unused)
-
--- the new child came as a block behind the others
-pub flat_added : (bs cs ds : List (List Row)) (b : List Row) (r : Row) → cs ≡ bs → ds ≡ cs ++ b ∷ [] → b ≡ r ∷ [] → flat ds ≡ flat bs ++ r ∷ []
-flat_added bs cs ds b r same more one =
-    ap flat more ∙ flat-push cs b ∙ ap (λ z. flat z ++ b) same ∙ ap (λ z. flat bs ++ z) one

@@ -7,8 +7,9 @@ use Rattle.cm_world.specs.End.{end_row}
 use Rattle.cm_world.proofs.Finding.{some_same}
 use Rattle.cm_table.specs.declared.change.Change.{Change}
 use Rattle.cm_table.specs.declared.change.Change.TheVariants.{On, Pending, Closing, Doomed, Shut, End, Resolve}
-use Rattle.cm_table.specs.Change.{change_row, IsSafe}
+use Rattle.cm_table.specs.Change.{change_row, IsSafe, IsSparing}
 use Rattle.cm_table.proofs.Orderly.{IsKeeping}
+use Rattle.cm_table.proofs.Indexing.{SparesRows}
 
 -- an end keeps a row's place and its declaration
 keeping_end : (o : Outcome) → IsKeeping (end_row o)
@@ -26,3 +27,19 @@ keeping Doomed safe = record { inc = λ r. refl; parent = λ r. refl; name = λ 
 keeping Shut safe = record { inc = λ r. refl; parent = λ r. refl; name = λ r. refl; doomed = λ r h. h; resolved = λ r h. h; valid = λ r d h. inl h }
 keeping (End o) safe = keeping_end o
 keeping (Resolve absolute d) safe = record { inc = λ r. refl; parent = λ r. refl; name = λ r. refl; doomed = λ r h. h; resolved = λ r h. refl; valid = λ r e h. inr (subst IsValid (some_same d e h) safe) }
+
+spares_end : (o : Outcome) → SparesRows (end_row o)
+spares_end Started = record { inc = λ r. refl; parent = λ r. refl; name = λ r. refl; doomed = λ r. refl }
+spares_end Stopped = record { inc = λ r. refl; parent = λ r. refl; name = λ r. refl; doomed = λ r. refl }
+spares_end Killed = record { inc = λ r. refl; parent = λ r. refl; name = λ r. refl; doomed = λ r. refl }
+spares_end _ = record { inc = λ r. refl; parent = λ r. refl; name = λ r. refl; doomed = λ r. refl }
+
+-- a change that dooms no row
+pub spares : (c : Change) → IsSparing c → SparesRows (change_row c)
+spares (On on) sparing = record { inc = λ r. refl; parent = λ r. refl; name = λ r. refl; doomed = λ r. refl }
+spares (Pending pending) sparing = record { inc = λ r. refl; parent = λ r. refl; name = λ r. refl; doomed = λ r. refl }
+spares Closing sparing = record { inc = λ r. refl; parent = λ r. refl; name = λ r. refl; doomed = λ r. refl }
+spares Doomed sparing = absurd sparing
+spares Shut sparing = record { inc = λ r. refl; parent = λ r. refl; name = λ r. refl; doomed = λ r. refl }
+spares (End o) sparing = spares_end o
+spares (Resolve absolute d) sparing = record { inc = λ r. refl; parent = λ r. refl; name = λ r. refl; doomed = λ r. refl }

@@ -2,14 +2,12 @@
 use Rattle.std.proofs.Common.{◌≡◌, ℕ, zero, suc, ◌+◌, ◌<◌, List, [], ◌∷◌, Bool, true, false, cond, not, ◌&&◌, ◌||◌, ◌==◌, nat_eq, true≢false, Option, Some, None, IsSome, IsTrue, find, filter, length, refl, sym, ◌∙◌, ap, subst, arith}
 use Rattle.std.specs.Option.{option_eq}
 use Rattle.std.specs.Cmp.{unsigned_Decides}
-use Rattle.cm_decl.proofs.Sameness.{and_first}
 use Rattle.cm_world.specs.declared.row.Row.{Row}
 use Rattle.cm_world.specs.Edits.{drop_first}
-use Rattle.cm_world.specs.Rows.{row_of, has_parent, child_behind, at_or_above, some_above, is_below}
+use Rattle.cm_world.specs.Rows.{row_of, child_behind, at_or_above, some_above, is_below}
 use Rattle.cm_world.specs.After.{others_than}
 use Rattle.cm_world.specs.Sound.{IsRising, IsOrderly, IsParent}
-use Rattle.cm_world.proofs.Finding.{none_some, find-passes, row_of-inc}
-use Rattle.cm_world.proofs.Walks.{below_next, find-lives}
+use Rattle.cm_world.proofs.Finding.{none_some, row_of-inc}
 use Rattle.cm_world.proofs.Climbing.{some_above-step, above_root}
 use Rattle.cm_table.specs.Reading.{follows}
 use Rattle.cm_table.proofs.Rows.{some_is, is_some_by}
@@ -83,7 +81,7 @@ rising_at false i next x xs rising later = (
   later,
 )
 
-rising_without : (i next : ℕ) (rows : List Row) → IsRising next rows → IsRising next (without i rows)
+pub rising_without : (i next : ℕ) (rows : List Row) → IsRising next rows → IsRising next (without i rows)
 rising_without i next [] rising = tt
 rising_without i next (x ∷ xs) rising = rising_at (x.inc == i) i next x xs rising (rising_without i next xs rising.1)
 
@@ -195,31 +193,3 @@ pub below_itself : (rows : List Row) (next top : ℕ) (r : Row) → IsOrderly ro
 below_itself rows next top r o here =
     some_above-step (λ s. s.inc == top) rows next top r o here
     ∙ ap (λ b. b || at_or_above (length rows) (λ s. s.inc == top) rows r.parent) ((unsigned_Decides r.inc top).1 (row_of-inc rows top r here))
-
-parent_by : (i : ℕ) (o : Option ℕ) → IsTrue (option_eq nat_eq o (Some i)) → o ≡ Some i
-parent_by i None h = absurd (true≢false (sym h))
-parent_by i (Some j) h = ap Some ((unsigned_Decides j i).0 h)
-
-or_true : (a b : Bool) → b ≡ true → (a || b) ≡ true
-or_true true b h = refl
-or_true false b h = h
-
--- a child of a row that is found: it lives, and has a higher incarnation; it is at or below what the row is at or below
-pub record IsChild (rows : List Row) (next top i : ℕ) (r : Row) : Type 0 where
-  pub lives : row_of rows r.inc ≡ Some r
-  pub higher : i < r.inc
-  pub within : r.inc < next
-  pub below : IsTrue (is_below rows top i) → IsTrue (is_below rows top r.inc)
-
-pub child_found : (rows : List Row) (next top i : ℕ) (r : Row) → IsOrderly rows next → find (follows i None) rows ≡ Some r → IsChild rows next top i r
-child_found rows next top i r o found =
-    let here : row_of rows r.inc ≡ Some r = find-lives (follows i None) rows next r o.rising found in
-    let up : r.parent ≡ Some i = parent_by i r.parent (and_first (has_parent i r) true (find-passes (follows i None) rows r found)) in
-    record {
-      lives = here;
-      higher = (o.parents r.inc i r here up).0.lower;
-      within = below_next rows next r.inc r o.rising here;
-      below = λ below. some_above-step (λ s. s.inc == top) rows next r.inc r o here
-          ∙ ap (λ u. (r.inc == top) || at_or_above (length rows) (λ s. s.inc == top) rows u) up
-          ∙ or_true (r.inc == top) (is_below rows top i) below;
-    }

@@ -1,42 +1,60 @@
--- Rows that get their numbers.
+-- Slots that get their numbers.
 use Rattle.std.proofs.Common.{◌≡◌, ℕ, suc, ◌+◌, ◌<◌, List, [], ◌∷◌, ◌++◌, map, length, refl, sym, ap, ◌∙◌, arith, append_assoc, get_or, set, take, drop}
 use Rattle.std.proofs.lemmas.List.{length-take, get_or_at, set_at, drop_more, take_more}
 use Rattle.cm_decl.specs.declared.rows.Child.{Child}
 use Rattle.cm_world.specs.declared.row.Row.{Row}
 use Rattle.cm_world.specs.End.{child_row, child_rows}
-use Rattle.cm_table.specs.Numbering.{placed, numbered}
+use Rattle.cm_table.specs.declared.slot.Slot.{Slot}
+use Rattle.cm_table.specs.Keys.{Each}
+use Rattle.cm_table.specs.Slots.{rows_in, with_row_by}
+use Rattle.cm_table.specs.Numbering.{placed, numbered, IsBare}
 
-pub numbered-children : (parent first : ℕ) (ks : List Child) → numbered parent first (map (child_row 0 0) ks) ≡ child_rows parent first ks
-numbered-children parent first [] = refl
-numbered-children parent first (k ∷ ks) = ap (λ rs. child_row parent first k ∷ rs) (numbered-children parent (first + 1) ks)
+abbrev pub numbered_rows : ℕ → ℕ → List Row → List Row
+numbered_rows p first [] = []
+numbered_rows p first (r ∷ rs) = placed p first r ∷ numbered_rows p (first + 1) rs
+
+rows-numbered : (p first : ℕ) (ss : List Slot) → rows_in (numbered p first ss) ≡ numbered_rows p first (rows_in ss)
+rows-numbered p first [] = refl
+rows-numbered p first (s ∷ ss) = ap (λ l. placed p first s.row ∷ l) (rows-numbered p (first + 1) ss)
+
+numbered-children : (p first : ℕ) (ks : List Child) → numbered_rows p first (map (child_row 0 0) ks) ≡ child_rows p first ks
+numbered-children p first [] = refl
+numbered-children p first (k ∷ ks) = ap (λ rs. child_row p first k ∷ rs) (numbered-children p (first + 1) ks)
+
+pub rows_of_numbered : (p first : ℕ) (ss : List Slot) (ks : List Child) → rows_in ss ≡ map (child_row 0 0) ks → rows_in (numbered p first ss) ≡ child_rows p first ks
+rows_of_numbered p first ss ks e = rows-numbered p first ss ∙ ap (numbered_rows p first) e ∙ numbered-children p first ks
+
+pub bare_numbered : (p first : ℕ) (ss : List Slot) → Each IsBare ss → Each IsBare (numbered p first ss)
+bare_numbered p first [] bare = tt
+bare_numbered p first (s ∷ ss) bare = (bare.0, bare_numbered p (first + 1) ss bare.1)
 
 pub length-child_rows : (parent first : ℕ) (ks : List Child) → length (child_rows parent first ks) ≡ length ks
 length-child_rows parent first [] = refl
 length-child_rows parent first (k ∷ ks) = ap suc (length-child_rows parent (first + 1) ks)
 
-numbered-push : (parent first : ℕ) (rs : List Row) (r : Row) → numbered parent first (rs ++ r ∷ []) ≡ numbered parent first rs ++ placed parent (first + length rs) r ∷ []
+numbered-push : (parent first : ℕ) (rs : List Slot) (r : Slot) → numbered parent first (rs ++ r ∷ []) ≡ numbered parent first rs ++ with_row_by (placed parent (first + length rs)) r ∷ []
 numbered-push parent first [] r = let e : first + 0 ≡ first = omega arith in rw e refl
 numbered-push parent first (x ∷ rs) r =
     let e : first + 1 + length rs ≡ first + suc (length rs) = omega arith in
-    ap (λ zs. placed parent first x ∷ zs) (numbered-push parent (first + 1) rs r ∙ ap (λ n. numbered parent (first + 1) rs ++ placed parent n r ∷ []) e)
+    ap (λ zs. with_row_by (placed parent first) x ∷ zs) (numbered-push parent (first + 1) rs r ∙ ap (λ n. numbered parent (first + 1) rs ++ with_row_by (placed parent n) r ∷ []) e)
 
-length-numbered : (parent first : ℕ) (rs : List Row) → length (numbered parent first rs) ≡ length rs
+length-numbered : (parent first : ℕ) (rs : List Slot) → length (numbered parent first rs) ≡ length rs
 length-numbered parent first [] = refl
 length-numbered parent first (r ∷ rs) = ap suc (length-numbered parent (first + 1) rs)
 
-numbered_more : (parent first : ℕ) (xs : List Row) (i : ℕ) (d : Row) → i < length xs → numbered parent first (take (i + 1) xs) ≡ numbered parent first (take i xs) ++ placed parent (first + i) (get_or xs i d) ∷ []
+numbered_more : (parent first : ℕ) (xs : List Slot) (i : ℕ) (d : Slot) → i < length xs → numbered parent first (take (i + 1) xs) ≡ numbered parent first (take i xs) ++ with_row_by (placed parent (first + i)) (get_or xs i d) ∷ []
 numbered_more parent first xs i d lt =
     let long : first + length (take i xs) ≡ first + i = omega (arith, length-take i xs) in
     ap (numbered parent first) (take_more xs i d lt)
     ∙ numbered-push parent first (take i xs) (get_or xs i d)
-    ∙ ap (λ n. numbered parent first (take i xs) ++ placed parent n (get_or xs i d) ∷ []) long
+    ∙ ap (λ n. numbered parent first (take i xs) ++ with_row_by (placed parent n) (get_or xs i d) ∷ []) long
 
 -- a loop that numbers each row
-pub numbered_over_more : (parent first : ℕ) (xs ys : List Row) (i : ℕ) (x : Row) → i < length xs → ys ≡ numbered parent first (take i xs) ++ drop i xs → x ≡ get_or ys i x → set ys i (placed parent (first + i) x) ≡ numbered parent first (take (i + 1) xs) ++ drop (i + 1) xs
+pub numbered_over_more : (parent first : ℕ) (xs ys : List Slot) (i : ℕ) (x : Slot) → i < length xs → ys ≡ numbered parent first (take i xs) ++ drop i xs → x ≡ get_or ys i x → set ys i (with_row_by (placed parent (first + i)) x) ≡ numbered parent first (take (i + 1) xs) ++ drop (i + 1) xs
 numbered_over_more parent first xs ys i x lt h is =
-    let front : List Row = numbered parent first (take i xs) in
+    let front : List Slot = numbered parent first (take i xs) in
     let long : length front ≡ i = length-numbered parent first (take i xs) ∙ omega (arith, length-take i xs) in
     let parts : ys ≡ front ++ get_or xs i x ∷ drop (i + 1) xs = h ∙ ap (λ l. front ++ l) (drop_more xs i x lt) in
     let read : x ≡ get_or xs i x = is ∙ ap (λ l. get_or l i x) parts ∙ get_or_at front _ _ x i long in
-    ap (λ l. set l i (placed parent (first + i) x)) parts ∙ set_at front _ _ (placed parent (first + i) x) i long ∙ sym (append_assoc front (placed parent (first + i) x ∷ []) _)
-    ∙ ap (λ l. l ++ drop (i + 1) xs) (ap (λ y. front ++ placed parent (first + i) y ∷ []) read ∙ sym (numbered_more parent first xs i x lt))
+    ap (λ l. set l i (with_row_by (placed parent (first + i)) x)) parts ∙ set_at front _ _ (with_row_by (placed parent (first + i)) x) i long ∙ sym (append_assoc front (with_row_by (placed parent (first + i)) x ∷ []) _)
+    ∙ ap (λ l. l ++ drop (i + 1) xs) (ap (λ y. front ++ with_row_by (placed parent (first + i)) y ∷ []) read ∙ sym (numbered_more parent first xs i x lt))

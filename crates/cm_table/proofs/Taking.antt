@@ -1,5 +1,5 @@
 -- A row that got its declaration, and the rows of its children.
-use Rattle.std.proofs.Common.{◌≡◌, ℕ, ◌+◌, ◌==◌, List, [], ◌∷◌, ◌++◌, Option, Some, None, IsTrue, length, length-append, refl, sym, ◌∙◌, ap}
+use Rattle.std.proofs.Common.{◌≡◌, ℕ, ◌+◌, ◌==◌, List, Option, Some, None, IsTrue, length, length-append, refl, sym, ◌∙◌, ap}
 use Rattle.std.specs.Prelude.{option_and_then}
 use Rattle.cm_decl.specs.declared.decl.Decl.{Decl}
 use Rattle.cm_decl.specs.Valid.{IsValid}
@@ -10,9 +10,8 @@ use Rattle.cm_world.specs.Rows.{row_of, is_live, decl_of}
 use Rattle.cm_world.specs.End.{changed, child_rows, rows_by}
 use Rattle.cm_world.specs.Sound.{IsOrderly}
 use Rattle.cm_table.specs.declared.change.Change.TheVariants.{Resolve}
-use Rattle.cm_table.specs.Blocks.{flat}
 use Rattle.cm_table.specs.Change.{change_row}
-use Rattle.cm_table.proofs.Edits.{flat-push, length-edit_first}
+use Rattle.cm_table.proofs.Edits.{length-edit_first}
 use Rattle.cm_table.proofs.Numbers.{length-child_rows}
 use Rattle.cm_table.proofs.Rows.{some_is, Was, was_before, row_of-changed}
 use Rattle.cm_table.proofs.Orderly.{IsKeeping, kept_parent, orderly_changed}
@@ -20,19 +19,13 @@ use Rattle.cm_table.proofs.Changes.{keeping}
 use Rattle.cm_table.proofs.Siblings.{valid_apart}
 use Rattle.cm_table.proofs.Growth.{orderly_with_children, childless}
 
--- a row got its declaration, and its children came as a block behind the others
-pub taken : (i next : ℕ) (a b : List ℕ) (d e : Decl) (bs cs ds : List (List Row)) (kids rows : List Row) → b ≡ a → e ≡ d → flat cs ≡ changed i (change_row (Resolve b e)) (flat bs) → ds ≡ cs ++ kids ∷ [] → kids ≡ rows → rows ≡ child_rows i next d.children → flat ds ≡ rows_by i next (finish.Resolved a d) outcome.Resolved (flat bs)
-taken i next a b d e bs cs ds kids rows texts decls rows_are more made numbered =
-    ap flat more ∙ flat-push cs kids ∙ ap (λ ks. flat cs ++ ks) (made ∙ numbered)
-    ∙ ap (λ rs. rs ++ child_rows i next d.children) (rows_are ∙ ap (λ t. changed i (change_row (Resolve t e)) (flat bs)) texts ∙ ap (λ t. changed i (change_row (Resolve a t)) (flat bs)) decls)
-
 pub length-taken : (i next : ℕ) (a : List ℕ) (d : Decl) (rows : List Row) → length (rows_by i next (finish.Resolved a d) outcome.Resolved rows) ≡ length rows + length d.children
 length-taken i next a d rows =
     length-append (changed i (change_row (Resolve a d)) rows) (child_rows i next d.children)
     ∙ ap (λ n. n + length (child_rows i next d.children)) (length-edit_first (λ r. r.inc == i) (change_row (Resolve a d)) rows)
     ∙ ap (λ n. length rows + n) (length-child_rows i next d.children)
 
-unresolved_row : (o : Option Row) (q : Row) → o ≡ Some q → option_and_then (λ r. r.decl) o ≡ None → q.decl ≡ None
+pub unresolved_row : (o : Option Row) (q : Row) → o ≡ Some q → option_and_then (λ r. r.decl) o ≡ None → q.decl ≡ None
 unresolved_row o q e none = sym (ap (λ z. option_and_then (λ r. r.decl) z) e) ∙ none
 
 -- rows stay orderly where a living, unresolved row gets a valid declaration, with its children

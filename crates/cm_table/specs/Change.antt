@@ -29,6 +29,11 @@ abbrev pub IsSafe : Change → Type 0
 IsSafe (Resolve absolute d) = IsValid d
 IsSafe _ = Unit {0}
 
+-- it leaves a row as doomed as it was
+abbrev pub IsSparing : Change → Type 0
+IsSparing Doomed = ⊥
+IsSparing _ = Unit {0}
+
 -- with one row changed
 abbrev pub with_changed : ℕ → (Row → Row) → Tree → Tree
 with_changed i change t = record t { rows = changed i change t.rows }

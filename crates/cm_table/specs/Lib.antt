@@ -1,6 +1,9 @@
 pub mod Tree
 pub mod Ready
-pub mod Blocks
+pub mod Names
+pub mod Keys
+pub mod Slots
+pub mod Links
 pub mod Kept
 pub mod Numbering
 pub mod Preparing

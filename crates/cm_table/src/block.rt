@@ -1,184 +1,275 @@
-//! Rows that came together.
+//! Slots that came together.
 
-ghost use Rattle.std.specs.Prelude.{◌≡◌, ◌≤◌, ◌<◌, ◌==◌, false, IfNone, position, All, length, find};
-ghost use Rattle.std.specs.Prelude.{List as Seq};
-ghost use Rattle.std.specs.Vec.{vec_capacity};
+ghost use Rattle.std.specs.Prelude.{◌≡◌, ◌≤◌, ◌<◌, ◌+◌, ◌==◌, ◌++◌, length, find, Some};
 ghost use Rattle.std.specs.Option.{option_copied};
-ghost use Rattle.cm_world.specs.Edits.{drop_first};
-ghost use Rattle.cm_world.specs.Rows.{row_of, is_behind};
-ghost use Rattle.cm_world.specs.End.{changed};
+ghost use Rattle.std.specs.Vec.{vec_capacity};
+ghost use Rattle.cm_world.specs.Edits.{edit_first, drop_first};
+ghost use Rattle.cm_world.specs.Rows.{is_behind};
 ghost use Rattle.cm_table.specs.Change.{change_row};
-ghost use Rattle.cm_table.specs.Blocks.{flat, has_row};
-ghost use Rattle.cm_table.specs.Reading.{is_there, follows};
+ghost use Rattle.cm_table.specs.Keys.{IsPlace, Filled, Rising, alone, first_key, nth, first_in, AreFilledBut};
+ghost use Rattle.cm_table.specs.Slots.{inc_of, slot_of, flat, slots_in, indexed_by, with_row_by};
+ghost use Rattle.cm_table.specs.declared.slot.Slot.{Slot as OneSlot};
 
 use crate::change::{Change, apply};
-use crate::reading::{is_child, is_later, is_next};
-use cm_names::ChildName;
-use cm_world::Row;
-use std::marker::Model;
+use crate::slot::{Index, Slot};
+use std::mem::swap;
 
 /// The root, one row that was added, or the children that one resolve brought.
 #[derive(Drop)]
 pub struct Block {
-    rows: Vec<Row>,
+    /// The slots, by rising incarnations.
+    pub slots: Vec<Slot>,
 }
 
-impl Model for Block {
-    ghost use Rattle.std.specs.Prelude.{List};
-    ghost use Rattle.cm_world.specs.declared.row.Row.{Row as OneRow};
+// ---- places
 
-    ghost Value = { List OneRow };
-
-    ghost view = { λ a. a.rows.items };
-}
-
-impl Block {
-    /// The block of these rows.
-    pub fn of(rows: Vec<Row>) -> Block
-        ensures { result ≡ rows.items }
-    {
-        Block { rows }
-    }
-
-    /// The rows.
-    pub fn rows(&self) -> &[Row]
-        ensures { result.now ≡ self.now }
-    {
-        self.rows.as_slice()
-    }
-
-    /// Whether the block has the row of that incarnation.
-    fn has(&self, inc: u64) -> bool
-        ensures { result ≡ has_row inc self.now }
-    {
-        row_at(self.rows.as_slice(), inc).is_some()
-    }
-
-    /// Changes the row of that incarnation.
-    fn change(&mut self, inc: u64, change: Change)
-        ensures { self.new ≡ changed inc (change_row change) self.old }
-    {
-        match row_place(self.rows.as_slice(), inc) {
-            None => {}
-            Some(place) => apply(&mut self.rows[place], change),
-        }
-    }
-
-    /// Removes the row of that incarnation.
-    fn remove(&mut self, inc: u64)
-        ensures { self.new ≡ drop_first (λ r. r.inc == inc) self.old }
-    {
-        match row_place(self.rows.as_slice(), inc) {
-            None => {}
-            Some(place) => {
-                self.rows.remove(place);
-            }
-        }
-    }
-}
-
-/// Removes the row of that incarnation.
-pub fn remove_in(blocks: &mut Vec<Block>, inc: u64)
-    ensures rows { flat blocks.new.items ≡ drop_first (λ r. r.inc == inc) (flat blocks.old.items) }
-    ensures len { length blocks.new.items ≤ length blocks.old.items }
-    ensures capacity { vec_capacity blocks.new ≡ vec_capacity blocks.old }
+/// The incarnation of the first slot, or 0.
+fn first_of(block: &Block) -> u64
+    ensures { result ≡ first_key inc_of block.now.slots.items }
 {
-    match block_place(blocks.as_slice(), inc) {
-        None => {}
-        Some(place) => {
-            let block = &mut blocks[place];
-            block.remove(inc);
-            drop_empty(blocks, place);
-        }
+    match block.slots.as_slice() {
+        [] => 0,
+        [slot, ..] => slot.row.inc,
     }
 }
 
-/// Removes the block at that place, if it has no row.
-fn drop_empty(blocks: &mut Vec<Block>, place: usize)
-    requires { place < length blocks.old.items }
-    ensures rows { flat blocks.new.items ≡ flat blocks.old.items }
-    ensures len { length blocks.new.items ≤ length blocks.old.items }
-    ensures capacity { vec_capacity blocks.new ≡ vec_capacity blocks.old }
+/// How many blocks begin at that incarnation or below.
+fn blocks_upto(blocks: &[Block], inc: u64) -> usize
+    requires filled { Filled slots_in blocks.now }
+    requires rising { Rising inc_of (flat blocks.now) }
+    ensures { IsPlace inc_of slots_in blocks.now inc result }
 {
-    if blocks[place].rows().is_empty() {
-        blocks.remove(place);
+    blocks.partition_point(|block| first_of(block) <= inc)
+}
+
+/// How many slots have that incarnation or a lower one.
+fn slots_upto(slots: &[Slot], inc: u64) -> usize
+    requires { Rising inc_of slots.now }
+    ensures { IsPlace inc_of alone slots.now inc result }
+{
+    slots.partition_point(|slot| slot.row.inc <= inc)
+}
+
+// ---- look-ups
+
+/// The slot of that incarnation, among slots by rising ones.
+fn slot_at(slots: &[Slot], inc: u64) -> Option<&Slot>
+    requires { Rising inc_of slots.now }
+    ensures { option_copied result ≡ slot_of slots.now inc }
+{
+    let count = slots_upto(slots, inc);
+    if count == 0 {
+        return None;
+    }
+    let slot = &slots[count - 1];
+    if slot.row.inc == inc {
+        return Some(slot);
+    }
+    None
+}
+
+/// The slot of that incarnation.
+pub fn slot_in(blocks: &[Block], inc: u64) -> Option<&Slot>
+    requires filled { Filled slots_in blocks.now }
+    requires rising { Rising inc_of (flat blocks.now) }
+    ensures { option_copied result ≡ slot_of (flat blocks.now) inc }
+{
+    let count = blocks_upto(blocks, inc);
+    if count == 0 {
+        return None;
+    }
+    let block = &blocks[count - 1];
+    slot_at(block.slots.as_slice(), inc)
+}
+
+/// The slot at a place.
+fn nth_of(slots: &[Slot], place: usize) -> Option<&Slot>
+    ensures { option_copied result ≡ nth slots.now place }
+{
+    if place >= slots.len() {
+        return None;
+    }
+    Some(&slots[place])
+}
+
+/// The first slot with a higher incarnation, among slots by rising ones.
+fn slot_behind(slots: &[Slot], inc: u64) -> Option<&Slot>
+    requires { Rising inc_of slots.now }
+    ensures { option_copied result ≡ find (λ s. is_behind (Some inc) s.row.inc) slots.now }
+{
+    nth_of(slots, slots_upto(slots, inc))
+}
+
+/// The first slot of the block at a place.
+pub fn first_at(blocks: &[Block], place: usize) -> Option<&Slot>
+    ensures { option_copied result ≡ first_in slots_in blocks.now place }
+{
+    if place >= blocks.len() {
+        return None;
+    }
+    nth_of(blocks[place].slots.as_slice(), 0)
+}
+
+/// The first slot with a higher incarnation.
+pub fn behind_in(blocks: &[Block], inc: u64) -> Option<&Slot>
+    requires filled { Filled slots_in blocks.now }
+    requires rising { Rising inc_of (flat blocks.now) }
+    ensures { option_copied result ≡ find (λ s. is_behind (Some inc) s.row.inc) (flat blocks.now) }
+{
+    let count = blocks_upto(blocks, inc);
+    if count == 0 {
+        return first_at(blocks, 0);
+    }
+    match slot_behind(blocks[count - 1].slots.as_slice(), inc) {
+        None => first_at(blocks, count),
+        Some(slot) => Some(slot),
     }
 }
 
-/// The row of that incarnation.
-fn row_at(rows: &[Row], inc: u64) -> Option<&Row>
-    ensures { option_copied result ≡ row_of rows.now inc }
+// ---- changes of rows
+
+/// Changes the row of a slot.
+fn change(slot: &mut Slot, change: Change)
+    ensures { slot.new ≡ with_row_by (change_row change) slot.old }
 {
-    rows.iter().find(|row| row.inc == inc)
+    apply(&mut slot.row, change);
 }
 
-/// The place of the row of that incarnation.
-fn row_place(rows: &[Row], inc: u64) -> Option<usize>
-    ensures place { result ≡ position (λ r. r.inc == inc) rows.now }
-    ensures none { IfNone result (All (λ r. (r.inc == inc) ≡ false) rows.now) }
+/// Changes the row of that incarnation, among slots by rising ones.
+fn change_at(block: &mut Block, inc: u64, new: Change)
+    requires { Rising inc_of block.old.slots.items }
+    ensures { block.new.slots.items
+        ≡ edit_first (λ (s : OneSlot). s.row.inc == inc) (with_row_by (change_row new))
+        block.old.slots.items }
 {
-    rows.iter().position(|row| row.inc == inc)
-}
-
-/// The first block with a row of that incarnation.
-fn block_place(blocks: &[Block], inc: u64) -> Option<usize>
-    ensures place { result ≡ position (has_row inc) blocks.now }
-    ensures none { IfNone result (All (λ b. has_row inc b ≡ false) blocks.now) }
-{
-    blocks.iter().position(|block| block.has(inc))
+    let count = slots_upto(block.slots.as_slice(), inc);
+    if count == 0 {
+        return;
+    }
+    let slot = &mut block.slots[count - 1];
+    if slot.row.inc == inc {
+        change(slot, new);
+    }
 }
 
 /// Changes the row of that incarnation.
-pub fn change_in(blocks: &mut Vec<Block>, inc: u64, change: Change)
-    ensures rows { flat blocks.new.items ≡ changed inc (change_row change) (flat blocks.old.items) }
+pub fn change_in(blocks: &mut Vec<Block>, inc: u64, new: Change)
+    requires filled { Filled slots_in blocks.old.items }
+    requires rising { Rising inc_of (flat blocks.old.items) }
+    ensures slots { flat blocks.new.items
+        ≡ edit_first (λ (s : OneSlot). s.row.inc == inc) (with_row_by (change_row new))
+        (flat blocks.old.items) }
+    ensures filled { Filled slots_in blocks.new.items }
     ensures len { length blocks.new.items ≡ length blocks.old.items }
     ensures capacity { vec_capacity blocks.new ≡ vec_capacity blocks.old }
 {
-    match block_place(blocks.as_slice(), inc) {
-        None => {}
-        Some(place) => {
-            let block = &mut blocks[place];
-            block.change(inc, change);
-        }
+    let count = blocks_upto(blocks.as_slice(), inc);
+    if count == 0 {
+        return;
+    }
+    let block = &mut blocks[count - 1];
+    change_at(block, inc, new);
+}
+
+// ---- changes of indexes
+
+/// Swaps the index of the slot of that incarnation, among slots by rising ones.
+fn swap_at(block: &mut Block, inc: u64, index: &mut Option<Index>)
+    requires { Rising inc_of block.old.slots.items }
+    ensures slots { block.new.slots.items
+        ≡ edit_first (λ (s : OneSlot). s.row.inc == inc) (indexed_by index.old) block.old.slots.items }
+    ensures index { (s : OneSlot) → slot_of block.old.slots.items inc ≡ Some s → index.new ≡ s.index }
+{
+    let count = slots_upto(block.slots.as_slice(), inc);
+    if count == 0 {
+        return;
+    }
+    let slot = &mut block.slots[count - 1];
+    if slot.row.inc == inc {
+        swap(&mut slot.index, index);
     }
 }
 
-/// The row of that incarnation.
-pub fn row_in(blocks: &[Block], inc: u64) -> Option<&Row>
-    ensures { option_copied result ≡ row_of (flat blocks.now) inc }
+/// Swaps the index of the slot of that incarnation.
+pub fn swap_in(blocks: &mut Vec<Block>, inc: u64, index: &mut Option<Index>)
+    requires filled { Filled slots_in blocks.old.items }
+    requires rising { Rising inc_of (flat blocks.old.items) }
+    ensures slots { flat blocks.new.items
+        ≡ edit_first (λ (s : OneSlot). s.row.inc == inc) (indexed_by index.old) (flat blocks.old.items) }
+    ensures index { (s : OneSlot) → slot_of (flat blocks.old.items) inc ≡ Some s → index.new ≡ s.index }
+    ensures filled { Filled slots_in blocks.new.items }
+    ensures len { length blocks.new.items ≡ length blocks.old.items }
+    ensures capacity { vec_capacity blocks.new ≡ vec_capacity blocks.old }
 {
-    blocks
-        .iter()
-        .flat_map(|block| block.rows().iter())
-        .find(|row| row.inc == inc)
+    let count = blocks_upto(blocks.as_slice(), inc);
+    if count == 0 {
+        return;
+    }
+    let block = &mut blocks[count - 1];
+    swap_at(block, inc, index);
 }
 
-/// The child of that name which isn't being destroyed.
-pub fn child_in<'a>(blocks: &'a [Block], parent: u64, name: &ChildName) -> Option<&'a Row>
-    ensures { option_copied result ≡ find (is_there parent name.now) (flat blocks.now) }
+// ---- slots that come and go
+
+/// Puts a block behind the others, unless it has no slot.
+pub fn push_block(blocks: &mut Vec<Block>, slots: Vec<Slot>)
+    requires room { length blocks.old.items < vec_capacity blocks.old }
+    requires filled { Filled slots_in blocks.old.items }
+    ensures slots { flat blocks.new.items ≡ flat blocks.old.items ++ slots.items }
+    ensures filled { Filled slots_in blocks.new.items }
+    ensures len { length blocks.new.items ≤ length blocks.old.items + 1 }
+    ensures capacity { vec_capacity blocks.new ≡ vec_capacity blocks.old }
 {
-    blocks
-        .iter()
-        .flat_map(|block| block.rows().iter())
-        .find(|row| is_child(row, parent, name))
+    let count = slots.len();
+    if count == 0 {
+        return;
+    }
+    blocks.push_reserved(Block { slots });
 }
 
-/// The first child that was made after the given one.
-pub fn next_in(blocks: &[Block], parent: u64, after: Option<u64>) -> Option<&Row>
-    ensures { option_copied result ≡ find (follows parent after) (flat blocks.now) }
+/// Removes the slot of that incarnation, among slots by rising ones.
+fn remove_at(block: &mut Block, inc: u64)
+    requires { Rising inc_of block.old.slots.items }
+    ensures { block.new.slots.items ≡ drop_first (λ (s : OneSlot). s.row.inc == inc) block.old.slots.items }
 {
-    blocks
-        .iter()
-        .flat_map(|block| block.rows().iter())
-        .find(|row| is_next(row, parent, after))
+    let count = slots_upto(block.slots.as_slice(), inc);
+    if count == 0 {
+        return;
+    }
+    if block.slots[count - 1].row.inc == inc {
+        block.slots.remove(count - 1);
+    }
 }
 
-/// The first row that was made after the given one.
-pub fn later_in(blocks: &[Block], after: Option<u64>) -> Option<&Row>
-    ensures { option_copied result ≡ find (λ r. is_behind after r.inc) (flat blocks.now) }
+/// Removes the slot of that incarnation.
+pub fn remove_in(blocks: &mut Vec<Block>, inc: u64)
+    requires filled { Filled slots_in blocks.old.items }
+    requires rising { Rising inc_of (flat blocks.old.items) }
+    ensures slots { flat blocks.new.items
+        ≡ drop_first (λ (s : OneSlot). s.row.inc == inc) (flat blocks.old.items) }
+    ensures filled { Filled slots_in blocks.new.items }
+    ensures len { length blocks.new.items ≤ length blocks.old.items }
+    ensures capacity { vec_capacity blocks.new ≡ vec_capacity blocks.old }
 {
-    blocks
-        .iter()
-        .flat_map(|block| block.rows().iter())
-        .find(|row| is_later(row, after))
+    let count = blocks_upto(blocks.as_slice(), inc);
+    if count == 0 {
+        return;
+    }
+    let block = &mut blocks[count - 1];
+    remove_at(block, inc);
+    drop_empty(blocks, count - 1);
+}
+
+/// Removes the block at that place, if it has no slot.
+fn drop_empty(blocks: &mut Vec<Block>, place: usize)
+    requires place { place < length blocks.old.items }
+    requires others { AreFilledBut slots_in place blocks.old.items }
+    ensures slots { flat blocks.new.items ≡ flat blocks.old.items }
+    ensures filled { Filled slots_in blocks.new.items }
+    ensures len { length blocks.new.items ≤ length blocks.old.items }
+    ensures capacity { vec_capacity blocks.new ≡ vec_capacity blocks.old }
+{
+    if blocks[place].slots.as_slice().is_empty() {
+        blocks.remove(place);
+    }
 }

@@ -9,14 +9,20 @@
 //! limit of instances, and that a resolve takes its memory beforehand are this project's own
 //! choice.
 //!
-//! Rows are found by going through the list: a call takes time in proportion to the number of
-//! rows.
+//! A row is found by its incarnation in a logarithm of the number of rows, and so are a child by
+//! its name and the next child: rows stand in blocks by rising incarnations, which are searched by
+//! halves, and each row has an index of its children beside it. A resolve takes no memory and goes
+//! through the children that it brings; a removal goes down by last children, and takes a
+//! logarithm for each row, and the time to close the gap in the lists. Names are kept by an order
+//! and not by a hash: no choice of names can make a look-up slow.
 #![tactic(auto)]
 
 mod block;
 mod change;
+mod links;
 pub mod prepared;
 mod reading;
+mod slot;
 pub mod table;
 mod view;
 

@@ -1,10 +1,18 @@
 //! Declarations that are ready to be taken over.
 
-ghost use Rattle.std.specs.Prelude.{◌≡◌, ◌+◌, ◌<◌, ◌^◌, length, IfOk, map};
+ghost use Rattle.std.specs.Prelude.{◌≡◌, ◌+◌, ◌<◌, ◌^◌, length, IfOk, map, None};
+ghost use Rattle.std.specs.BTreeMap.{get};
+ghost use Rattle.cm_names.specs.declared.child.ChildName.{ChildName as Name};
+ghost use Rattle.cm_decl.specs.Graph.{static_name};
 ghost use Rattle.cm_decl.specs.Valid.{IsValid};
+ghost use Rattle.cm_world.specs.Rows.{child_of};
 ghost use Rattle.cm_world.specs.End.{child_row, child_rows};
-ghost use Rattle.cm_table.specs.Numbering.{placed, numbered};
+ghost use Rattle.cm_table.specs.Names.{child_cmp};
+ghost use Rattle.cm_table.specs.Keys.{Each};
+ghost use Rattle.cm_table.specs.Slots.{rows_in, kids_at, named_at, with_row_by};
+ghost use Rattle.cm_table.specs.Numbering.{placed, numbered, IsBare};
 
+use crate::slot::{Index, Slot};
 use cm_decl::{Child, Decl};
 use cm_names::{ChildName, List, Memory, Text};
 use cm_world::{Finish, Row};
@@ -12,14 +20,15 @@ use std::alloc::Global;
 use std::marker::Model;
 
 /// A valid declaration and its absolute URL, with all the memory that a resolve needs to take
-/// them over: the rows of its children, and a second copy of both for the history.
+/// them over: the rows of its children with their index, and a second copy of both for the history.
 #[derive(Drop)]
 pub struct Prepared {
     absolute: Text,
     decl: Decl,
     kept_absolute: Text,
     kept_decl: Decl,
-    children: Vec<Row>,
+    index: Index,
+    children: Vec<Slot>,
 }
 
 impl Model for Prepared {
@@ -43,8 +52,10 @@ pub(crate) struct Parts {
     pub absolute: Text,
     /// The declaration, for the row.
     pub decl: Decl,
-    /// The rows of the children.
-    pub children: Vec<Row>,
+    /// The index of the children, for the slot.
+    pub index: Index,
+    /// The slots of the children.
+    pub children: Vec<Slot>,
 }
 
 impl Prepared {
@@ -53,7 +64,8 @@ impl Prepared {
         requires { IsValid decl }
         ensures { IfOk result (λ made. made ≡ record { absolute = absolute; decl = decl }) }
     {
-        let children = rows_of(alloc, decl.children.as_slice())?;
+        let children = slots_of(alloc, decl.children.as_slice())?;
+        let index = index_of(alloc, &decl)?;
         let kept_absolute = absolute.clone()?;
         let kept_decl = decl.clone()?;
         Ok(Prepared {
@@ -61,6 +73,7 @@ impl Prepared {
             decl,
             kept_absolute,
             kept_decl,
+            index,
             children,
         })
     }
@@ -89,6 +102,7 @@ impl Prepared {
             decl: _,
             kept_absolute,
             kept_decl,
+            index: _,
             children: _,
         } = self;
         Finish::Resolved(kept_absolute, kept_decl)
@@ -108,20 +122,29 @@ impl Prepared {
         ensures absolute { result.absolute ≡ self.absolute }
         ensures decl { result.decl ≡ self.decl }
         ensures valid { IsValid self.decl }
-        ensures rows { result.children.items ≡ child_rows parent first self.decl.children }
+        ensures rows { rows_in result.children.items ≡ child_rows parent first self.decl.children }
+        ensures bare { Each IsBare result.children.items }
+        ensures base { result.index.base ≡ first }
+        ensures kids { kids_at result.index
+            ≡ map (λ r. r.inc) (child_rows parent first self.decl.children) }
+        ensures names { (c : Name) → named_at result.index c
+            ≡ child_of (child_rows parent first self.decl.children) parent c }
     {
         let Prepared {
             absolute,
             decl,
             kept_absolute,
             kept_decl,
+            mut index,
             mut children,
         } = self;
         number_all(&mut children, parent, first);
+        index.base = first;
         Parts {
             finish: Finish::Resolved(kept_absolute, kept_decl),
             absolute,
             decl,
+            index,
             children,
         }
     }
@@ -149,33 +172,61 @@ fn row_for(alloc: Global, child: &Child) -> Result<Row, Memory>
     })
 }
 
-/// The rows of declared children.
-fn rows_of(alloc: Global, children: &[Child]) -> Result<Vec<Row>, Memory>
-    ensures { IfOk result (λ rows. rows.items ≡ map (child_row 0 0) children.now) }
+/// The slots of declared children.
+fn slots_of(alloc: Global, children: &[Child]) -> Result<Vec<Slot>, Memory>
+    ensures rows { IfOk result (λ slots. rows_in slots.items ≡ map (child_row 0 0) children.now) }
+    ensures bare { IfOk result (λ slots. Each IsBare slots.items) }
 {
-    let mut rows = Vec::new(alloc);
+    let mut slots = Vec::new(alloc);
     for child in children {
-        rows.push(row_for(alloc, child)?)?;
+        let row = row_for(alloc, child)?;
+        slots.push(Slot { row, index: None })?;
     }
-    Ok(rows)
+    Ok(slots)
+}
+
+/// The name of a declared child among its siblings.
+fn name_of(child: &Child) -> Result<ChildName, Memory>
+    ensures { IfOk result (λ name. name ≡ static_name child.now.name) }
+{
+    let name = child.name.clone()?;
+    Ok(ChildName { coll: None, name })
+}
+
+/// The index of declared children, numbered from 0 on.
+fn index_of(alloc: Global, decl: &Decl) -> Result<Index, Memory>
+    requires { IsValid decl.now }
+    ensures kids { IfOk result (λ made. made.kids.items
+        ≡ map (λ r. r.inc) (child_rows 0 0 decl.now.children)) }
+    ensures names { IfOk result (λ made. (c : Name) → get child_cmp made.names c
+        ≡ child_of (child_rows 0 0 decl.now.children) 0 c) }
+{
+    let children = decl.children.as_slice();
+    let mut index = Index::new(alloc);
+    let mut next = 0;
+    for child in children {
+        index.put(name_of(child)?, next)?;
+        next += 1;
+    }
+    Ok(index)
 }
 
 /// Puts a row under its parent.
-fn place_row(row: &mut Row, parent: u64, inc: u64)
-    ensures { row.new ≡ placed parent inc row.old }
+fn place_row(slot: &mut Slot, parent: u64, inc: u64)
+    ensures { slot.new ≡ with_row_by (placed parent inc) slot.old }
 {
-    row.inc = inc;
-    row.parent = Some(parent);
+    slot.row.inc = inc;
+    slot.row.parent = Some(parent);
 }
 
 /// Puts rows under their parent, by rising incarnations.
-fn number_all(rows: &mut Vec<Row>, parent: u64, first: u64)
-    requires { first + length rows.old.items < 2 ^ 64 }
-    ensures { rows.new.items ≡ numbered parent first rows.old.items }
+fn number_all(slots: &mut Vec<Slot>, parent: u64, first: u64)
+    requires { first + length slots.old.items < 2 ^ 64 }
+    ensures { slots.new.items ≡ numbered parent first slots.old.items }
 {
     let mut next = first;
-    for row in rows.iter_mut() {
-        place_row(row, parent, next);
+    for slot in slots.iter_mut() {
+        place_row(slot, parent, next);
         next += 1;
     }
 }

@@ -1,24 +1,34 @@
 //! Tables.
 
-ghost use Rattle.std.specs.Prelude.{◌≡◌, ◌+◌, ◌-◌, ◌≤◌, ◌<◌, ◌∷◌, ◌++◌, ◌↔◌, [], ℕ, length, true, false};
+ghost use Rattle.std.specs.Prelude.{◌≡◌, ◌+◌, ◌-◌, ◌≤◌, ◌<◌, ◌^◌, ◌==◌, ◌∷◌, ◌++◌, ◌↔◌, [], ℕ};
+ghost use Rattle.std.specs.Prelude.{length, true, false};
 ghost use Rattle.std.specs.Prelude.{IfOk, IfErr, IfSome, IfNone, OnOk, OnErr, IsTrue, find, option_map};
 ghost use Rattle.std.specs.Prelude.{option_and_then};
 ghost use Rattle.std.specs.Option.{option_copied};
 ghost use Rattle.std.specs.Vec.{vec_capacity};
+ghost use Rattle.cm_world.specs.Edits.{drop_first};
 ghost use Rattle.cm_world.specs.Rows.{row_of, is_live, is_resolved, is_behind, decl_of, child_of};
+ghost use Rattle.cm_world.specs.Rows.{child_behind};
 ghost use Rattle.cm_world.specs.Sound.{IsOrderly};
 ghost use Rattle.cm_world.specs.World.{root_row, new_row};
 ghost use Rattle.cm_world.specs.End.{set_on, set_pending, set_closing, set_doomed, set_shut, end_row};
 ghost use Rattle.cm_world.specs.End.{rows_by, outcome_by};
 ghost use Rattle.cm_world.specs.After.{others_than};
 ghost use Rattle.cm_table.specs.Tree.{fit, first_tree};
-ghost use Rattle.cm_table.specs.Change.{change_row, IsSafe, resolved, next_by, with_changed, with_row};
-ghost use Rattle.cm_table.specs.Leaf.{IsLeaf, HaveSameOthers};
+ghost use Rattle.cm_table.specs.Change.{change_row, IsSafe, IsSparing, resolved, next_by, with_changed};
+ghost use Rattle.cm_table.specs.Change.{with_row};
+ghost use Rattle.cm_table.specs.Slots.{IsIndexed};
+ghost use Rattle.cm_table.specs.Numbering.{bare_slot};
+ghost use Rattle.cm_table.specs.Leaf.{IsWithin, IsLeaf, IsChildOf, Continues, HaveSameOthers};
 ghost use Rattle.cm_table.specs.Refusal.{RefusesRow};
 
-use crate::block::{Block, change_in, later_in, next_in, remove_in, row_in};
+use crate::block::{
+    Block, behind_in, change_in, first_at, push_block, remove_in, slot_in, swap_in,
+};
 use crate::change::Change;
+use crate::links::{link, parent_in, unlink, unname};
 use crate::prepared::{Parts, Prepared};
+use crate::slot::{Slot, last_in};
 use cm_decl::Give;
 use cm_names::{ChildName, List, Memory, Text};
 use cm_world::{ActKind, Builtin, Finish, Outcome, Row};
@@ -52,7 +62,7 @@ pub struct Settled {
 /// one name, and each declaration is valid.
 #[derive(Drop)]
 pub struct Table {
-    pub(crate) blocks: Vec<Block>,
+    blocks: Vec<Block>,
     pub(crate) builtins: List<Builtin>,
     count: u32,
     next_inc: u64,
@@ -84,7 +94,8 @@ impl Table {
         ensures { IfOk result (λ made. made ≡ first_tree url builtins limit) }
     {
         let mut blocks = Vec::new(alloc);
-        blocks.push(block_of(alloc, root(alloc, url))?)?;
+        let slots = slots_of(alloc, root(alloc, url))?;
+        blocks.push(Block { slots })?;
         Ok(Table {
             blocks,
             builtins,
@@ -100,9 +111,9 @@ impl Table {
     pub fn url(&self, inc: u64) -> Option<&Text>
         ensures { option_copied result ≡ option_map (λ r. r.url) (row_of self.now.rows inc) }
     {
-        match self.row(inc) {
+        match self.slot(inc) {
             None => None,
-            Some(row) => Some(&row.url),
+            Some(slot) => Some(&slot.row.url),
         }
     }
 
@@ -111,9 +122,9 @@ impl Table {
         ensures { let row = row_of self.now.rows inc in
             option_copied result ≡ option_and_then (λ r. r.absolute) row }
     {
-        match self.row(inc) {
+        match self.slot(inc) {
             None => None,
-            Some(row) => row.absolute.as_ref(),
+            Some(slot) => slot.row.absolute.as_ref(),
         }
     }
 
@@ -124,9 +135,9 @@ impl Table {
             result ≡ option_map (λ r. r.inc) later }
         ensures orderly { IsOrderly self.now.rows self.now.next_inc }
     {
-        match later_in(self.blocks.as_slice(), after) {
+        match self.slot_after(after) {
             None => None,
-            Some(row) => Some(row.inc),
+            Some(slot) => Some(slot.row.inc),
         }
     }
 
@@ -213,10 +224,13 @@ impl Table {
             finish,
             absolute,
             decl,
+            index,
             children,
         } = parts;
+        let mut own = Some(index);
         change_in(&mut self.blocks, inc, Change::Resolve(absolute, decl));
-        self.blocks.push_reserved(Block::of(children));
+        swap_in(&mut self.blocks, inc, &mut own);
+        push_block(&mut self.blocks, children);
         self.count += count as u32;
         self.next_inc += count as u64;
         self.spare -= 1;
@@ -288,7 +302,8 @@ impl Table {
     pub fn set_doomed(&mut self, inc: u64)
         ensures { self.new ≡ with_changed inc set_doomed self.old }
     {
-        self.change(inc, Change::Doomed);
+        unname(&mut self.blocks, inc);
+        change_in(&mut self.blocks, inc, Change::Doomed);
     }
 
     /// Puts down that an instance is shut down, if it lives.
@@ -298,9 +313,10 @@ impl Table {
         self.change(inc, Change::Shut);
     }
 
-    /// Changes one row.
+    /// Changes one row, which is found by its name as it was.
     fn change(&mut self, inc: u64, change: Change)
-        requires { IsSafe change }
+        requires safe { IsSafe change }
+        requires sparing { IsSparing change }
         ensures { self.new ≡ with_changed inc (change_row change) self.old }
     {
         change_in(&mut self.blocks, inc, change);
@@ -331,11 +347,17 @@ impl Table {
             return Err(TableFault::Full);
         }
         let inc = self.next_inc;
-        let row = child_row(inc, parent, name, url, gives);
-        let Ok(block) = room_for(alloc, &mut self.blocks, self.spare, row) else {
+        let Ok(key) = name.clone() else {
             return Err(TableFault::Memory);
         };
-        self.blocks.push_reserved(block);
+        let row = child_row(inc, parent, name, url, gives);
+        let Ok(slots) = room_for(alloc, &mut self.blocks, self.spare, row) else {
+            return Err(TableFault::Memory);
+        };
+        let Ok(()) = link(alloc, &mut self.blocks, parent, key, inc) else {
+            return Err(TableFault::Memory);
+        };
+        push_block(&mut self.blocks, slots);
         self.count += 1;
         self.next_inc += 1;
         Ok(inc)
@@ -345,77 +367,124 @@ impl Table {
     pub fn remove_below(&mut self, inc: u64)
         ensures { self.new ≡ record self.old { rows = others_than self.old.rows inc } }
     {
-        while self.prune(inc) {}
-    }
-
-    /// Removes an instance without children at or below the given one, if that one lives, and
-    /// answers whether it does.
-    fn prune(&mut self, top: u64) -> bool
-        ensures others { IsTrue result → HaveSameOthers top self.new.rows self.old.rows }
-        ensures fewer { IsTrue result → length self.new.rows < length self.old.rows }
-        ensures none { result ≡ false → others_than self.old.rows top ≡ self.new.rows }
-        ensures same { self.new ≡ record self.old { rows = self.new.rows } }
-    {
-        match self.leaf_below(top) {
-            None => false,
-            Some(leaf) => {
-                remove_in(&mut self.blocks, leaf);
-                self.count -= 1;
-                true
-            }
+        let mut at = self.live(inc);
+        while let Some(from) = at {
+            at = self.prune(inc, from);
         }
     }
 
-    /// An instance without children at or below the given one; `None` where that one doesn't
-    /// live.
-    fn leaf_below(&self, top: u64) -> Option<u64>
-        ensures none { IfNone result (row_of self.now.rows top ≡ None) }
-        ensures leaf { IfSome result (IsLeaf self.now.rows top) }
+    /// The instance, if it lives.
+    fn live(&self, inc: u64) -> Option<u64>
+        ensures { Continues self.now inc result }
     {
-        let blocks = self.blocks.as_slice();
-        row_in(blocks, top)?;
-        Some(self.walk_down(top))
+        match self.slot(inc) {
+            None => None,
+            Some(_) => Some(inc),
+        }
     }
 
-    /// The instance without children that first children lead to from the given one.
-    fn walk_down(&self, top: u64) -> u64
-        requires { IsTrue (is_live self.now.rows top) }
+    /// Removes an instance without children at or below `from`, which is at or below `top`, and
+    /// answers where to go on: at its parent, or nowhere where it was `top`.
+    fn prune(&mut self, top: u64, from: u64) -> Option<u64>
+        requires { IsWithin self.old.rows top from }
+        ensures next { Continues self.new top result }
+        ensures others { HaveSameOthers top self.new.rows self.old.rows }
+        ensures fewer { length self.new.rows < length self.old.rows }
+        ensures same { self.new ≡ record self.old { rows = self.new.rows } }
+    {
+        let leaf = self.walk_down(top, from);
+        let parent = self.remove_leaf(top, leaf);
+        if leaf == top {
+            return None;
+        }
+        parent
+    }
+
+    /// Removes an instance without children, and answers its parent.
+    fn remove_leaf(&mut self, top: u64, leaf: u64) -> Option<u64>
+        requires { IsLeaf self.old.rows top leaf }
+        ensures parent { result ≡ option_and_then (λ r. r.parent) (row_of self.old.rows leaf) }
+        ensures rows { self.new.rows ≡ drop_first (λ r. r.inc == leaf) self.old.rows }
+        ensures orderly { IsOrderly self.old.rows self.old.next_inc }
+        ensures same { self.new ≡ record self.old { rows = self.new.rows } }
+    {
+        let parent = parent_in(self.blocks.as_slice(), leaf);
+        unlink(&mut self.blocks, leaf);
+        remove_in(&mut self.blocks, leaf);
+        self.count -= 1;
+        parent
+    }
+
+    /// The instance without children that last children lead to from the given one.
+    fn walk_down(&self, top: u64, from: u64) -> u64
+        requires { IsWithin self.now.rows top from }
         ensures { IsLeaf self.now.rows top result }
     {
-        let blocks = self.blocks.as_slice();
-        let mut leaf = top;
-        while let Some(child) = next_in(blocks, leaf, None) {
-            leaf = child.inc;
+        let mut leaf = from;
+        while let Some(child) = self.last_child(leaf) {
+            leaf = child;
         }
         leaf
     }
 
-    /// The row of that incarnation.
-    pub(crate) fn row(&self, inc: u64) -> Option<&Row>
-        ensures { option_copied result ≡ row_of self.now.rows inc }
+    /// The last child of a living instance.
+    fn last_child(&self, parent: u64) -> Option<u64>
+        ensures none { IfNone result (child_behind self.now.rows parent None ≡ None) }
+        ensures some { IfSome result (IsChildOf self.now.rows parent) }
+        ensures orderly { IsOrderly self.now.rows self.now.next_inc }
     {
-        row_in(self.blocks.as_slice(), inc)
+        match self.slot(parent) {
+            None => None,
+            Some(slot) => last_in(&slot.index),
+        }
+    }
+
+    /// The slot of that incarnation.
+    pub(crate) fn slot(&self, inc: u64) -> Option<&Slot>
+        ensures row { option_map (λ s. s.row) (option_copied result) ≡ row_of self.now.rows inc }
+        ensures index { IfSome result (λ s. IsIndexed self.now.rows self.now.next_inc s.now) }
+        ensures orderly { IsOrderly self.now.rows self.now.next_inc }
+        ensures fits { self.now.next_inc < 2 ^ 64 }
+    {
+        slot_in(self.blocks.as_slice(), inc)
+    }
+
+    /// The first slot, or the one that was made next after the given one.
+    fn slot_after(&self, after: Option<u64>) -> Option<&Slot>
+        ensures next { let later = find (λ r. is_behind after r.inc) self.now.rows in
+            option_map (λ s. s.row) (option_copied result) ≡ later }
+        ensures orderly { IsOrderly self.now.rows self.now.next_inc }
+    {
+        match after {
+            None => first_at(self.blocks.as_slice(), 0),
+            Some(inc) => behind_in(self.blocks.as_slice(), inc),
+        }
     }
 }
 
-/// The block of one row.
-fn block_of(alloc: Global, row: Row) -> Result<Block, Memory>
-    ensures { IfOk result (λ made. made ≡ row ∷ []) }
+/// The slots of one row, which has no index.
+fn slots_of(alloc: Global, row: Row) -> Result<Vec<Slot>, Memory>
+    ensures { IfOk result (λ made. made.items ≡ bare_slot row ∷ []) }
 {
-    let mut rows = Vec::new(alloc);
-    rows.push(row)?;
-    Ok(Block::of(rows))
+    let mut slots = Vec::new(alloc);
+    slots.push(Slot { row, index: None })?;
+    Ok(slots)
 }
 
-/// The block of one row, with room for one block more than the spare ones.
-fn room_for(alloc: Global, blocks: &mut Vec<Block>, spare: u32, row: Row) -> Result<Block, Memory>
-    ensures made { IfOk result (λ made. made ≡ row ∷ []) }
+/// The slots of one row, with room for one block more than the spare ones.
+fn room_for(
+    alloc: Global,
+    blocks: &mut Vec<Block>,
+    spare: u32,
+    row: Row,
+) -> Result<Vec<Slot>, Memory>
+    ensures made { IfOk result (λ made. made.items ≡ bare_slot row ∷ []) }
     ensures same { blocks.new.items ≡ blocks.old.items }
     ensures room { OnOk result (length blocks.new.items + spare + 1 ≤ vec_capacity blocks.new) }
     ensures later { vec_capacity blocks.old ≤ vec_capacity blocks.new }
 {
     blocks.reserve(spare as usize + 1)?;
-    block_of(alloc, row)
+    slots_of(alloc, row)
 }
 
 /// The row of a new child, which isn't resolved.

@@ -4,8 +4,8 @@ ghost use Rattle.std.specs.Prelude.{◌≡◌};
 ghost use Rattle.cm_table.specs.Tree.{Tree};
 ghost use Rattle.cm_world.specs.Rows as told;
 
-use crate::block::{child_in, next_in, row_in};
 use crate::reading::is_that;
+use crate::slot::{child_in, next_in};
 use crate::table::Table;
 use cm_decl::{Decl, Give, Kind};
 use cm_names::{ChildName, List, Name};
@@ -19,44 +19,44 @@ impl View for Table {
     ghost builtins = { λ (t : Tree). t.builtins };
 
     fn facts(&self, inc: u64) -> Option<Facts> {
-        match row_in(self.blocks.as_slice(), inc) {
+        match self.slot(inc) {
             None => None,
-            Some(row) => Some(facts_of(row)),
+            Some(slot) => Some(facts_of(&slot.row)),
         }
     }
 
     fn name(&self, inc: u64) -> Option<&ChildName> {
-        match self.row(inc) {
+        match self.slot(inc) {
             None => None,
-            Some(row) => row.name.as_ref(),
+            Some(slot) => slot.row.name.as_ref(),
         }
     }
 
     fn decl(&self, inc: u64) -> Option<&Decl> {
-        match row_in(self.blocks.as_slice(), inc) {
+        match self.slot(inc) {
             None => None,
-            Some(row) => row.decl.as_ref(),
+            Some(slot) => slot.row.decl.as_ref(),
         }
     }
 
     fn gives(&self, inc: u64) -> Option<&List<Give>> {
-        match self.row(inc) {
+        match self.slot(inc) {
             None => None,
-            Some(row) => Some(&row.gives),
+            Some(slot) => Some(&slot.row.gives),
         }
     }
 
     fn child(&self, parent: u64, name: &ChildName) -> Option<u64> {
-        match child_in(self.blocks.as_slice(), parent, name) {
+        match self.slot(parent) {
             None => None,
-            Some(row) => Some(row.inc),
+            Some(slot) => child_in(&slot.index, name),
         }
     }
 
     fn next_child(&self, parent: u64, after: Option<u64>) -> Option<u64> {
-        match next_in(self.blocks.as_slice(), parent, after) {
+        match self.slot(parent) {
             None => None,
-            Some(row) => Some(row.inc),
+            Some(slot) => next_in(&slot.index, after),
         }
     }
 

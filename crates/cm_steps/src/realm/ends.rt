@@ -14,6 +14,7 @@ ghost use Rattle.cm_steps.specs.Ends.{finish_of};
 use super::Realm;
 use crate::ending::{Ending, end_at};
 use crate::pending::{inc_at, outcome_at, settle, take_join};
+use crate::rooms::resolves_left;
 use cm_table::Settled;
 use cm_world::{Entry, Event, Reply};
 
@@ -27,6 +28,7 @@ impl Realm {
     {
         let inc = inc_at(self.acts.as_slice(), action);
         let Settled { finish, outcome } = end_at(&mut self.table, inc, ending);
+        self.resolves = resolves_left(self.acts.as_slice(), self.resolves, action);
         settle(&mut self.acts, action, outcome);
         self.book.push_reserved(Entry {
             caller,

@@ -1,16 +1,39 @@
-use Rattle.std.proofs.Common.{◌≡◌, ◌==◌, ◌∙◌, ap, subst}
-use Rattle.std.specs.List.{position}
-use Rattle.cm_world.specs.Edits.{edit_first}
-use Rattle.cm_table.specs.Blocks.{flat, has_row}
+use Rattle.std.proofs.Common.{◌-◌, ◌<◌, sym, subst, length}
 use Rattle.cm_table.specs.Change.{change_row}
-use Rattle.cm_table.proofs.Edits.{flat-written, flat-unwritten}
+use Rattle.cm_table.specs.Slots.{inc_of, with_row_by}
+use Rattle.cm_table.specs.Keys.{Rising, IsPlace}
+use Rattle.cm_table.specs.Slots.{slots_in, flat}
+use Rattle.cm_table.proofs.Halves.{none_at_zero, part_rising, place_before, place_zero}
+use Rattle.cm_table.proofs.Editing.{edited, edit_none, edit_acts, act_part, filled_set, part_filled, edited_long, before_end}
 use Rattle.cm_table.proofs.block.change_in.Goals as goal
 
-pub returns-in-None-clause-rows : goal.returns-in-None-clause-rows
-returns-in-None-clause-rows c =
-    subst (λ ys. flat ys ≡ edit_first (λ r. r.inc == c.args.inc) (change_row c.args.change) (flat ys)) c.as_slice.ensures.value
-    (flat-unwritten (λ r. r.inc == c.args.inc) (change_row c.args.change) _ _ c.block_place.ensures.none c.in-None.is)
+pub returns-then-count-eq0-clause-slots : goal.returns-then-count-eq0-clause-slots
+returns-then-count-eq0-clause-slots c =
+    let bs = c.args.blocks.now.items in
+    sym (edit_none inc_of c.args.inc (with_row_by (change_row c.args.new)) (flat bs) (none_at_zero inc_of slots_in bs c.args.inc c.requires.filled c.requires.rising
+    (place_zero inc_of slots_in bs c.args.inc c.blocks_upto-count.result c.if-count-eq0.true
+    (subst (λ l. IsPlace inc_of slots_in l c.args.inc c.blocks_upto-count.result) c.as_slice.ensures.value c.blocks_upto-count.ensures))))
 
-pub returns-in-Some-clause-rows : goal.returns-in-Some-clause-rows
-returns-in-Some-clause-rows c =
-    flat-written (λ r. r.inc == c.args.inc) (change_row c.args.change) _ _ _ _ _ (c.block_place.ensures.place ∙ ap (position (has_row c.args.inc)) c.as_slice.ensures.value) c.in-Some.is c.index_mut-block.ensures.value c.change.ensures
+pub change_at-requires : goal.change_at-requires
+change_at-requires c =
+    let bs = c.args.blocks.now.items in
+    subst (λ b. Rising inc_of (slots_in b)) (sym c.index_mut-block.ensures.value)
+    (part_rising inc_of slots_in bs (c.blocks_upto-count.result - 1) c.index_mut-block.result.now
+    (place_before inc_of slots_in bs c.args.inc c.blocks_upto-count.result c.if-count-eq0.false
+    (subst (λ l. IsPlace inc_of slots_in l c.args.inc c.blocks_upto-count.result) c.as_slice.ensures.value c.blocks_upto-count.ensures)).bound c.requires.rising)
+
+pub returns-clause-slots : goal.returns-clause-slots
+returns-clause-slots c =
+    let bs = c.args.blocks.now.items in
+    act_part inc_of slots_in c.args.inc (edited inc_of c.args.inc (with_row_by (change_row c.args.new))) (edit_acts inc_of c.args.inc (with_row_by (change_row c.args.new))) bs c.blocks_upto-count.result c.index_mut-block.result.now c.change_at.new.block c.requires.filled c.requires.rising c.if-count-eq0.false
+    (subst (λ l. IsPlace inc_of slots_in l c.args.inc c.blocks_upto-count.result) c.as_slice.ensures.value c.blocks_upto-count.ensures) c.index_mut-block.ensures.value c.change_at.ensures
+
+pub returns-clause-filled : goal.returns-clause-filled
+returns-clause-filled c =
+    let bs = c.args.blocks.now.items in
+    let b = c.index_mut-block.result.now in
+    let place = subst (λ l. IsPlace inc_of slots_in l c.args.inc c.blocks_upto-count.result) c.as_slice.ensures.value c.blocks_upto-count.ensures in
+    let lt : c.blocks_upto-count.result - 1 < length bs = before_end bs c.blocks_upto-count.result c.if-count-eq0.false place.bound in
+    let some : 0 < length (slots_in b) = subst (λ z. 0 < length (slots_in z)) (sym c.index_mut-block.ensures.value) (part_filled slots_in bs (c.blocks_upto-count.result - 1) b lt c.requires.filled) in
+    filled_set slots_in bs (c.blocks_upto-count.result - 1) c.change_at.new.block
+    (subst (λ l. 0 < length l) (sym c.change_at.ensures) (edited_long inc_of c.args.inc (with_row_by (change_row c.args.new)) (slots_in b) some)) c.requires.filled

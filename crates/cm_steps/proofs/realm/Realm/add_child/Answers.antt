@@ -47,6 +47,7 @@ invariant_of-self-2 c =
           ∙ ap (λ r. table.with_row r c.self.inside.table)
           (child_made w.next_inc c.args.parent c.in_ok-child.child c.args.coll c.args.name c.args.url c.in_ok-own_url.own_url c.args.gives c.in_ok-own_gives.own_gives c.in_ok-child.ensures c.in_ok-own_url.ensures c.in_ok-own_gives.ensures);
       acts = refl;
+      resolves = refl;
       joins = refl;
       book = one_pushed _ _ _ e c.in_ok-inc.ensures.book c.push_reserved.ensures;
     })

@@ -8,10 +8,14 @@ use Rattle.cm_world.specs.World.{World, outcome_of}
 use Rattle.cm_world.specs.Step.{is_join}
 use Rattle.cm_world.specs.After.{after}
 use Rattle.cm_laws.specs.Story.{world_of}
+use Rattle.cm_laws.specs.Tasks.{IsNumbered}
 use Rattle.cm_steps.specs.Inside.{world_in}
 use Rattle.cm_steps.proofs.Counts.{length-unjoined}
 use Rattle.cm_steps.proofs.Going.{goes_on, one_longer}
 use Rattle.cm_steps.proofs.realm.Realm.await_end.Goals as goal
+
+pub outcome_at-requires : goal.outcome_at-requires
+outcome_at-requires c = subst (IsNumbered 1) (sym c.as_slice.ensures.value) c.self.invariant.numbers
 
 pub invariant_of-self : goal.invariant_of-self
 unfolding after
@@ -30,6 +34,7 @@ invariant_of-self c =
           let less : length c.take_join.new.joins.items + 1 ≡ length c.self.inside.joins.items = ap (λ js. length js + 1) c.take_join.ensures ∙ length-unjoined c.args.caller c.args.action c.self.inside.joins.items has in
           let was = c.self.invariant.owes in
           omega arith;
+      counted = c.self.invariant.counted;
       spare = c.self.invariant.spare;
       rows = c.self.invariant.rows;
       entries = ap (λ (t : History). t.limit) c.push_reserved.ensures ∙ c.self.invariant.entries;

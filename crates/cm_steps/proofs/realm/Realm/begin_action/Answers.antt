@@ -19,6 +19,9 @@ use Rattle.cm_steps.proofs.Begun.{new_resolve}
 use Rattle.cm_laws.proofs.actions.Tasks.{numbered_more, tasked_begun}
 use Rattle.cm_steps.proofs.realm.Realm.begin_action.Goals as goal
 
+pub make_room-requires : goal.make_room-requires
+make_room-requires c = omega (arith, c.self.invariant.counted, c.self.invariant.spare)
+
 pub invariant_of-self-2 : goal.invariant_of-self-2
 unfolding after
 invariant_of-self-2 c =
@@ -29,7 +32,7 @@ invariant_of-self-2 c =
     let act : ℕ → Act = λ n. new_act n c.args.kind c.args.inc c.args.caller in
     let all : List Act = xs ++ act next ∷ [] in
     let pushed : History → History = λ t. record { entries = t.entries ++ e ∷ []; reserved = t.reserved - 1; limit = t.limit } in
-    let book = c.push_reserved-2.ensures ∙ ap pushed c.in_ok-make_room.ensures.book in
+    let book = c.push_reserved-2.ensures ∙ ap pushed c.in_ok-resolves.ensures.book in
     let more = ap (λ (t : History). t.entries) book in
     let number : c.next_action-action.result ≡ next = c.next_action-action.ensures ∙ ap (λ ys. length ys + 1) (c.as_slice.ensures.value ∙ c.make_room.ensures.acts) in
     let pended : ℕ → Tree → Tree = λ n t. with_changed c.args.inc (set_pending (Some (c.args.kind, n))) t in
@@ -56,12 +59,21 @@ invariant_of-self-2 c =
           let same = ap (count_by is_open) acts in
           let was = c.self.invariant.owes in
           omega arith;
+      counted =
+          let one = count_more is_open_resolve xs (act next) in
+          let same = ap (count_by is_open_resolve) acts in
+          let kind = ap (λ b. cond {A = ℕ} b 1 0) (new_resolve next c.args.inc c.args.caller c.args.kind) in
+          let begun = c.in_ok-resolves.ensures.count in
+          let was = c.self.invariant.counted in
+          omega arith;
       spare =
           let kept = ap (λ (t : Tree). t.spare) table in
           let one = count_more is_open_resolve xs (act next) in
           let same = ap (count_by is_open_resolve) acts in
           let kind = ap (λ b. cond {A = ℕ} b 1 0) (new_resolve next c.args.inc c.args.caller c.args.kind) in
-          let room = c.in_ok-make_room.ensures.spare in
+          let begun = c.in_ok-resolves.ensures.count in
+          let was = c.self.invariant.counted in
+          let room = c.in_ok-resolves.ensures.spare in
           omega arith;
       rows = ap (λ (t : Tree). t.limit) table ∙ c.self.invariant.rows;
       entries = ap (λ (t : History). t.limit) book ∙ c.self.invariant.entries;

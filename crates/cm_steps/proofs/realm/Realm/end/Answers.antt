@@ -1,15 +1,27 @@
 use Rattle.std.proofs.Common.{◌≡◌, ◌++◌, ◌∷◌, [], refl, ap, sym, ◌∙◌, subst, arith}
+use Rattle.std.specs.List.{count_by}
 use Rattle.cm_book.specs.History.{History}
 use Rattle.cm_world.specs.declared.event.Event.TheVariants.{End}
 use Rattle.cm_world.specs.declared.reply.Reply.TheVariants.{Ended}
 use Rattle.cm_world.specs.World.{World}
-use Rattle.cm_world.specs.End.{rows_by, outcome_by}
+use Rattle.cm_world.specs.End.{rows_by, outcome_by, ended}
 use Rattle.cm_world.specs.Step.{MayEnd}
 use Rattle.cm_steps.specs.Ends.{inc_of, finish_of}
+use Rattle.cm_steps.specs.Tasks.{is_open_resolve}
 use Rattle.cm_laws.specs.Story.{world_of, entry_of}
+use Rattle.cm_laws.specs.Tasks.{IsNumbered}
 use Rattle.cm_steps.proofs.Counts.{open_less}
 use Rattle.cm_steps.proofs.Ends.{inc-ended, can_take, kept_ended}
 use Rattle.cm_steps.proofs.realm.Realm.end.Goals as goal
+
+pub inc_at-inc-requires : goal.inc_at-inc-requires
+inc_at-inc-requires c = subst (IsNumbered 1) (sym c.as_slice.ensures.value) c.self.invariant.numbers
+
+pub resolves_left-self-inside-requires-clause-numbers : goal.resolves_left-self-inside-requires-clause-numbers
+resolves_left-self-inside-requires-clause-numbers c = subst (IsNumbered 1) (sym c.as_slice-2.ensures.value) c.self.invariant.numbers
+
+pub resolves_left-self-inside-requires-clause-count : goal.resolves_left-self-inside-requires-clause-count
+resolves_left-self-inside-requires-clause-count c = c.self.invariant.counted ∙ ap (count_by is_open_resolve) (sym c.as_slice-2.ensures.value)
 
 pub end_at-finish-requires : goal.end_at-finish-requires
 end_at-finish-requires c =
@@ -44,6 +56,7 @@ invariant_of-self c =
       limit = c.end_at-finish.ensures.limit;
       builtins = c.end_at-finish.ensures.builtins;
       acts = c.settle.ensures;
+      resolves = c.resolves_left-self-inside.ensures o ∙ ap (λ xs. count_by is_open_resolve (ended c.args.action o xs)) c.as_slice-2.ensures.value;
       joins = refl;
       entries =
           ap (λ (h : History). h.entries) c.push_reserved.ensures

@@ -35,6 +35,7 @@ invariant_of-self-2 c =
           let long = ap length c.in_ok-add_join.ensures.joins in
           let was = c.self.invariant.owes in
           omega arith;
+      counted = c.self.invariant.counted;
       spare = c.self.invariant.spare;
       rows = c.self.invariant.rows;
       entries = ap (λ (t : History). t.limit) book ∙ c.self.invariant.entries;

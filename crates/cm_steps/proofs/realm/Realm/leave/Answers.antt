@@ -35,6 +35,7 @@ invariant_of-self-2 c =
           (ap (λ t. moved t (length c.self.inside.book.entries + 1)) (sym table)
           ∙ ap (moved c.set_on.new.self) (one_longer _ _ _ more));
       owes = let r = ap (λ (t : History). t.reserved) book in let was = c.self.invariant.owes in omega arith;
+      counted = c.self.invariant.counted;
       spare =
           subst (λ n. count_by is_open_resolve c.self.inside.acts.items ≤ n) (sym (ap (λ (t : Tree). t.spare) table))
           c.self.invariant.spare;

@@ -20,6 +20,7 @@ invariant_of-self-2 c =
           (after-quiet (world_in c.self.inside) c.args.caller c.args.event c.args.reply c.requires.quiet
           ∙ ap (λ n. record (world_in c.self.inside) { entries = n }) (one_longer _ _ _ more));
       owes = let r = ap (λ (t : History). t.reserved) book in let was = c.self.invariant.owes in omega arith;
+      counted = c.self.invariant.counted;
       spare = c.self.invariant.spare;
       rows = c.self.invariant.rows;
       entries = ap (λ (t : History). t.limit) book ∙ c.self.invariant.entries;

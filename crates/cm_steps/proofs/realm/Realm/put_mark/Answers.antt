@@ -22,4 +22,4 @@ invariant_of-self-2 c =
     (record { enabled = tt; allowed = sym (subst (λ (v : World). mark_reply v.rows c.args.doom c.args.inc ≡ reply.Marked) here c.requires) })
     refl
     (tasked_marked w.rows w.acts c.args.inc c.args.doom c.self.invariant.tasks)
-    (record { frame = refl; table = c.set_mark.ensures; acts = refl; joins = refl; book = one_pushed _ _ _ e c.in_ok-reserve.ensures.ok c.push_reserved.ensures })
+    (record { frame = refl; table = c.set_mark.ensures; acts = refl; resolves = refl; joins = refl; book = one_pushed _ _ _ e c.in_ok-reserve.ensures.ok c.push_reserved.ensures })

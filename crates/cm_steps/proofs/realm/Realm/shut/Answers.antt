@@ -22,4 +22,4 @@ invariant_of-self-2 c =
     (record { enabled = (closing, inr (record { inc = c.args.inc; row = picks.row; may = picks.may })); allowed = picks })
     refl
     (tasked_changed w.rows w.acts c.args.inc set_shut (λ r. refl) (λ r. refl) (λ r. refl) c.self.invariant.tasks)
-    (record { frame = refl; table = c.set_shut.ensures; acts = refl; joins = refl; book = one_pushed _ _ _ e c.in_ok-reserve.ensures.ok c.push_reserved.ensures })
+    (record { frame = refl; table = c.set_shut.ensures; acts = refl; resolves = refl; joins = refl; book = one_pushed _ _ _ e c.in_ok-reserve.ensures.ok c.push_reserved.ensures })

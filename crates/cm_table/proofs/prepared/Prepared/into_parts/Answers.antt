@@ -1,13 +1,33 @@
-use Rattle.std.proofs.Common.{◌∙◌, ap}
+use Rattle.std.proofs.Common.{◌+◌, ◌∙◌, ap, map, subst, sym}
+use Rattle.std.specs.Prelude.{option_map}
+use Rattle.cm_world.specs.Rows.{child_of}
 use Rattle.cm_world.specs.End.{child_rows}
 use Rattle.cm_table.specs.Ready.{Ready}
-use Rattle.cm_table.specs.Numbering.{numbered}
-use Rattle.cm_table.proofs.Numbers.{numbered-children}
+use Rattle.cm_table.specs.Keys.{Each}
+use Rattle.cm_table.specs.Slots.{rows_in}
+use Rattle.cm_table.specs.Numbering.{IsBare}
+use Rattle.cm_table.proofs.Numbers.{rows_of_numbered, bare_numbered}
+use Rattle.cm_table.proofs.Preparing.{kids_first, names_first}
 use Rattle.cm_table.proofs.prepared.Prepared.into_parts.Goals as goal
 
 pub returns-clause-rows : goal.returns-clause-rows
 returns-clause-rows c =
-    c.number_all.ensures
-    ∙ ap (numbered c.args.parent c.args.first) c.self.invariant.children
-    ∙ numbered-children c.args.parent c.args.first c.self.inside.decl.children
+    ap rows_in c.number_all.ensures
+    ∙ rows_of_numbered c.args.parent c.args.first c.self.inside.children.items c.self.inside.decl.children c.self.invariant.children
     ∙ ap (λ (s : Ready). child_rows c.args.parent c.args.first s.decl.children) c.self.view_is
+
+pub returns-clause-bare : goal.returns-clause-bare
+returns-clause-bare c =
+    subst (Each IsBare) (sym c.number_all.ensures) (bare_numbered c.args.parent c.args.first c.self.inside.children.items c.self.invariant.bare)
+
+pub returns-clause-kids : goal.returns-clause-kids
+returns-clause-kids c =
+    ap (map (λ k. c.args.first + k)) c.self.invariant.kids
+    ∙ kids_first c.args.parent c.args.first c.self.inside.decl.children
+    ∙ ap (λ (s : Ready). map (λ r. r.inc) (child_rows c.args.parent c.args.first s.decl.children)) c.self.view_is
+
+pub returns-clause-names : goal.returns-clause-names
+returns-clause-names c = λ name.
+    ap (option_map (λ k. c.args.first + k)) (c.self.invariant.names name)
+    ∙ names_first c.args.parent c.args.first name c.self.inside.decl.children
+    ∙ ap (λ (s : Ready). child_of (child_rows c.args.parent c.args.first s.decl.children) c.args.parent name) c.self.view_is

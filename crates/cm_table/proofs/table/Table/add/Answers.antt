@@ -1,27 +1,100 @@
-use Rattle.std.proofs.Common.{◌≡◌, ◌+◌, ◌++◌, ◌∷◌, [], List, Some, None, ◌∙◌, ap, sym, subst, arith, length, length-append, IsTrue}
+use Rattle.std.proofs.Common.{◌≡◌, ◌+◌, ◌≤◌, ◌<◌, ◌^◌, ◌++◌, ◌∷◌, [], List, Some, None, ◌∙◌, ap, sym, subst, arith, length, length-append, IsTrue, IsSome, rules}
 use Rattle.cm_world.specs.declared.row.Row.{Row}
 use Rattle.cm_world.specs.Rows.{is_resolved, child_of}
 use Rattle.cm_world.specs.World.{new_row}
 use Rattle.cm_world.specs.Sound.{IsOrderly}
+use Rattle.cm_table.specs.declared.slot.Slot.{Slot}
 use Rattle.cm_table.specs.Tree.{Tree}
-use Rattle.cm_table.specs.Blocks.{flat}
-use Rattle.cm_table.proofs.Adding.{orderly_added, flat_added}
+use Rattle.cm_table.specs.Keys.{Each, EachOf, Rising}
+use Rattle.cm_table.specs.Slots.{inc_of, flat, rows_in, slot_of, base_of, IsIndexed}
+use Rattle.cm_table.specs.Links.{IsLinked, IsSame}
+use Rattle.cm_table.specs.Numbering.{bare_slot}
+use Rattle.cm_table.specs.Change.{with_row}
+use Rattle.cm_table.proofs.Adding.{orderly_added}
+use Rattle.cm_table.proofs.Fitting.{fit_below}
+use Rattle.cm_table.proofs.Rowed.{slots_rise, rows_length, rows_same}
+use Rattle.cm_table.proofs.Indexing.{all_same}
+use Rattle.cm_table.proofs.Joining.{parent_found, bases_low, rows_joined, all_joined}
 use Rattle.cm_table.proofs.table.Table.add.Goals as goal
+
+pub link-requires-clause-rising : goal.link-requires-clause-rising
+link-requires-clause-rising c =
+    subst (λ l. Rising inc_of (flat l)) (sym c.room_for.ensures.same) (slots_rise c.self.inside.next_inc (flat c.self.inside.blocks.items) c.self.invariant.orderly.rising)
+
+pub link-requires-clause-lives : goal.link-requires-clause-lives
+link-requires-clause-lives c =
+    let resolved : IsTrue (is_resolved (rows_in (flat c.self.inside.blocks.items)) c.args.parent) = subst (λ (s : Tree). IsTrue (is_resolved s.rows c.args.parent)) (sym c.self.view_is) c.requires.resolved in
+    subst (λ l. IsSome (slot_of (flat l) c.args.parent)) (sym c.room_for.ensures.same) (parent_found (flat c.self.inside.blocks.items) c.args.parent resolved)
+
+pub link-requires-clause-low : goal.link-requires-clause-low
+link-requires-clause-low c =
+    subst (λ l. Each (λ s. base_of s.index ≤ c.self.inside.next_inc) (flat l)) (sym c.room_for.ensures.same)
+    (bases_low (flat c.self.inside.blocks.items) (rows_in (flat c.self.inside.blocks.items)) c.self.inside.next_inc c.self.invariant.indexed)
+
+pub push_block-requires-clause-room : goal.push_block-requires-clause-room
+push_block-requires-clause-room c = omega (arith, c.in-Ok-room_for.ensures.room, c.link.ensures.len, c.link.ensures.capacity)
+
+-- an Err of link: the indexes say what they said
+pub invariant_of-self-in_default-link : goal.invariant_of-self-in_default-link
+invariant_of-self-in_default-link c =
+    let ss : List Slot = flat c.self.inside.blocks.items in
+    let ts : List Slot = flat c.link.new.blocks.items in
+    let says : EachOf IsSame ss ts = subst (λ l. EachOf IsSame (flat l) ts) c.room_for.ensures.same c.in_default-link.ensures.err in
+    let same : rows_in ts ≡ rows_in ss = rows_same IsSame (λ s t u. u.row) ss ts says in
+    let long : length ts ≡ length ss = sym (rows_length ts) ∙ ap length same ∙ rows_length ss in
+    record {
+      room = omega (arith, c.self.invariant.room, c.room_for.ensures.later, ap length c.room_for.ensures.same, c.link.ensures.len, c.link.ensures.capacity);
+      fits = c.self.invariant.fits;
+      filled = c.link.ensures.filled;
+      count = c.self.invariant.count ∙ sym long;
+      orderly = subst (λ rs. IsOrderly rs c.self.inside.next_inc) (sym same) c.self.invariant.orderly;
+      indexed = subst (λ rs. Each (IsIndexed rs c.self.inside.next_inc) ts) (sym same) (all_same (rows_in ss) c.self.inside.next_inc ss ts says c.self.invariant.indexed);
+    }
+
+pub returns-in_default-link-clause-err : goal.returns-in_default-link-clause-err
+returns-in_default-link-clause-err c =
+    let ss : List Slot = flat c.self.inside.blocks.items in
+    let ts : List Slot = flat c.link.new.blocks.items in
+    let says : EachOf IsSame ss ts = subst (λ l. EachOf IsSame (flat l) ts) c.room_for.ensures.same c.in_default-link.ensures.err in
+    let same : rows_in ts ≡ rows_in ss = rows_same IsSame (λ s t u. u.row) ss ts says in
+    let made : List Row → Tree = λ rs. record { rows = rs; next_inc = c.self.inside.next_inc; builtins = c.self.inside.builtins; limit = c.self.inside.limit; spare = c.self.inside.spare } in
+    ap made same ∙ c.self.view_is
 
 pub invariant_of-self-2 : goal.invariant_of-self-2
 invariant_of-self-2 c =
-    let old : List Row = flat c.self.inside.blocks.items in
-    let row : Row = new_row c.self.inside.next_inc (Some c.args.parent) (Some c.args.name) c.args.url c.args.gives in
-    let grew : flat c.push_reserved.new.self.items ≡ old ++ row ∷ [] =
-    flat_added c.self.inside.blocks.items c.room_for.new.blocks.items c.push_reserved.new.self.items c.in-Ok.block row c.room_for.ensures.same c.push_reserved.ensures.items (c.in-Ok.ensures.made ∙ ap (λ r. r ∷ []) c.child_row-row.ensures) in
-    let long : length c.push_reserved.new.self.items ≡ length c.room_for.new.blocks.items + 1 =
-    ap length c.push_reserved.ensures.items ∙ length-append c.room_for.new.blocks.items (c.in-Ok.block ∷ []) in
-    let rows : length (flat c.push_reserved.new.self.items) ≡ length old + 1 = ap length grew ∙ length-append old (row ∷ []) in
-    let resolved : IsTrue (is_resolved old c.args.parent) = subst (λ (s : Tree). IsTrue (is_resolved s.rows c.args.parent)) (sym c.self.view_is) c.requires.resolved in
-    let unused : child_of old c.args.parent c.args.name ≡ None = subst (λ (s : Tree). child_of s.rows c.args.parent c.args.name ≡ None) (sym c.self.view_is) c.requires.unused in
+    let ss : List Slot = flat c.self.inside.blocks.items in
+    let mid : List Slot = flat c.link.new.blocks.items in
+    let ts : List Slot = flat c.push_block.new.blocks.items in
+    let next = c.self.inside.next_inc in
+    let row : Row = new_row next (Some c.args.parent) (Some c.args.name) c.args.url c.args.gives in
+    let key : c.in-Ok.key ≡ c.args.name = search rules in
+    let links : EachOf (IsLinked c.args.parent c.args.name next) ss mid =
+    subst (λ n. EachOf (IsLinked c.args.parent n next) ss mid) key (subst (λ l. EachOf (IsLinked c.args.parent c.in-Ok.key next) (flat l) mid) c.room_for.ensures.same c.in-Ok-link.ensures.ok) in
+    let pushed : ts ≡ mid ++ bare_slot row ∷ [] = c.push_block.ensures.slots ∙ ap (λ l. mid ++ l) (c.in-Ok-room_for.ensures.made ∙ ap (λ r. bare_slot r ∷ []) c.child_row-row.ensures) in
+    let rows : rows_in ts ≡ rows_in ss ++ row ∷ [] = rows_joined ss mid ts c.args.parent next c.args.name row links pushed in
+    let resolved : IsTrue (is_resolved (rows_in ss) c.args.parent) = subst (λ (s : Tree). IsTrue (is_resolved s.rows c.args.parent)) (sym c.self.view_is) c.requires.resolved in
+    let unused : child_of (rows_in ss) c.args.parent c.args.name ≡ None = subst (λ (s : Tree). child_of s.rows c.args.parent c.args.name ≡ None) (sym c.self.view_is) c.requires.unused in
+    let below : next + 1 < 2 ^ 64 = subst (λ (s : Tree). s.next_inc + 1 < 2 ^ 64) (sym c.self.view_is) (fit_below c.args.self.now 1 (sym c.fits.ensures ∙ c.if-not-fits.false)) in
+    let long : length ts ≡ length ss + 1 = sym (rows_length ts) ∙ ap length rows ∙ length-append (rows_in ss) (row ∷ []) ∙ ap (λ n. n + 1) (rows_length ss) in
     record {
-      room = omega (arith, c.push_reserved.ensures.capacity, c.in-Ok.ensures.room);
-      count = omega (arith, rows, c.self.invariant.count);
-      orderly = subst (λ rs. IsOrderly rs (c.self.inside.next_inc + 1)) (sym grew)
-          (orderly_added old c.self.inside.next_inc c.args.parent c.args.name c.args.url c.args.gives c.self.invariant.orderly resolved unused);
+      room = omega (arith, c.push_block.ensures.len, c.push_block.ensures.capacity, c.link.ensures.len, c.link.ensures.capacity, c.in-Ok-room_for.ensures.room);
+      fits = omega (arith, below);
+      filled = c.push_block.ensures.filled;
+      count = omega (arith, long, c.self.invariant.count);
+      orderly = subst (λ rs. IsOrderly rs (next + 1)) (sym rows) (orderly_added (rows_in ss) next c.args.parent c.args.name c.args.url c.args.gives c.self.invariant.orderly resolved unused);
+      indexed = all_joined ss mid ts next c.args.parent c.args.name c.args.url c.args.gives c.self.invariant.orderly resolved unused links pushed c.self.invariant.indexed;
     }
+
+pub returns-clause-ok : goal.returns-clause-ok
+returns-clause-ok c =
+    let ss : List Slot = flat c.self.inside.blocks.items in
+    let mid : List Slot = flat c.link.new.blocks.items in
+    let next = c.self.inside.next_inc in
+    let row : Row = new_row next (Some c.args.parent) (Some c.args.name) c.args.url c.args.gives in
+    let key : c.in-Ok.key ≡ c.args.name = search rules in
+    let links : EachOf (IsLinked c.args.parent c.args.name next) ss mid =
+    subst (λ n. EachOf (IsLinked c.args.parent n next) ss mid) key (subst (λ l. EachOf (IsLinked c.args.parent c.in-Ok.key next) (flat l) mid) c.room_for.ensures.same c.in-Ok-link.ensures.ok) in
+    let pushed = c.push_block.ensures.slots ∙ ap (λ l. mid ++ l) (c.in-Ok-room_for.ensures.made ∙ ap (λ r. bare_slot r ∷ []) c.child_row-row.ensures) in
+    let rows : rows_in (flat c.push_block.new.blocks.items) ≡ rows_in ss ++ row ∷ [] = rows_joined ss mid (flat c.push_block.new.blocks.items) c.args.parent next c.args.name row links pushed in
+    let made : List Row → Tree = λ rs. record { rows = rs; next_inc = next + 1; builtins = c.self.inside.builtins; limit = c.self.inside.limit; spare = c.self.inside.spare } in
+    ap made rows ∙ ap (λ (t : Tree). with_row (new_row t.next_inc (Some c.args.parent) (Some c.args.name) c.args.url c.args.gives) t) c.self.view_is

@@ -1,40 +1,83 @@
-use Rattle.std.proofs.Common.{◌≡◌, ℕ, ◌+◌, ◌-◌, ◌<◌, ◌∷◌, [], List, None, ◌∙◌, ap, ap₂, sym, subst, arith, length, length-append, IsTrue}
+use Rattle.std.proofs.Common.{◌≡◌, ℕ, ◌+◌, ◌-◌, ◌<◌, ◌^◌, List, None, ◌∙◌, ap, ap₂, sym, subst, arith, length, IsTrue}
+use Rattle.cm_decl.specs.declared.decl.Decl.{Decl}
+use Rattle.cm_decl.specs.Valid.{IsValid}
 use Rattle.cm_world.specs.declared.row.Row.{Row}
-use Rattle.cm_world.specs.declared.action.Outcome.TheVariants as outcome
-use Rattle.cm_world.specs.declared.action.Finish.TheVariants as finish
 use Rattle.cm_world.specs.Rows.{is_live, decl_of}
-use Rattle.cm_world.specs.End.{rows_by}
 use Rattle.cm_world.specs.Sound.{IsOrderly}
+use Rattle.cm_table.specs.declared.slot.Slot.{Slot}
+use Rattle.cm_table.specs.declared.change.Change.TheVariants.{Resolve}
 use Rattle.cm_table.specs.Tree.{Tree}
-use Rattle.cm_table.specs.Blocks.{flat}
-use Rattle.cm_table.specs.Change.{resolved}
-use Rattle.cm_table.proofs.Taking.{taken, length-taken, orderly_taken}
+use Rattle.cm_table.specs.Keys.{Each}
+use Rattle.cm_table.specs.Slots.{flat, rows_in, inc_of, with_row_by, IsIndexed}
+use Rattle.cm_table.specs.Change.{change_row, resolved}
+use Rattle.cm_table.proofs.Editing.{edited}
+use Rattle.cm_table.proofs.Taking.{orderly_taken, length-taken}
+use Rattle.cm_table.proofs.Rowed.{rows_length, slots_rise}
+use Rattle.cm_table.proofs.Resolving.{IsTaken, taken_rows, rows_taken, mid_rises, all_taken}
+use Rattle.cm_table.proofs.Fitting.{fit_below}
 use Rattle.cm_table.proofs.table.Table.take.Goals as goal
+
+pub change_in-requires-clause-rising : goal.change_in-requires-clause-rising
+change_in-requires-clause-rising c = slots_rise c.self.inside.next_inc (flat c.self.inside.blocks.items) c.self.invariant.orderly.rising
+
+pub swap_in-requires-clause-rising : goal.swap_in-requires-clause-rising
+swap_in-requires-clause-rising c =
+    mid_rises (flat c.self.inside.blocks.items) (flat c.change_in.new.blocks.items) c.args.inc c.self.inside.next_inc c.into_parts-parts.result.absolute c.into_parts-parts.result.decl c.self.invariant.orderly
+    (subst IsValid (sym c.into_parts-parts.ensures.decl) c.into_parts-parts.ensures.valid) c.change_in.ensures.slots
+
+pub push_block-requires-clause-room : goal.push_block-requires-clause-room
+push_block-requires-clause-room c =
+    let has : 0 < c.self.inside.spare = subst (λ (s : Tree). 0 < s.spare) (sym c.self.view_is) c.requires.spare in
+    omega (arith, has, c.self.invariant.room, c.swap_in.ensures.len, c.swap_in.ensures.capacity, c.change_in.ensures.len, c.change_in.ensures.capacity)
 
 pub invariant_of-self : goal.invariant_of-self
 invariant_of-self c =
-    let old : List Row = flat c.self.inside.blocks.items in
-    let grew : flat c.push_reserved.new.self.items ≡ rows_by c.args.inc c.self.inside.next_inc (finish.Resolved c.args.prepared.absolute c.args.prepared.decl) outcome.Resolved old =
-    taken c.args.inc c.self.inside.next_inc _ _ _ _ c.self.inside.blocks.items _ _ _ _ c.into_parts-parts.ensures.absolute c.into_parts-parts.ensures.decl c.change_in.ensures.rows c.push_reserved.ensures.items c.of.ensures c.into_parts-parts.ensures.rows in
-    let long : length c.push_reserved.new.self.items ≡ length c.change_in.new.blocks.items + 1 =
-    ap length c.push_reserved.ensures.items ∙ length-append c.change_in.new.blocks.items (c.of.result ∷ []) in
+    let ss : List Slot = flat c.self.inside.blocks.items in
+    let mid : List Slot = flat c.change_in.new.blocks.items in
+    let put : List Slot = flat c.swap_in.new.blocks.items in
+    let ts : List Slot = flat c.push_block.new.blocks.items in
+    let news : List Slot = c.into_parts-parts.result.children.items in
+    let next : ℕ = c.self.inside.next_inc in
+    let a : List ℕ = c.args.prepared.absolute in
+    let d : Decl = c.args.prepared.decl in
+    let t : IsTaken ss mid put ts news c.args.inc a d c.into_parts-parts.result.index = record {
+      changed = c.change_in.ensures.slots ∙ ap₂ (λ x y. edited inc_of c.args.inc (with_row_by (change_row (Resolve x y))) ss) c.into_parts-parts.ensures.absolute c.into_parts-parts.ensures.decl;
+      indexed = c.swap_in.ensures.slots;
+      pushed = c.push_block.ensures.slots;
+    } in
+    let rows : rows_in ts ≡ taken_rows c.args.inc next a d (rows_in ss) = rows_taken ss mid put ts news c.args.inc next a d c.into_parts-parts.result.index t c.into_parts-parts.ensures.rows in
+    let lives : IsTrue (is_live (rows_in ss) c.args.inc) = subst (λ (s : Tree). IsTrue (is_live s.rows c.args.inc)) (sym c.self.view_is) c.requires.lives in
+    let unresolved : decl_of (rows_in ss) c.args.inc ≡ None = subst (λ (s : Tree). decl_of s.rows c.args.inc ≡ None) (sym c.self.view_is) c.requires.unresolved in
     let has : 0 < c.self.inside.spare = subst (λ (s : Tree). 0 < s.spare) (sym c.self.view_is) c.requires.spare in
-    let rows : length (flat c.push_reserved.new.self.items) ≡ length old + length c.args.prepared.decl.children =
-    ap length grew ∙ length-taken c.args.inc c.self.inside.next_inc c.args.prepared.absolute c.args.prepared.decl old in
-    let lives : IsTrue (is_live old c.args.inc) = subst (λ (s : Tree). IsTrue (is_live s.rows c.args.inc)) (sym c.self.view_is) c.requires.lives in
-    let unresolved : decl_of old c.args.inc ≡ None = subst (λ (s : Tree). decl_of s.rows c.args.inc ≡ None) (sym c.self.view_is) c.requires.unresolved in
-    let sound : IsOrderly (flat c.push_reserved.new.self.items) (c.self.inside.next_inc + length c.args.prepared.decl.children) =
-    subst (λ rs. IsOrderly rs (c.self.inside.next_inc + length c.args.prepared.decl.children)) (sym grew)
-    (orderly_taken c.args.inc c.self.inside.next_inc c.args.prepared.absolute c.args.prepared.decl old c.self.invariant.orderly lives unresolved c.into_parts-parts.ensures.valid) in
+    let below : next + length d.children < 2 ^ 64 = subst (λ (s : Tree). s.next_inc + length d.children < 2 ^ 64) (sym c.self.view_is) (fit_below c.args.self.now (length d.children) c.requires.fits) in
+    let long : length ts ≡ length ss + length d.children =
+    sym (rows_length ts) ∙ ap length rows ∙ length-taken c.args.inc next a d (rows_in ss) ∙ ap (λ n. n + length d.children) (rows_length ss) in
+    let sound : IsOrderly (rows_in ts) (next + length d.children) =
+    subst (λ rs. IsOrderly rs (next + length d.children)) (sym rows) (orderly_taken c.args.inc next a d (rows_in ss) c.self.invariant.orderly lives unresolved c.into_parts-parts.ensures.valid) in
+    let indexed : Each (IsIndexed (rows_in ts) (next + length d.children)) ts =
+    all_taken ss mid put ts news c.args.inc next a d c.into_parts-parts.result.index t c.self.invariant.orderly lives unresolved c.into_parts-parts.ensures.valid
+    (record { base = c.into_parts-parts.ensures.base; kids = c.into_parts-parts.ensures.kids; names = c.into_parts-parts.ensures.names })
+    c.into_parts-parts.ensures.rows c.into_parts-parts.ensures.bare c.self.invariant.indexed in
     record {
-      room = omega (arith, c.push_reserved.ensures.capacity, c.change_in.ensures.capacity, c.change_in.ensures.len);
-      count = omega (arith, c.count-count.ensures);
-      orderly = subst (λ n. IsOrderly (flat c.push_reserved.new.self.items) (c.self.inside.next_inc + n)) (sym c.count-count.ensures) sound;
+      room = omega (arith, has, c.self.invariant.room, c.push_block.ensures.len, c.push_block.ensures.capacity, c.swap_in.ensures.len, c.swap_in.ensures.capacity, c.change_in.ensures.len, c.change_in.ensures.capacity);
+      fits = omega (arith, below, c.count-count.ensures);
+      filled = c.push_block.ensures.filled;
+      count = omega (arith, c.count-count.ensures, long, c.self.invariant.count);
+      orderly = subst (λ n. IsOrderly (rows_in ts) (next + n)) (sym c.count-count.ensures) sound;
+      indexed = subst (λ n. Each (IsIndexed (rows_in ts) (next + n)) ts) (sym c.count-count.ensures) indexed;
     }
 
 pub returns-clause-rows : goal.returns-clause-rows
 returns-clause-rows c =
-    let grew : flat c.push_reserved.new.self.items ≡ rows_by c.args.inc c.self.inside.next_inc (finish.Resolved c.args.prepared.absolute c.args.prepared.decl) outcome.Resolved (flat c.self.inside.blocks.items) =
-    taken c.args.inc c.self.inside.next_inc _ _ _ _ c.self.inside.blocks.items _ _ _ _ c.into_parts-parts.ensures.absolute c.into_parts-parts.ensures.decl c.change_in.ensures.rows c.push_reserved.ensures.items c.of.ensures c.into_parts-parts.ensures.rows in
+    let ss : List Slot = flat c.self.inside.blocks.items in
+    let a : List ℕ = c.args.prepared.absolute in
+    let d : Decl = c.args.prepared.decl in
+    let t : IsTaken ss (flat c.change_in.new.blocks.items) (flat c.swap_in.new.blocks.items) (flat c.push_block.new.blocks.items) c.into_parts-parts.result.children.items c.args.inc a d c.into_parts-parts.result.index = record {
+      changed = c.change_in.ensures.slots ∙ ap₂ (λ x y. edited inc_of c.args.inc (with_row_by (change_row (Resolve x y))) ss) c.into_parts-parts.ensures.absolute c.into_parts-parts.ensures.decl;
+      indexed = c.swap_in.ensures.slots;
+      pushed = c.push_block.ensures.slots;
+    } in
+    let rows : rows_in (flat c.push_block.new.blocks.items) ≡ taken_rows c.args.inc c.self.inside.next_inc a d (rows_in ss) =
+    rows_taken ss _ _ _ _ c.args.inc c.self.inside.next_inc a d c.into_parts-parts.result.index t c.into_parts-parts.ensures.rows in
     let made : List Row → ℕ → Tree = λ rs n. record { rows = rs; next_inc = c.self.inside.next_inc + n; builtins = c.self.inside.builtins; limit = c.self.inside.limit; spare = c.self.inside.spare - 1 } in
-    ap₂ made grew c.count-count.ensures ∙ ap (resolved c.args.inc c.args.prepared) c.self.view_is
+    ap₂ made rows c.count-count.ensures ∙ ap (resolved c.args.inc c.args.prepared) c.self.view_is

@@ -1,0 +1,218 @@
+-- The item of a key, found by halves.
+use Rattle.std.proofs.Common.{◌≡◌, ℕ, zero, suc, ◌<◌, ◌≤◌, List, [], ◌∷◌, ◌++◌, length, Bool, true, false, cond, ◌==◌, true≢false, Option, Some, None, IsSome, is_some, refl, sym, ap, ◌∙◌, subst, arith, get_or, le_of_suc-le-suc, zero-lt-suc, suc-le-suc, find, ◌-◌, leb, leb-false}
+use Rattle.std.specs.List.{flat_map}
+use Rattle.std.specs.List.Sorted.{IsNonDecreasingBy}
+use Rattle.std.specs.Cmp.{unsigned_Decides}
+use Rattle.cm_table.specs.Keys.{item_of, first_key, alone, nth, Rising, Filled, IsPlace}
+
+-- ---- single facts
+
+pub no_some : {A : Type 0} (o : Option A) → (IsSome o → ⊥) → o ≡ None
+no_some None h = refl
+no_some (Some x) h = absurd (h refl)
+
+pub not_same : (n m : ℕ) → (n ≡ m → ⊥) → (n == m) ≡ false
+not_same n m differ = by (n == m) refl where
+  by : (t : Bool) → (n == m) ≡ t → t ≡ false
+  by true same = absurd (differ ((unsigned_Decides n m).0 same))
+  by false same = refl
+
+pub lower_differs : (n m : ℕ) → n < m → n ≡ m → ⊥
+lower_differs n m less same = let at : n < n = subst (λ z. n < z) (sym same) less in absurd (omega arith)
+
+both_ways : (n m : ℕ) → n < m → m ≤ n → ⊥
+both_ways n m less other = absurd (omega arith)
+
+pub lt_le : (a b : ℕ) → a < b → a ≤ b
+lt_le a b h = omega arith
+
+pub not_le : (a b : ℕ) → leb a b ≡ false → b < a
+not_le a b e = leb-false a b e
+
+pub one_less : (k : ℕ) → (k ≡ 0 → ⊥) → (suc (k - 1) ≡ k)
+one_less k differ = omega arith
+
+-- ---- two lists
+
+some_cond : {A : Type 0} (t : Bool) (x : A) (o : Option A) → IsSome o → IsSome (cond t (Some x) o)
+some_cond true x o h = refl
+some_cond false x o h = h
+
+some_more : {A : Type 0} (t : Bool) (x : A) (o p : Option A) → (IsSome o → IsSome p) → IsSome (cond t (Some x) o) → IsSome (cond t (Some x) p)
+some_more true x o p later h = refl
+some_more false x o p later h = later h
+
+none_by : {A : Type 0} (t : Bool) (x : A) (o all p : Option A) → (o ≡ None → all ≡ p) → cond t (Some x) o ≡ None → cond t (Some x) all ≡ p
+none_by true x o all p later e = absurd (true≢false (ap is_some e))
+none_by false x o all p later e = later e
+
+module _ {Y : Type 0} (key : Y → ℕ) where
+  pub some_left : (xs ys : List Y) (j : ℕ) → IsSome (item_of key ys j) → IsSome (item_of key (xs ++ ys) j)
+  some_left [] ys j h = h
+  some_left (x ∷ xs) ys j h = some_cond (key x == j) x (item_of key (xs ++ ys) j) (some_left xs ys j h)
+
+  pub some_right : (xs ys : List Y) (j : ℕ) → IsSome (item_of key xs j) → IsSome (item_of key (xs ++ ys) j)
+  some_right [] ys j h = absurd (true≢false (sym h))
+  some_right (x ∷ xs) ys j h = some_more (key x == j) x (item_of key xs j) (item_of key (xs ++ ys) j) (some_right xs ys j) h
+
+  pub rising_back : (xs ys : List Y) → Rising key (xs ++ ys) → Rising key ys
+  rising_back [] ys r = r
+  rising_back (x ∷ xs) ys r = rising_back xs ys r.1
+
+  pub rising_front : (xs ys : List Y) → Rising key (xs ++ ys) → Rising key xs
+  rising_front [] ys r = tt
+  rising_front (x ∷ xs) ys r = (λ j h. r.0 j (some_right xs ys j h), rising_front xs ys r.1)
+
+  before_by : (t : Bool) (x : Y) (i j : ℕ) (o : Option Y) → (key x == i) ≡ t → key x < j → (IsSome o → i < j) → IsSome (cond t (Some x) o) → i < j
+  before_by true x i j o same low later h = subst (λ n. n < j) ((unsigned_Decides (key x) i).0 same) low
+  before_by false x i j o same low later h = later h
+
+  -- what stands in front is lower
+  pub before : (xs ys : List Y) (i j : ℕ) → Rising key (xs ++ ys) → IsSome (item_of key xs i) → IsSome (item_of key ys j) → i < j
+  before [] ys i j r h g = absurd (true≢false (sym h))
+  before (x ∷ xs) ys i j r h g = before_by (key x == i) x i j (item_of key xs i) refl (r.0 j (some_left xs ys j g)) (λ k. before xs ys i j r.1 k g) h
+
+  pub append_none : (xs ys : List Y) (i : ℕ) → item_of key ys i ≡ None → item_of key (xs ++ ys) i ≡ item_of key xs i
+  append_none [] ys i e = e
+  append_none (x ∷ xs) ys i e = ap (cond (key x == i) (Some x)) (append_none xs ys i e)
+
+  pub none_append : (xs ys : List Y) (i : ℕ) → item_of key xs i ≡ None → item_of key (xs ++ ys) i ≡ item_of key ys i
+  none_append [] ys i e = refl
+  none_append (x ∷ xs) ys i e = none_by (key x == i) x (item_of key xs i) (item_of key (xs ++ ys) i) (item_of key ys i) (none_append xs ys i) e
+
+  -- ---- a list of parts
+
+  pub own : (s : Y) (ss : List Y) → IsSome (item_of key (s ∷ ss) (key s))
+  own s ss = rw ((unsigned_Decides (key s) (key s)).1 refl) refl
+
+  pub starts : (b : List Y) → 0 < length b → IsSome (item_of key b (first_key key b))
+  starts [] h = absurd (omega arith)
+  starts (s ∷ ss) h = own s ss
+
+  low_none : (b ys : List Y) (i : ℕ) → 0 < length b → Rising key (b ++ ys) → i < first_key key b → item_of key (b ++ ys) i ≡ None
+  low_none [] ys i h r low = absurd (omega arith)
+  low_none (s ∷ ss) ys i h r low =
+      let miss : (key s == i) ≡ false = not_same (key s) i (λ e. lower_differs i (key s) low (sym e)) in
+      rw miss (no_some (item_of key (ss ++ ys) i) (λ g. let up : key s < i = r.0 i g in absurd (omega arith)))
+
+  module _ {X : Type 0} (f : X → List Y) where
+    pub part_starts : (xs : List X) (j : ℕ) (d : X) → Filled f xs → j < length xs → IsSome (item_of key (flat_map f xs) (first_key key (f (get_or xs j d))))
+    part_starts [] j d filled lt = absurd (omega arith)
+    part_starts (x ∷ xs) zero d filled lt = some_right (f x) (flat_map f xs) (first_key key (f x)) (starts (f x) filled.0)
+    part_starts (x ∷ xs) (suc j) d filled lt = some_left (f x) (flat_map f xs) (first_key key (f (get_or xs j d))) (part_starts xs j d filled.1 (le_of_suc-le-suc lt))
+
+    -- the parts begin higher and higher
+    pub begin_higher : (xs : List X) → Filled f xs → Rising key (flat_map f xs) → IsNonDecreasingBy (λ x. first_key key (f x)) xs
+    begin_higher [] filled r i j d le lt = absurd (omega arith)
+    begin_higher (x ∷ xs) filled r zero zero d le lt = omega arith
+    begin_higher (x ∷ xs) filled r zero (suc j) d le lt =
+        lt_le (first_key key (f x)) (first_key key (f (get_or xs j d)))
+        (before (f x) (flat_map f xs) (first_key key (f x)) (first_key key (f (get_or xs j d))) r (starts (f x) filled.0) (part_starts xs j d filled.1 (le_of_suc-le-suc lt)))
+    begin_higher (x ∷ xs) filled r (suc i) zero d le lt = absurd (omega arith)
+    begin_higher (x ∷ xs) filled r (suc i) (suc j) d le lt = begin_higher xs filled.1 (rising_back (f x) (flat_map f xs) r) i j d (le_of_suc-le-suc le) (le_of_suc-le-suc lt)
+
+    -- nothing is below the first
+    pub none_low : (xs : List X) (i : ℕ) → Filled f xs → Rising key (flat_map f xs) → ((j : ℕ) (d : X) → j < length xs → i < first_key key (f (get_or xs j d))) → item_of key (flat_map f xs) i ≡ None
+    none_low [] i filled r high = refl
+    none_low (x ∷ xs) i filled r high = low_none (f x) (flat_map f xs) i filled.0 r (high 0 x (zero-lt-suc (length xs)))
+
+    pub none_at_zero : (xs : List X) (i : ℕ) → Filled f xs → Rising key (flat_map f xs) → IsPlace key f xs i 0 → item_of key (flat_map f xs) i ≡ None
+    none_at_zero xs i filled r p = none_low xs i filled r (λ j d lt. p.high j d (omega arith) lt)
+
+    pub tail_place : (x : X) (xs : List X) (i k : ℕ) → IsPlace key f (x ∷ xs) i (suc k) → IsPlace key f xs i k
+    tail_place x xs i k p = record {
+      bound = le_of_suc-le-suc p.bound;
+      low = λ j d lt. p.low (suc j) d (suc-le-suc lt);
+      high = λ j d le lt. p.high (suc j) d (suc-le-suc le) (suc-le-suc lt);
+    }
+
+    -- where a later part begins at the key or below, the first one has no such item
+    pub none_in_front : (x : X) (xs : List X) (i k : ℕ) → Filled f (x ∷ xs) → Rising key (flat_map f (x ∷ xs)) → IsPlace key f (x ∷ xs) i (suc (suc k)) → item_of key (f x) i ≡ None
+    none_in_front x xs i k filled r p =
+        let q : IsPlace key f xs i (suc k) = tail_place x xs i (suc k) p in
+        let few : suc k ≤ length xs = q.bound in
+        let le : first_key key (f (get_or xs 0 x)) ≤ i = q.low 0 x (zero-lt-suc k) in
+        no_some (item_of key (f x) i) (λ h.
+        both_ways i (first_key key (f (get_or xs 0 x))) (before (f x) (flat_map f xs) i (first_key key (f (get_or xs 0 x))) r h (part_starts xs 0 x filled.1 (omega arith))) le)
+
+    -- the item stands in the last part that begins at its key or below
+    pub in_last : (xs : List X) (i k : ℕ) (d : X) → Filled f xs → Rising key (flat_map f xs) → IsPlace key f xs i (suc k) → item_of key (flat_map f xs) i ≡ item_of key (f (get_or xs k d)) i
+    in_last [] i k d filled r p = let b : suc k ≤ 0 = p.bound in absurd (omega arith)
+    in_last (x ∷ xs) i zero d filled r p =
+        append_none (f x) (flat_map f xs) i (none_at_zero xs i filled.1 (rising_back (f x) (flat_map f xs) r) (tail_place x xs i 0 p))
+    in_last (x ∷ xs) i (suc k) d filled r p =
+        none_append (f x) (flat_map f xs) i (none_in_front x xs i k filled r p) ∙ in_last xs i k d filled.1 (rising_back (f x) (flat_map f xs) r) (tail_place x xs i (suc k) p)
+
+    -- and that part rises
+    pub part_rising : (xs : List X) (k : ℕ) (d : X) → k < length xs → Rising key (flat_map f xs) → Rising key (f (get_or xs k d))
+    part_rising [] k d lt r = absurd (omega arith)
+    part_rising (x ∷ xs) zero d lt r = rising_front (f x) (flat_map f xs) r
+    part_rising (x ∷ xs) (suc k) d lt r = part_rising xs k d (le_of_suc-le-suc lt) (rising_back (f x) (flat_map f xs) r)
+
+    -- the place before the count, as `IsPlace` at a successor
+    pub place_before : (xs : List X) (i k : ℕ) → (k ≡ 0 → ⊥) → IsPlace key f xs i k → IsPlace key f xs i (suc (k - 1))
+    place_before xs i k differ p = subst (IsPlace key f xs i) (sym (one_less k differ)) p
+
+    pub place_zero : (xs : List X) (i k : ℕ) → k ≡ 0 → IsPlace key f xs i k → IsPlace key f xs i 0
+    place_zero xs i k e p = subst (IsPlace key f xs i) e p
+
+  -- ---- items as parts
+
+  pub alone_all : (ss : List Y) → flat_map alone ss ≡ ss
+  alone_all [] = refl
+  alone_all (s ∷ ss) = ap (λ l. s ∷ l) (alone_all ss)
+
+  pub alone_filled : (ss : List Y) → Filled alone ss
+  alone_filled [] = tt
+  alone_filled (s ∷ ss) = (omega arith, alone_filled ss)
+
+  pub found_alone : (s : Y) (i : ℕ) → (key s ≡ i) → item_of key (alone s) i ≡ Some s
+  found_alone s i e = rw ((unsigned_Decides (key s) i).1 e) refl
+
+  pub none_alone : (s : Y) (i : ℕ) → (key s ≡ i → ⊥) → item_of key (alone s) i ≡ None
+  none_alone s i e = rw (not_same (key s) i e) refl
+
+  pub item_none : (ss : List Y) (i k : ℕ) → Rising key ss → k ≡ 0 → IsPlace key alone ss i k → item_of key ss i ≡ None
+  item_none ss i k r e p =
+      ap (λ l. item_of key l i) (sym (alone_all ss)) ∙ none_at_zero alone ss i (alone_filled ss) (subst (Rising key) (sym (alone_all ss)) r) (place_zero alone ss i k e p)
+
+  pub item_last : (ss : List Y) (i k : ℕ) (s : Y) → Rising key ss → (k ≡ 0 → ⊥) → IsPlace key alone ss i k → s ≡ get_or ss (k - 1) s → item_of key ss i ≡ item_of key (alone s) i
+  item_last ss i k s r differ p is =
+      ap (λ l. item_of key l i) (sym (alone_all ss))
+      ∙ in_last alone ss i (k - 1) s (alone_filled ss) (subst (Rising key) (sym (alone_all ss)) r) (place_before alone ss i k differ p)
+      ∙ ap (λ z. item_of key (alone z) i) (sym is)
+
+  pub rising_alone : (ss : List Y) → Rising key ss → IsNonDecreasingBy key ss
+  rising_alone ss r = begin_higher alone ss (alone_filled ss) (subst (Rising key) (sym (alone_all ss)) r)
+
+  -- ---- items by their places
+
+  some_at : (ss : List Y) (j : ℕ) (d : Y) → j < length ss → IsSome (item_of key ss (key (get_or ss j d)))
+  some_at [] j d lt = absurd (omega arith)
+  some_at (s ∷ ss) zero d lt = own s ss
+  some_at (s ∷ ss) (suc j) d lt = some_cond (key s == key (get_or ss j d)) s (item_of key ss (key (get_or ss j d))) (some_at ss j d (le_of_suc-le-suc lt))
+
+  -- keys rise by places
+  pub strictly : (ss : List Y) (j k : ℕ) (d : Y) → Rising key ss → j < k → k < length ss → key (get_or ss j d) < key (get_or ss k d)
+  strictly [] j k d r less lt = absurd (omega arith)
+  strictly (s ∷ ss) j zero d r less lt = absurd (omega arith)
+  strictly (s ∷ ss) zero (suc k) d r less lt = r.0 (key (get_or ss k d)) (some_at ss k d (le_of_suc-le-suc lt))
+  strictly (s ∷ ss) (suc j) (suc k) d r less lt = strictly ss j k d r.1 (le_of_suc-le-suc less) (le_of_suc-le-suc lt)
+
+  -- those before the place of a key have others
+  pub others_before : (ss : List Y) (k : ℕ) (d : Y) (i : ℕ) → Rising key ss → k < length ss → key (get_or ss k d) ≡ i → (j : ℕ) → j < k → (key (get_or ss j d) == i) ≡ false
+  others_before ss k d i r lt here j less =
+      not_same (key (get_or ss j d)) i (λ e. lower_differs (key (get_or ss j d)) (key (get_or ss k d)) (strictly ss j k d r less lt) (e ∙ sym here))
+
+-- ---- the first item that passes a test which fails up to a place, and passes from there on
+
+pub find-nth : {Y : Type 0} (p : Y → Bool) (ss : List Y) (k : ℕ) (d : Y) → k ≤ length ss → ((j : ℕ) → j < k → p (get_or ss j d) ≡ false) → (k < length ss → p (get_or ss k d) ≡ true) → find p ss ≡ nth ss k
+find-nth p [] k d le low high = refl
+find-nth p (s ∷ ss) zero d le low high = rw (high (zero-lt-suc (length ss))) refl
+find-nth p (s ∷ ss) (suc k) d le low high =
+    rw (low 0 (zero-lt-suc k)) (find-nth p ss k d (le_of_suc-le-suc le) (λ j less. low (suc j) (suc-le-suc less)) (λ lt. high (suc-le-suc lt)))
+
+pub nth-some : {Y : Type 0} (ss : List Y) (k : ℕ) (d : Y) → k < length ss → nth ss k ≡ Some (get_or ss k d)
+nth-some [] k d lt = absurd (omega arith)
+nth-some (s ∷ ss) zero d lt = refl
+nth-some (s ∷ ss) (suc k) d lt = nth-some ss k d (le_of_suc-le-suc lt)

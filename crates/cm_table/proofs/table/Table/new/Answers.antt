@@ -1,0 +1,28 @@
+use Rattle.std.proofs.Common.{◌≡◌, ◌∷◌, ◌++◌, [], ◌<◌, List, ◌∙◌, ap, sym, subst, arith, length}
+use Rattle.cm_world.specs.declared.row.Row.{Row}
+use Rattle.cm_world.specs.World.{root_row}
+use Rattle.cm_world.specs.Sound.{IsOrderly}
+use Rattle.cm_table.specs.declared.slot.Slot.{Slot}
+use Rattle.cm_table.specs.declared.block.Block.{Block}
+use Rattle.cm_table.specs.Keys.{Each, Filled}
+use Rattle.cm_table.specs.Slots.{flat, rows_in, slots_in, IsIndexed}
+use Rattle.cm_table.specs.Numbering.{bare_slot}
+use Rattle.cm_table.proofs.First.{flat_first, orderly_first, indexed_first}
+use Rattle.cm_table.proofs.table.Table.new.Goals as goal
+
+pub invariant_of-result : goal.invariant_of-result
+invariant_of-result c =
+    let b : Block = record { slots = c.in_ok-slots.slots } in
+    let bs : List Block = c.push.new.self.items in
+    let first : Slot = bare_slot (root_row c.args.url) in
+    let one : bs ≡ b ∷ [] = c.in_ok-push.ensures.items ∙ ap (λ l. l ++ b ∷ []) c.new-blocks.ensures.items in
+    let own : slots_in b ≡ first ∷ [] = c.in_ok-slots.ensures ∙ ap (λ (r : Row). bare_slot r ∷ []) c.root.ensures in
+    let to : flat bs ≡ first ∷ [] = flat_first bs b (root_row c.args.url) one own in
+    record {
+      room = search (arith);
+      fits = omega arith;
+      filled = subst (Filled slots_in) (sym one) (subst (λ (l : List Slot). 0 < length l) (sym own) (omega arith), tt);
+      count = sym (ap length to);
+      orderly = subst (λ (l : List Slot). IsOrderly (rows_in l) 1) (sym to) (orderly_first c.args.url);
+      indexed = subst (λ (l : List Slot). Each (IsIndexed (rows_in l) 1) l) (sym to) (indexed_first c.args.url);
+    }

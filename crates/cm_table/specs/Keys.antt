@@ -1,0 +1,63 @@
+-- Items that have rising keys, in a list or in a list of parts.
+use Rattle.std.specs.Prelude.{ℕ, zero, suc, ◌<◌, ◌≤◌, ◌==◌, List, [], ◌∷◌, Option, Some, None, IsSome, find}
+use Rattle.std.specs.Prelude.{length, get_or}
+
+-- all items have a property
+abbrev pub Each : {A : Type 0} → (A → Type 0) → List A → Type 0
+Each P [] = Unit {0}
+Each P (x ∷ xs) = P x × Each P xs
+
+-- the items of two lists are related one by one, and the lists are as long
+abbrev pub EachOf : {A : Type 0} → (A → A → Type 0) → List A → List A → Type 0
+EachOf R [] [] = Unit {0}
+EachOf R [] (y ∷ ys) = ⊥
+EachOf R (x ∷ xs) [] = ⊥
+EachOf R (x ∷ xs) (y ∷ ys) = R x y × EachOf R xs ys
+
+-- the item at a place
+abbrev pub nth : {A : Type 0} → List A → ℕ → Option A
+nth [] k = None
+nth (x ∷ xs) zero = Some x
+nth (x ∷ xs) (suc k) = nth xs k
+
+-- an item that is a part of its own
+abbrev pub alone : {A : Type 0} → A → List A
+alone x = x ∷ []
+
+-- none of these parts is empty
+abbrev pub Filled : {X Y : Type 0} → (X → List Y) → List X → Type 0
+Filled f [] = Unit {0}
+Filled f (x ∷ xs) = (0 < length (f x)) × Filled f xs
+
+-- none of them but perhaps the one at a place
+abbrev pub AreFilledBut : {X Y : Type 0} → (X → List Y) → ℕ → List X → Type 0
+AreFilledBut f k [] = Unit {0}
+AreFilledBut f zero (x ∷ xs) = Filled f xs
+AreFilledBut f (suc k) (x ∷ xs) = (0 < length (f x)) × AreFilledBut f k xs
+
+-- the first item of the part at a place
+abbrev pub first_in : {X Y : Type 0} → (X → List Y) → List X → ℕ → Option Y
+first_in f [] k = None
+first_in f (x ∷ xs) zero = nth (f x) 0
+first_in f (x ∷ xs) (suc k) = first_in f xs k
+
+module _ {Y : Type 0} (key : Y → ℕ) where
+  -- the item of a key
+  abbrev pub item_of : List Y → ℕ → Option Y
+  item_of ys i = find (λ y. key y == i) ys
+
+  -- the key of the first item, or 0
+  abbrev pub first_key : List Y → ℕ
+  first_key [] = 0
+  first_key (y ∷ ys) = key y
+
+  -- keys rise along the list
+  abbrev pub Rising : List Y → Type 0
+  Rising [] = Unit {0}
+  Rising (y ∷ ys) = ((j : ℕ) → IsSome (item_of ys j) → key y < j) × Rising ys
+
+-- the parts before place k begin at i or below, the others above
+pub record IsPlace {X Y : Type 0} (key : Y → ℕ) (f : X → List Y) (xs : List X) (i k : ℕ) : Type 0 where
+  pub bound : k ≤ length xs
+  pub low : (j : ℕ) (d : X) → j < k → first_key key (f (get_or xs j d)) ≤ i
+  pub high : (j : ℕ) (d : X) → k ≤ j → j < length xs → i < first_key key (f (get_or xs j d))

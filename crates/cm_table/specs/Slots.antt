@@ -1,0 +1,75 @@
+-- Rows in slots, in blocks, with the indexes of their children.
+use Rattle.std.specs.Prelude.{◌≡◌, ℕ, ◌≤◌, ◌+◌, ◌==◌, List, [], Option, Some, None, find, filter, map}
+use Rattle.std.specs.Prelude.{option_map}
+use Rattle.std.specs.List.{flat_map}
+use Rattle.std.specs.BTreeMap.{get}
+use Rattle.cm_names.specs.declared.child.ChildName.{ChildName}
+use Rattle.cm_world.specs.declared.row.Row.{Row}
+use Rattle.cm_world.specs.Rows.{has_parent, child_of}
+use Rattle.cm_world.specs.Sound.{IsOrderly}
+use Rattle.cm_table.specs.declared.slot.Slot.{Slot}
+use Rattle.cm_table.specs.declared.slot.Index.{Index}
+use Rattle.cm_table.specs.declared.block.Block.{Block}
+use Rattle.cm_table.specs.Names.{child_cmp}
+use Rattle.cm_table.specs.Keys.{Each}
+
+-- ---- slots
+
+abbrev pub inc_of : Slot → ℕ
+inc_of s = s.row.inc
+
+abbrev pub slots_in : Block → List Slot
+slots_in b = b.slots.items
+
+-- the slots of all blocks, block after block
+abbrev pub flat : List Block → List Slot
+flat blocks = flat_map slots_in blocks
+
+abbrev pub rows_in : List Slot → List Row
+rows_in slots = map (λ s. s.row) slots
+
+-- the slot of an incarnation
+abbrev pub slot_of : List Slot → ℕ → Option Slot
+slot_of slots i = find (λ s. s.row.inc == i) slots
+
+-- the same row with another index
+abbrev pub indexed_by : Option Index → Slot → Slot
+indexed_by x s = record s { index = x }
+
+-- the same index with another row
+abbrev pub with_row_by : (Row → Row) → Slot → Slot
+with_row_by f s = record s { row = f s.row }
+
+-- ---- indexes
+
+-- the incarnations of the children, in order
+abbrev pub kids_at : Index → List ℕ
+kids_at x = map (λ k. x.base + k) x.kids.items
+
+-- that of the child of a name
+abbrev pub named_at : Index → ChildName → Option ℕ
+named_at x c = option_map (λ k. x.base + k) (get child_cmp x.names c)
+
+abbrev pub kids_of : Option Index → List ℕ
+kids_of None = []
+kids_of (Some x) = kids_at x
+
+abbrev pub named_in : Option Index → ChildName → Option ℕ
+named_in None c = None
+named_in (Some x) c = named_at x c
+
+abbrev pub base_of : Option Index → ℕ
+base_of None = 0
+base_of (Some x) = x.base
+
+-- the index of a slot is that of its row's children
+pub record IsIndexed (rows : List Row) (next : ℕ) (s : Slot) : Type 0 where
+  pub base : base_of s.index ≤ next
+  pub kids : kids_of s.index ≡ map (λ r. r.inc) (filter (has_parent s.row.inc) rows)
+  pub names : (c : ChildName) → named_in s.index c ≡ child_of rows s.row.inc c
+
+-- the rows are orderly, and the index of each slot is that of its row's children
+pub record AreOrderly (slots : List Slot) : Type 0 where
+  pub next : ℕ
+  pub orderly : IsOrderly (rows_in slots) next
+  pub indexed : Each (IsIndexed (rows_in slots) next) slots

@@ -1,0 +1,183 @@
+//! Indexes that follow the rows.
+
+ghost use Rattle.std.specs.Prelude.{◌≡◌, ◌≤◌, ◌==◌, ◌++◌, ◌∷◌, [], IsSome, length, true, false, Some};
+ghost use Rattle.std.specs.Prelude.{OnOk, OnErr, if◌then◌else◌, option_and_then};
+ghost use Rattle.std.specs.Option.{option_copied, option_eq};
+ghost use Rattle.std.specs.Vec.{vec_capacity};
+ghost use Rattle.cm_names.specs.declared.child.ChildName.{ChildName as Name};
+ghost use Rattle.cm_decl.specs.Same.{same_child};
+ghost use Rattle.cm_world.specs.Edits.{drop_first};
+ghost use Rattle.cm_table.specs.Keys.{Each, EachOf, Filled, Rising};
+ghost use Rattle.cm_table.specs.Slots.{inc_of, slot_of, flat, slots_in, kids_at, named_at};
+ghost use Rattle.cm_table.specs.Slots.{kids_of, named_in, base_of, AreOrderly};
+ghost use Rattle.cm_table.specs.Links.{unless, Rises, IsSame, IsLinked, IsUnlinked};
+
+use crate::block::{Block, slot_in, swap_in};
+use crate::slot::Index;
+use cm_names::{ChildName, Memory};
+use std::alloc::Global;
+
+// ---- single indexes
+
+/// The index, or one of no children.
+fn or_new(alloc: Global, index: Option<Index>) -> Index
+    ensures base { result.base ≡ base_of index }
+    ensures kids { kids_at result ≡ kids_of index }
+    ensures names { (c : Name) → named_at result c ≡ named_in index c }
+{
+    match index {
+        None => Index::new(alloc),
+        Some(index) => index,
+    }
+}
+
+/// Puts a child behind the others. `Err` where memory runs out: then it says what it said.
+fn put_child(
+    alloc: Global,
+    index: &mut Option<Index>,
+    name: ChildName,
+    inc: u64,
+) -> Result<(), Memory>
+    requires { base_of index.old ≤ inc }
+    ensures base { base_of index.new ≡ base_of index.old }
+    ensures kids { OnOk result (kids_of index.new ≡ kids_of index.old ++ inc ∷ []) }
+    ensures names { OnOk result ((c : Name) →
+        named_in index.new c ≡ (if same_child name c then Some inc else named_in index.old c)) }
+    ensures kids_err { OnErr result (kids_of index.new ≡ kids_of index.old) }
+    ensures names_err { OnErr result ((c : Name) → named_in index.new c ≡ named_in index.old c) }
+{
+    let mut own = or_new(alloc, index.take());
+    let above = inc - own.base;
+    let put = own.put(name, above);
+    *index = Some(own);
+    put
+}
+
+/// Forgets the name of a child, which is the one that leads to it, if one does.
+fn forget_child(index: &mut Option<Index>, name: Option<&ChildName>, inc: u64)
+    requires { (c : Name) → named_in index.old c ≡ Some inc →
+        option_eq same_child (option_copied name) (Some c) ≡ true }
+    ensures base { base_of index.new ≡ base_of index.old }
+    ensures kids { kids_of index.new ≡ kids_of index.old }
+    ensures rises { Rises index.old → Rises index.new }
+    ensures names { (c : Name) → named_in index.new c ≡ unless inc (named_in index.old c) }
+{
+    let Some(own) = index else {
+        return;
+    };
+    let Some(name) = name else {
+        return;
+    };
+    if inc < own.base {
+        return;
+    }
+    let above = inc - own.base;
+    own.forget(name, above);
+}
+
+/// Removes a child.
+fn remove_child(index: &mut Option<Index>, inc: u64)
+    requires { Rises index.old }
+    ensures base { base_of index.new ≡ base_of index.old }
+    ensures kids { kids_of index.new ≡ drop_first (λ k. k == inc) (kids_of index.old) }
+    ensures names { (c : Name) → named_in index.new c ≡ named_in index.old c }
+{
+    let Some(own) = index else {
+        return;
+    };
+    if inc < own.base {
+        return;
+    }
+    let above = inc - own.base;
+    own.remove(above);
+}
+
+// ---- among all slots
+
+/// The parent of the instance.
+pub fn parent_in(blocks: &[Block], inc: u64) -> Option<u64>
+    requires filled { Filled slots_in blocks.now }
+    requires rising { Rising inc_of (flat blocks.now) }
+    ensures { result ≡ option_and_then (λ s. s.row.parent) (slot_of (flat blocks.now) inc) }
+{
+    match slot_in(blocks, inc) {
+        None => None,
+        Some(slot) => slot.row.parent,
+    }
+}
+
+/// The name of the instance.
+fn name_in(blocks: &[Block], inc: u64) -> Option<&ChildName>
+    requires filled { Filled slots_in blocks.now }
+    requires rising { Rising inc_of (flat blocks.now) }
+    ensures { option_copied result ≡ option_and_then (λ s. s.row.name) (slot_of (flat blocks.now) inc) }
+{
+    match slot_in(blocks, inc) {
+        None => None,
+        Some(slot) => slot.row.name.as_ref(),
+    }
+}
+
+/// Puts a child into the index of its parent. `Err` where memory runs out: then the indexes say
+/// what they said.
+pub fn link(
+    alloc: Global,
+    blocks: &mut Vec<Block>,
+    parent: u64,
+    name: ChildName,
+    inc: u64,
+) -> Result<(), Memory>
+    requires filled { Filled slots_in blocks.old.items }
+    requires rising { Rising inc_of (flat blocks.old.items) }
+    requires lives { IsSome (slot_of (flat blocks.old.items) parent) }
+    requires low { Each (λ s. base_of s.index ≤ inc) (flat blocks.old.items) }
+    ensures ok { OnOk result
+        (EachOf (IsLinked parent name inc) (flat blocks.old.items) (flat blocks.new.items)) }
+    ensures err { OnErr result (EachOf IsSame (flat blocks.old.items) (flat blocks.new.items)) }
+    ensures filled { Filled slots_in blocks.new.items }
+    ensures len { length blocks.new.items ≡ length blocks.old.items }
+    ensures capacity { vec_capacity blocks.new ≡ vec_capacity blocks.old }
+{
+    let mut index = None;
+    swap_in(blocks, parent, &mut index);
+    let put = put_child(alloc, &mut index, name, inc);
+    swap_in(blocks, parent, &mut index);
+    put
+}
+
+/// Forgets the name of an instance at its parent, which then no longer finds it by that.
+pub fn unname(blocks: &mut Vec<Block>, inc: u64)
+    requires filled { Filled slots_in blocks.old.items }
+    requires orderly { AreOrderly (flat blocks.old.items) }
+    ensures links { EachOf (IsUnlinked inc false) (flat blocks.old.items) (flat blocks.new.items) }
+    ensures filled { Filled slots_in blocks.new.items }
+    ensures len { length blocks.new.items ≡ length blocks.old.items }
+    ensures capacity { vec_capacity blocks.new ≡ vec_capacity blocks.old }
+{
+    let Some(parent) = parent_in(blocks.as_slice(), inc) else {
+        return;
+    };
+    let mut index = None;
+    swap_in(blocks, parent, &mut index);
+    forget_child(&mut index, name_in(blocks.as_slice(), inc), inc);
+    swap_in(blocks, parent, &mut index);
+}
+
+/// Takes an instance out of the index of its parent.
+pub fn unlink(blocks: &mut Vec<Block>, inc: u64)
+    requires filled { Filled slots_in blocks.old.items }
+    requires orderly { AreOrderly (flat blocks.old.items) }
+    ensures links { EachOf (IsUnlinked inc true) (flat blocks.old.items) (flat blocks.new.items) }
+    ensures filled { Filled slots_in blocks.new.items }
+    ensures len { length blocks.new.items ≡ length blocks.old.items }
+    ensures capacity { vec_capacity blocks.new ≡ vec_capacity blocks.old }
+{
+    let Some(parent) = parent_in(blocks.as_slice(), inc) else {
+        return;
+    };
+    let mut index = None;
+    swap_in(blocks, parent, &mut index);
+    forget_child(&mut index, name_in(blocks.as_slice(), inc), inc);
+    remove_child(&mut index, inc);
+    swap_in(blocks, parent, &mut index);
+}

@@ -1,0 +1,207 @@
+//! Rows with the index of their children.
+
+ghost use Rattle.std.specs.Prelude.{◌≡◌, ◌-◌, ◌<◌, ◌^◌, ◌++◌, ◌∷◌, ◌==◌, [], true, None, Some};
+ghost use Rattle.std.specs.Prelude.{ℕ, find, length, if◌then◌else◌, OnOk, OnErr};
+ghost use Rattle.std.specs.BTreeMap.{get};
+ghost use Rattle.cm_names.specs.declared.child.ChildName.{ChildName as Name};
+ghost use Rattle.cm_decl.specs.Same.{same_child};
+ghost use Rattle.cm_world.specs.Edits.{drop_first};
+ghost use Rattle.cm_world.specs.Rows.{is_behind};
+ghost use Rattle.cm_table.specs.Names.{child_cmp};
+ghost use Rattle.cm_table.specs.Keys.{Each, IsPlace, Rising, alone, nth};
+ghost use Rattle.cm_table.specs.Slots.{kids_at, named_at, kids_of, named_in};
+ghost use Rattle.cm_table.specs.Links.{unless, Rises};
+
+use cm_names::{ChildName, Memory};
+use cm_world::Row;
+use std::alloc::Global;
+use std::collections::BTreeMap;
+
+/// The index of the children of a row. Their incarnations are told by how far they are above a
+/// base.
+#[derive(Drop)]
+pub struct Index {
+    /// No child has a lower incarnation.
+    pub base: u64,
+    /// The children, by rising incarnations, those that are being destroyed too.
+    pub kids: Vec<u64>,
+    /// Those that aren't being destroyed, by their names.
+    pub names: BTreeMap<ChildName, u64>,
+}
+
+/// A row with the index of its children, if it ever had one.
+#[derive(Drop)]
+pub struct Slot {
+    /// The row.
+    pub row: Row,
+    /// The index of its children.
+    pub index: Option<Index>,
+}
+
+impl Index {
+    /// The index of no children.
+    pub fn new(alloc: Global) -> Index
+        ensures base { result.base ≡ 0 }
+        ensures kids { kids_at result ≡ [] }
+        ensures names { (c : Name) → named_at result c ≡ None }
+    {
+        Index {
+            base: 0,
+            kids: Vec::new(alloc),
+            names: BTreeMap::new(alloc),
+        }
+    }
+
+    /// The child of that name that isn't being destroyed.
+    pub fn child(&self, name: &ChildName) -> Option<u64>
+        requires { (n : ℕ) → named_at self.now name.now ≡ Some n → n < 2 ^ 64 }
+        ensures { result ≡ named_at self.now name.now }
+    {
+        match self.names.get(name) {
+            None => None,
+            Some(above) => Some(self.base + *above),
+        }
+    }
+
+    /// The first child that was made after the given one.
+    pub fn next(&self, after: Option<u64>) -> Option<u64>
+        requires rising { Rising (λ k. k) self.now.kids.items }
+        requires fits { Each (λ k. k < 2 ^ 64) (kids_at self.now) }
+        ensures { result ≡ find (is_behind after) (kids_at self.now) }
+    {
+        match after {
+            None => self.kid_at(0),
+            Some(inc) => self.kid_behind(inc),
+        }
+    }
+
+    /// The first child with a higher incarnation.
+    fn kid_behind(&self, inc: u64) -> Option<u64>
+        requires rising { Rising (λ k. k) self.now.kids.items }
+        requires fits { Each (λ k. k < 2 ^ 64) (kids_at self.now) }
+        ensures { result ≡ find (is_behind (Some inc)) (kids_at self.now) }
+    {
+        if inc < self.base {
+            return self.kid_at(0);
+        }
+        let above = inc - self.base;
+        self.kid_at(kids_upto(self.kids.as_slice(), above))
+    }
+
+    /// The last child.
+    pub fn last(&self) -> Option<u64>
+        requires { Each (λ k. k < 2 ^ 64) (kids_at self.now) }
+        ensures { result ≡ nth (kids_at self.now) (length (kids_at self.now) - 1) }
+    {
+        let count = self.kids.len();
+        if count == 0 {
+            return None;
+        }
+        self.kid_at(count - 1)
+    }
+
+    /// The child at a place.
+    fn kid_at(&self, place: usize) -> Option<u64>
+        requires { Each (λ k. k < 2 ^ 64) (kids_at self.now) }
+        ensures { result ≡ nth (kids_at self.now) place }
+    {
+        if place >= self.kids.len() {
+            return None;
+        }
+        let above = self.kids[place];
+        Some(self.base + above)
+    }
+
+    /// Puts a child behind the others, which is so far above the base. `Err` where memory runs
+    /// out: then nothing is changed.
+    pub fn put(&mut self, name: ChildName, above: u64) -> Result<(), Memory>
+        ensures base { self.new.base ≡ self.old.base }
+        ensures kids { OnOk result (self.new.kids.items ≡ self.old.kids.items ++ above ∷ []) }
+        ensures names { OnOk result ((c : Name) → get child_cmp self.new.names c
+            ≡ (if same_child name c then Some above else get child_cmp self.old.names c)) }
+        ensures kids_err { OnErr result (self.new.kids.items ≡ self.old.kids.items) }
+        ensures names_err { OnErr result ((c : Name) → get child_cmp self.new.names c
+            ≡ get child_cmp self.old.names c) }
+    {
+        self.kids.reserve(1)?;
+        self.names.insert(name, above)?;
+        self.kids.push_reserved(above);
+        Ok(())
+    }
+
+    /// Forgets a name, if it leads so far above the base.
+    pub fn forget(&mut self, name: &ChildName, above: u64)
+        requires { (c : Name) → get child_cmp self.old.names c ≡ Some above → same_child name.now c ≡ true }
+        ensures base { self.new.base ≡ self.old.base }
+        ensures kids { self.new.kids.items ≡ self.old.kids.items }
+        ensures names { (c : Name) → get child_cmp self.new.names c
+            ≡ unless above (get child_cmp self.old.names c) }
+    {
+        match self.names.get(name) {
+            None => {}
+            Some(found) => {
+                if *found == above {
+                    self.names.remove(name);
+                }
+            }
+        }
+    }
+
+    /// Removes the child that is so far above the base.
+    pub fn remove(&mut self, above: u64)
+        requires { Rising (λ k. k) self.old.kids.items }
+        ensures base { self.new.base ≡ self.old.base }
+        ensures kids { self.new.kids.items ≡ drop_first (λ k. k == above) self.old.kids.items }
+        ensures names { self.new.names ≡ self.old.names }
+    {
+        let count = kids_upto(self.kids.as_slice(), above);
+        if count == 0 {
+            return;
+        }
+        if self.kids[count - 1] == above {
+            self.kids.remove(count - 1);
+        }
+    }
+}
+
+/// The child of that name that isn't being destroyed.
+pub fn child_in(index: &Option<Index>, name: &ChildName) -> Option<u64>
+    requires { (n : ℕ) → named_in index.now name.now ≡ Some n → n < 2 ^ 64 }
+    ensures { result ≡ named_in index.now name.now }
+{
+    match index {
+        None => None,
+        Some(own) => own.child(name),
+    }
+}
+
+/// The first child that was made after the given one.
+pub fn next_in(index: &Option<Index>, after: Option<u64>) -> Option<u64>
+    requires rises { Rises index.now }
+    requires fits { Each (λ k. k < 2 ^ 64) (kids_of index.now) }
+    ensures { result ≡ find (is_behind after) (kids_of index.now) }
+{
+    match index {
+        None => None,
+        Some(own) => own.next(after),
+    }
+}
+
+/// The last child.
+pub fn last_in(index: &Option<Index>) -> Option<u64>
+    requires { Each (λ k. k < 2 ^ 64) (kids_of index.now) }
+    ensures { result ≡ nth (kids_of index.now) (length (kids_of index.now) - 1) }
+{
+    match index {
+        None => None,
+        Some(own) => own.last(),
+    }
+}
+
+/// How many of these rising numbers are at most the given one.
+fn kids_upto(kids: &[u64], above: u64) -> usize
+    requires { Rising (λ k. k) kids.now }
+    ensures { IsPlace (λ k. k) alone kids.now above result }
+{
+    kids.partition_point(|kid| *kid <= above)
+}
