@@ -1,17 +1,19 @@
 -- Lemmas on the lines of bytes, and on what a line reader has passed over.
 use Rattle.std.proofs.Common.{◌≡◌, ◌≢◌, ◌≤◌, ◌<◌, ◌==◌, ◌⊎◌, inl, inr, ℕ, suc, length-append, ◌+◌, ◌-◌, cond, nat_lt, Bool, true, false, List, [], ◌∷◌, ◌++◌, length, get_or, take, drop, Option, None, Some, refl, ap, sym, ◌∙◌, subst, append_assoc, append-nil, drop-cons, add-one, arith}
-use Rattle.std.specs.List.{position, position_or_len}
+use mathlib.Core.Bool.{true≢false}
+use Rattle.std.specs.List.{Contains, position, position_or_len}
 use Rattle.std.proofs.lemmas.Grind.{common_steps}
 use Rattle.std.proofs.lemmas.Bool.Decides.{nat_tests, leb_tells}
 use Rattle.std.proofs.lemmas.List.{take-append-drop, drop-drop, drop-take, length-take}
 use Rattle.std.proofs.lemmas.List.Elements.{All-append, All-from_get_or}
 use Rattle.std.proofs.lemmas.List.Quantifiers.{position-Some}
 use Rattle.std.proofs.lemmas.List.Sums.{fails_before_first}
-use Rattle.std.specs.Io.KnownBytes.{Consumes, IsAtEnd, Keeps, prepend_known}
-use Rattle.std.proofs.KnownBytes.{Consumes-nil, Consumes-trans, Consumes-kept}
+use Rattle.std.specs.Io.KnownBytes.{Appends, Consumes, IsAtEnd, Keeps, prepend_known}
+use Rattle.std.proofs.KnownBytes.{Appends-trans, Consumes-trans, Consumes-kept}
 use Rattle.cm_io.specs.declared.lines.Next.{Next}
 use Rattle.cm_io.specs.declared.lines.Next.TheVariants as next
-use Rattle.cm_io.specs.Lines.{IsUnbroken, IsFirstLine, Grows, TakesPart, TakesLine, Tells, lines, in_front}
+use Rattle.cm_io.specs.Outside.{AsSource}
+use Rattle.cm_io.specs.Lines.{EndsOnce, IsUnbroken, IsFirstLine, Grows, Moves, Reader, TakesPart, TakesLine, Tells, lines, in_front}
 
 abbrev ends_line : ℕ → Bool
 ends_line byte = byte == 10
@@ -75,6 +77,10 @@ takes-None xs start end old new e grows =
     let none : end - end ≡ 0 = omega arith in
     (unbroken-None (held_of xs start end) e, ap (λ (n : ℕ). take n (drop end xs)) none, grows)
 
+-- unbroken bytes hold no line end
+pub unheld : (held : List ℕ) → IsUnbroken held → Contains held 10 → ⊥
+unheld held unbroken (k, lt, e) = unbroken k 10 lt e
+
 -- ---- the lines of all bytes
 
 -- a byte that ends no line goes in front of the first line
@@ -116,11 +122,19 @@ lines-last (byte ∷ next ∷ line) h lt =
 abbrev pub Carries : List ℕ → List ℕ → Type 0
 Carries line gone = (line ≡ gone) ⊎ ((65536 < length line) × (65536 < length gone))
 
+-- bytes that are put behind others, and then kept
+appends-kept : (a b c : Option (List ℕ)) (bs : List ℕ) → Appends a b bs → Keeps b c → Appends a c bs
+appends-kept None b c bs grown kept = tt
+appends-kept (Some x) None c bs grown kept = absurd grown
+appends-kept (Some x) (Some y) None bs grown kept = absurd kept
+appends-kept (Some x) (Some y) (Some z) bs grown kept = kept ∙ grown
+
 -- what a call has passed over so far: `gone`, of the `held` bytes and of those that the source gave
-pub record Passed (old now : Option (List ℕ)) (held kept line : List ℕ) : Type 0 where
+pub record Passed (old now : AsSource) (over : Bool) (held kept line : List ℕ) : Type 0 where
   pub given : List ℕ
   pub gone : List ℕ
-  pub gave : Consumes old now given
+  pub gave : Moves old now given
+  pub still : over ≡ true → (given ≡ []) × (now ≡ old)
   pub moved : held ++ given ≡ gone ++ kept
   pub unbroken : IsUnbroken gone
   pub carried : Carries line gone
@@ -134,50 +148,50 @@ Carries-grown line next gone part grows (inl e) =
 Carries-grown line next gone part grows (inr h) =
     inr (omega (arith, h.0, ap length (grows.1 h.0)), omega (arith, h.1, length-append gone part))
 
-pub passed-none : (left : Option (List ℕ)) (held : List ℕ) → Passed left left held held []
-passed-none left held = record {
-  given = [];
-  gone = [];
-  gave = Consumes-nil left;
-  moved = append-nil held;
-  unbroken = λ k d lt. absurd (omega arith);
-  carried = inl refl;
-}
-
 -- no line end stands in what was held, and then the source gave `more`
-pub passed-filled : (old now then : Option (List ℕ)) (held kept line next more : List ℕ) → Passed old now held kept line → IsUnbroken kept → Grows line next kept
-    → Consumes now then more → Passed old then held more next
-passed-filled old now then held kept line next more p unbroken grows gave = record {
+pub passed-filled : (old now then : AsSource) (over : Bool) (held kept line next more : List ℕ) → over ≡ false → Passed old now over held kept line → IsUnbroken kept → Grows line next kept
+    → Moves now then more → Passed old then over held more next
+passed-filled old now then over held kept line next more not p unbroken grows gave = record {
   given = p.given ++ more;
   gone = p.gone ++ kept;
-  gave = Consumes-trans old now then p.given more p.gave gave;
+  gave = (Consumes-trans old.left now.left then.left p.given more p.gave.0 gave.0, Appends-trans old.given now.given then.given p.given more p.gave.1 gave.1);
+  still = λ e. absurd (true≢false (sym e ∙ not));
   moved = sym (append_assoc held p.given more) ∙ ap (λ (l : List ℕ). l ++ more) p.moved;
   unbroken = All-append (λ b. b ≢ 10) p.gone kept p.unbroken unbroken;
   carried = Carries-grown line next p.gone kept grows p.carried;
 }
 
 -- what a call may tell, with the bytes that the source gave in it
-abbrev pub Told : Option (List ℕ) → Option (List ℕ) → List ℕ → List ℕ → Next → Type 0
-Told old now held kept answer = (given : List ℕ) × Consumes old now given × Tells (held ++ given) kept now answer
+abbrev pub Told : AsSource → AsSource → Reader → Reader → Next → Type 0
+Told old now before after answer = (given : List ℕ) × Moves old now given × EndsOnce before after old now given × Tells (before.held ++ given) after answer
 
-tells-line : (taken kept : List ℕ) (left : Option (List ℕ)) (line gone : List ℕ) (answer : Next) → Carries line gone → IsFirstLine taken kept left gone
-    → (length line ≤ 65536 → answer ≡ next.Line line) → (65536 < length line → answer ≡ next.TooLong) → Tells taken kept left answer
-tells-line taken kept left line gone answer (inl e) first short long =
+tells-line : (taken : List ℕ) (after : Reader) (line gone : List ℕ) (answer : Next) → Carries line gone → IsFirstLine taken after gone
+    → (length line ≤ 65536 → answer ≡ next.Line line) → (65536 < length line → answer ≡ next.TooLong) → Tells taken after answer
+tells-line taken after line gone answer (inl e) first short long =
     elim (leb_tells (length line) 65536) [
-      | inl h ↦ subst (Tells taken kept left) (sym (short h.1)) (h.1, subst (IsFirstLine taken kept left) (sym e) first)
-      | inr h ↦ subst (Tells taken kept left) (sym (long h.1)) (gone, omega (arith, h.1, ap length e), first)
+      | inl h ↦ subst (Tells taken after) (sym (short h.1)) (h.1, subst (IsFirstLine taken after) (sym e) first)
+      | inr h ↦ subst (Tells taken after) (sym (long h.1)) (gone, omega (arith, h.1, ap length e), first)
     ]
-tells-line taken kept left line gone answer (inr h) first short long = subst (Tells taken kept left) (sym (long h.0)) (gone, h.1, first)
+tells-line taken after line gone answer (inr h) first short long = subst (Tells taken after) (sym (long h.0)) (gone, h.1, first)
 
-pub told-whole : (old now : Option (List ℕ)) (held kept rest line grown : List ℕ) (answer : Next) → Passed old now held kept line → TakesPart kept rest line grown true
-    → (length grown ≤ 65536 → answer ≡ next.Line grown) → (65536 < length grown → answer ≡ next.TooLong) → Told old now held rest answer
-told-whole old now held kept rest line grown answer p (part, unbroken, parted, grows) short long =
+-- a call that leaves the reader as far as it was
+same-end : (before after : Reader) (old now : AsSource) (given : List ℕ) → after.over ≡ before.over → (before.over ≡ true → (given ≡ []) × (now ≡ old)) → EndsOnce before after old now given
+same-end before after old now given e still = record {
+  still = λ over. ((still over).0, e ∙ over, (still over).1);
+  comes = λ not there. absurd (true≢false (sym there ∙ e ∙ not));
+}
+
+pub told-whole : (old now : AsSource) (before after : Reader) (kept line grown : List ℕ) (answer : Next) → after.over ≡ before.over
+    → Passed old now before.over before.held kept line → TakesPart kept after.held line grown true
+    → (length grown ≤ 65536 → answer ≡ next.Line grown) → (65536 < length grown → answer ≡ next.TooLong) → Told old now before after answer
+told-whole old now before after kept line grown answer e p (part, unbroken, parted, grows) short long =
     let gone = p.gone ++ part in
-    let moved : held ++ p.given ≡ gone ++ 10 ∷ rest =
-    p.moved ∙ ap (λ (l : List ℕ). p.gone ++ l) parted ∙ sym (append_assoc p.gone part (10 ∷ rest)) in (
+    let moved : before.held ++ p.given ≡ gone ++ 10 ∷ after.held =
+    p.moved ∙ ap (λ (l : List ℕ). p.gone ++ l) parted ∙ sym (append_assoc p.gone part (10 ∷ after.held)) in (
       p.given,
       p.gave,
-      tells-line (held ++ p.given) rest now grown gone answer (Carries-grown line grown p.gone part grows p.carried)
+      same-end before after old now p.given e p.still,
+      tells-line (before.held ++ p.given) after grown gone answer (Carries-grown line grown p.gone part grows p.carried)
           (All-append (λ b. b ≢ 10) p.gone part p.unbroken unbroken, inl moved) short long,
     )
 
@@ -191,53 +205,72 @@ some : (line gone : List ℕ) → Carries line gone → 0 < length line → 0 < 
 some line gone (inl e) h = omega (arith, ap length e)
 some line gone (inr c) h = omega (arith, c.1)
 
-pub told-last : (old now then : Option (List ℕ)) (held kept rest line grown : List ℕ) (answer : Next) → Passed old now held kept line → TakesPart kept rest line grown false
-    → Keeps now then → IsAtEnd then → (length grown ≡ 0 → answer ≡ next.End) → (0 < length grown → length grown ≤ 65536 → answer ≡ next.Line grown)
-    → (65536 < length grown → answer ≡ next.TooLong) → Told old then held [] answer
-told-last old now then held kept rest line grown answer p (unbroken, none, grows) keeps end empty short long =
+-- the source is at its end, or was before: all that was held is the last line, if it isn't empty
+pub told-last : (old then : AsSource) (before after : Reader) (kept line grown : List ℕ) (answer : Next) → after.held ≡ [] → after.over ≡ true
+    → (before.over ≡ false → IsAtEnd then.left) → Passed old then before.over before.held kept line → TakesPart kept [] line grown false
+    → (length grown ≡ 0 → answer ≡ next.End) → (0 < length grown → length grown ≤ 65536 → answer ≡ next.Line grown)
+    → (65536 < length grown → answer ≡ next.TooLong) → Told old then before after answer
+told-last old then before after kept line grown answer held over end p (unbroken, none, grows) empty short long =
     let gone = p.gone ++ kept in
     let carried = Carries-grown line grown p.gone kept grows p.carried in
     let all = All-append (λ b. b ≢ 10) p.gone kept p.unbroken unbroken in (
       p.given,
-      Consumes-kept old now then p.given p.gave keeps,
+      p.gave,
+      record { still = λ was. ((p.still was).0, over, (p.still was).1); comes = λ not there. end not },
       elim (leb_tells (length grown) 0) [
-        | inl h ↦ subst (Tells (held ++ p.given) [] then) (sym (empty (omega (arith, h.1)))) (p.moved ∙ nothing grown gone carried h.1, refl, end)
-        | inr h ↦ tells-line (held ++ p.given) [] then grown gone answer carried (all, inr (p.moved, some grown gone carried h.1, refl, end)) (short h.1) long
+        | inl h ↦ subst (Tells (before.held ++ p.given) after) (sym (empty (omega (arith, h.1)))) (p.moved ∙ nothing grown gone carried h.1, held, over)
+        | inr h ↦ tells-line (before.held ++ p.given) after grown gone answer carried (all, inr (p.moved, some grown gone carried h.1, held, over)) (short h.1) long
       ],
     )
 
-pub told-fault : (old now then : Option (List ℕ)) (held kept rest line grown : List ℕ) → Passed old now held kept line → TakesPart kept rest line grown false
-    → Keeps now then → Told old then held [] next.ReadFault
-told-fault old now then held kept rest line grown p (unbroken, none, grows) keeps = (
+-- a read that kept the source's bytes gave none
+pub passed-kept : (old now then : AsSource) (over : Bool) (held kept line : List ℕ) → over ≡ false → Passed old now over held kept line
+    → Keeps now.left then.left → Keeps now.given then.given → Passed old then over held kept line
+passed-kept old now then over held kept line not p left given = record {
+  given = p.given;
+  gone = p.gone;
+  gave = (Consumes-kept old.left now.left then.left p.given p.gave.0 left, appends-kept old.given now.given then.given p.given p.gave.1 given);
+  still = λ e. absurd (true≢false (sym e ∙ not));
+  moved = p.moved;
+  unbroken = p.unbroken;
+  carried = p.carried;
+}
+
+pub told-fault : (old then : AsSource) (before after : Reader) (kept line grown : List ℕ) → after.held ≡ [] → after.over ≡ before.over
+    → Passed old then before.over before.held kept line → TakesPart kept [] line grown false → Told old then before after next.ReadFault
+told-fault old then before after kept line grown held over p (unbroken, none, grows) = (
   p.given,
-  Consumes-kept old now then p.given p.gave keeps,
-  (subst IsUnbroken (sym p.moved) (All-append (λ b. b ≢ 10) p.gone kept p.unbroken unbroken), refl),
+  p.gave,
+  same-end before after old then p.given over p.still,
+  (subst IsUnbroken (sym p.moved) (All-append (λ b. b ≢ 10) p.gone kept p.unbroken unbroken), held),
 )
 
-pub told-memory : (old now : Option (List ℕ)) (held kept rest line : List ℕ) → Passed old now held kept line → Told old now held rest next.Memory
-told-memory old now held kept rest line p = (p.given, p.gave, tt)
-
-first-lines : (taken kept left line : List ℕ) → IsFirstLine taken kept (Some left) line → lines (taken ++ left) ≡ line ∷ lines (kept ++ left)
-first-lines taken kept left line (unbroken, inl e) =
-    ap lines (ap (λ (l : List ℕ). l ++ left) e ∙ append_assoc line (10 ∷ kept) left) ∙ lines-first line (kept ++ left) unbroken
-first-lines taken kept left line (unbroken, inr (e, some, none, end)) =
-    let whole : taken ++ left ≡ line = ap (λ (l : List ℕ). taken ++ l) end ∙ append-nil taken ∙ e in
-    let rest : kept ++ left ≡ [] = ap (λ (l : List ℕ). l ++ left) none ∙ end in
+first-lines : (taken left : List ℕ) (after : Reader) (line : List ℕ) → (after.over ≡ true → left ≡ []) → IsFirstLine taken after line
+    → lines (taken ++ left) ≡ line ∷ lines (after.held ++ left)
+first-lines taken left after line end (unbroken, inl e) =
+    ap lines (ap (λ (l : List ℕ). l ++ left) e ∙ append_assoc line (10 ∷ after.held) left) ∙ lines-first line (after.held ++ left) unbroken
+first-lines taken left after line end (unbroken, inr (e, some, none, over)) =
+    let whole : taken ++ left ≡ line = ap (λ (l : List ℕ). taken ++ l) (end over) ∙ append-nil taken ∙ e in
+    let rest : after.held ++ left ≡ [] = ap (λ (l : List ℕ). l ++ left) none ∙ end over in
     ap lines whole ∙ lines-last line unbroken some ∙ ap (λ (ls : List (List ℕ)). line ∷ ls) (sym (ap lines rest ∙ lines-nil))
 
-takes-known : (held o given n kept : List ℕ) (answer : Next) → held ++ o ≡ (held ++ given) ++ n → Tells (held ++ given) kept (Some n) answer
-    → TakesLine (Some (held ++ o)) (Some (kept ++ n)) answer
-takes-known held o given n kept (next.Line line) e tells = (ap lines e ∙ first-lines (held ++ given) kept n line tells.1, tells.0)
-takes-known held o given n kept next.TooLong e tells = (tells.0, ap lines e ∙ first-lines (held ++ given) kept n tells.0 tells.2, tells.1)
-takes-known held o given n kept next.End e tells =
-    (e ∙ ap (λ (l : List ℕ). l ++ n) tells.0 ∙ tells.2, ap (λ (l : List ℕ). l ++ n) tells.1 ∙ tells.2)
-takes-known held o given n kept next.ReadFault e tells = tt
-takes-known held o given n kept next.Memory e tells = tt
+takes-known : (held o given n : List ℕ) (after : Reader) (answer : Next) → (after.over ≡ true → n ≡ []) → held ++ o ≡ (held ++ given) ++ n → Tells (held ++ given) after answer
+    → TakesLine (Some (held ++ o)) (Some (after.held ++ n)) answer
+takes-known held o given n after (next.Line line) end e tells = (ap lines e ∙ first-lines (held ++ given) n after line end tells.1, tells.0)
+takes-known held o given n after next.TooLong end e tells = (tells.0, ap lines e ∙ first-lines (held ++ given) n after tells.0 end tells.2, tells.1)
+takes-known held o given n after next.End end e tells =
+    (e ∙ ap (λ (l : List ℕ). l ++ n) tells.0 ∙ end tells.2, ap (λ (l : List ℕ). l ++ n) tells.1 ∙ end tells.2)
+takes-known held o given n after next.ReadFault end e tells = tt
+takes-known held o given n after next.Memory end e tells = tt
+
+takes-of : (old now : Option (List ℕ)) (before after : Reader) (answer : Next) (given : List ℕ) → Consumes old now given
+    → (after.over ≡ true → IsAtEnd now) → Tells (before.held ++ given) after answer → TakesLine (prepend_known before.held old) (prepend_known after.held now) answer
+takes-of None now before after answer given gave ends tells = tt
+takes-of (Some o) None before after answer given gave ends tells = absurd gave
+takes-of (Some o) (Some n) before after answer given gave ends tells =
+    takes-known before.held o given n after answer ends (ap (λ (l : List ℕ). before.held ++ l) gave ∙ sym (append_assoc before.held given n)) tells
 
 -- where the bytes that the source has left are known, the call took the first of their lines
-pub takes-line : (old now : Option (List ℕ)) (held kept : List ℕ) (answer : Next) → Told old now held kept answer
-    → TakesLine (prepend_known held old) (prepend_known kept now) answer
-takes-line None now held kept answer told = tt
-takes-line (Some o) None held kept answer told = absurd told.1
-takes-line (Some o) (Some n) held kept answer (given, gave, tells) =
-    takes-known held o given n kept answer (ap (λ (l : List ℕ). held ++ l) gave ∙ sym (append_assoc held given n)) tells
+pub takes-line : (old now : AsSource) (before after : Reader) (answer : Next) → Told old now before after answer → before.over ≡ false
+    → TakesLine (prepend_known before.held old.left) (prepend_known after.held now.left) answer
+takes-line old now before after answer (given, gave, ends, tells) not = takes-of old.left now.left before after answer given gave.0 (ends.comes not) tells

@@ -23,8 +23,9 @@ unused piece failing = record { piece = piece; failing = failing; calls = 0; fau
 abbrev pub after_call : Bool → PlanAtWork → PlanAtWork
 after_call failed plan = record plan { calls = one_more plan.calls; faults = count_after failed plan.faults }
 
--- a source: the bytes that are left
+-- a source: the bytes that it gave, and those that are left
 pub record SourceInMemory : Type 0 where
+  pub given : List ℕ
   pub left : List ℕ
   pub plan : PlanAtWork
 
@@ -34,7 +35,6 @@ pub record SinkInMemory : Type 0 where
   pub capacity : ℕ
   pub plan : PlanAtWork
 
--- this number, where no call is planned to fail, and else 0
 abbrev pub if_quiet : List ℕ → ℕ → ℕ
 if_quiet [] room = room
 if_quiet (call ∷ failing) room = 0

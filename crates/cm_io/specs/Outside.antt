@@ -1,5 +1,5 @@
 -- What the calls on the outside say: how the bytes moved, and that a failure is counted.
-use Rattle.std.specs.Prelude.{◌≡◌, ℕ, ◌<◌, ◌≤◌, Bool, true, false, List, length, take, Option}
+use Rattle.std.specs.Prelude.{◌≡◌, ℕ, ◌<◌, ◌≤◌, Bool, true, false, List, length, take, Option, None}
 use Rattle.std.specs.Io.KnownBytes.{Appends, Consumes, IsAtEnd, Keeps}
 use Rattle.cm_io.specs.Counts.{one_more}
 use Rattle.cm_io.specs.declared.source.Got.{Got}
@@ -23,6 +23,32 @@ Reads old new into got.Failed = Keeps old new
 abbrev pub Writes : Option (List ℕ) → Option (List ℕ) → List ℕ → Took → Type 0
 Writes old new bytes (took.Bytes n) = (0 < n) × (n ≤ length bytes) × Appends old new (take n bytes)
 Writes old new bytes took.Failed = Keeps old new
+
+-- what a read does to the bytes that the source gave so far, where those are told
+abbrev pub Gave : Option (List ℕ) → Option (List ℕ) → List ℕ → Got → Type 0
+Gave old new into (got.Bytes n) = Appends old new (take n into)
+Gave old new into got.End = Keeps old new
+Gave old new into got.Failed = Keeps old new
+
+-- what an object tells as a source: the bytes that are left, those that it gave so far, and how
+-- often it failed
+pub record AsSource : Type 0 where
+  pub left : Option (List ℕ)
+  pub given : Option (List ℕ)
+  pub faults : ℕ
+
+-- what an object tells as a sink: the bytes that were written, and how often it failed
+pub record AsSink : Type 0 where
+  pub written : Option (List ℕ)
+  pub faults : ℕ
+
+-- what an object tells as a source that is none
+abbrev pub no_source : AsSource
+no_source = record { left = None; given = None; faults = 0 }
+
+-- what an object tells as a sink that is none
+abbrev pub no_sink : AsSink
+no_sink = record { written = None; faults = 0 }
 
 -- whether a read failed
 abbrev pub read_failed : Got → Bool

@@ -1,10 +1,11 @@
 //! Lines out of a source.
 
-ghost use Rattle.cm_io.specs.Lines.{Fills, Grows, TakesLine, TakesPart, Tells};
-ghost use Rattle.cm_io.specs.Outside.{ReadCause, Rose};
-ghost use Rattle.std.specs.Io.KnownBytes.{Consumes, prepend_known};
+ghost use Rattle.cm_io.specs.Lines.{EndsOnce, Fills, Gains, Grows, Moves, TakesLine, TakesPart, Tells};
+ghost use Rattle.cm_io.specs.Outside.{AsSource, ReadCause, Rose};
+ghost use Rattle.std.specs.Io.KnownBytes.{prepend_known};
 ghost use Rattle.std.specs.List.{position};
-ghost use Rattle.std.specs.Prelude.{◌≡◌, ◌≢◌, ◌==◌, ◌<◌, ◌≤◌, ◌++◌, ℕ, List as Seq, [], length, IfOk, OnOk};
+ghost use Rattle.std.specs.Prelude.{◌≡◌, ◌≢◌, ◌==◌, ◌<◌, ◌≤◌, ◌++◌, ℕ, List as Seq, [], length, false};
+ghost use Rattle.std.specs.Prelude.{true, Contains, IfOk, OnOk};
 
 use crate::input::make_piece;
 use crate::{Got, Source};
@@ -37,32 +38,38 @@ pub enum Next {
 
 /// Takes one line after another out of a source, however the source cuts its bytes into pieces.
 ///
-/// Contracts see it as the list of the bytes that it holds: the source gave them, and they belong
-/// to no line told so far. They are those of `piece` from `start` up to `end`. Each byte is looked
-/// at once and copied once, so the time grows with the number of bytes and reads alone.
+/// Contracts see the bytes that it holds: the source gave them, and they belong to no line told so
+/// far. They are those of `piece` from `start` up to `end`. And they see whether the source came to
+/// its end: behind that it isn't read again. Each byte is looked at once and copied once, so the
+/// time grows with the number of bytes and reads alone.
 #[derive(Drop)]
 pub struct LineReader {
     alloc: Global,
     piece: Vec<u8>,
     start: usize,
     end: usize,
+    over: bool,
 }
 
 impl Model for LineReader {
-    ghost use Rattle.std.specs.Prelude.{ℕ, List as Seq, ◌≡◌, ◌-◌, ◌≤◌, take, drop, length};
+    ghost use Rattle.std.specs.Prelude.{◌≡◌, ◌-◌, ◌≤◌, take, drop, length};
+    ghost use Rattle.cm_io.specs.Lines.{Reader};
 
-    ghost Value = { Seq ℕ };
+    ghost Value = { Reader };
 
-    ghost view = { λ r. take (r.end - r.start) (drop r.start r.piece.items) };
+    ghost view = { λ r. record {
+      held = take (r.end - r.start) (drop r.start r.piece.items);
+      over = r.over;
+    } };
 
-    ghost invariant = { λ r. (r.start ≤ r.end) × (r.end ≤ length r.piece.items)
-        × (length r.piece.items ≡ 65536) };
+    ghost invariant = { λ r. (r.start ≤ r.end) × (r.end ≤ length r.piece.items) ×
+        (length r.piece.items ≡ 65536) };
 }
 
 impl LineReader {
     /// A reader that holds nothing. It takes 65,536 bytes; `Memory` where memory ran out.
     pub fn new(alloc: Global) -> Result<LineReader, Memory>
-        ensures { IfOk result (λ reader. reader ≡ []) }
+        ensures { IfOk result (λ reader. reader ≡ record { held = []; over = false }) }
     {
         let piece = make_piece(alloc)?;
         Ok(LineReader {
@@ -70,10 +77,12 @@ impl LineReader {
             piece,
             start: 0,
             end: 0,
+            over: false,
         })
     }
 
     /// Takes the next line. The byte 0x0A ends each line; a last line without it counts where it isn't empty.
+    /// A whole line that is held is told without a read, and so is what is held behind the source's end.
     ///
     /// It is `TooLong` exactly where the next line has more than 65,536 bytes, and the next call
     /// goes on behind that line. It is `End` exactly where no byte is left. `ReadFault` comes only
@@ -81,14 +90,27 @@ impl LineReader {
     /// taken so far, and never from a quiet source; `Memory` only where memory ran out. After these
     /// two a part of a line is lost, so make no further call.
     pub fn next<R: Threads + Wait + Sync, S: Source>(&mut self, rt: &R, source: &mut S) -> Next
-        ensures told { (given : Seq ℕ) × Consumes (S.left source.old) (S.left source.new) given
-            × Tells (self.old ++ given) self.new (S.left source.new) result }
-        ensures lines { TakesLine (prepend_known self.old (S.left source.old))
-            (prepend_known self.new (S.left source.new)) result }
+        ensures told { let old : AsSource = record {
+          left = S.left source.old;
+          given = S.given source.old;
+          faults = S.faults source.old;
+        } in
+            let new : AsSource = record {
+              left = S.left source.new;
+              given = S.given source.new;
+              faults = S.faults source.new;
+            } in
+            (given : Seq ℕ) × Moves old new given × EndsOnce self.old self.new old new given
+            × Tells (self.old.held ++ given) self.new result }
+        ensures lines { self.old.over ≡ false → TakesLine (prepend_known self.old.held (S.left source.old))
+            (prepend_known self.new.held (S.left source.new)) result }
+        ensures ready { Contains self.old.held 10 → source.new ≡ source.old }
+        ensures over { self.old.over ≡ true → source.new ≡ source.old }
+        ensures beside { S.beside source.new ≡ S.beside source.old }
         ensures later { S.faults source.old ≤ S.faults source.new }
         ensures fault { result ≡ Next.ReadFault → Rose (S.faults source.old) (S.faults source.new) }
-        ensures quiet { S.quiet source.old
-            → S.quiet source.new × (S.faults source.new ≡ S.faults source.old) }
+        ensures quiet { S.quiet source.old →
+            S.quiet source.new × (S.faults source.new ≡ S.faults source.old) }
         ensures unfailing { S.quiet source.old → result ≢ Next.ReadFault }
     {
         let mut line = Vec::new(self.alloc);
@@ -97,6 +119,9 @@ impl LineReader {
                 Ok(true) => return whole_line(line),
                 Ok(false) => {}
                 Err(_) => return Next::Memory,
+            }
+            if self.over {
+                return last_line(line);
             }
             match self.fill(rt, source) {
                 Got::Bytes(_) => {}
@@ -107,10 +132,14 @@ impl LineReader {
         unreachable!()
     }
 
-    /// Reads the next piece, where nothing is held.
+    /// Reads the next piece, where nothing is held and the source isn't over.
     fn fill<R: Threads + Wait + Sync, S: Source>(&mut self, rt: &R, source: &mut S) -> Got
-        requires { self.old ≡ [] }
-        ensures bytes { Fills (S.left source.old) (S.left source.new) self.new result }
+        requires { self.old.held ≡ [] }
+        ensures bytes { Fills (S.left source.old) (S.left source.new) self.new.held result }
+        ensures gave { Gains (S.given source.old) (S.given source.new) self.new.held result }
+        ensures over { result ≢ Got.End → self.new.over ≡ self.old.over }
+        ensures ended { result ≡ Got.End → self.new.over ≡ true }
+        ensures beside { S.beside source.new ≡ S.beside source.old }
         ensures cause { ReadCause (S.faults source.old) (S.faults source.new) result }
         ensures quiet { S.quiet source.old → S.quiet source.new × (result ≢ Got.Failed) }
     {
@@ -119,13 +148,18 @@ impl LineReader {
             self.start = 0;
             self.end = count;
         }
+        if let Got::End = got {
+            self.over = true;
+        }
         got
     }
 
     /// Moves what is held to the end of `line`, up to the next line end, and passes over that.
     /// Tells whether there is one.
     fn take_part(&mut self, line: &mut Vec<u8>) -> Result<bool, AllocError>
-        ensures { IfOk result (λ ended. TakesPart self.old self.new line.old.items line.new.items ended) }
+        ensures part { IfOk result (λ ended.
+            TakesPart self.old.held self.new.held line.old.items line.new.items ended) }
+        ensures over { self.new.over ≡ self.old.over }
     {
         let held = &self.piece[self.start..self.end];
         match first_line_end(held) {

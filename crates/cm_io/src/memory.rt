@@ -2,10 +2,10 @@
 
 ghost use Rattle.cm_io.specs.Counts.{count_after, one_more};
 ghost use Rattle.cm_io.specs.InMemory.{after_call, most_of, sure_room, unused};
-ghost use Rattle.cm_io.specs.Outside.{ReadCause, Reads, TookAnd, WriteCause, Writes, read_failed};
+ghost use Rattle.cm_io.specs.Outside.{Gave, ReadCause, Reads, TookAnd, WriteCause, Writes, read_failed};
 ghost use Rattle.cm_io.specs.Outside.{write_failed};
-ghost use Rattle.std.specs.Prelude.{IsTrue, ◌≡◌, ◌≢◌, ◌↔◌, ◌⊎◌, ◌<◌, ℕ, Some, [], ◌≤◌, ◌+◌, ◌-◌, ◌^◌, length};
-ghost use Rattle.std.specs.Prelude.{min, max, Contains, IfOk};
+ghost use Rattle.std.specs.Prelude.{IsTrue, ◌≡◌, ◌≢◌, ◌↔◌, ◌⊎◌, ◌<◌, ℕ, Some, [], ◌≤◌, ◌+◌, ◌-◌, ◌^◌};
+ghost use Rattle.std.specs.Prelude.{length, min, max, Contains, IfOk};
 
 use crate::{Got, Sink, Source, Took};
 use cm_names::{Bytes, List, Memory};
@@ -43,15 +43,15 @@ fn is_among(calls: &[u64], call: u64) -> bool
 
 /// A plan at work: how many calls were made, and how many faults were counted.
 #[derive(Drop)]
-struct Planned {
+pub(crate) struct Planned {
     piece: usize,
     failing: List<u64>,
     calls: u64,
-    faults: u64,
+    pub(crate) faults: u64,
 }
 
 impl Planned {
-    fn new(plan: Plan) -> Planned
+    pub(crate) fn new(plan: Plan) -> Planned
         ensures { result ≡ record { piece = plan.piece; failing = plan.failing; calls = 0; faults = 0 } }
     {
         let Plan { piece, failing } = plan;
@@ -70,7 +70,7 @@ impl Planned {
         self.piece.max(1)
     }
 
-    fn count_fault(&mut self)
+    pub(crate) fn count_fault(&mut self)
         ensures later { self.old.faults ≤ self.new.faults }
         ensures count { self.new ≡ record self.old { faults = one_more self.old.faults } }
     {
@@ -78,7 +78,7 @@ impl Planned {
     }
 
     /// Counts the call that now begins. Tells whether it fails; if so, the fault is counted.
-    fn fails(&mut self) -> bool
+    pub(crate) fn fails(&mut self) -> bool
         ensures planned { IsTrue result ↔ Contains self.old.failing self.old.calls }
         ensures later { self.old.faults ≤ self.new.faults }
         ensures call { self.new ≡ record self.old {
@@ -97,7 +97,7 @@ impl Planned {
 
 /// A source that gives the bytes of a list.
 ///
-/// Contracts see the bytes that are left, and the plan at work.
+/// Contracts see the bytes that it gave, those that are left, and the plan at work.
 #[derive(Drop)]
 pub struct MemorySource {
     bytes: Vec<u8>,
@@ -106,12 +106,13 @@ pub struct MemorySource {
 }
 
 impl Model for MemorySource {
-    ghost use Rattle.std.specs.Prelude.{◌≤◌, drop, length};
+    ghost use Rattle.std.specs.Prelude.{◌≤◌, drop, length, take};
     ghost use Rattle.cm_io.specs.InMemory.{SourceInMemory};
 
     ghost Value = { SourceInMemory };
 
     ghost view = { λ s. record {
+      given = take s.given s.bytes.items;
       left = drop s.given s.bytes.items;
       plan = record {
         piece = s.planned.piece;
@@ -127,7 +128,7 @@ impl Model for MemorySource {
 impl MemorySource {
     /// A source of these bytes, which has not been read yet.
     pub fn new(bytes: Bytes, plan: Plan) -> MemorySource
-        ensures { result ≡ record { left = bytes; plan = unused plan.piece plan.failing } }
+        ensures { result ≡ record { given = []; left = bytes; plan = unused plan.piece plan.failing } }
     {
         MemorySource {
             bytes: bytes.into_vec(),
@@ -139,8 +140,13 @@ impl MemorySource {
 
 impl Source for MemorySource {
     ghost use Rattle.std.specs.Prelude.{◌≡◌, Some, []};
+    ghost use Rattle.cm_io.specs.Outside.{no_sink};
 
     ghost left = { λ s. Some s.left };
+
+    ghost given = { λ s. Some s.given };
+
+    ghost beside = { λ _. no_sink };
 
     ghost faults = { λ s. s.plan.faults };
 
@@ -149,6 +155,8 @@ impl Source for MemorySource {
     fn read<R: Threads + Wait + Sync>(&mut self, _rt: &R, into: &mut [u8]) -> Got
         requires { 0 < length into.old }
         ensures bytes { Reads (Some self.old.left) (Some self.new.left) into.new result }
+        ensures gave { Gave (Some self.old.given) (Some self.new.given) into.new result }
+        ensures beside { no_sink ≡ no_sink }
         ensures cause { ReadCause self.old.plan.faults self.new.plan.faults result }
         ensures quiet { self.old.plan.failing ≡ [] → (self.new.plan.failing ≡ []) × (result ≢ Got.Failed) }
         ensures failed { (result ≡ Got.Failed) ↔ Contains self.old.plan.failing self.old.plan.calls }
@@ -233,6 +241,7 @@ impl MemorySink {
 impl Sink for MemorySink {
     ghost use Rattle.std.specs.Prelude.{Some};
     ghost use Rattle.cm_io.specs.InMemory.{sure_room};
+    ghost use Rattle.cm_io.specs.Outside.{no_source};
 
     ghost written = { λ s. Some s.written };
 
@@ -240,12 +249,15 @@ impl Sink for MemorySink {
 
     ghost room = { sure_room };
 
+    ghost beside = { λ _. no_source };
+
     fn write<R: Threads + Wait + Sync>(&mut self, _rt: &R, bytes: &[u8]) -> Took
         requires { 0 < length bytes.now }
         ensures bytes { Writes (Some self.old.written) (Some self.new.written) bytes.now result }
+        ensures beside { no_source ≡ no_source }
         ensures cause { WriteCause self.old.plan.faults self.new.plan.faults result }
-        ensures room { length bytes.now ≤ sure_room self.old
-            → TookAnd result (λ n. sure_room self.old ≤ n + sure_room self.new) }
+        ensures room { length bytes.now ≤ sure_room self.old →
+            TookAnd result (λ n. sure_room self.old ≤ n + sure_room self.new) }
         ensures planned { Contains self.old.plan.failing self.old.plan.calls → result ≡ Took.Failed }
         ensures memory { result ≡ Took.Failed → Contains self.old.plan.failing self.old.plan.calls
             ⊎ (self.old.capacity < length self.old.written + min (length bytes.now) (most_of self.old.plan)) }

@@ -22,6 +22,7 @@ pub enum Put {
 /// room for the bytes.
 pub fn put_all<R: Threads + Wait + Sync, K: Sink>(rt: &R, sink: &mut K, bytes: &[u8]) -> Put
     ensures bytes { PutsAll (K.written sink.old) (K.written sink.new) bytes.now result }
+    ensures beside { K.beside sink.new ≡ K.beside sink.old }
     ensures cause { PutCause (K.faults sink.old) (K.faults sink.new) result }
     ensures room { length bytes.now ≤ K.room sink.old → K.room sink.old ≤ length bytes.now + K.room sink.new }
     ensures unfailing { length bytes.now ≤ K.room sink.old → result ≡ Put.Done }

@@ -1,6 +1,6 @@
 //! Where bytes go.
 
-ghost use Rattle.std.specs.Prelude.{◌<◌, ◌≤◌, ◌+◌, length};
+ghost use Rattle.std.specs.Prelude.{◌≡◌, ◌<◌, ◌≤◌, ◌+◌, length};
 ghost use Rattle.cm_io.specs.Outside.{TookAnd, WriteCause, Writes};
 
 use std::sync::Wait;
@@ -18,6 +18,7 @@ pub enum Took {
 /// Where bytes go. A sink counts its faults, from 0 to 2^64 - 1, where the count stays.
 pub trait Sink: Drop {
     ghost use Rattle.std.specs.Prelude.{ℕ, List, Option};
+    ghost use Rattle.cm_io.specs.Outside.{AsSource};
 
     /// The bytes that were written, where they are known.
     ghost written: { Self → Option (List ℕ) };
@@ -28,6 +29,9 @@ pub trait Sink: Drop {
     /// How many more bytes it is sure to take without failing; 0 where that isn't known.
     ghost room: { Self → ℕ };
 
+    /// What it tells as a source, where it is one as well: no write changes that.
+    ghost beside: { Self → AsSource };
+
     /// Writes bytes from the front of the piece, as many as are taken at once.
     ///
     /// `Failed` comes only where the sink failed: then its count of faults rises by one, and
@@ -36,7 +40,8 @@ pub trait Sink: Drop {
     fn write<R: Threads + Wait + Sync>(&mut self, rt: &R, bytes: &[u8]) -> Took
         requires { 0 < length bytes.now }
         ensures bytes { Writes (written self.old) (written self.new) bytes.now result }
+        ensures beside { beside self.new ≡ beside self.old }
         ensures cause { WriteCause (faults self.old) (faults self.new) result }
-        ensures room { length bytes.now ≤ room self.old
-            → TookAnd result (λ n. room self.old ≤ n + room self.new) };
+        ensures room { length bytes.now ≤ room self.old →
+            TookAnd result (λ n. room self.old ≤ n + room self.new) };
 }

@@ -1,7 +1,7 @@
 //! Where bytes come from.
 
-ghost use Rattle.std.specs.Prelude.{◌≢◌, ◌<◌, length};
-ghost use Rattle.cm_io.specs.Outside.{ReadCause, Reads};
+ghost use Rattle.std.specs.Prelude.{◌≡◌, ◌≢◌, ◌<◌, length};
+ghost use Rattle.cm_io.specs.Outside.{Gave, ReadCause, Reads};
 
 use std::sync::Wait;
 use std::thread::Threads;
@@ -20,15 +20,22 @@ pub enum Got {
 /// Where bytes come from. A source counts its faults, from 0 to 2^64 - 1, where the count stays.
 pub trait Source: Drop {
     ghost use Rattle.std.specs.Prelude.{ℕ, List, Option};
+    ghost use Rattle.cm_io.specs.Outside.{AsSink};
 
     /// The bytes that are left, where they are known.
     ghost left: { Self → Option (List ℕ) };
+
+    /// The bytes that it gave so far, where they are told.
+    ghost given: { Self → Option (List ℕ) };
 
     /// How often it failed.
     ghost faults: { Self → ℕ };
 
     /// It never fails.
     ghost quiet: { Self → Type 0 };
+
+    /// What it tells as a sink, where it is one as well: no read changes that.
+    ghost beside: { Self → AsSink };
 
     /// Reads the next bytes, as many as come at once and fit.
     ///
@@ -38,6 +45,8 @@ pub trait Source: Drop {
     fn read<R: Threads + Wait + Sync>(&mut self, rt: &R, into: &mut [u8]) -> Got
         requires { 0 < length into.old }
         ensures bytes { Reads (left self.old) (left self.new) into.new result }
+        ensures gave { Gave (given self.old) (given self.new) into.new result }
+        ensures beside { beside self.new ≡ beside self.old }
         ensures cause { ReadCause (faults self.old) (faults self.new) result }
         ensures quiet { quiet self.old → quiet self.new × (result ≢ Got.Failed) };
 }

@@ -10,7 +10,7 @@ use std::sync::Wait;
 use std::thread::Threads;
 
 /// Reads once, and again where a signal cut the call short.
-fn read_through<T: Read + Drop>(inner: &mut T, into: &mut [u8]) -> Result<usize>
+pub(crate) fn read_through<T: Read + Drop>(inner: &mut T, into: &mut [u8]) -> Result<usize>
     ensures bound { ReadsAtMost result into.new }
     ensures bytes { ReadConsumes (T.remaining inner.old) (T.remaining inner.new) result into.new }
 {
@@ -24,7 +24,7 @@ fn read_through<T: Read + Drop>(inner: &mut T, into: &mut [u8]) -> Result<usize>
 }
 
 /// Writes once, and again where a signal cut the call short.
-fn write_through<T: Write + Drop>(inner: &mut T, bytes: &[u8]) -> Result<usize>
+pub(crate) fn write_through<T: Write + Drop>(inner: &mut T, bytes: &[u8]) -> Result<usize>
     ensures bound { WritesAtMost result bytes.now }
     ensures bytes { WriteAppends (T.contents inner.old) (T.contents inner.new) result bytes.now }
 {
@@ -55,7 +55,14 @@ impl<T: Read + Drop> Reading<T> {
 }
 
 impl<T: Read + Drop> Source for Reading<T> {
+    ghost use Rattle.std.specs.Prelude.{None};
+    ghost use Rattle.cm_io.specs.Outside.{no_sink};
+
     ghost left = { λ s. T.remaining s.inner };
+
+    ghost given = { λ _. None };
+
+    ghost beside = { λ _. no_sink };
 
     ghost faults = { λ s. s.faults };
 
@@ -92,7 +99,11 @@ impl<T: Write + Drop> Writing<T> {
 }
 
 impl<T: Write + Drop> Sink for Writing<T> {
+    ghost use Rattle.cm_io.specs.Outside.{no_source};
+
     ghost written = { λ s. T.contents s.inner };
+
+    ghost beside = { λ _. no_source };
 
     ghost faults = { λ s. s.faults };
 

@@ -1,0 +1,40 @@
+-- What the calls on a door say: what is counted, and that a link is new.
+use Rattle.std.specs.Prelude.{◌≡◌, ◌+◌, ◌≤◌, ⊤}
+use Rattle.std.specs.Io.KnownBytes.{IsAtEnd}
+use Rattle.cm_io.specs.Counts.{one_more}
+use Rattle.cm_io.specs.Outside.{AsSink, AsSource}
+use Rattle.cm_io.specs.declared.door.Accept.{Accept}
+use Rattle.cm_io.specs.declared.door.Accept.TheVariants as accept
+use Rattle.cm_io.specs.declared.door.DoorCounts.{DoorCounts}
+use Rattle.cm_io.specs.declared.door.Listen.{Listen}
+use Rattle.cm_io.specs.declared.door.Listen.TheVariants as listen
+
+-- a fault is counted, and nothing else
+abbrev pub CountsFault : DoorCounts → DoorCounts → Type 0
+CountsFault before now =
+    (before.faults ≤ now.faults) × (now ≡ record before { faults = one_more before.faults })
+
+-- a listen that failed was counted, and one that didn't changed no count
+abbrev pub Listens : DoorCounts → DoorCounts → Listen → Type 0
+Listens before now listen.Ready = now ≡ before
+Listens before now listen.Failed = CountsFault before now
+
+-- a link, a closing or a fault is counted, and nothing else
+abbrev pub Accepts : {L : Type 0} → DoorCounts → DoorCounts → Accept L → Type 0
+Accepts before now (accept.Link l) = now ≡ record before { links = before.links + 1 }
+Accepts before now accept.Closed =
+    (before.closings ≤ now.closings) × (now ≡ record before { closings = one_more before.closings })
+Accepts before now accept.Failed = CountsFault before now
+
+-- a fact of the link that was given
+abbrev pub OnLink : {L : Type 0} → Accept L → (L → Type 0) → Type 0
+OnLink (accept.Link l) P = P l
+OnLink accept.Closed P = ⊤
+OnLink accept.Failed P = ⊤
+
+-- a link that was just given: it failed never, and what it tells is that no bytes were given or written
+pub record IsNew (source : AsSource) (sink : AsSink) : Type 0 where
+  pub none_given : IsAtEnd source.given
+  pub none_written : IsAtEnd sink.written
+  pub no_read_fault : source.faults ≡ 0
+  pub no_write_fault : sink.faults ≡ 0

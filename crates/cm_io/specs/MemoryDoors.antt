@@ -1,0 +1,62 @@
+-- Links and doors in memory, as contracts see them.
+use Rattle.std.specs.Prelude.{◌≡◌, ◌⊎◌, ◌-◌, ◌^◌, ℕ, Bool, true, false, Contains, List, [], ◌∷◌, Some}
+use Rattle.cm_io.specs.InMemory.{PlanAtWork, unused}
+use Rattle.cm_io.specs.Outside.{AsSink, AsSource}
+use Rattle.cm_io.specs.declared.door.Accept.{Accept}
+use Rattle.cm_io.specs.declared.door.Accept.TheVariants as accept
+use Rattle.cm_io.specs.declared.door.DoorCounts.{DoorCounts}
+use Rattle.cm_io.specs.declared.door.Listen.{Listen}
+use Rattle.cm_io.specs.declared.door.Listen.TheVariants as listen
+use Rattle.cm_io.specs.declared.memory_link.LinkPlan.{LinkPlan}
+use Rattle.cm_io.specs.declared.memory_link.MemoryLink.{MemoryLink}
+
+-- what a link in memory tells as a source
+abbrev pub as_source : MemoryLink → AsSource
+as_source link = record {
+  left = Some link.source.left;
+  given = Some link.source.given;
+  faults = link.source.plan.faults;
+}
+
+-- what a link in memory tells as a sink
+abbrev pub as_sink : MemoryLink → AsSink
+as_sink link = record { written = Some link.sink.written; faults = link.sink.plan.faults }
+
+-- the link that a plan makes: it gave nothing yet, and nothing was written to it
+abbrev pub made_by : LinkPlan → MemoryLink
+made_by plan = record {
+  source = record { given = []; left = plan.bytes; plan = unused plan.source.piece plan.source.failing };
+  sink = record { written = []; capacity = 0; plan = unused plan.sink.piece plan.sink.failing };
+}
+
+-- a door: the links that wait, the plan by which its calls fail, and how many links and closings it counted
+pub record DoorInMemory : Type 0 where
+  pub waiting : List LinkPlan
+  pub plan : PlanAtWork
+  pub links : ℕ
+  pub closings : ℕ
+
+-- what a door in memory counted
+abbrev pub counts_of : DoorInMemory → DoorCounts
+counts_of door = record { faults = door.plan.faults; links = door.links; closings = door.closings }
+
+-- the next accept fails: that is planned, or the door gave as many links as it can count
+abbrev pub IsToFail : DoorInMemory → Type 0
+IsToFail door = Contains door.plan.failing door.plan.calls ⊎ (door.links ≡ 2 ^ 64 - 1)
+
+-- what an accept does to the links that wait: the first is given, as it was planned, or none waits
+abbrev pub Gives : List LinkPlan → List LinkPlan → Accept MemoryLink → Type 0
+Gives old new (accept.Link link) = (plan : LinkPlan) × (old ≡ plan ∷ new) × (link ≡ made_by plan)
+Gives old new accept.Closed = (old ≡ []) × (new ≡ [])
+Gives old new accept.Failed = new ≡ old
+
+-- whether a listen failed
+abbrev pub listen_failed : Listen → Bool
+listen_failed listen.Failed = true
+listen_failed listen.Ready = false
+
+-- whether an accept failed
+abbrev pub accept_failed : {L : Type 0} → Accept L → Bool
+accept_failed accept.Failed = true
+accept_failed accept.Closed = false
+accept_failed (accept.Link link) = false

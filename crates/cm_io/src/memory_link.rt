@@ -1,0 +1,134 @@
+//! Links in memory.
+
+ghost use Rattle.cm_io.specs.InMemory.{after_call, most_of, sure_room};
+ghost use Rattle.cm_io.specs.MemoryDoors.{as_sink, as_source, made_by};
+ghost use Rattle.cm_io.specs.Outside.{Gave, ReadCause, Reads, TookAnd, WriteCause, Writes, read_failed};
+ghost use Rattle.cm_io.specs.Outside.{write_failed};
+ghost use Rattle.std.specs.Prelude.{◌≡◌, ◌≢◌, ◌↔◌, ◌⊎◌, ◌<◌, ◌≤◌, ◌+◌, ℕ, Some, [], length, min, Contains};
+
+use crate::{Got, Link, MemorySink, MemorySource, Plan, Sink, Source, Took};
+use cm_names::Bytes;
+use std::alloc::Global;
+use std::sync::Wait;
+use std::thread::Threads;
+
+/// A link that gives the bytes of a list, and keeps in a list what is written.
+///
+/// Each side is an object of its own: it moves bytes and fails by its own plan, and counts its own
+/// calls.
+#[derive(Drop)]
+pub struct MemoryLink {
+    /// What it gives.
+    pub source: MemorySource,
+    /// What is written.
+    pub sink: MemorySink,
+}
+
+impl Source for MemoryLink {
+    ghost use Rattle.std.specs.Prelude.{◌≡◌, Some, []};
+    ghost use Rattle.cm_io.specs.MemoryDoors.{as_sink};
+
+    ghost left = { λ l. Some l.source.left };
+
+    ghost given = { λ l. Some l.source.given };
+
+    ghost faults = { λ l. l.source.plan.faults };
+
+    ghost quiet = { λ l. l.source.plan.failing ≡ [] };
+
+    ghost beside = { as_sink };
+
+    fn read<R: Threads + Wait + Sync>(&mut self, rt: &R, into: &mut [u8]) -> Got
+        requires { 0 < length into.old }
+        ensures bytes { Reads (Some self.old.source.left) (Some self.new.source.left) into.new result }
+        ensures gave { Gave (Some self.old.source.given) (Some self.new.source.given) into.new result }
+        ensures beside { as_sink self.new ≡ as_sink self.old }
+        ensures cause { ReadCause self.old.source.plan.faults self.new.source.plan.faults result }
+        ensures quiet { self.old.source.plan.failing ≡ [] →
+            (self.new.source.plan.failing ≡ []) × (result ≢ Got.Failed) }
+        ensures failed { (result ≡ Got.Failed) ↔
+            Contains self.old.source.plan.failing self.old.source.plan.calls }
+        ensures call { self.new.source.plan ≡ after_call (read_failed result) self.old.source.plan }
+        ensures piece { (n : ℕ) → result ≡ Got.Bytes n →
+            n ≡ min (min (length self.old.source.left) (length into.old)) (most_of self.old.source.plan) }
+        ensures apart { self.new.sink ≡ self.old.sink }
+    {
+        self.source.read(rt, into)
+    }
+}
+
+impl Sink for MemoryLink {
+    ghost use Rattle.std.specs.Prelude.{Some};
+    ghost use Rattle.cm_io.specs.InMemory.{sure_room};
+    ghost use Rattle.cm_io.specs.MemoryDoors.{as_source};
+
+    ghost written = { λ l. Some l.sink.written };
+
+    ghost faults = { λ l. l.sink.plan.faults };
+
+    ghost room = { λ l. sure_room l.sink };
+
+    ghost beside = { as_source };
+
+    fn write<R: Threads + Wait + Sync>(&mut self, rt: &R, bytes: &[u8]) -> Took
+        requires { 0 < length bytes.now }
+        ensures bytes { Writes (Some self.old.sink.written) (Some self.new.sink.written) bytes.now result }
+        ensures beside { as_source self.new ≡ as_source self.old }
+        ensures cause { WriteCause self.old.sink.plan.faults self.new.sink.plan.faults result }
+        ensures room { length bytes.now ≤ sure_room self.old.sink →
+            TookAnd result (λ n. sure_room self.old.sink ≤ n + sure_room self.new.sink) }
+        ensures planned { Contains self.old.sink.plan.failing self.old.sink.plan.calls →
+            result ≡ Took.Failed }
+        ensures memory { result ≡ Took.Failed →
+            Contains self.old.sink.plan.failing self.old.sink.plan.calls
+            ⊎ (self.old.sink.capacity <
+            length self.old.sink.written + min (length bytes.now) (most_of self.old.sink.plan)) }
+        ensures call { self.new.sink.plan ≡ after_call (write_failed result) self.old.sink.plan }
+        ensures piece { (n : ℕ) → result ≡ Took.Bytes n →
+            n ≡ min (length bytes.now) (most_of self.old.sink.plan) }
+        ensures capacity { self.old.sink.capacity ≤ self.new.sink.capacity }
+        ensures apart { self.new.source ≡ self.old.source }
+    {
+        self.sink.write(rt, bytes)
+    }
+}
+
+impl Link for MemoryLink {
+    ghost use Rattle.std.specs.Prelude.{refl};
+
+    ghost sink_apart = { λ _. refl };
+
+    ghost source_apart = { λ _. refl };
+
+    fn hang_up<R: Threads + Wait + Sync>(&mut self, _rt: &R)
+        ensures source { as_source self.new ≡ as_source self.old }
+        ensures sink { as_sink self.new ≡ as_sink self.old }
+        ensures kept { self.new ≡ self.old }
+    {}
+}
+
+/// What a link in memory is made of: the bytes that it gives, and how its two sides behave.
+#[derive(Drop)]
+pub struct LinkPlan {
+    pub bytes: Bytes,
+    pub source: Plan,
+    pub sink: Plan,
+}
+
+impl LinkPlan {
+    /// A link by this plan. It gave nothing yet, and nothing was written to it; it takes memory as
+    /// bytes are written.
+    pub fn into_link(self, alloc: Global) -> MemoryLink
+        ensures { result ≡ made_by self }
+    {
+        let LinkPlan {
+            bytes,
+            source,
+            sink,
+        } = self;
+        MemoryLink {
+            source: MemorySource::new(bytes, source),
+            sink: MemorySink::new(alloc, sink),
+        }
+    }
+}
