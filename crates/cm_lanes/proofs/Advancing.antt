@@ -18,10 +18,10 @@ use Rattle.cm_manager.specs.Contract.{RealmPass}
 use Rattle.cm_lanes.specs.declared.said.Said.{Said}
 use Rattle.cm_lanes.specs.declared.lane.Lane.{Lane}
 use Rattle.cm_lanes.specs.Script.{Answered, said_of, answered_lines, lines_of, answers_of, IsFit, Follows, IsPhase, ArePhases, none_left, one_first}
-use Rattle.cm_lanes.specs.Kept.{Keeps, gates_view}
+use Rattle.cm_manager.specs.Kept.{Keeps, gates_view}
 use Rattle.cm_lanes.specs.Lane.{IsReady, Met, MetAll, GrewUnless}
 use Rattle.cm_lanes.specs.Phases.{told_to, IsLaneOf, AreLanes, frame_in_lane, lane_frames, Passed, PassedAll, LaneRan, LanesRan}
-use Rattle.cm_lanes.proofs.Keeping.{keeps_learns, keeps_trans}
+use Rattle.cm_manager.proofs.Keeping.{keeps_learns, keeps_trans}
 use Rattle.cm_lanes.proofs.Weaving.{Parts, Woven, weave}
 
 -- one phase behind others

@@ -20,7 +20,7 @@ use Rattle.cm_lanes.specs.declared.said.Lanes.{Lanes}
 use Rattle.cm_lanes.specs.declared.lane.Lane.{Lane}
 use Rattle.cm_lanes.specs.declared.parts.Parts.{Parts}
 use Rattle.cm_lanes.specs.Script.{Answered, said_of, answers_of, Follows, IsPhase, ArePhases, none_left, one_first}
-use Rattle.cm_lanes.specs.Kept.{AreSixteen, GoesOn, Keeps, KeepsEach, frame_at, gates_view}
+use Rattle.cm_manager.specs.Kept.{AreSixteen, GoesOn, Keeps, KeepsEach, frame_at, gates_view}
 use Rattle.cm_lanes.specs.Lanes.{Ran, RanOrNot}
 use Rattle.cm_lanes.specs.Phases.{told_to, AreLanes, lane_frames, frame_in_lane, LanesRan}
 use Rattle.cm_lanes.specs.Parts.{AreParts, HasPassIn, IsNew}

@@ -1,4 +1,3 @@
-pub mod Keeping
 pub mod Performing
 pub mod Rounds
 pub mod Passing

@@ -29,9 +29,11 @@ use Rattle.cm_manager.specs.Doctor.{Checks, Each, OfPath, OfRow, Doctors}
 use Rattle.cm_manager.proofs.Joining.{starts-trans}
 use Rattle.cm_manager.proofs.Closing.{makes-own, cut-later, acts-close}
 use Rattle.cm_manager.proofs.ShuttingDown.{shuts_close, destroys_close}
-use Rattle.cm_lanes.specs.Script.{Answered, answers_of, Follows, rests, performs, IsPhase, ArePhases}
+use Rattle.cm_manager.specs.Done.{Done, rests, performs}
+use Rattle.cm_manager.specs.Done as done
+use Rattle.cm_lanes.specs.Script.{Answered, answers_of, Follows, IsPhase, ArePhases}
 use Rattle.cm_lanes.specs.Laws.{FallsIntoRuns, no_answer}
-use Rattle.cm_lanes.proofs.Keeping.{starts_same}
+use Rattle.cm_manager.proofs.Keeping.{starts_same}
 
 -- ---- a call's history goes on
 
@@ -96,9 +98,9 @@ goes_grows : (f : Frame) (c : ℕ) (cmd : Command) (a b : List Entry) (r : Resul
 goes_grows f c cmd a b r (inl is) = calls_grow f c cmd a b r is
 goes_grows f c cmd a b r (inr is) = calls_grow f c cmd a b is.1.0 is.1.1
 
-follows_grows : (f : Frame) (c : ℕ) (xs : List Answered) (a b : List Entry) → Follows f c xs a b → StartsWith b a
+follows_grows : (f : Frame) (c : ℕ) (xs : List Done) (a b : List Entry) → done.Follows f c xs a b → StartsWith b a
 follows_grows f c xs a b (rests later) = later.grows
-follows_grows f c xs a b (performs {a = x} {h₁ = h} goes rest) = starts-trans a h b (goes_grows f c x.line.command a h x.result goes) (follows_grows f c _ h b rest)
+follows_grows f c xs a b (performs {d = x} {h₁ = h} goes rest) = starts-trans a h b (goes_grows f c x.command a h x.result goes) (follows_grows f c _ h b rest)
 
 -- ---- its parts
 
@@ -106,8 +108,8 @@ own_part : (c : ℕ) (a b : List Entry) (grows : StartsWith b a) → own_entries
 own_part c a b grows = ap (own_entries c) grows.1 ∙ filter-append (λ (y : Entry). y.caller == c) a grows.0
 
 pub falls_into_runs : (f : Frame) (c : ℕ) (xs : List Answered) (a b history : List Entry) → Follows f c xs a b → Legal (start f) history → StartsWith history b → FallsIntoRuns f history c xs a b
-falls_into_runs f c xs a b history (rests later) legal within = record { parts = []; whole = later.own ∙ sym (append-nil (own_entries c a)); runs = tt }
-falls_into_runs f c xs a b history (performs {a = x} {others = others} {h₁ = h} goes rest) legal within =
+falls_into_runs f c [] a b history (rests later) legal within = record { parts = []; whole = later.own ∙ sym (append-nil (own_entries c a)); runs = tt }
+falls_into_runs f c (x ∷ others) a b history (performs {h₁ = h} goes rest) legal within =
     let grows = goes_grows f c x.line.command a h x.result goes in
     let part = own_entries c grows.0 in
     let others_are = falls_into_runs f c others h b history rest legal within in
@@ -119,7 +121,7 @@ falls_into_runs f c xs a b history (performs {a = x} {others = others} {h₁ = h
           legal = legal;
           before = a;
           after = h;
-          within = starts-trans h b history (follows_grows f c others h b rest) within;
+          within = starts-trans h b history (follows_grows f c _ h b rest) within;
           goes = goes;
           part_is = own_part c a h grows;
         },
@@ -174,10 +176,10 @@ calls_lost f c (command.Survey t) h = on_row_lost f c t _ h (tried_lost f c _ h)
 calls_lost f c (command.Exited t) h = on_row_lost f c t _ h (tried_lost f c _ h)
 
 follows_lost : (f : Frame) (c : ℕ) (lines : List Line) (h : List Entry) → Follows f c (answers_of c (map no_answer lines)) h h
-follows_lost f c [] h = Follows.rests (no_later c h)
+follows_lost f c [] h = done.Follows.rests (no_later c h)
 follows_lost f c (l ∷ ls) h = first (l.lane == c) (follows_lost f c ls h) where
   first : (b : Bool) → Follows f c (answers_of c (map no_answer ls)) h h → Follows f c (cond b (no_answer l ∷ answers_of c (map no_answer ls)) (answers_of c (map no_answer ls))) h h
-  first true rest = Follows.performs (inl (calls_lost f c l.command h)) rest
+  first true rest = done.Follows.performs (inl (calls_lost f c l.command h)) rest
   first false rest = rest
 
 phase_lost : (frames : ℕ → Frame) (lines : List Line) (h : List Entry) → IsPhase frames (map no_answer lines) h h

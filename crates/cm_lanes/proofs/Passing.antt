@@ -1,5 +1,5 @@
 -- The lanes of a phase, and phase after phase.
-use Rattle.std.proofs.Common.{◌≡◌, ℕ, ◌<◌, List, Option, Some, length, get_or, refl, sym, ap, ◌∙◌, subst, arith}
+use Rattle.std.proofs.Common.{◌≡◌, ℕ, ◌<◌, List, Option, Some, length, map, get_or, refl, sym, ap, ◌∙◌, subst, arith}
 use Rattle.cm_turn.specs.History.{StartsWith}
 use Rattle.cm_turn.specs.Passes.{LockView, seen_up_to}
 use Rattle.cm_world.specs.declared.reply.Entry.{Entry}
@@ -10,11 +10,11 @@ use Rattle.cm_manager.specs.Asking.{frame_of}
 use Rattle.cm_manager.specs.Work.{Shelf}
 use Rattle.cm_manager.specs.Contract.{RealmPass}
 use Rattle.cm_lanes.specs.declared.lane.Lane.{Lane}
-use Rattle.cm_lanes.specs.Kept.{Keeps, gates_view}
-use Rattle.cm_lanes.specs.Lane.{IsOwnPass, Met, MetAll, Worked}
+use Rattle.cm_manager.specs.Kept.{IsOwnPass, Keeps, gates_view}
+use Rattle.cm_lanes.specs.Lane.{Met, MetAll, Worked}
 use Rattle.cm_lanes.specs.Phases.{Passed, PassedAll}
-use Rattle.cm_lanes.proofs.Keeping.{keeps_met, met_later}
-use Rattle.cm_lanes.proofs.Performing.{follows_later}
+use Rattle.cm_manager.proofs.Keeping.{follows_later, keeps_met, met_later}
+use Rattle.cm_lanes.specs.Script.{done_of}
 
 -- ---- one lane in a phase
 
@@ -39,7 +39,7 @@ module _ {G : Type 0} (log_of : G → Option (List Asked)) (faults_of : G → �
             keeps = keeps;
             answers = is.answers;
             own_lines = is.own_lines;
-            follows = follows_later (frame_of w.p) w.p.caller is.answers w.p.seen w.q.seen last is.follows later;
+            follows = follows_later (frame_of w.p) w.p.caller (map done_of is.answers) w.p.seen w.q.seen last is.follows later;
             said = λ kept. ap (λ (q : _). q.items) m.said ∙ is.said (sym m.lost ∙ kept);
           };
           lost = λ kept. w.lost (sym m.lost ∙ kept);

@@ -7,22 +7,16 @@ use Rattle.cm_world.specs.declared.answer.Refusal.{Refusal}
 use Rattle.cm_world.specs.declared.frame.Frame.{Frame}
 use Rattle.cm_world.specs.declared.reply.Entry.{Entry}
 use Rattle.cm_command.specs.declared.script.Line.{Line}
-use Rattle.cm_manager.specs.Turns.{Later}
+use Rattle.cm_manager.specs.Done as done
 use Rattle.cm_manager.specs.Asking.{frame_of, frame_in}
 use Rattle.cm_manager.specs.Calls.{Goes}
 use Rattle.cm_manager.specs.Work.{Shelf}
 use Rattle.cm_manager.specs.Contract.{RealmPass, GatesView, Performs}
-use Rattle.cm_manager.proofs.Joining.{later-trans}
 use Rattle.cm_lanes.specs.declared.said.Said.{Said}
-use Rattle.cm_lanes.specs.Script.{Answered, said_of, answered_lines, lines_of, Follows, rests, performs}
-use Rattle.cm_lanes.specs.Kept.{Keeps}
-use Rattle.cm_lanes.specs.Lane.{IsOwnPass, GrewUnless, PutsUnless}
-use Rattle.cm_lanes.proofs.Keeping.{keeps_nothing, keeps_trans, keeps_helps, starts_same}
-
--- who has performed lines has performed them at a later place of the history too
-pub follows_later : (f : Frame) (c : ℕ) (xs : List Answered) (a b d : List Entry) → Follows f c xs a b → Later c b d → Follows f c xs a d
-follows_later f c xs a b d (rests l) k = Follows.rests (later-trans c a b d l k)
-follows_later f c xs a b d (performs goes rest) k = Follows.performs goes (follows_later f c _ _ b d rest k)
+use Rattle.cm_lanes.specs.Script.{Answered, said_of, answered_lines, lines_of, Follows}
+use Rattle.cm_manager.specs.Kept.{IsOwnPass, Keeps}
+use Rattle.cm_lanes.specs.Lane.{GrewUnless, PutsUnless}
+use Rattle.cm_manager.proofs.Keeping.{keeps_nothing, keeps_trans, keeps_helps, starts_same}
 
 -- between two lines: what is performed from here on is performed behind what was
 pub record Performing (shelf : Shelf) (lines : List Line) (p q : RealmPass) (g h : GatesView) (said₀ said₁ : List Said) (lost : Bool) : Type 0 where
@@ -69,11 +63,11 @@ performing_more shelf lines l p q r g h k said₀ said₁ said₂ before now a i
       keeps = keeps_trans shelf p q r g h k is.keeps (keeps_helps shelf (frame_of q) (λ a₀ a₁. Goes (frame_of q) q.caller l.command a₀ a₁ a) q r h k way);
       answers = is.answers ++ x ∷ [];
       own_lines = map-append (λ (y : Answered). y.line) is.answers (x ∷ []) ∙ ap (λ (ls : List Line). ls ++ l ∷ []) is.own_lines ∙ sym (lines_more p.caller lines l true own);
-      goes_on = λ rest end follows. subst (λ (ys : List Answered). Follows (frame_of p) p.caller ys p.seen end) (sym (append_assoc is.answers (x ∷ []) rest)) (is.goes_on (x ∷ rest) end (Follows.performs goes follows));
+      goes_on = λ rest end follows. subst (λ (ys : List Answered). Follows (frame_of p) p.caller ys p.seen end) (sym (append_assoc is.answers (x ∷ []) rest)) (is.goes_on (x ∷ rest) end (done.Follows.performs goes follows));
       said = subst (λ (m : List Said). GrewUnless now said₀ said₂ m) (sym (map-append said_of is.answers (x ∷ []))) (said_then before now said₀ said₁ said₂ (map said_of is.answers) (said_of x) is.said puts);
     }
 
 pub performing_all : (shelf : Shelf) (lines : List Line) (p q : RealmPass) (g h : GatesView) (said₀ said₁ : List Said) (lost : Bool) → (is : Performing shelf lines p q g h said₀ said₁ lost) → Follows (frame_of p) p.caller is.answers p.seen q.seen
 performing_all shelf lines p q g h said₀ said₁ lost is =
     subst (λ (ys : List Answered). Follows (frame_of p) p.caller ys p.seen q.seen) (append-nil is.answers)
-    (is.goes_on [] q.seen (Follows.rests (record { grows = starts_same q.seen; own = refl })))
+    (is.goes_on [] q.seen (done.Follows.rests (record { grows = starts_same q.seen; own = refl })))

@@ -6,18 +6,13 @@ use Rattle.cm_turn.specs.Passes.{LockView, seen_up_to}
 use Rattle.cm_world.specs.declared.reply.Entry.{Entry}
 use Rattle.cm_command.specs.declared.script.Line.{Line}
 use Rattle.cm_gate.specs.declared.asked.Asked.{Asked}
-use Rattle.cm_manager.specs.Turns.{own_entries}
 use Rattle.cm_manager.specs.Asking.{frame_of}
 use Rattle.cm_manager.specs.Work.{Shelf}
 use Rattle.cm_manager.specs.Contract.{RealmPass}
 use Rattle.cm_lanes.specs.declared.said.Said.{Said}
 use Rattle.cm_lanes.specs.declared.lane.Lane.{Lane}
 use Rattle.cm_lanes.specs.Script.{Answered, said_of, answered_lines, lines_of, Follows}
-use Rattle.cm_lanes.specs.Kept.{Keeps, gates_view}
-
--- a pass's entries are those of its caller in what it has seen
-abbrev pub IsOwnPass : RealmPass → Type 0
-IsOwnPass p = own_entries p.caller p.seen ≡ p.mine
+use Rattle.cm_manager.specs.Kept.{IsOwnPass, Keeps, gates_view}
 
 -- a list grew by this, unless something was lost
 abbrev pub GrewUnless : Bool → List Said → List Said → List Said → Type 0

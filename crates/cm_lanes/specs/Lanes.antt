@@ -7,7 +7,7 @@ use Rattle.cm_manager.specs.Work.{Shelf}
 use Rattle.cm_manager.specs.Contract.{RealmPass}
 use Rattle.cm_lanes.specs.declared.said.Lanes.{Lanes}
 use Rattle.cm_lanes.specs.Script.{Answered, said_of, answered_lines, ArePhases}
-use Rattle.cm_lanes.specs.Kept.{GoesOn, KeepsEach, frame_at}
+use Rattle.cm_manager.specs.Kept.{GoesOn, KeepsEach, frame_at}
 
 module _ {G : Type 0} (log_of : G → Option (List Asked)) (faults_of : G → ℕ) where
   -- all lines were performed, phase by phase: the passes met before the first phase and behind each

@@ -1,5 +1,5 @@
 -- Laws of lanes.
-use Rattle.std.specs.Prelude.{◌≡◌, ℕ, List, ◌++◌, map, flat_map, All, Err}
+use Rattle.std.specs.Prelude.{◌≡◌, ℕ, List, ◌++◌, map, flat_map, Err}
 use Rattle.std.specs.List.{AllZip}
 use Rattle.cm_turn.specs.History.{StartsWith}
 use Rattle.cm_world.specs.declared.answer.Refusal.TheVariants as refusal

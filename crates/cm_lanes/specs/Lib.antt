@@ -1,5 +1,4 @@
 pub mod Script
-pub mod Kept
 pub mod Lanes
 pub mod Lane
 pub mod Meeting

@@ -5,7 +5,8 @@ use Rattle.cm_turn.specs.Passes.{seen_up_to}
 use Rattle.cm_world.specs.declared.reply.Entry.{Entry}
 use Rattle.cm_manager.specs.Contract.{RealmPass}
 use Rattle.cm_lanes.specs.declared.lane.Lane.{Lane}
-use Rattle.cm_lanes.specs.Lane.{IsOwnPass, Met}
+use Rattle.cm_manager.specs.Kept.{IsOwnPass}
+use Rattle.cm_lanes.specs.Lane.{Met}
 
 module _ {G : Type 0} where
   -- a lane has met others, and what it has seen then is the front of this

@@ -12,8 +12,8 @@ use Rattle.cm_manager.specs.Contract.{RealmPass}
 use Rattle.cm_lanes.specs.declared.lane.Lane.{Lane}
 use Rattle.cm_lanes.specs.declared.said.Said.{Said}
 use Rattle.cm_lanes.specs.Script.{Answered, said_of, answered_lines, answers_of, ArePhases}
-use Rattle.cm_lanes.specs.Kept.{GoesOn, Keeps, gates_view}
-use Rattle.cm_lanes.specs.Lane.{IsOwnPass, GrewUnless, Worked}
+use Rattle.cm_manager.specs.Kept.{GoesOn, IsOwnPass, Keeps, gates_view}
+use Rattle.cm_lanes.specs.Lane.{GrewUnless, Worked}
 
 -- what one lane is told of all phases
 abbrev pub told_to : ℕ → List (List Answered) → List Said

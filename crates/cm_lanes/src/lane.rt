@@ -2,7 +2,8 @@
 
 ghost use Rattle.std.specs.Prelude.{◌≡◌, All};
 ghost use Rattle.cm_lanes.specs.Script.{IsFit};
-ghost use Rattle.cm_lanes.specs.Lane.{IsOwnPass, IsReady, Performed, PutsUnless, Worked};
+ghost use Rattle.cm_manager.specs.Kept.{IsOwnPass};
+ghost use Rattle.cm_lanes.specs.Lane.{IsReady, Performed, PutsUnless, Worked};
 
 use crate::Said;
 use cm_command::Line;

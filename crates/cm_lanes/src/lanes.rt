@@ -3,7 +3,7 @@
 ghost use Rattle.std.specs.Prelude.{◌≡◌, All, IfSome, false, flat_map, length, map, true};
 ghost use Rattle.std.specs.Prelude.{None as NoneOf};
 ghost use Rattle.cm_manager.specs.Closed.{HasEnds};
-ghost use Rattle.cm_lanes.specs.Kept.{AreSixteen};
+ghost use Rattle.cm_manager.specs.Kept.{AreSixteen};
 ghost use Rattle.cm_lanes.specs.Lanes.{RanOrNot};
 ghost use Rattle.cm_lanes.specs.Script.{IsFit, said_of};
 ghost use Rattle.cm_lanes.specs.Weave.{HasAll};

@@ -7,7 +7,6 @@
 //! | file of `specs/` | says |
 //! |---|---|
 //! | `Script` | which lines are a lane's, and what it is to perform them, phase by phase |
-//! | `Kept` | what performing lines keeps of a pass and of its gates |
 //! | `Lanes` | what comes back of a whole script |
 //! | `Laws` | what follows of it: entries fall into runs, and all answers may be lost |
 //! | `Lane`, `Meeting`, `Phases` | what the lanes have in hand, from step to step |

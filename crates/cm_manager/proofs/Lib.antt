@@ -21,3 +21,4 @@ pub mod Readings
 pub mod Tryings
 pub mod Calling
 pub mod DoctorLines
+pub mod Keeping

@@ -13,4 +13,6 @@ pub mod Acting
 pub mod Parts
 pub mod Doctor
 pub mod Gated
+pub mod Done
+pub mod Kept
 pub mod Laws

@@ -22,7 +22,7 @@ use Rattle.cm_manager.proofs.Joining.{starts-trans}
 use Rattle.cm_manager.proofs.Standing.{rest_of_others}
 use Rattle.cm_lanes.specs.declared.said.Lanes.{Lanes}
 use Rattle.cm_lanes.specs.Script.{Answered, ArePhases, none_left, one_first}
-use Rattle.cm_lanes.specs.Kept.{AreSixteen, frame_at, GoesOn, Keeps, KeepsEach, gates_view}
+use Rattle.cm_manager.specs.Kept.{AreSixteen, frame_at, GoesOn, Keeps, KeepsEach, gates_view}
 use Rattle.cm_lanes.specs.Lanes.{Ran}
 use Rattle.cm_lanes.proofs.Ending.{phases_same}
 use Rattle.component_manager.specs.Headline.{MakesHistory, WorksEach}

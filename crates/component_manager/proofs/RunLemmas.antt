@@ -25,7 +25,7 @@ use Rattle.cm_manager.proofs.HavingEnds.{none_has_ends}
 use Rattle.cm_lanes.specs.declared.said.Said.{Said}
 use Rattle.cm_lanes.specs.declared.said.Lanes.{Lanes}
 use Rattle.cm_lanes.specs.Script.{Answered, said_of, answered_lines}
-use Rattle.cm_lanes.specs.Kept.{AreSixteen}
+use Rattle.cm_manager.specs.Kept.{AreSixteen}
 use Rattle.cm_lanes.specs.Lanes.{RanOrNot}
 use Rattle.component_manager.specs.Headline.{EndsWell, IsHistory, WorksEach, RunsScript, shelf_of}
 use Rattle.component_manager.specs.Performing.{Performs}

@@ -12,7 +12,7 @@ use Rattle.cm_world.specs.declared.reply.Entry.{Entry}
 use Rattle.cm_manager.specs.Turns.{own_entries}
 use Rattle.cm_manager.specs.Contract.{RealmPass}
 use Rattle.cm_manager.proofs.HavingEnds.{own_caller}
-use Rattle.cm_lanes.specs.Kept.{AreSixteen}
+use Rattle.cm_manager.specs.Kept.{AreSixteen}
 
 module _ {X : Type 0} where
   pub all_at : (P : X → Type 0) (xs : List X) (k : ℕ) (x : X) → All P xs → slice_get xs k ≡ Some x → P x

@@ -1,5 +1,5 @@
 use Rattle.std.proofs.Common.{take, ◌≡◌}
-use Rattle.cm_lanes.specs.Kept.{gates_view}
+use Rattle.cm_manager.specs.Kept.{gates_view}
 use Rattle.cm_lanes.proofs.Performing.{Performing}
 use Rattle.cm_lanes.proofs.lane.perform_lines.Given as goal
 

@@ -1,5 +1,5 @@
 -- What is kept of a pass and of its gates, from call to call.
-use Rattle.std.proofs.Common.{◌≡◌, List, [], ◌++◌, refl, sym, ap, ◌∙◌, append_assoc, append-nil}
+use Rattle.std.proofs.Common.{◌≡◌, ℕ, List, [], ◌++◌, refl, sym, ap, ◌∙◌, append_assoc, append-nil}
 use Rattle.cm_turn.specs.History.{StartsWith}
 use Rattle.cm_turn.specs.Passes.{seen_up_to}
 use Rattle.cm_world.specs.declared.frame.Frame.{Frame}
@@ -8,11 +8,11 @@ use Rattle.cm_manager.specs.Turns.{Later}
 use Rattle.cm_manager.specs.Closed.{empty}
 use Rattle.cm_manager.specs.Work.{Shelf}
 use Rattle.cm_manager.specs.Contract.{RealmPass, GatesView, Helps}
-use Rattle.cm_manager.proofs.Joining.{starts-trans}
+use Rattle.cm_manager.proofs.Joining.{later-trans, starts-trans}
 use Rattle.cm_manager.proofs.Closing.{closed-append}
 use Rattle.cm_manager.proofs.Helping.{works_nothing, works_trans}
-use Rattle.cm_lanes.specs.Kept.{Keeps}
-use Rattle.cm_lanes.specs.Lane.{IsOwnPass}
+use Rattle.cm_manager.specs.Done.{Done, Follows, rests, performs}
+use Rattle.cm_manager.specs.Kept.{IsOwnPass, Keeps}
 
 pub starts_same : (a : List Entry) → StartsWith a a
 starts_same a = ([], sym (append-nil a))
@@ -92,3 +92,8 @@ keeps_learns shelf p s g grows own = record {
   closed = empty;
   work = works_nothing shelf g;
 }
+
+-- who has performed commands has performed them at a later place of the history too
+pub follows_later : (f : Frame) (c : ℕ) (xs : List Done) (a b d : List Entry) → Follows f c xs a b → Later c b d → Follows f c xs a d
+follows_later f c xs a b d (rests l) k = Follows.rests (later-trans c a b d l k)
+follows_later f c xs a b d (performs goes rest) k = Follows.performs goes (follows_later f c _ _ b d rest k)

@@ -1,4 +1,4 @@
--- What performing lines keeps of a pass and of its gates.
+-- What performing commands keeps of a pass and of its gates.
 use Rattle.std.specs.Prelude.{◌≡◌, ℕ, List, ◌++◌, Option, Some, None, map, All, length, slice_get}
 use Rattle.std.specs.List.{range_with_len}
 use Rattle.cm_turn.specs.History.{StartsWith}
@@ -17,6 +17,10 @@ pub use Rattle.cm_manager.specs.Gated.{gates_view}
 pub record AreSixteen (turn : LockView) (passes : List RealmPass) : Type 0 where
   pub lock : All (λ p. p.lock ≡ turn.lock) passes
   pub callers : map (λ p. p.caller) passes ≡ range_with_len 0 16
+
+-- a pass's entries are those of its caller in what it has seen
+abbrev pub IsOwnPass : RealmPass → Type 0
+IsOwnPass p = own_entries p.caller p.seen ≡ p.mine
 
 -- the frame of the pass at a place
 abbrev pub frame_at : List RealmPass → ℕ → Frame

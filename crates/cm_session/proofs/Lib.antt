@@ -1,0 +1,15 @@
+pub mod Cutting
+pub mod Kept
+pub mod Sessions
+pub mod Accepts
+pub mod Visits
+pub mod Going
+pub mod Working
+pub mod Places
+pub mod Making
+pub mod Ending
+pub mod Spreading
+pub mod Closed
+pub mod Finishing
+pub mod Putting
+pub mod Coming

@@ -1,0 +1,31 @@
+use Rattle.std.proofs.Common.{rules, sym, ◌∙◌}
+use Rattle.cm_session.proofs.Sessions.{line-step, long-step, quit-step}
+use Rattle.cm_session.proofs.lines.serve_next.Goals as goal
+
+pub returns-else-eq : goal.returns-else-eq
+returns-else-eq g c =
+    let told = c.in-Line.ensures.told in
+    let served = rw c.as_slice-in-Line.ensures at c.serve_line.ensures.served in
+    record {
+      stepped =
+          line-step _ _ _ _ _ c.args.reader.now c.next.new.self _ _ _ c.in-Line.line told.0 c.serve_line.result.1 told.1 c.next.ensures.later told.2
+          (sym (g.met.L.Link.sink_apart c.next.new.source) ∙ c.next.ensures.beside ∙ g.met.L.Link.sink_apart c.args.link.now) told.3.1 (search rules) served c.serve_line.ensures.source;
+    }
+
+pub returns-then-eq : goal.returns-then-eq
+returns-then-eq g c =
+    let told = c.in-Line.ensures.told in
+    record {
+      stepped =
+          quit-step _ _ _ c.args.reader.now c.next.new.self _ _ c.in-Line.line told.0 told.1 c.next.ensures.later told.2
+          (sym (g.met.L.Link.sink_apart c.next.new.source) ∙ c.next.ensures.beside ∙ g.met.L.Link.sink_apart c.args.link.now) told.3.1 (search rules);
+    }
+
+pub returns-in-TooLong : goal.returns-in-TooLong
+returns-in-TooLong g c =
+    let told = c.in-TooLong.ensures.told in
+    record {
+      stepped =
+          long-step _ _ _ c.args.reader.now c.next.new.self _ _ _ told.3.0 told.0 c.put_reply-over.result told.1 c.next.ensures.later told.2
+          (sym (g.met.L.Link.sink_apart c.next.new.source) ∙ c.next.ensures.beside ∙ g.met.L.Link.sink_apart c.args.link.now) told.3.2 told.3.1 c.put_reply-over.ensures.wrote c.put_reply-over.ensures.source;
+    }

@@ -1,0 +1,89 @@
+-- What workers have in hand, from step to step.
+use Rattle.std.specs.Prelude.{◌≡◌, ◌≢◌, ℕ, ◌<◌, ◌≤◌, List, [], ◌∷◌, ◌++◌, All, Any, map, length, Bool}
+use Rattle.std.specs.Prelude.{true, false}
+use Rattle.std.specs.Prelude.{Option, Some, slice_index_or, vec_capacity}
+use Rattle.cm_gate.specs.declared.asked.Asked.{Asked}
+use Rattle.cm_manager.specs.Contract.{GatesView, RealmPass}
+use Rattle.cm_manager.specs.Gated.{gates_view}
+use Rattle.cm_manager.specs.Work.{Shelf}
+use Rattle.cm_turn.specs.Passes.{LockView}
+use Rattle.cm_session.specs.declared.ended.Ended.{Ended}
+use Rattle.cm_session.specs.declared.ended.Ended.TheVariants as ended
+use Rattle.cm_session.specs.declared.workers.Worker.{Worker}
+use Rattle.cm_session.specs.Doorway.{DoorPass, IsLater, IsOver, links_of, sessions_of}
+use Rattle.cm_session.specs.Links.{LinkView}
+use Rattle.cm_session.specs.Serving.{IsLost, Serves, Visit}
+use Rattle.cm_session.specs.Session.{Session}
+
+-- a link was put behind others and served there
+pub record ServesLink {L : Type 0} (view : L → LinkView) (shelf : Shelf) (p q : RealmPass) (g h : GatesView)
+    (link : L) (old new : List L) (end : Ended) : Type 0 where
+  pub now : L
+  pub links : new ≡ old ++ now ∷ []
+  pub session : Session shelf p q g h (view link) (view now) end
+
+-- a worker served these links so far, by this pass at the door
+pub record HasServed {L : Type 0} (view : L → LinkView) (shelf : Shelf) (visits : List Visit)
+    (p q : RealmPass) (g h : GatesView) (d e : DoorPass) (links : List L) : Type 0 where
+  pub serves : Serves shelf visits p q g h
+  pub links_are : map view links ≡ map (λ v. v.now) visits
+  pub at_door : IsLater d e
+  pub counts : links_of e.mine ≡ length visits
+
+-- why a worker stopped: a session ended for want of memory; or none did, and no further accept is due
+pub record Stops (visits : List Visit) (e : DoorPass) (wants : Bool) : Type 0 where
+  pub lost : wants ≡ true → Any IsLost visits
+  pub well : wants ≡ false → All (λ v. v.ended ≢ ended.Memory) visits
+  pub over : wants ≡ false → IsOver (sessions_of e) e.seen
+
+-- a worker served links until it stopped
+pub record ServesLinks {L : Type 0} (view : L → LinkView) (shelf : Shelf)
+    (p q : RealmPass) (g h : GatesView) (d e : DoorPass) (links : List L) (lost : Bool) : Type 0 where
+  pub visits : List Visit
+  pub served : HasServed view shelf visits p q g h d e links
+  pub stops : Stops visits e lost
+
+module _ {G L : Type 0} where
+  -- a worker that did nothing yet, with passes of both locks, of one number, and room for as many links as
+  -- were asked for where it is one of the first so many
+  pub record IsReady (realm door : LockView) (workers : ℕ) (worker : Worker G L) : Type 0 where
+    pub pass : RealmPass
+    pub there : worker.pass ≡ Some pass
+    pub of_realm : pass.lock ≡ realm.lock
+    pub at_door : DoorPass
+    pub there_too : worker.at_door ≡ Some at_door
+    pub of_door : at_door.lock ≡ door.lock
+    pub new : at_door.mine ≡ []
+    pub none : worker.links.items ≡ []
+    pub room : at_door.caller < workers → sessions_of at_door ≤ vec_capacity worker.links
+    pub well : worker.lost ≡ false
+
+module _ {G L : Type 0} (log_of : G → Option (List Asked)) (faults_of : G → ℕ) (view : L → LinkView) where
+  -- a worker did its work: these are its visits, of which there are none where it isn't one of the first so
+  -- many
+  pub record Worked (shelf : Shelf) (workers : ℕ) (visits : List Visit) (old new : Worker G L) : Type 0 where
+    pub p : RealmPass
+    pub q : RealmPass
+    pub d : DoorPass
+    pub e : DoorPass
+    pub was : old.pass ≡ Some p
+    pub now : new.pass ≡ Some q
+    pub was_at_door : old.at_door ≡ Some d
+    pub now_at_door : new.at_door ≡ Some e
+    pub served : HasServed view shelf visits p q (gates_view log_of faults_of old.gates)
+        (gates_view log_of faults_of new.gates) d e new.links.items
+    pub idle : workers ≤ d.caller → visits ≡ []
+    pub lost : new.lost ≡ true → Any IsLost visits
+    pub well : new.lost ≡ false → All (λ v. v.ended ≢ ended.Memory) visits
+    pub over : new.lost ≡ false → d.caller < workers → IsOver (sessions_of e) e.seen
+
+  -- a worker did its work, with some visits
+  pub record DidWork (shelf : Shelf) (workers : ℕ) (old new : Worker G L) : Type 0 where
+    pub visits : List Visit
+    pub worked : Worked shelf workers visits old new
+
+  -- each of the workers did its work
+  pub record CrewWorked (shelf : Shelf) (workers : ℕ) (old new : List (Worker G L)) : Type 0 where
+    pub long : length new ≡ length old
+    pub each : (k : ℕ) (d : Worker G L) → k < length old
+        → DidWork shelf workers (slice_index_or old k d) (slice_index_or new k d)

@@ -1,0 +1,104 @@
+-- A door that workers share by turns: one entry for each accept.
+use Rattle.std.specs.Prelude.{◌≡◌, ◌⊎◌, ℕ, ◌+◌, ◌<◌, ◌≤◌, Bool, true, false, List, ◌∷◌, [], ◌++◌, filter}
+use Rattle.std.specs.Prelude.{length, ⊤, Option, Some, None}
+use Rattle.cm_io.specs.Doors.{OnLink}
+use Rattle.cm_io.specs.Outside.{Rose}
+use Rattle.cm_io.specs.declared.door.Accept.{Accept}
+use Rattle.cm_io.specs.declared.door.Accept.TheVariants as accept
+use Rattle.cm_io.specs.declared.door.DoorCounts.{DoorCounts}
+use Rattle.cm_turn.specs.Passes.{PassView}
+use Rattle.cm_session.specs.declared.doorway.Accepted.{Accepted}
+use Rattle.cm_session.specs.declared.doorway.Came.{Came}
+use Rattle.cm_session.specs.declared.doorway.Came.TheVariants as came
+use Rattle.cm_session.specs.declared.doorway.Opening.{Opening}
+
+-- the door gave a link
+abbrev pub is_link : Accepted → Bool
+is_link e = elim e.came [ came.Link ↦ true | came.Closed ↦ false | came.Failed ↦ false ]
+
+-- no further link comes
+abbrev pub is_closing : Accepted → Bool
+is_closing e = elim e.came [ came.Link ↦ false | came.Closed ↦ true | came.Failed ↦ false ]
+
+-- the door failed
+abbrev pub is_failure : Accepted → Bool
+is_failure e = elim e.came [ came.Link ↦ false | came.Closed ↦ false | came.Failed ↦ true ]
+
+-- how many links the door gave, and how often it closed or failed
+abbrev pub links_of : List Accepted → ℕ
+links_of entries = length (filter is_link entries)
+
+abbrev pub closings_of : List Accepted → ℕ
+closings_of entries = length (filter is_closing entries)
+
+abbrev pub failures_of : List Accepted → ℕ
+failures_of entries = length (filter is_failure entries)
+
+-- what the entries say was counted: each link, and that a closing or a fault came
+pub record IsCounted (first now : DoorCounts) (entries : List Accepted) : Type 0 where
+  pub links : now.links ≡ first.links + links_of entries
+  pub faults_stay : first.faults ≤ now.faults
+  pub faults : 0 < failures_of entries → Rose first.faults now.faults
+  pub closings_stay : first.closings ≤ now.closings
+  pub closings : 0 < closings_of entries → Rose first.closings now.closings
+
+-- no further accept is due: as many links came as were asked for, or a closing, or a failure
+abbrev pub IsOver : ℕ → List Accepted → Type 0
+IsOver sessions entries =
+    (sessions ≤ links_of entries) ⊎ ((0 < closings_of entries) ⊎ (0 < failures_of entries))
+
+-- a door with the accepts that were made at it, and how it was opened
+pub record DoorwayView (D : Type 0) : Type 0 where
+  pub door : D
+  pub entries : List Accepted
+  pub opening : Opening
+
+-- the pass of one who accepts
+abbrev pub DoorPass : Type 0
+DoorPass = PassView Accepted Opening
+
+-- what an accept came to
+abbrev pub came_of : {L : Type 0} → Accept L → Came
+came_of (accept.Link l) = came.Link
+came_of accept.Closed = came.Closed
+came_of accept.Failed = came.Failed
+
+-- what a turn of this worker adds to the entries: one for an accept, or nothing where none is due
+abbrev pub TurnedBy : {L : Type 0} → ℕ → ℕ → List Accepted → List Accepted → Option (Accept L) → Type 0
+TurnedBy worker sessions old new (Some a) = new ≡ old ++ record { worker = worker; came = came_of a } ∷ []
+TurnedBy worker sessions old new None = (new ≡ old) × IsOver sessions old
+
+-- a fact of the link that was given
+abbrev pub OnGiven : {L : Type 0} → Option (Accept L) → (L → Type 0) → Type 0
+OnGiven (Some a) P = OnLink a P
+OnGiven None P = ⊤
+
+-- how many links a turn gave
+abbrev pub given_by : {L : Type 0} → Option (Accept L) → ℕ
+given_by (Some (accept.Link l)) = 1
+given_by (Some accept.Closed) = 0
+given_by (Some accept.Failed) = 0
+given_by None = 0
+
+-- how many links were asked for at a door
+abbrev pub sessions_in : Option Opening → ℕ
+sessions_in None = 0
+sessions_in (Some o) = o.sessions
+
+-- how many links were asked for at the door of a pass
+abbrev pub sessions_of : DoorPass → ℕ
+sessions_of p = sessions_in p.frame
+
+-- the same pass, later
+pub record IsLater (p q : DoorPass) : Type 0 where
+  pub lock : q.lock ≡ p.lock
+  pub frame : q.frame ≡ p.frame
+  pub caller : q.caller ≡ p.caller
+
+-- a turn at the door, which counts a link among the pass's own entries where one was given, and tells where
+-- no accept is due
+pub record TakesTurn {L : Type 0} (p q : DoorPass) (turned : Option (Accept L)) : Type 0 where
+  pub same : IsLater p q
+  pub links : links_of q.mine ≡ links_of p.mine + given_by turned
+  pub few : links_of q.mine ≤ sessions_of q
+  pub over : turned ≡ None → IsOver (sessions_of q) q.seen

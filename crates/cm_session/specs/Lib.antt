@@ -1,0 +1,9 @@
+pub mod Links
+pub mod Told
+pub mod Session
+pub mod Steps
+pub mod Doorway
+pub mod Serving
+pub mod Crew
+pub mod Parts
+pub mod Closing

@@ -1,0 +1,83 @@
+-- What comes back of serving all links of a door.
+use Rattle.std.specs.Prelude.{◌≡◌, ◌≢◌, ◌⊎◌, ℕ, ◌+◌, ◌≤◌, List, [], ◌∷◌, ◌++◌, All, Any, map, length, Option}
+use Rattle.std.specs.Prelude.{Some, slice_get}
+use Rattle.cm_gate.specs.declared.asked.Asked.{Asked}
+use Rattle.cm_io.specs.Doors.{IsNew}
+use Rattle.cm_manager.specs.Contract.{GatesView, RealmPass}
+use Rattle.cm_manager.specs.Gated.{gates_view}
+use Rattle.cm_manager.specs.Work.{Shelf}
+use Rattle.cm_session.specs.declared.ended.Ended.{Ended}
+use Rattle.cm_session.specs.declared.ended.Ended.TheVariants as ended
+use Rattle.cm_session.specs.declared.served.Back.{Back}
+use Rattle.cm_session.specs.declared.served.Cause.TheVariants as cause
+use Rattle.cm_session.specs.declared.served.Served.{Served}
+use Rattle.cm_session.specs.Links.{LinkView}
+use Rattle.cm_session.specs.Session.{Session}
+
+-- a link that a worker served: as it came, as it is now, and how its session ended
+pub record Visit : Type 0 where
+  pub was : LinkView
+  pub now : LinkView
+  pub ended : Ended
+
+-- the session of the link ended for want of memory
+abbrev pub IsLost : Visit → Type 0
+IsLost v = v.ended ≡ ended.Memory
+
+-- the link was new when it came
+abbrev pub IsNewLink : LinkView → Type 0
+IsNewLink l = IsNew l.source l.sink
+
+-- a link that was new was served by one session
+pub record Visits (shelf : Shelf) (v : Visit) (p q : RealmPass) (g h : GatesView) : Type 0 where
+  pub new : IsNewLink v.was
+  pub session : Session shelf p q g h v.was v.now v.ended
+
+-- one visit after another, each from where the one before it left the pass and the gates
+pub data Serves (shelf : Shelf) : List Visit → RealmPass → RealmPass → GatesView → GatesView → Type 0 where
+  none_came : {p : RealmPass} {g : GatesView} → Serves shelf [] p p g g
+  one_first : {v : Visit} {others : List Visit} {p q r : RealmPass} {g h k : GatesView}
+      → Visits shelf v p q g h
+      → Serves shelf others q r h k
+      → Serves shelf (v ∷ others) p r g k
+
+-- the links of the visits of the workers from k on, worker by worker
+abbrev pub worker_by_worker : ℕ → List (List Visit) → List (Back LinkView)
+worker_by_worker k [] = []
+worker_by_worker k (visits ∷ others) =
+    map (λ v. record { worker = k; link = v.now }) visits ++ worker_by_worker (k + 1) others
+
+-- what a link that comes back is seen as
+abbrev pub back_view : {L : Type 0} → (L → LinkView) → Back L → Back LinkView
+back_view view b = record { worker = b.worker; link = view b.link }
+
+module _ {D L G : Type 0} where
+  -- nothing was done, for want of memory
+  pub record IsUnserved (passes : List RealmPass) (gates : List G) (door : D) (back : Served D L G)
+      : Type 0 where
+    pub same_passes : back.passes ≡ passes
+    pub same_gates : back.gates ≡ gates
+    pub same_door : back.door ≡ door
+    pub no_links : back.links ≡ []
+    pub memory : back.cause ≡ cause.Memory
+
+module _ {G L : Type 0} (log_of : G → Option (List Asked)) (faults_of : G → ℕ) (view : L → LinkView) where
+  -- each worker served its links one after another with its own pass and gates; none of the others has any;
+  -- and a session ended for want of memory exactly where that is the cause
+  pub record ServesAll {D : Type 0} (shelf : Shelf) (workers : ℕ) (passes : List RealmPass) (gates : List G)
+      (back : Served D L G) : Type 0 where
+    pub visits : List (List Visit)
+    pub count : length visits ≡ 16
+    pub links : map (back_view view) back.links ≡ worker_by_worker 0 visits
+    pub each : (k : ℕ) (vs : List Visit) (p q : RealmPass) (g h : G) → slice_get visits k ≡ Some vs
+        → slice_get passes k ≡ Some p → slice_get back.passes k ≡ Some q
+        → slice_get gates k ≡ Some g → slice_get back.gates k ≡ Some h
+        → Serves shelf vs p q (gates_view log_of faults_of g) (gates_view log_of faults_of h)
+    pub idle : (k : ℕ) (vs : List Visit) → workers ≤ k → slice_get visits k ≡ Some vs → vs ≡ []
+    pub well : back.cause ≢ cause.Memory → All (All (λ v. v.ended ≢ ended.Memory)) visits
+    pub lost : back.cause ≡ cause.Memory → Any (Any IsLost) visits
+
+  -- links were served, or nothing was done
+  abbrev pub ServedOrNot : {D : Type 0} → Shelf → ℕ → List RealmPass → List G → D → Served D L G → Type 0
+  ServedOrNot shelf workers passes gates door back =
+      ServesAll shelf workers passes gates back ⊎ IsUnserved passes gates door back

@@ -1,0 +1,65 @@
+-- One session over a link, by its end.
+use Rattle.std.specs.Prelude.{◌≡◌, ◌≢◌, ◌⊎◌, ◌<◌, ℕ, List, ◌∷◌, ◌++◌, All, length, codes, Option}
+use Rattle.std.specs.List.{AllZip}
+use Rattle.std.specs.Io.KnownBytes.{Appends, IsAtEnd}
+use Rattle.cm_io.specs.Lines.{lines, Moves}
+use Rattle.cm_io.specs.Outside.{AsSink, Rose}
+use Rattle.cm_reply.specs.Lists.{Text}
+use Rattle.cm_manager.specs.Done.{Follows}
+use Rattle.cm_manager.specs.Asking.{frame_of}
+use Rattle.cm_manager.specs.Kept.{Keeps}
+use Rattle.cm_manager.specs.Work.{Shelf}
+use Rattle.cm_manager.specs.Contract.{RealmPass, GatesView}
+use Rattle.cm_session.specs.declared.ended.Ended.{Ended}
+use Rattle.cm_session.specs.declared.ended.Ended.TheVariants as ended
+use Rattle.cm_session.specs.Links.{Begins, GrowsByFront, LinkView, whole_lines}
+use Rattle.cm_session.specs.Told.{Told, Reads, replies, done_of, IsNoWant}
+
+-- the line that ends a session
+abbrev pub quit : Text
+quit = codes "quit"
+
+-- the most lines of a session
+abbrev pub most_lines : ℕ
+most_lines = 1048576
+
+-- which lines of these bytes were served, by the end of the session
+abbrev pub Served : Ended → Text → List Text → Option Text → Type 0
+Served ended.End bytes done left = (lines bytes ≡ done) × (length done < most_lines) × IsAtEnd left
+Served ended.Quit bytes done left =
+    (rest : List Text) × (lines bytes ≡ done ++ quit ∷ rest) × (length done < most_lines)
+Served ended.LinesSpent bytes done left = Begins (lines bytes) done × (length done ≡ most_lines)
+Served ended.ReadFault bytes done left = Begins (lines bytes) done × Begins done (whole_lines bytes)
+Served ended.WriteFault bytes done left = Begins (lines bytes) done
+Served ended.Memory bytes done left = Begins (lines bytes) done
+
+-- what was written of the replies, by the end of the session
+abbrev pub Wrote : Ended → AsSink → AsSink → Text → Type 0
+Wrote ended.WriteFault old new text = GrowsByFront old.written new.written text × Rose old.faults new.faults
+Wrote ended.Memory old new text = GrowsByFront old.written new.written text
+Wrote end old new text = Appends old.written new.written text
+
+-- the pass and the gates are as they were; or the pass is the same one, its entries are its caller's in what
+-- it has seen, and its new entries are whole calls, with the work of its gates
+abbrev pub KeepsOrNot : Shelf → RealmPass → RealmPass → GatesView → GatesView → Type 0
+KeepsOrNot shelf p q g h = ((q ≡ p) × (h ≡ g)) ⊎ Keeps shelf p q g h
+
+-- a session over a link, by what the pass, the gates and the link were and are
+pub record Session (shelf : Shelf) (p q : RealmPass) (g h : GatesView) (old new : LinkView) (end : Ended)
+    : Type 0 where
+  pub keeps : KeepsOrNot shelf p q g h
+  -- the bytes that the link gave
+  pub bytes : Text
+  pub gave : Moves old.source new.source bytes
+  -- the lines that were served, and what was made of each
+  pub lines_done : List Text
+  pub told : List Told
+  pub reads : AllZip Reads lines_done told
+  pub no_quit : All (λ t. t ≢ quit) lines_done
+  pub served : Served end bytes lines_done new.source.left
+  -- what the caller performed: the commands among them, in their order, and nothing else
+  pub follows : Follows (frame_of p) p.caller (done_of told) p.seen q.seen
+  -- what was written of the replies, and why the session ended
+  pub wrote : Wrote end old.sink new.sink (replies told)
+  pub no_want : end ≢ ended.Memory → All IsNoWant told
+  pub read_fault : end ≡ ended.ReadFault → Rose old.source.faults new.source.faults

@@ -1,0 +1,279 @@
+//! Serving the lines of one link.
+
+ghost use Rattle.std.specs.Prelude.{◌≡◌, ◌≢◌, ◌≤◌, ◌++◌, [], codes, decimal, false, length, Err, IfOk};
+ghost use Rattle.cm_reply.specs.Journal.{line as line_of};
+ghost use Rattle.cm_reply.specs.Answers as answers;
+ghost use Rattle.cm_manager.specs.Gated.{gates_view};
+ghost use Rattle.cm_session.specs.Links.{link_view, sink_view, source_view};
+ghost use Rattle.cm_session.specs.Session.{Session};
+ghost use Rattle.cm_session.specs.Steps.{LineWrote, ServedCommand, ServedOrNot, Stepped};
+
+use crate::Ended;
+use cm_command::{Command, CommandFault, read_command};
+use cm_gate::Gates;
+use cm_io::{LineReader, Link, Next, Put, put_all};
+use cm_manager::Manager;
+use cm_names::{Memory, Text};
+use cm_reply::reply_text;
+use cm_turn::Pass;
+use cm_world::{Answer, Entry, Frame, Refusal};
+use std::alloc::Global;
+use std::sync::Wait;
+use std::thread::Threads;
+
+/// The most lines of one session.
+const LINES: u32 = 1_048_576;
+
+/// The line that ends a session.
+const QUIT: &[u8] = b"quit";
+
+/// The reply to a line that is too long.
+const TOO_LONG: &[u8] = b"refused 75 line-too-long\n";
+
+/// The reply to a line for whose reply memory ran out.
+const WANTING: &[u8] = b"refused want-of-memory\n";
+
+/// Whether a command was answered so because memory ran out.
+fn is_wanting(answer: &Result<Answer, Refusal>) -> bool
+    ensures { result ≡ false → answer.now ≢ Err Refusal.Memory }
+{
+    matches!(answer, Err(Refusal::Memory))
+}
+
+/// The reply to a command, with a line feed.
+fn answer_line(
+    alloc: Global,
+    command: &Command,
+    answer: &Result<Answer, Refusal>,
+) -> Result<Text, Memory>
+    ensures { IfOk result (λ text. text ≡ line_of (answers.reply_text command.now answer.now)) }
+{
+    let mut text = reply_text(alloc, command, answer)?;
+    text.push_str("\n")?;
+    Ok(text)
+}
+
+/// The reply to a line that is no command, with a line feed.
+fn refusal_line(alloc: Global, at: u32) -> Result<Text, Memory>
+    ensures { IfOk result (λ text. text ≡ line_of (codes "refused 70 bad-command at " ++ decimal at)) }
+{
+    let mut text = Text::new(alloc);
+    text.push(format_args!("refused 70 bad-command at {at}\n"))?;
+    Ok(text)
+}
+
+/// Writes a reply. The result says whether the session ends for it.
+fn put_reply<R: Threads + Wait + Sync, L: Link>(
+    rt: &R,
+    link: &mut L,
+    text: &[u8],
+    wanting: bool,
+) -> Option<Ended>
+    ensures wrote { LineWrote result
+        (sink_view L.left L.given L.written L.Source.faults L.Sink.faults link.old)
+        (sink_view L.left L.given L.written L.Source.faults L.Sink.faults link.new)
+        text.now (wanting ≡ false) }
+    ensures source { source_view L.left L.given L.written L.Source.faults L.Sink.faults link.new
+        ≡ source_view L.left L.given L.written L.Source.faults L.Sink.faults link.old }
+{
+    let put = put_all(rt, link, text);
+    if wanting {
+        return Some(Ended::Memory);
+    }
+    match put {
+        Put::Done => None,
+        Put::WriteFault(_) => Some(Ended::WriteFault),
+    }
+}
+
+/// Answers a line that is no command. The result says whether the session ends for it.
+fn refuse<R: Threads + Wait + Sync, L: Link>(
+    rt: &R,
+    alloc: Global,
+    link: &mut L,
+    at: u32,
+) -> Option<Ended>
+    ensures wrote { LineWrote result
+        (sink_view L.left L.given L.written L.Source.faults L.Sink.faults link.old)
+        (sink_view L.left L.given L.written L.Source.faults L.Sink.faults link.new)
+        (line_of (codes "refused 70 bad-command at " ++ decimal at)) (false ≡ false) }
+    ensures source { source_view L.left L.given L.written L.Source.faults L.Sink.faults link.new
+        ≡ source_view L.left L.given L.written L.Source.faults L.Sink.faults link.old }
+{
+    match refusal_line(alloc, at) {
+        Ok(text) => put_reply(rt, link, text.as_str().as_bytes(), false),
+        Err(Memory) => Some(Ended::Memory),
+    }
+}
+
+/// Performs a command and writes its reply. The result says whether the session ends for it.
+fn serve_command<R: Threads + Wait + Sync, G: Gates, L: Link>(
+    rt: &R,
+    alloc: Global,
+    manager: &Manager,
+    pass: Pass<Entry, Frame>,
+    gates: &mut G,
+    link: &mut L,
+    command: &Command,
+) -> (Pass<Entry, Frame>, Option<Ended>)
+    requires lock { pass.lock ≡ manager.now.turn.lock }
+    ensures served { ServedCommand manager.now.shelf pass result.0
+        (gates_view G.log G.faults gates.old) (gates_view G.log G.faults gates.new)
+        command.now
+        (sink_view L.left L.given L.written L.Source.faults L.Sink.faults link.old)
+        (sink_view L.left L.given L.written L.Source.faults L.Sink.faults link.new) result.1 }
+    ensures source { source_view L.left L.given L.written L.Source.faults L.Sink.faults link.new
+        ≡ source_view L.left L.given L.written L.Source.faults L.Sink.faults link.old }
+{
+    let (pass, answer) = manager.perform(rt, alloc, pass, gates, command);
+    let wanting = is_wanting(&answer);
+    let ended = match answer_line(alloc, command, &answer) {
+        Ok(text) => put_reply(rt, link, text.as_str().as_bytes(), wanting),
+        Err(Memory) => put_reply(rt, link, WANTING, true),
+    };
+    (pass, ended)
+}
+
+/// Serves a line that doesn't end the session. The result says whether it ends all the same.
+fn serve_line<R: Threads + Wait + Sync, G: Gates, L: Link>(
+    rt: &R,
+    alloc: Global,
+    manager: &Manager,
+    pass: Pass<Entry, Frame>,
+    gates: &mut G,
+    link: &mut L,
+    line: &[u8],
+) -> (Pass<Entry, Frame>, Option<Ended>)
+    requires lock { pass.lock ≡ manager.now.turn.lock }
+    requires short { length line.now ≤ 65536 }
+    ensures served { ServedOrNot manager.now.shelf pass result.0
+        (gates_view G.log G.faults gates.old) (gates_view G.log G.faults gates.new)
+        line.now
+        (sink_view L.left L.given L.written L.Source.faults L.Sink.faults link.old)
+        (sink_view L.left L.given L.written L.Source.faults L.Sink.faults link.new) result.1 }
+    ensures source { source_view L.left L.given L.written L.Source.faults L.Sink.faults link.new
+        ≡ source_view L.left L.given L.written L.Source.faults L.Sink.faults link.old }
+{
+    match read_command(alloc, line) {
+        Ok(command) => serve_command(rt, alloc, manager, pass, gates, link, &command),
+        Err(CommandFault::BadCommand(at)) => {
+            let ended = refuse(rt, alloc, link, at);
+            (pass, ended)
+        }
+        Err(CommandFault::Memory) => (pass, Some(Ended::Memory)),
+    }
+}
+
+/// Takes the next line and serves it. The result says whether the session ends with it.
+fn serve_next<R: Threads + Wait + Sync, G: Gates, L: Link>(
+    rt: &R,
+    alloc: Global,
+    manager: &Manager,
+    pass: Pass<Entry, Frame>,
+    gates: &mut G,
+    link: &mut L,
+    reader: &mut LineReader,
+) -> (Pass<Entry, Frame>, Option<Ended>)
+    requires lock { pass.lock ≡ manager.now.turn.lock }
+    ensures stepped { Stepped manager.now.shelf pass result.0
+        (gates_view G.log G.faults gates.old) (gates_view G.log G.faults gates.new)
+        reader.old reader.new
+        (link_view L.left L.given L.written L.Source.faults L.Sink.faults link.old)
+        (link_view L.left L.given L.written L.Source.faults L.Sink.faults link.new) result.1 }
+{
+    match reader.next(rt, link) {
+        Next::Line(line) => {
+            if line.as_slice() == QUIT {
+                return (pass, Some(Ended::Quit));
+            }
+            serve_line(rt, alloc, manager, pass, gates, link, line.as_slice())
+        }
+        Next::TooLong => {
+            let over = put_reply(rt, link, TOO_LONG, false);
+            (pass, over)
+        }
+        Next::End => (pass, Some(Ended::End)),
+        Next::ReadFault => (pass, Some(Ended::ReadFault)),
+        Next::Memory => (pass, Some(Ended::Memory)),
+    }
+}
+
+/// Serves line after line.
+fn serve_lines<R: Threads + Wait + Sync, G: Gates, L: Link>(
+    rt: &R,
+    alloc: Global,
+    manager: &Manager,
+    pass: Pass<Entry, Frame>,
+    gates: &mut G,
+    link: &mut L,
+    reader: &mut LineReader,
+) -> (Pass<Entry, Frame>, Ended)
+    requires lock { pass.lock ≡ manager.now.turn.lock }
+    requires fresh { reader.old ≡ record { held = []; over = false } }
+    ensures session { Session manager.now.shelf pass result.0
+        (gates_view G.log G.faults gates.old) (gates_view G.log G.faults gates.new)
+        (link_view L.left L.given L.written L.Source.faults L.Sink.faults link.old)
+        (link_view L.left L.given L.written L.Source.faults L.Sink.faults link.new) result.1 }
+{
+    let mut pass = pass;
+    for line in 0..LINES {
+        let _number = line;
+        let (back, ended) = serve_next(rt, alloc, manager, pass, gates, link, reader);
+        pass = back;
+        if let Some(ended) = ended {
+            return (pass, ended);
+        }
+    }
+    (pass, Ended::LinesSpent)
+}
+
+/// Serves line after line with a new reader.
+fn serve_link<R: Threads + Wait + Sync, G: Gates, L: Link>(
+    rt: &R,
+    alloc: Global,
+    manager: &Manager,
+    pass: Pass<Entry, Frame>,
+    gates: &mut G,
+    link: &mut L,
+) -> (Pass<Entry, Frame>, Ended)
+    requires lock { pass.lock ≡ manager.now.turn.lock }
+    ensures session { Session manager.now.shelf pass result.0
+        (gates_view G.log G.faults gates.old) (gates_view G.log G.faults gates.new)
+        (link_view L.left L.given L.written L.Source.faults L.Sink.faults link.old)
+        (link_view L.left L.given L.written L.Source.faults L.Sink.faults link.new) result.1 }
+{
+    match LineReader::new(alloc) {
+        Ok(mut reader) => serve_lines(rt, alloc, manager, pass, gates, link, &mut reader),
+        Err(Memory) => (pass, Ended::Memory),
+    }
+}
+
+/// Serves one link to its end.
+///
+/// The lines that the link gives are served in order, each with its reply and a line feed before
+/// the next one is read. A line that is a command is performed with this pass and these gates, and
+/// its reply is the answer's text. A line that is none is answered by `refused 70 bad-command at K`,
+/// where its first K bytes are the longest front of it that some command begins with; one of more
+/// than 65,536 bytes by `refused 75 line-too-long`. A line `quit` ends the session without a reply.
+///
+/// `ReadFault` comes only where the link's count as a source rose, and `WriteFault` only where its
+/// count as a sink did; `LinesSpent` after 1,048,576 lines. `Memory` comes where memory ran out for
+/// a line or its reply, also where the link failed then. Whatever the end, the link is hung up.
+pub fn session<R: Threads + Wait + Sync, G: Gates, L: Link>(
+    rt: &R,
+    alloc: Global,
+    manager: &Manager,
+    pass: Pass<Entry, Frame>,
+    gates: &mut G,
+    link: &mut L,
+) -> (Pass<Entry, Frame>, Ended)
+    requires lock { pass.lock ≡ manager.now.turn.lock }
+    ensures session { Session manager.now.shelf pass result.0
+        (gates_view G.log G.faults gates.old) (gates_view G.log G.faults gates.new)
+        (link_view L.left L.given L.written L.Source.faults L.Sink.faults link.old)
+        (link_view L.left L.given L.written L.Source.faults L.Sink.faults link.new) result.1 }
+{
+    let (pass, ended) = serve_link(rt, alloc, manager, pass, gates, link);
+    link.hang_up(rt);
+    (pass, ended)
+}

@@ -1,0 +1,233 @@
+//! Workers that share a door, each with a pass and gates of its own.
+
+ghost use Rattle.std.specs.Prelude.{◌≡◌, ◌≢◌, ◌<◌, ◌≤◌, ℕ, [], All, false, length, slice_index_or, true};
+ghost use Rattle.std.specs.Prelude.{vec_capacity};
+ghost use Rattle.cm_manager.specs.Gated.{gates_view};
+ghost use Rattle.cm_session.specs.declared.workers.Worker.{Worker as WorkerOf};
+ghost use Rattle.cm_session.specs.Crew.{CrewWorked, DidWork, IsReady, ServesLink, ServesLinks};
+ghost use Rattle.cm_session.specs.Doorway.{OnGiven, TakesTurn, sessions_of};
+ghost use Rattle.cm_session.specs.Links.{link_view};
+ghost use Rattle.cm_session.specs.Serving.{IsNewLink};
+
+use crate::doorway::{Accepted, Doorway, Opening};
+use crate::{Ended, session};
+use cm_gate::Gates;
+use cm_io::{Accept, Door, Link};
+use cm_manager::Manager;
+use cm_turn::{Pass, Turn};
+use cm_world::{Entry, Frame};
+use std::alloc::Global;
+use std::sync::Wait;
+use std::thread;
+use std::thread::Threads;
+
+/// The number of passes and gates, and the most workers.
+pub(crate) const WORKERS: usize = 16;
+
+/// What a worker has in hand.
+#[derive(Drop)]
+pub(crate) struct Worker<G, L> {
+    /// The pass of its caller at the realm; `None` only while a call has it.
+    pub(crate) pass: Option<Pass<Entry, Frame>>,
+    /// Its pass at the door; `None` only while a call has it.
+    pub(crate) at_door: Option<Pass<Accepted, Opening>>,
+    /// The gates of its caller.
+    pub(crate) gates: G,
+    /// The links that it serves, in the order in which they came.
+    pub(crate) links: Vec<L>,
+    /// Whether a session of its ended for want of memory.
+    pub(crate) lost: bool,
+}
+
+/// Takes a turn at the door, and accepts in it unless no further accept is due.
+fn take_turn<R: Threads + Wait + Sync, D: Door>(
+    rt: &R,
+    door: &Turn<Doorway<D>>,
+    pass: Pass<Accepted, Opening>,
+) -> (Pass<Accepted, Opening>, Option<Accept<D::Link>>)
+    requires lock { pass.lock ≡ door.now.lock }
+    ensures turn { TakesTurn pass result.0 result.1 }
+    ensures new { OnGiven result.1 (λ l. IsNewLink
+        (link_view D.Link.left D.Link.given D.Link.written D.Link.Source.faults D.Link.Sink.faults l)) }
+{
+    let worker = pass.caller();
+    let mut held = door.enter(rt, pass);
+    let turned = held.state().accept_for(rt, worker);
+    (door.leave(held), turned)
+}
+
+/// Puts a link behind those that came before it, and serves it there.
+fn serve_link<R: Threads + Wait + Sync, G: Gates, L: Link>(
+    rt: &R,
+    alloc: Global,
+    manager: &Manager,
+    pass: Pass<Entry, Frame>,
+    gates: &mut G,
+    links: &mut Vec<L>,
+    link: L,
+) -> (Pass<Entry, Frame>, Ended)
+    requires lock { pass.lock ≡ manager.now.turn.lock }
+    requires room { length links.old.items < vec_capacity links.old }
+    ensures served { ServesLink
+        (link_view L.left L.given L.written L.Source.faults L.Sink.faults) manager.now.shelf
+        pass result.0 (gates_view G.log G.faults gates.old) (gates_view G.log G.faults gates.new)
+        link links.old.items links.new.items result.1 }
+    ensures room { vec_capacity links.new ≡ vec_capacity links.old }
+{
+    let last = links.len();
+    links.push_reserved(link);
+    session(rt, alloc, manager, pass, gates, &mut links[last])
+}
+
+/// Whether a session ended for want of memory.
+fn is_lost(ended: Ended) -> bool
+    ensures lost { result ≡ true → ended ≡ Ended.Memory }
+    ensures well { result ≡ false → ended ≢ Ended.Memory }
+{
+    match ended {
+        Ended::Memory => true,
+        Ended::End | Ended::Quit | Ended::ReadFault | Ended::WriteFault | Ended::LinesSpent =>
+            false,
+    }
+}
+
+/// Accepts links and serves each, until no further accept is due, or a session ended for want of
+/// memory. The answer says which.
+fn serve_links<R: Threads + Wait + Sync, G: Gates, D: Door>(
+    rt: &R,
+    alloc: Global,
+    manager: &Manager,
+    door: &Turn<Doorway<D>>,
+    pass: Pass<Entry, Frame>,
+    at_door: Pass<Accepted, Opening>,
+    gates: &mut G,
+    links: &mut Vec<D::Link>,
+) -> (Pass<Entry, Frame>, Pass<Accepted, Opening>, bool)
+    requires lock { pass.lock ≡ manager.now.turn.lock }
+    requires door { at_door.lock ≡ door.now.lock }
+    requires new { at_door.mine ≡ [] }
+    requires none { links.old.items ≡ [] }
+    requires room { sessions_of at_door ≤ vec_capacity links.old }
+    ensures served { ServesLinks
+        (link_view D.Link.left D.Link.given D.Link.written D.Link.Source.faults D.Link.Sink.faults)
+        manager.now.shelf pass result.0
+        (gates_view G.log G.faults gates.old) (gates_view G.log G.faults gates.new)
+        at_door result.1 links.new.items result.2 }
+{
+    let mut pass = pass;
+    let mut at_door = at_door;
+    for _ in rt.forever() {
+        let (back, turned) = take_turn(rt, door, at_door);
+        at_door = back;
+        let accept = match turned {
+            Some(accept) => accept,
+            None => return (pass, at_door, false),
+        };
+        let link = match accept {
+            Accept::Link(link) => link,
+            // The next turn finds this among the entries.
+            Accept::Closed => continue,
+            Accept::Failed => continue,
+        };
+        let (back, ended) = serve_link(rt, alloc, manager, pass, gates, links, link);
+        pass = back;
+        if is_lost(ended) {
+            return (pass, at_door, true);
+        }
+    }
+    unreachable!()
+}
+
+/// Whether the worker of this pass is none of the first so many.
+fn is_idle(at_door: &Pass<Accepted, Opening>, workers: u32) -> bool
+    ensures idle { result ≡ true → workers ≤ at_door.now.caller }
+    ensures serves { result ≡ false → at_door.now.caller < workers }
+{
+    at_door.caller() >= workers
+}
+
+/// Lets a worker serve, if it is one of the first so many.
+fn work<R: Threads + Wait + Sync, G: Gates, D: Door>(
+    rt: &R,
+    alloc: Global,
+    manager: &Manager,
+    door: &Turn<Doorway<D>>,
+    workers: u32,
+    worker: &mut Worker<G, D::Link>,
+)
+    requires ready { IsReady manager.now.turn door.now workers worker.old }
+    ensures worked { DidWork G.log G.faults
+        (link_view D.Link.left D.Link.given D.Link.written D.Link.Source.faults D.Link.Sink.faults)
+        manager.now.shelf workers worker.old worker.new }
+{
+    let Some(at_door) = worker.at_door.take() else {
+        unreachable!()
+    };
+    if is_idle(&at_door, workers) {
+        worker.at_door = Some(at_door);
+        return;
+    }
+    let Some(pass) = worker.pass.take() else {
+        unreachable!()
+    };
+    let (pass, at_door, lost) = serve_links(
+        rt,
+        alloc,
+        manager,
+        door,
+        pass,
+        at_door,
+        &mut worker.gates,
+        &mut worker.links,
+    );
+    worker.pass = Some(pass);
+    worker.at_door = Some(at_door);
+    worker.lost = lost;
+}
+
+/// Lets the first so many workers serve, side by side.
+fn work_all<R: Threads + Wait + Sync, G: Gates + Send, D: Door + Send>(
+    rt: &R,
+    alloc: Global,
+    manager: &Manager,
+    door: &Turn<Doorway<D>>,
+    workers: u32,
+    crew: &mut [Worker<G, D::Link>],
+)
+where
+    D::Link: Send,
+    requires ready { All (IsReady manager.now.turn door.now workers) crew.old }
+    ensures worked { (k : ℕ) (d : WorkerOf G D.Link) → k < length crew.old → DidWork G.log G.faults
+        (link_view D.Link.left D.Link.given D.Link.written D.Link.Source.faults D.Link.Sink.faults)
+        manager.now.shelf workers (slice_index_or crew.old k d) (slice_index_or crew.new k d) }
+{
+    thread::for_each_mut(
+        rt,
+        crew,
+        WORKERS,
+        &|_, worker: &mut Worker<G, D::Link>|
+            requires { IsReady manager.now.turn door.now workers worker.now }
+        { work(rt, alloc, manager, door, workers, worker) },
+    );
+}
+
+/// Lets the first so many workers serve, side by side, and gives all back.
+pub(crate) fn run_all<R: Threads + Wait + Sync, G: Gates + Send, D: Door + Send>(
+    rt: &R,
+    alloc: Global,
+    manager: &Manager,
+    door: &Turn<Doorway<D>>,
+    workers: u32,
+    crew: Vec<Worker<G, D::Link>>,
+) -> Vec<Worker<G, D::Link>>
+where
+    D::Link: Send,
+    requires ready { All (IsReady manager.now.turn door.now workers) crew.items }
+    ensures worked { CrewWorked G.log G.faults
+        (link_view D.Link.left D.Link.given D.Link.written D.Link.Source.faults D.Link.Sink.faults)
+        manager.now.shelf workers crew.items result.items }
+{
+    let mut crew = crew;
+    work_all(rt, alloc, manager, door, workers, crew.as_mut_slice());
+    crew
+}
