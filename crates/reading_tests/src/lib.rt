@@ -1,14 +1,16 @@
 //! Tests of the crates that read: names, streams, texts, declarations, manifests, graphs, validity,
 //! repositories and commands. They stand here, above those crates, so that each crate is proved once.
 //!
-//! Most cases are rows of `cases`: a reader, what it reads, and the text that it tells, so that one
-//! more costs no proof.
+//! Most cases stand in the texts of `cases`: the word of a reader, what it reads, and what it tells.
+//! `player` takes them apart when they run, so that one more costs no proof.
 #![tactic(auto)]
 
 #[cfg(test)]
 mod cases;
 #[cfg(test)]
 mod graphs;
+#[cfg(test)]
+mod player;
 #[cfg(test)]
 mod readers;
 #[cfg(test)]

@@ -1,157 +1,136 @@
-//! Readers of texts, each as a function from a text to what it makes of it, as a text.
+//! Readers of texts, each as a function from a text to what it makes of it, as a text. They give
+//! nothing where a case can't be read, or where memory runs out.
 
+use crate::rights::rights;
+use crate::{graphs, repositories, values};
 use cm_command::{
     Command, CommandFault, Script, ScriptFault, read_command, read_script, write_command,
 };
 use cm_decl::Decl;
-use cm_names::{Bytes, CapPath, Memory, Moniker, Name, SubDir, Text};
+use cm_names::{CapPath, Memory, Moniker, Name, SubDir, Text};
 use cm_read::{ReadFault, read_decl, read_decl_text, write_decl};
-use cm_repo::{Repository, absolute};
 use cm_text::to_json;
 use cm_valid::{is_well_formed, validate};
 use std::alloc::Global;
 use std::fmt;
-use std::test::Fail;
 
-/// What reads a text, and what it tells of it. A fault that has no text of its own is told as
+/// What the reader of that word tells of a text. A fault that has no text of its own is told as
 /// `fault`, and its value behind that.
-#[derive(Clone, Copy)]
-pub enum Reader {
-    /// A name, as its copy is written.
-    Name,
-    /// A path, as its copy is written.
-    Path,
-    /// A subdirectory, as its copy is written.
-    SubDir,
-    /// The path of the service of a name.
-    Service,
-    /// A moniker, as it is written.
-    Moniker,
-    /// The name of the last instance of a moniker, as its copy is written.
-    Child,
-    /// A relaxed text, as JSON.
-    Json,
-    /// A manifest: how many offers it has.
-    Manifest,
-    /// A manifest, as its declaration is written, which is read back as the same.
-    Written,
-    /// A manifest: whether its declaration is valid, and how many children it has.
-    Valid,
-    /// An absolute URL, as it is written.
-    Url,
-    /// The URL of a block of a repository: whether it is added.
-    Block,
-    /// A command, as it is written, which is read back and written as the same.
-    Command,
-    /// A script: what it has.
-    Script,
+pub fn told(alloc: Global, reader: &str, input: &str) -> Option<Text> {
+    match reader {
+        "name" => name(alloc, input),
+        "path" => path(alloc, input),
+        "subdir" => subdir(alloc, input),
+        "service" => service(alloc, input),
+        "moniker" => moniker(alloc, input),
+        "child" => child(alloc, input),
+        "rights" => rights(alloc, input),
+        "json" => json(alloc, input),
+        "many" => many(alloc, input),
+        "bytes" => bytes(alloc, input),
+        _ => told_of_values(alloc, reader, input),
+    }
 }
 
-/// What a reader tells of a text.
-pub fn told(alloc: Global, reader: Reader, input: &str) -> Result<Text, Fail> {
+/// What the readers of several values tell.
+fn told_of_values(alloc: Global, reader: &str, input: &str) -> Option<Text> {
     match reader {
-        Reader::Name => name(alloc, input),
-        Reader::Path => path(alloc, input),
-        Reader::SubDir => subdir(alloc, input),
-        Reader::Service => service(alloc, input),
-        Reader::Moniker => moniker(alloc, input),
-        Reader::Child => child(alloc, input),
-        Reader::Json => json(alloc, input),
-        Reader::Url => url(alloc, input),
-        Reader::Block => block(alloc, input),
+        "url" => repositories::url(alloc, input),
+        "block" => repositories::block(alloc, input),
+        "blocks" => repositories::blocks(alloc, input),
+        "graph" => graphs::graph(alloc, input),
+        "depends" => graphs::depends(alloc, input),
+        "would-depend" => graphs::would_depend(alloc, input),
+        "joined" => values::joined(alloc, input),
+        "inside" => values::inside(alloc, input),
+        "paths" => values::paths(alloc, input),
+        "below" => values::below(alloc, input),
+        "child-of" => values::child_of(alloc, input),
+        "is-root" => values::is_root(alloc, input),
+        "offers" => offers(alloc, input),
         _ => told_of_bytes(alloc, reader, input.as_bytes()),
     }
 }
 
 /// What a reader of bytes tells.
-pub fn told_of_bytes(alloc: Global, reader: Reader, input: &[u8]) -> Result<Text, Fail> {
+fn told_of_bytes(alloc: Global, reader: &str, input: &[u8]) -> Option<Text> {
     match reader {
-        Reader::Manifest => manifest(alloc, input),
-        Reader::Written => written(alloc, input),
-        Reader::Valid => valid(alloc, input),
-        Reader::Command => command(alloc, input),
-        Reader::Script => script(alloc, input),
-        _ => Err(Fail::from("no reader of bytes")),
+        "manifest" => manifest(alloc, input),
+        "written" => written(alloc, input),
+        "cloned" => cloned(alloc, input),
+        "valid" => valid(alloc, input),
+        "command" => command(alloc, input),
+        "script" => script(alloc, input),
+        _ => None,
     }
 }
 
 /// A fault, by its value.
-pub fn fault<D: fmt::Debug + Drop>(alloc: Global, fault: D) -> Result<Text, Fail> {
+pub fn fault<D: fmt::Debug + Drop>(alloc: Global, fault: D) -> Option<Text> {
     let mut text = Text::new(alloc);
-    text.push(format_args!("fault {fault:?}"))?;
-    Ok(text)
+    text.push(format_args!("fault {fault:?}")).ok()?;
+    Some(text)
 }
 
 /// A value, as it is written.
-pub fn shown<D: fmt::Display + Drop>(alloc: Global, value: D) -> Result<Text, Fail> {
+pub fn shown<D: fmt::Display + Drop>(alloc: Global, value: D) -> Option<Text> {
     let mut text = Text::new(alloc);
-    text.push(value)?;
-    Ok(text)
+    text.push(value).ok()?;
+    Some(text)
 }
 
-fn name(alloc: Global, input: &str) -> Result<Text, Fail> {
+/// A name, as its copy is written.
+fn name(alloc: Global, input: &str) -> Option<Text> {
     match Name::read(alloc, input) {
-        Ok(name) => shown(alloc, name.clone()?),
+        Ok(name) => shown(alloc, name.clone().ok()?),
         Err(found) => fault(alloc, found),
     }
 }
 
-fn path(alloc: Global, input: &str) -> Result<Text, Fail> {
+/// A path, as its copy is written.
+fn path(alloc: Global, input: &str) -> Option<Text> {
     match CapPath::read(alloc, input) {
-        Ok(path) => shown(alloc, path.clone()?),
+        Ok(path) => shown(alloc, path.clone().ok()?),
         Err(found) => fault(alloc, found),
     }
 }
 
-fn subdir(alloc: Global, input: &str) -> Result<Text, Fail> {
+/// A subdirectory, as its copy is written.
+fn subdir(alloc: Global, input: &str) -> Option<Text> {
     match SubDir::read(alloc, input) {
-        Ok(subdir) => shown(alloc, subdir.clone()?),
+        Ok(subdir) => shown(alloc, subdir.clone().ok()?),
         Err(found) => fault(alloc, found),
     }
 }
 
-fn service(alloc: Global, input: &str) -> Result<Text, Fail> {
-    let name = Name::read(alloc, input)?;
-    let path = CapPath::service(alloc, &name)?;
-    shown(alloc, path)
+/// The path of the service of a name.
+fn service(alloc: Global, input: &str) -> Option<Text> {
+    let name = Name::read(alloc, input).ok()?;
+    shown(alloc, CapPath::service(alloc, &name).ok()?)
 }
 
-fn moniker(alloc: Global, input: &str) -> Result<Text, Fail> {
+/// A moniker, as it is written.
+fn moniker(alloc: Global, input: &str) -> Option<Text> {
     match Moniker::read(alloc, input) {
-        Ok(moniker) => Ok(moniker.write(alloc)?),
+        Ok(moniker) => moniker.write(alloc).ok(),
         Err(found) => fault(alloc, found),
     }
 }
 
-fn child(alloc: Global, input: &str) -> Result<Text, Fail> {
-    let moniker = Moniker::read(alloc, input)?;
-    match moniker.parts.as_slice().last() {
-        Some(name) => shown(alloc, name.clone()?),
-        None => Err(Fail::from("no child")),
-    }
+/// The name of the last instance of a moniker, as its copy is written.
+fn child(alloc: Global, input: &str) -> Option<Text> {
+    let moniker = Moniker::read(alloc, input).ok()?;
+    let name = moniker.parts.as_slice().last()?;
+    shown(alloc, name.clone().ok()?)
 }
 
-fn json(alloc: Global, input: &str) -> Result<Text, Fail> {
+/// A relaxed text, as JSON.
+fn json(alloc: Global, input: &str) -> Option<Text> {
     if input.len() > 1_048_576 {
-        return Err(Fail::from("a long text"));
+        return None;
     }
     match to_json(alloc, input) {
-        Ok(text) => Ok(text),
-        Err(found) => fault(alloc, found),
-    }
-}
-
-fn url(alloc: Global, input: &str) -> Result<Text, Fail> {
-    match absolute(alloc, "", input) {
-        Ok(text) => Ok(text),
-        Err(found) => shown(alloc, found),
-    }
-}
-
-fn block(alloc: Global, input: &str) -> Result<Text, Fail> {
-    let mut repository = Repository::new(alloc);
-    match repository.add(input, Bytes::new(alloc)) {
-        Ok(()) => Ok(Text::from_str(alloc, "added")?),
+        Ok(text) => Some(text),
         Err(found) => fault(alloc, found),
     }
 }
@@ -161,7 +140,8 @@ pub fn decl_of(alloc: Global, manifest: &[u8]) -> Result<Decl, ReadFault> {
     read_decl(alloc, manifest)
 }
 
-fn manifest(alloc: Global, input: &[u8]) -> Result<Text, Fail> {
+/// A manifest: how many offers it has.
+fn manifest(alloc: Global, input: &[u8]) -> Option<Text> {
     match decl_of(alloc, input) {
         Ok(decl) => count(alloc, decl.offers.len(), "offers"),
         Err(found) => shown(alloc, found),
@@ -169,39 +149,69 @@ fn manifest(alloc: Global, input: &[u8]) -> Result<Text, Fail> {
 }
 
 /// A number of things, with their word.
-fn count(alloc: Global, number: usize, word: &str) -> Result<Text, Fail> {
-    let mut text = Text::new(alloc);
-    text.push(format_args!("{number} {word}"))?;
-    Ok(text)
+fn count(alloc: Global, number: usize, word: &str) -> Option<Text> {
+    shown(alloc, format_args!("{number} {word}"))
 }
 
-fn written(alloc: Global, input: &[u8]) -> Result<Text, Fail> {
-    let decl = decl_of(alloc, input)?;
-    let text = write_decl(alloc, &decl)?;
-    if !is_read_back(alloc, text.as_str(), &decl) {
-        return Err(Fail::from("not read back"));
+/// A manifest: whether its declaration equals its copy.
+fn cloned(alloc: Global, input: &[u8]) -> Option<Text> {
+    match decl_of(alloc, input) {
+        Ok(decl) => shown(alloc, is_copied(&decl)),
+        Err(_) => None,
     }
-    Ok(text)
+}
+
+fn is_copied(decl: &Decl) -> bool {
+    match decl.clone() {
+        Ok(copied) => is_same(&copied, decl),
+        Err(_) => false,
+    }
+}
+
+fn is_same(one: &Decl, other: &Decl) -> bool {
+    *one == *other
+}
+
+/// A manifest, as its declaration is written, which is read back as the same.
+fn written(alloc: Global, input: &[u8]) -> Option<Text> {
+    match decl_of(alloc, input) {
+        Ok(decl) => read_back(alloc, &decl),
+        Err(_) => None,
+    }
+}
+
+fn read_back(alloc: Global, decl: &Decl) -> Option<Text> {
+    let text = text_of(alloc, decl)?;
+    if is_read_back(alloc, text.as_str(), decl) {
+        Some(text)
+    } else {
+        None
+    }
+}
+
+fn text_of(alloc: Global, decl: &Decl) -> Option<Text> {
+    write_decl(alloc, decl).ok()
 }
 
 /// Whether a text is read as this declaration.
 fn is_read_back(alloc: Global, text: &str, decl: &Decl) -> bool {
     match read_decl_text(alloc, text) {
-        Ok(again) => again == *decl,
+        Ok(again) => is_same(&again, decl),
         Err(_) => false,
     }
 }
 
-fn valid(alloc: Global, input: &[u8]) -> Result<Text, Fail> {
+/// A manifest: whether its declaration is valid, and how many children it has.
+fn valid(alloc: Global, input: &[u8]) -> Option<Text> {
     match decl_of(alloc, input) {
         Ok(decl) => validated(alloc, decl),
         Err(found) => shown(alloc, found),
     }
 }
 
-fn validated(alloc: Global, decl: Decl) -> Result<Text, Fail> {
+fn validated(alloc: Global, decl: Decl) -> Option<Text> {
     if !is_well_formed(&decl) {
-        return Ok(Text::from_str(alloc, "not well formed")?);
+        return None;
     }
     match validate(alloc, decl) {
         Ok(valid) => count(alloc, valid.into_decl().children.len(), "children"),
@@ -223,7 +233,8 @@ fn written_again(alloc: Global, line: &[u8]) -> Result<Text, CommandFault> {
     Ok(write_command(alloc, &command)?)
 }
 
-fn command(alloc: Global, input: &[u8]) -> Result<Text, Fail> {
+/// A command, as it is written, which is read back and written as the same.
+fn command(alloc: Global, input: &[u8]) -> Option<Text> {
     match written_again(alloc, input) {
         Ok(text) => settled(alloc, text),
         Err(found) => fault(alloc, found),
@@ -231,27 +242,24 @@ fn command(alloc: Global, input: &[u8]) -> Result<Text, Fail> {
 }
 
 /// The line of a command, where it is read and written as the same.
-fn settled(alloc: Global, line: Text) -> Result<Text, Fail> {
-    let again = written_again(alloc, line.as_str().as_bytes())?;
-    if again != line {
-        return Err(Fail::from("not written again"));
-    }
-    Ok(line)
+fn settled(alloc: Global, line: Text) -> Option<Text> {
+    let again = written_again(alloc, line.as_str().as_bytes()).ok()?;
+    if again == line { Some(line) } else { None }
 }
 
 fn script_of(alloc: Global, input: &[u8]) -> Result<Script, ScriptFault> {
     read_script(alloc, input)
 }
 
-fn script(alloc: Global, input: &[u8]) -> Result<Text, Fail> {
+/// A script: what it has.
+fn script(alloc: Global, input: &[u8]) -> Option<Text> {
     match script_of(alloc, input) {
-        Ok(script) => script_text(alloc, &script),
+        Ok(script) => script_text(alloc, &script).ok(),
         Err(found) => shown(alloc, found),
     }
 }
 
-/// What a script has.
-fn script_text(alloc: Global, script: &Script) -> Result<Text, Fail> {
+fn script_text(alloc: Global, script: &Script) -> Result<Text, Memory> {
     let mut text = Text::new(alloc);
     push_parts(&mut text, script)?;
     for block in script.manifests.as_slice() {
@@ -274,4 +282,86 @@ fn push_block(text: &mut Text, line: u32, bytes: &[u8]) -> Result<(), Memory> {
         text.push(format_args!(" {byte}"))?;
     }
     Ok(())
+}
+
+/// What a reader of bytes tells, where each character stands for the byte of its number.
+fn bytes(alloc: Global, input: &str) -> Option<Text> {
+    let (reader, text) = input.split_once(' ')?;
+    let bytes = bytes_of(alloc, text)?;
+    told_of_bytes(alloc, reader, bytes.as_slice())
+}
+
+fn bytes_of(alloc: Global, text: &str) -> Option<Vec<u8>> {
+    let mut bytes = Vec::new(alloc);
+    for letter in text.chars() {
+        bytes.push(u8::try_from(u32::from(letter)).ok()?).ok()?;
+    }
+    Some(bytes)
+}
+
+/// What a reader tells of a large text, of which lines tell the reader and how often one text
+/// stands in the middle, what stands in front, the text, and what stands behind.
+fn many(alloc: Global, input: &str) -> Option<Text> {
+    let (head, rest) = input.split_once('\n')?;
+    let (reader, times) = head.split_once(' ')?;
+    let whole = repeated(alloc, times.parse().ok()?, rest)?;
+    shortened(alloc, told_of_large(alloc, reader, whole.as_str())?)
+}
+
+/// What the readers that know large texts tell.
+fn told_of_large(alloc: Global, reader: &str, input: &str) -> Option<Text> {
+    match reader {
+        "name" => name(alloc, input),
+        "path" => path(alloc, input),
+        "moniker" => moniker(alloc, input),
+        "json" => json(alloc, input),
+        "url" => repositories::url(alloc, input),
+        "block" => repositories::block(alloc, input),
+        _ => told_of_bytes(alloc, reader, input.as_bytes()),
+    }
+}
+
+/// So many times the text of the second line, between those of the first and of all others.
+fn repeated(alloc: Global, times: usize, lines: &str) -> Option<Text> {
+    let (front, rest) = lines.split_once('\n')?;
+    let (text, end) = rest.split_once('\n')?;
+    let mut whole = Text::from_str(alloc, front).ok()?;
+    for _ in 0..times {
+        whole.push_str(text).ok()?;
+    }
+    whole.push_str(end).ok()?;
+    Some(whole)
+}
+
+/// A short text, or how many bytes a long one has.
+fn shortened(alloc: Global, text: Text) -> Option<Text> {
+    if text.len() < 100 {
+        return Some(text);
+    }
+    count(alloc, text.len(), "bytes")
+}
+
+/// A manifest that offers so many names to so many targets.
+fn offers(alloc: Global, input: &str) -> Option<Text> {
+    let (names, targets) = input.split_once(' ')?;
+    let text = offer_text(alloc, names.parse().ok()?, targets.parse().ok()?)?;
+    manifest(alloc, text.as_str().as_bytes())
+}
+
+fn offer_text(alloc: Global, names: u32, targets: u32) -> Option<Text> {
+    let mut text = Text::from_str(alloc, "{offer:[{from:'self',protocol:").ok()?;
+    push_list(&mut text, "p", names).ok()?;
+    text.push_str(",to:").ok()?;
+    push_list(&mut text, "#t", targets).ok()?;
+    text.push_str("}]}").ok()?;
+    Some(text)
+}
+
+/// Puts so many texts down that begin with `front`, in a list.
+fn push_list(text: &mut Text, front: &str, count: u32) -> Result<(), Memory> {
+    text.push_str("[")?;
+    for i in 0..count {
+        text.push(format_args!("'{front}{i}',"))?;
+    }
+    text.push_str("]")
 }

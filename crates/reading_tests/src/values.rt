@@ -1,85 +1,79 @@
-//! Values that no reader tells of: words, lists, monikers and sections.
+//! Values that no text reads or that take several: words, lists, paths, monikers and sections.
 
 use crate::graphs::{child, nodes_text};
-use crate::readers::decl_of;
+use crate::readers::shown;
 use cm_decl::{Node, Section};
 use cm_names::*;
 use std::alloc::Global;
 use std::test::Fail;
 
-/// The path with two parts more.
-fn joined(alloc: Global, folder: &str, first: &str, second: &str) -> Result<Text, Fail> {
-    let folder = CapPath::read(alloc, folder)?;
-    let subdirs = [SubDir::read(alloc, first)?, SubDir::read(alloc, second)?];
-    Ok(folder.join(alloc, subdirs.as_slice())?)
+/// A path with two subdirectories more.
+pub fn joined(alloc: Global, input: &str) -> Option<Text> {
+    let (folder, rest) = input.split_once(' ')?;
+    let folder = CapPath::read(alloc, folder).ok()?;
+    let subdirs = two_of(alloc, rest)?;
+    folder.join(alloc, subdirs.as_slice()).ok()
 }
 
-fn is_inside(alloc: Global, path: &str, folder: &str) -> Result<bool, Fail> {
-    let path = CapPath::read(alloc, path)?;
-    let folder = CapPath::read(alloc, folder)?;
-    Ok(path.is_inside(&folder))
+fn two_of(alloc: Global, input: &str) -> Option<[SubDir; 2]> {
+    let (first, second) = input.split_once(' ')?;
+    let first = SubDir::read(alloc, first).ok()?;
+    Some([first, SubDir::read(alloc, second).ok()?])
+}
+
+/// Whether a path is inside a folder.
+pub fn inside(alloc: Global, input: &str) -> Option<Text> {
+    let (path, folder) = input.split_once(' ')?;
+    let path = CapPath::read(alloc, path).ok()?;
+    let folder = CapPath::read(alloc, folder).ok()?;
+    shown(alloc, path.is_inside(&folder))
 }
 
 /// A path and a subdirectory, as they are written.
-fn paths_text(alloc: Global, path: &str, subdir: &str) -> Result<Text, Fail> {
-    let path = CapPath::read(alloc, path)?;
-    let subdir = SubDir::read(alloc, subdir)?;
-    let mut text = Text::new(alloc);
-    text.push(format_args!("{path} {subdir}"))?;
-    Ok(text)
-}
-
-#[test]
-fn makes_paths(rt: HostRuntime) -> Result<(), Fail> {
-    let alloc = rt.alloc();
-    assert_eq!(rt; joined(alloc, "/svc", "a/b", "c")?.as_str(), "/svc/a/b/c");
-    assert_eq!(rt; paths_text(alloc, "/data", "logs")?.as_str(), "/data logs");
-    for (path, inside) in [("/svc/a", true), ("/svcs/a", false), ("/svc", false)] {
-        assert_eq!(rt; is_inside(alloc, path, "/svc")?, inside, "at {path}");
-    }
-    Ok(())
+pub fn paths(alloc: Global, input: &str) -> Option<Text> {
+    let (path, subdir) = input.split_once(' ')?;
+    let path = CapPath::read(alloc, path).ok()?;
+    let subdir = SubDir::read(alloc, subdir).ok()?;
+    shown(alloc, format_args!("{path} {subdir}"))
 }
 
 /// Whether the moniker of an instance starts with that of another.
-fn starts_with(alloc: Global, below: &str, above: &str) -> Result<bool, Fail> {
-    let below = Moniker::read(alloc, below)?;
-    let above = Moniker::read(alloc, above)?;
-    Ok(below.starts_with(&above))
+pub fn below(alloc: Global, input: &str) -> Option<Text> {
+    let (below, above) = input.split_once(' ')?;
+    let below = Moniker::read(alloc, below).ok()?;
+    let above = Moniker::read(alloc, above).ok()?;
+    shown(alloc, below.starts_with(&above))
 }
 
-/// Whether the child of an instance by a name has that moniker.
-fn is_child(alloc: Global, above: &str, name: &str, below: &str) -> Result<bool, Fail> {
-    let Node::Child(name) = child(alloc, name)? else {
-        return Ok(false);
-    };
-    let above = Moniker::read(alloc, above)?;
-    let below = Moniker::read(alloc, below)?;
-    Ok(above.child(alloc, name)? == below)
+/// The moniker of the child of an instance by a name.
+pub fn child_of(alloc: Global, input: &str) -> Option<Text> {
+    let (above, name) = input.split_once(' ')?;
+    match child(alloc, name) {
+        Some(Node::Child(name)) => written(alloc, &below_by(alloc, above, name)?),
+        _ => None,
+    }
 }
 
-fn is_root(alloc: Global, text: &str) -> Result<bool, Fail> {
-    let moniker = Moniker::read(alloc, text)?;
-    Ok(moniker.is_root())
+fn below_by(alloc: Global, above: &str, name: ChildName) -> Option<Moniker> {
+    match Moniker::read(alloc, above) {
+        Ok(above) => above.child(alloc, name).ok(),
+        Err(_) => None,
+    }
+}
+
+fn written(alloc: Global, moniker: &Moniker) -> Option<Text> {
+    moniker.write(alloc).ok()
+}
+
+/// Whether a moniker is the root's.
+pub fn is_root(alloc: Global, input: &str) -> Option<Text> {
+    let moniker = Moniker::read(alloc, input).ok()?;
+    shown(alloc, moniker.is_root())
 }
 
 #[test]
-fn knows_the_way(rt: HostRuntime) -> Result<(), Fail> {
-    let alloc = rt.alloc();
-    for (below, above, is_so) in [
-        ("core/item", "core", true),
-        ("core/item", ".", true),
-        ("core", "core/item", false),
-    ] {
-        assert_eq!(rt;
-            starts_with(alloc, below, above)?,
-            is_so,
-            "{below} below {above}"
-        );
-    }
-    assert!(rt; Moniker::root(alloc).is_root());
-    assert!(rt; !is_root(alloc, "core")?);
-    assert!(rt; is_child(alloc, "core", "item", "core/item")?);
-    Ok(())
+fn knows_the_root(rt: HostRuntime) {
+    assert!(rt; Moniker::root(rt.alloc()).is_root());
 }
 
 /// The words of dependencies and availabilities.
@@ -154,56 +148,46 @@ fn keeps_lists(rt: HostRuntime) -> Result<(), Fail> {
 }
 
 /// Children with these names and the instance itself, in order.
-fn ordered(alloc: Global, names: &[&str]) -> Result<Text, Fail> {
+fn ordered(alloc: Global, names: &str) -> Option<Text> {
     let mut nodes = Vec::new(alloc);
-    for name in names {
-        nodes.push(child(alloc, name)?)?;
+    for name in names.split(' ') {
+        nodes.push(child(alloc, name)?).ok()?;
     }
-    nodes.push(Node::Own)?;
-    nodes.sort()?;
+    nodes.push(Node::Own).ok()?;
+    nodes.sort().ok()?;
     nodes_text(alloc, "", nodes.as_slice())
 }
 
 #[test]
-fn orders_nodes_as_written(rt: HostRuntime) -> Result<(), Fail> {
-    let names = ["b:b", "b", "aa", "a:z", "a9", "a:b", "a-b", "a"];
-    assert_eq!(rt;
-        ordered(rt.alloc(), names.as_slice())?.as_str(),
-        "self a a-b a9 a:b a:z aa b b:b "
-    );
-    Ok(())
+fn orders_nodes_as_written(rt: HostRuntime) {
+    let text = ordered(rt.alloc(), "b:b b aa a:z a9 a:b a-b a");
+    assert!(rt; text.is_some_and(|text| text.as_str() == "self a a-b a9 a:b a:z aa b b:b "));
+}
+
+/// The words of all sections.
+fn sections(alloc: Global) -> Result<Text, Memory> {
+    let mut text = Text::new(alloc);
+    for section in [
+        Section::Manifest,
+        Section::Program,
+        Section::Children,
+        Section::Collections,
+        Section::Capabilities,
+        Section::Uses,
+        Section::Offers,
+        Section::Exposes,
+        Section::Graph,
+    ] {
+        text.push(format_args!("{section} "))?;
+    }
+    Ok(text)
 }
 
 #[test]
 fn prints_sections(rt: HostRuntime) -> Result<(), Fail> {
-    for (section, word) in [
-        (Section::Manifest, "manifest"),
-        (Section::Program, "program"),
-        (Section::Children, "children"),
-        (Section::Collections, "collections"),
-        (Section::Capabilities, "capabilities"),
-        (Section::Uses, "use"),
-        (Section::Offers, "offer"),
-        (Section::Exposes, "expose"),
-        (Section::Graph, "graph"),
-    ] {
-        let mut written = Text::new(rt.alloc());
-        written.push(section)?;
-        assert_eq!(rt; written.as_str(), word);
-    }
-    Ok(())
-}
-
-/// Whether the declaration of a manifest equals its copy.
-fn is_copied(alloc: Global, manifest: &str) -> Result<bool, Fail> {
-    let decl = decl_of(alloc, manifest.as_bytes())?;
-    Ok(decl.clone()? == decl)
-}
-
-#[test]
-fn clones_declarations(rt: HostRuntime) -> Result<(), Fail> {
-    let manifest =
-        "{program:{runner:'elf'},children:[{name:'logger',url:'#meta/logger.cm',startup:'eager'}]}";
-    assert!(rt; is_copied(rt.alloc(), manifest)?);
+    assert_eq!(rt;
+        sections(rt.alloc())?.as_str(),
+        "manifest program children collections capabilities use offer expose graph "
+    );
     Ok(())
 }
