@@ -11,6 +11,8 @@ from cm_tools.console import Unusable
 
 BESIDE = Path(__file__).resolve().parent.parent.parent / "component_manager"
 VARIABLE = "COMPONENT_MANAGER"
+# A manifest as its author writes it, and one as a folder of packages holds it.
+SUFFIXES = (".cml", ".cm")
 
 
 def main(words: list[str]) -> int:
@@ -30,7 +32,7 @@ def main(words: list[str]) -> int:
 
 def _parser() -> argparse.ArgumentParser:
     parser = argparse.ArgumentParser(
-        prog="check-all", description="Checks each manifest (*.cml) below a folder, a line for each."
+        prog="check-all", description="Checks each manifest (*.cml, *.cm) below a folder, a line for each."
     )
     parser.add_argument("folder", metavar="DIR")
     parser.add_argument(
@@ -43,9 +45,9 @@ def _parser() -> argparse.ArgumentParser:
 def _manifests(folder: Path) -> list[Path]:
     if not folder.is_dir():
         raise Unusable(f"{folder} is no folder")
-    found = sorted(path for path in folder.rglob("*.cml") if path.is_file())
+    found = sorted(path for path in folder.rglob("*") if path.suffix in SUFFIXES and path.is_file())
     if not found:
-        raise Unusable(f"there is no manifest (*.cml) below {folder}")
+        raise Unusable(f"there is no manifest (*.cml, *.cm) below {folder}")
     return found
 
 
