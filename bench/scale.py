@@ -91,7 +91,7 @@ def generated(instances, lanes):
 
 
 def flat(instances):
-    """A root with groups of at most 1,024 instances below it, so that each stands at one depth."""
+    """A root with groups of about 1,024 instances below it, so that each stands at one depth."""
     leaves, groups = instances - 1, max(1, (instances - 1) // 1024)
     names = [f"g{it}" for it in range(groups)]
     shares = [leaves // groups + (it < leaves % groups) - 1 for it in range(groups)]
