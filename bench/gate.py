@@ -1,19 +1,21 @@
 #!/usr/bin/env python3
 """Prints what the merge gate costs from nothing, crate by crate.
 
-Runs `rt ci --anew` on a copy of the checkout, looks at the prover's processes while it goes, and
-prints for each crate the processor time of its proof, of its tests and of its must-fail edits, with
-the greatest memory that one process took; then the longest chain of proofs, the machine's load, and
-last a line `total N processor minutes`. With names of crates only these and those below them are
-proved (`rt ci --anew NAME..`), which is not the gate. `-` in the place of a time says that there is
-no such part.
+Runs `rt ci` on a copy of the checkout, looks at the prover's processes while it goes, and prints
+for each crate the processor time of its proof, of its tests and of its must-fail edits, with the
+greatest memory that one process took; then the longest chain of proofs, the machine's load, and
+last a line `total N processor minutes`. With names of crates the copy has only these and those below
+them, which is not the gate. `-` in the place of a time says that there is no such part.
+
+Some kits keep on the machine what earlier runs proved: there it is `rt ci --anew`. In the others
+`rt ci` proves everything from nothing by itself.
 
 What edits cost has two parts: one more whole proof of their crate (for all of them together, where
 it has more than one), and a check of what each changes.
 
 Usage: bench/gate.py [--kept] [NAME..]
-With --kept what earlier runs on this machine proved is not proved again, so the table shows what
-was left to do.
+With --kept what earlier runs on this machine proved is not proved again, where the kit keeps it, so
+the table shows what was left to do.
 """
 import os
 import re
@@ -128,6 +130,37 @@ def crates_of(folder):
     return {head.split()[0]: [it for it in rest.split() if it in names] for head, rest in pairs}
 
 
+def with_those_below(names, crates):
+    """These crates and all that they stand on."""
+    found = set(names)
+    while more := {below for name in found for below in crates[name]} - found:
+        found |= more
+    return found
+
+
+def keeps_proofs():
+    """Whether `rt ci` of this kit goes on from what earlier runs proved, so that it has the word --anew."""
+    streams = {"stdin": subprocess.DEVNULL, "stdout": subprocess.PIPE, "stderr": subprocess.STDOUT}
+    return b"--anew" in subprocess.run(["rt", "help"], check=False, **streams).stdout
+
+
+def copy_of(room, wanted):
+    """A copy of the checkout with the wanted crates alone, and without what runs leave."""
+    folder = f"{room}/copy"
+
+    def unwanted(path, names):
+        if path == os.path.join(TOP, "crates"):
+            return [name for name in names if name not in wanted]
+        return [name for name in names if name in ("out", ".git")]
+
+    shutil.copytree(TOP, folder, ignore=unwanted)
+    with open(f"{TOP}/crates.txt", encoding="utf-8") as file:
+        lines = [line for line in file if line.partition(":")[0].split()[:1] in [[it] for it in wanted]]
+    with open(f"{folder}/crates.txt", "w", encoding="utf-8") as file:
+        file.writelines(lines)
+    return folder
+
+
 def costs_of(processes):
     """What each crate cost."""
     costs = defaultdict(Cost)
@@ -178,14 +211,16 @@ def print_table(folder, crates, costs):
 
 def main():
     """Runs the gate and prints what it cost."""
+    is_kept, keeps, known = "--kept" in sys.argv[1:], keeps_proofs(), crates_of(TOP)
     names = [it for it in sys.argv[1:] if it != "--kept"]
-    if any(it.startswith("-") for it in names):
-        print(__doc__.strip().rpartition("Usage: ")[2], file=sys.stderr)
+    unknown = [it for it in names if it not in known]
+    if unknown or is_kept and not keeps:
+        what = f"no crate is named {unknown[0]}" if unknown else "rt ci of this kit keeps nothing"
+        print(f"gate.py: {what}\nusage: bench/gate.py [--kept] [NAME..]", file=sys.stderr)
         return 2
-    command = ["rt", "ci", *(["--anew"] if "--kept" not in sys.argv[1:] else []), *names]
+    command = ["rt", "ci", *(["--anew"] if keeps and not is_kept else [])]
     with tempfile.TemporaryDirectory(prefix="gate-") as room:
-        skipped = shutil.ignore_patterns("out", ".git")
-        folder = shutil.copytree(TOP, f"{room}/copy", ignore=skipped)
+        folder = copy_of(room, with_those_below(names or known, known))
         log = f"{room}/log"
         began = time.time()
         status, processes, total, load = watched(command, folder, log)
