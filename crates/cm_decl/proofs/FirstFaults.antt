@@ -7,7 +7,7 @@ use Rattle.std.proofs.lemmas.Option.{slice_get_within}
 use Rattle.cm_decl.specs.declared.decl.Decl.{Decl}
 use Rattle.cm_decl.specs.declared.node.Node.{Node}
 use Rattle.cm_decl.specs.declared.section.Section.{Section}
-use Rattle.cm_decl.specs.declared.section.Section.TheVariants.{Manifest, Program, Children, Collections, Capabilities, Uses, Offers, Exposes, Graph}
+use Rattle.cm_decl.specs.declared.section.Section.TheVariants.{Manifest, Program, Children, Collections, Capabilities, Uses, Offers, Exposes, Environments, Graph}
 use Rattle.cm_decl.specs.Rules.{Rule, RepeatedName, UnknownRef, NotDeclared, TargetIsSource, RepeatedTarget, RepeatedPath, PathInside, RequiredVoid, rules, number_of}
 use Rattle.cm_decl.specs.declared.rows.Collection.{Collection}
 use Rattle.cm_decl.specs.Clashes.{Place, clash, or_else, first_row, first_before, same_child_name, same_collection_name, same_capability_name, same_target, same_expose, same_path, nested_paths}
@@ -59,7 +59,7 @@ rule_above PathInside = omega arith
 rule_above RequiredVoid = omega arith
 
 section_of : ℕ → Section
-section_of n = if n == 0 then Manifest else if n == 1 then Program else if n == 2 then Children else if n == 3 then Collections else if n == 4 then Capabilities else if n == 5 then Uses else if n == 6 then Offers else if n == 7 then Exposes else Graph
+section_of n = if n == 0 then Manifest else if n == 1 then Program else if n == 2 then Children else if n == 3 then Collections else if n == 4 then Capabilities else if n == 5 then Uses else if n == 6 then Offers else if n == 7 then Exposes else if n == 8 then Environments else Graph
 
 section_back : (s : Section) → section_of (section_rank s) ≡ s
 unfolding section_of
@@ -71,6 +71,7 @@ section_back Capabilities = refl
 section_back Uses = refl
 section_back Offers = refl
 section_back Exposes = refl
+section_back Environments = refl
 section_back Graph = refl
 
 pub same_section : (s t : Section) → section_rank s ≡ section_rank t → s ≡ t
@@ -310,6 +311,8 @@ first_from d s k o others at first second =
 
 -- behind the exposes nothing stands
 none_behind : (d : Decl) (f : Fault) (s : Section) → f.section ≡ s → Stands d f → 8 ≤ section_rank s → ⊥
+none_behind d f Environments e st behind =
+    let there : f.index < 0 = subst (λ t. f.index < rows_of d t) e (broken_within d st.rule f.section f.index st.broken) in omega arith
 none_behind d f Graph e st behind =
     let there : f.index < 0 = subst (λ t. f.index < rows_of d t) e (broken_within d st.rule f.section f.index st.broken) in omega arith
 none_behind d f s e st behind = omega arith

@@ -31,11 +31,16 @@ no_decl = record {
   uses = [];
   offers = [];
   exposes = [];
+  environments = [];
+  debug_uses = [];
+  storages = [];
+  storage_uses = [];
+  storage_offers = [];
 }
 
 -- a child, with `#` and its name for its URL
 abbrev pub child : List ℕ → Child
-child name = record { name = name; url = 35 ∷ name; eager = false }
+child name = record { name = name; url = 35 ∷ name; eager = false; environment = None }
 
 -- a protocol that keeps its name
 abbrev pub give : List ℕ → Origin → Dependency → Availability → Give
@@ -80,7 +85,7 @@ q = 113 ∷ []
 abbrev pub named_as_child : Decl
 named_as_child = record no_decl {
   children = child a ∷ child b ∷ [];
-  collections = record { name = b; durability = Transient; dynamic_offers = false } ∷ [];
+  collections = record { name = b; durability = Transient; dynamic_offers = false; environment = None } ∷ [];
 }
 
 -- a use of a protocol

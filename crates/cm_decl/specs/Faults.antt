@@ -4,7 +4,8 @@ use Rattle.cm_decl.specs.declared.decl.Decl.{Decl}
 use Rattle.cm_decl.specs.declared.node.Node.{Node}
 use Rattle.cm_decl.specs.declared.section.Section.{Section}
 use Rattle.cm_decl.specs.declared.section.Section.TheVariants.{Manifest, Program, Children, Collections}
-use Rattle.cm_decl.specs.declared.section.Section.TheVariants.{Capabilities, Uses, Offers, Exposes, Graph}
+use Rattle.cm_decl.specs.declared.section.Section.TheVariants.{Capabilities, Uses, Offers, Exposes}
+use Rattle.cm_decl.specs.declared.section.Section.TheVariants.{Environments, Graph}
 use Rattle.cm_decl.specs.Rules.{Rule, number_of}
 use Rattle.cm_decl.specs.Clashes.{Place, clash}
 use Rattle.cm_decl.specs.Breaks.{breaks}
@@ -35,7 +36,8 @@ section_rank Capabilities = 4
 section_rank Uses = 5
 section_rank Offers = 6
 section_rank Exposes = 7
-section_rank Graph = 8
+section_rank Environments = 8
+section_rank Graph = 9
 
 -- the first is reported before the second: by section, then by index, then by number
 abbrev pub IsBefore : Fault → Fault → Type 0

@@ -1,9 +1,11 @@
 -- Which declarations are valid, and the fault of one that isn't.
-use Rattle.std.specs.Prelude.{◌≡◌, List, [], Bool, true, false, not, ◌&&◌, None, IsTrue, ◌⊎◌}
+use Rattle.std.specs.Prelude.{◌≡◌, List, [], Bool, true, false, not, ◌&&◌, None, is_none, IsTrue, ◌⊎◌}
 use Rattle.std.specs.List.{list_all}
 use Rattle.cm_decl.specs.declared.decl.Decl.{Decl}
 use Rattle.cm_decl.specs.declared.origin.Origin.{Origin}
-use Rattle.cm_decl.specs.declared.origin.Origin.TheVariants.{Parent, Void}
+use Rattle.cm_decl.specs.declared.origin.Origin.TheVariants.{Parent, Own, Child, Void}
+use Rattle.cm_decl.specs.declared.environment.Registration.{Registration}
+use Rattle.cm_decl.specs.declared.environment.Environment.{Environment}
 use Rattle.cm_decl.specs.declared.node.Node.{Node}
 use Rattle.cm_decl.specs.declared.section.Section.TheVariants.{Graph}
 use Rattle.cm_decl.specs.Graph.{strong_edge, StrongOn}
@@ -21,10 +23,40 @@ abbrev pub is_parent : Origin → Bool
 is_parent Parent = true
 is_parent _ = false
 
--- no use is from void and no expose from parent
+-- whether the source is the parent, the component itself or a child in no collection
+abbrev pub is_static_source : Origin → Bool
+is_static_source Parent = true
+is_static_source Own = true
+is_static_source (Child c) = is_none c.coll
+is_static_source _ = false
+
+-- whether the source is the parent, the component itself or void
+abbrev pub is_storage_source : Origin → Bool
+is_storage_source Parent = true
+is_storage_source Own = true
+is_storage_source Void = true
+is_storage_source _ = false
+
+-- whether all these registrations have such a source
+abbrev pub are_registrations : List Registration → Bool
+are_registrations rs = list_all (λ r. is_static_source r.from) rs
+
+-- whether all registrations of an environment do
+abbrev pub is_environment : Environment → Bool
+is_environment e = are_registrations e.runners && are_registrations e.debug
+
+-- the rows of environments and of storage come from where they may
+abbrev pub is_further_formed : Decl → Bool
+is_further_formed d =
+    list_all is_environment d.environments
+    && (list_all (λ s. is_static_source s.from) d.storages
+    && list_all (λ o. is_storage_source o.from) d.storage_offers)
+
+-- no use is from void, no expose from parent, and environments and storage come from where they may
 abbrev pub is_well_formed : Decl → Bool
 is_well_formed d =
-    list_all (λ u. not (is_void u.from)) d.uses && list_all (λ g. not (is_parent g.from)) d.exposes
+    list_all (λ u. not (is_void u.from)) d.uses
+    && (list_all (λ g. not (is_parent g.from)) d.exposes && is_further_formed d)
 
 -- no fault stands at any row, and the realm graph has no cycle of strong edges
 pub record IsValid (d : Decl) : Type 0 where

@@ -23,6 +23,7 @@ section_word section.Capabilities = codes "capabilities"
 section_word section.Uses = codes "use"
 section_word section.Offers = codes "offer"
 section_word section.Exposes = codes "expose"
+section_word section.Environments = codes "environments"
 section_word section.Graph = codes "graph"
 
 -- `self`, or the name of the child

@@ -1,6 +1,9 @@
 //! Declarations.
 
-use crate::{Capability, Child, Collection, Give, Offer, Usage};
+use crate::{
+    Capability, Child, Collection, DebugUse, Environment, Give, Offer, Storage, StorageOffer,
+    StorageUse, Usage,
+};
 use cm_names::{List, Name, Plain};
 
 /// What a component manifest declares.
@@ -26,6 +29,16 @@ pub struct Decl {
     pub offers: List<Offer>,
     /// What it passes on to its parent.
     pub exposes: List<Give>,
+    /// The environments that children and collections are given.
+    pub environments: List<Environment>,
+    /// The protocols that it uses from its own environment.
+    pub debug_uses: List<DebugUse>,
+    /// The storages that it provides.
+    pub storages: List<Storage>,
+    /// The storages that it uses.
+    pub storage_uses: List<StorageUse>,
+    /// The storages that it passes on to its children and collections.
+    pub storage_offers: List<StorageOffer>,
 }
 
 impl Plain for Decl {

@@ -90,6 +90,10 @@ pub fn finds_bad_gives()
         (give p origin.Parent dependency.Strong availability.Required ∷ []) ≡ Some (0, 54) }
     ensures required { bad_give given_back (λ c. false) b
         (give q origin.Void dependency.Strong availability.Required ∷ []) ≡ Some (0, 57) }
+    ensures as_target { bad_give given_back (λ c. false) b
+        (give q origin.Void dependency.Strong availability.SameAsTarget ∷ []) ≡ Some (0, 57) }
+    ensures transitional { bad_give given_back (λ c. false) b
+        (give q origin.Void dependency.Strong availability.Transitional ∷ []) ≡ None }
     ensures there { bad_give given_back (λ c. true) b
         (give q (origin.Child (record { coll = Some b; name = a })) dependency.Strong
         availability.Required ∷ []) ≡ None }

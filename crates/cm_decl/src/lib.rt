@@ -8,16 +8,20 @@
 #![tactic(auto)]
 
 pub mod decl;
+pub mod environment;
 pub mod kind;
 pub mod laws;
 pub mod node;
 pub mod origin;
 pub mod rows;
 pub mod section;
+pub mod storage;
 
 pub use decl::Decl;
+pub use environment::{DebugUse, Environment, Registration};
 pub use kind::Kind;
 pub use node::{DynChild, Node};
 pub use origin::Origin;
 pub use rows::{Capability, Child, Collection, Durability, Give, Offer, Usage};
 pub use section::Section;
+pub use storage::{Storage, StorageOffer, StorageUse};

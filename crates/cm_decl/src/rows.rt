@@ -16,6 +16,8 @@ pub struct Child {
     /// Whether it starts together with its parent (`startup`: `eager`), and not only when it
     /// is needed (`lazy`).
     pub eager: bool,
+    /// The environment that it is given; `None` for that of its parent.
+    pub environment: Option<Name>,
 }
 
 impl Plain for Child {
@@ -27,9 +29,9 @@ impl Plain for Child {
 /// How long an instance in a collection stays: `durability` of a collection.
 #[derive(Debug, Clone, Copy, PartialEq, Eq)]
 pub enum Durability {
-    /// Until it is destroyed, or its parent is.
+    /// Until it is destroyed, or its parent stops or is destroyed.
     Transient,
-    /// Until it has run once.
+    /// Until it has run once, or until one of these comes before.
     SingleRun,
 }
 
@@ -49,6 +51,8 @@ pub struct Collection {
     /// Whether a child may be created with offers of its own (`allowed_offers`:
     /// `static_and_dynamic`), and not with the declared ones alone (`static_only`).
     pub dynamic_offers: bool,
+    /// The environment that its instances are given; `None` for that of their parent.
+    pub environment: Option<Name>,
 }
 
 impl Plain for Collection {

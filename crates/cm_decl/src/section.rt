@@ -26,6 +26,8 @@ pub enum Section {
     Offers,
     /// `expose`.
     Exposes,
+    /// `environments`.
+    Environments,
     /// The realm graph, which is made of several sections.
     Graph,
 }
@@ -52,6 +54,7 @@ impl fmt::Display for Section {
             Section::Uses => f.write_str("use"),
             Section::Offers => f.write_str("offer"),
             Section::Exposes => f.write_str("expose"),
+            Section::Environments => f.write_str("environments"),
             Section::Graph => f.write_str("graph"),
         }
     }

@@ -79,7 +79,7 @@ same_names None (Some l) m n e = absurd cc
 same_names (Some k) None m n e = absurd cc
 same_names (Some k) (Some l) m n e = (cc, cc)
 
-same_child : (c d : ChildName) → IsChild c → IsChild d → child_text c ≡ child_text d → c ≡ d
+pub same_child : (c d : ChildName) → IsChild c → IsChild d → child_text c ≡ child_text d → c ≡ d
 same_child c d h k e =
     let same = same_names c.coll d.coll c.name d.name (sym (colon_parts c.coll c.name h.1 h.0) ∙ ap (slice_split (λ b. b == 58)) e ∙ colon_parts d.coll d.name k.1 k.0) in
     ap (λ o. record { coll = o; name = c.name }) same.0 ∙ ap (λ t. record { coll = d.coll; name = t }) same.1

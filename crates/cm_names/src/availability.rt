@@ -15,25 +15,45 @@ pub enum Availability {
     Required,
     /// The capability may be missing, and may come from `void`.
     Optional,
+    /// The capability may be missing for now: nobody relies on it yet, or any longer.
+    Transitional,
+    /// An offer or an expose gives it as surely as its target asks for it.
+    SameAsTarget,
 }
 
 impl Availability {
-    /// Whether `given` is enough where `asked` is asked for: false exactly where `asked` is
-    /// stronger than `given`. `Required` is stronger than `Optional`.
+    /// Whether `given` is enough where `asked` is asked for. From the strongest down the words are
+    /// `Required`, `Optional` and `Transitional`, and a weaker one isn't enough. `SameAsTarget` is
+    /// enough for each of them, and each is enough for it.
     pub fn fits(asked: Availability, given: Availability) -> bool
         ensures { result ≡ spec.fits asked given }
     {
-        !(asked == Availability::Required && given == Availability::Optional)
+        match (asked, given) {
+            (Availability::Required, Availability::Optional | Availability::Transitional) => false,
+            (Availability::Optional, Availability::Transitional) => false,
+            _ => true,
+        }
     }
 
     /// Whether a capability that is asked for so may come from `void`: exactly where it is
-    /// optional.
+    /// optional or transitional.
     pub fn allows_void(self) -> bool
         ensures { result ≡ spec.allows_void self }
     {
         match self {
-            Availability::Required => false,
-            Availability::Optional => true,
+            Availability::Required | Availability::SameAsTarget => false,
+            Availability::Optional | Availability::Transitional => true,
+        }
+    }
+
+    /// What is stated by itself: `None` for `SameAsTarget`, which takes over what the target
+    /// states.
+    pub fn stated_itself(self) -> Option<Availability>
+        ensures { result ≡ spec.stated_itself self }
+    {
+        match self {
+            Availability::SameAsTarget => None,
+            _ => Some(self),
         }
     }
 }
@@ -54,6 +74,8 @@ impl fmt::Display for Availability {
         match self {
             Availability::Required => f.write_str("required"),
             Availability::Optional => f.write_str("optional"),
+            Availability::Transitional => f.write_str("transitional"),
+            Availability::SameAsTarget => f.write_str("same_as_target"),
         }
     }
 }

@@ -7,7 +7,7 @@ use std::fmt;
 /// created in one. It is written `name` or `collection:name`.
 ///
 /// This is the child moniker of Fuchsia's component framework documentation (fuchsia.dev).
-#[derive(Debug, Drop, Clone, PartialEq, Eq, PartialOrd, Ord)]
+#[derive(Debug, Drop, Clone, PartialEq, Eq, PartialOrd, Ord, Hash)]
 pub struct ChildName {
     /// The collection, or `None` for a child that the manifest declares.
     pub coll: Option<Name>,

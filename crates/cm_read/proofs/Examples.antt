@@ -1,5 +1,6 @@
 -- Rows, computed from the definition.
 use Rattle.std.proofs.Common.{◌≡◌, codes, Ok, Err, Some, None, true, false, [], ◌∷◌, refl, replicate, ◌++◌, ℕ, List, length, nat_lt, nat_le}
+use Rattle.cm_decl.specs.Examples.{no_decl}
 use Rattle.cm_decl.specs.declared.section.Section.TheVariants as section
 use Rattle.cm_decl.specs.declared.kind.Kind.TheVariants as kind
 use Rattle.cm_decl.specs.declared.origin.Origin.TheVariants as origin
@@ -154,23 +155,23 @@ pub expose_dependency_row : decl_of_text (codes "{expose:[{protocol:\"p\",from:\
 unfolding read_on_literals
 expose_dependency_row = refl
 
-pub relaxed_row : decl_of_text (codes "{children:[{name:'a',url:'#meta/a.cm'},],/* one */}") ≡ Ok (record { runner = None; children = record { name = codes "a"; url = codes "#meta/a.cm"; eager = false } ∷ []; collections = []; capabilities = []; uses = []; offers = []; exposes = [] })
+pub relaxed_row : decl_of_text (codes "{children:[{name:'a',url:'#meta/a.cm'},],/* one */}") ≡ Ok (record no_decl { children = record { name = codes "a"; url = codes "#meta/a.cm"; eager = false; environment = None } ∷ [] })
 unfolding read_on_literals
 relaxed_row = refl
 
-pub empty_row : decl_of_text (codes "{facets:{x:[1]},}") ≡ Ok (record { runner = None; children = []; collections = []; capabilities = []; uses = []; offers = []; exposes = [] })
+pub empty_row : decl_of_text (codes "{facets:{x:[1]},}") ≡ Ok no_decl
 unfolding read_on_literals
 empty_row = refl
 
-pub product_row : decl_of_text (codes "{offer:[{protocol:['p','q'],from:'#c',to:['#a','#b']}]}") ≡ Ok (record { runner = None; children = []; collections = []; capabilities = []; uses = []; offers = record { to = codes "a"; give = record { kind = kind.Protocol; source_name = codes "p"; from = origin.Child (record { coll = None; name = codes "c" }); target_name = codes "p"; rights = None; subdir = None; dependency = dependency.Strong; availability = availability.Required } } ∷ record { to = codes "b"; give = record { kind = kind.Protocol; source_name = codes "p"; from = origin.Child (record { coll = None; name = codes "c" }); target_name = codes "p"; rights = None; subdir = None; dependency = dependency.Strong; availability = availability.Required } } ∷ record { to = codes "a"; give = record { kind = kind.Protocol; source_name = codes "q"; from = origin.Child (record { coll = None; name = codes "c" }); target_name = codes "q"; rights = None; subdir = None; dependency = dependency.Strong; availability = availability.Required } } ∷ record { to = codes "b"; give = record { kind = kind.Protocol; source_name = codes "q"; from = origin.Child (record { coll = None; name = codes "c" }); target_name = codes "q"; rights = None; subdir = None; dependency = dependency.Strong; availability = availability.Required } } ∷ []; exposes = [] })
+pub product_row : decl_of_text (codes "{offer:[{protocol:['p','q'],from:'#c',to:['#a','#b']}]}") ≡ Ok (record no_decl { offers = record { to = codes "a"; give = record { kind = kind.Protocol; source_name = codes "p"; from = origin.Child (record { coll = None; name = codes "c" }); target_name = codes "p"; rights = None; subdir = None; dependency = dependency.Strong; availability = availability.Required } } ∷ record { to = codes "b"; give = record { kind = kind.Protocol; source_name = codes "p"; from = origin.Child (record { coll = None; name = codes "c" }); target_name = codes "p"; rights = None; subdir = None; dependency = dependency.Strong; availability = availability.Required } } ∷ record { to = codes "a"; give = record { kind = kind.Protocol; source_name = codes "q"; from = origin.Child (record { coll = None; name = codes "c" }); target_name = codes "q"; rights = None; subdir = None; dependency = dependency.Strong; availability = availability.Required } } ∷ record { to = codes "b"; give = record { kind = kind.Protocol; source_name = codes "q"; from = origin.Child (record { coll = None; name = codes "c" }); target_name = codes "q"; rights = None; subdir = None; dependency = dependency.Strong; availability = availability.Required } } ∷ [] })
 unfolding read_on_literals
 product_row = refl
 
-pub directory_row : decl_of_text (codes "{use:[{directory:'d',path:'/d',rights:['r*','execute'],subdir:'x/y',dependency:'weak'}],expose:[{protocol:'p',from:'framework',as:'q',to:'parent'}]}") ≡ Ok (record { runner = None; children = []; collections = []; capabilities = []; uses = record { kind = kind.Directory; name = codes "d"; from = origin.Parent; path = codes "/d"; rights = Some (record reading { execute = true }); subdir = Some (codes "x/y"); dependency = dependency.Weak; availability = availability.Required } ∷ []; offers = []; exposes = record { kind = kind.Protocol; source_name = codes "p"; from = origin.Framework; target_name = codes "q"; rights = None; subdir = None; dependency = dependency.Strong; availability = availability.Required } ∷ [] })
+pub directory_row : decl_of_text (codes "{use:[{directory:'d',path:'/d',rights:['r*','execute'],subdir:'x/y',dependency:'weak'}],expose:[{protocol:'p',from:'framework',as:'q',to:'parent'}]}") ≡ Ok (record no_decl { uses = record { kind = kind.Directory; name = codes "d"; from = origin.Parent; path = codes "/d"; rights = Some (record reading { execute = true }); subdir = Some (codes "x/y"); dependency = dependency.Weak; availability = availability.Required } ∷ []; exposes = record { kind = kind.Protocol; source_name = codes "p"; from = origin.Framework; target_name = codes "q"; rights = None; subdir = None; dependency = dependency.Strong; availability = availability.Required } ∷ [] })
 unfolding read_on_literals
 directory_row = refl
 
-pub default_path_row : decl_of_text (codes "{program:{runner:'elf',binary:3},capabilities:[{protocol:['p','q']}]}") ≡ Ok (record { runner = Some (codes "elf"); children = []; collections = []; capabilities = record { kind = kind.Protocol; name = codes "p"; path = codes "/svc/p"; rights = None } ∷ record { kind = kind.Protocol; name = codes "q"; path = codes "/svc/q"; rights = None } ∷ []; uses = []; offers = []; exposes = [] })
+pub default_path_row : decl_of_text (codes "{program:{runner:'elf',binary:3},capabilities:[{protocol:['p','q']}]}") ≡ Ok (record no_decl { runner = Some (codes "elf"); capabilities = record { kind = kind.Protocol; name = codes "p"; path = codes "/svc/p"; rights = None } ∷ record { kind = kind.Protocol; name = codes "q"; path = codes "/svc/q"; rights = None } ∷ [] })
 unfolding read_on_literals
 default_path_row = refl
 
@@ -179,7 +180,7 @@ pub long_name_row : decl_of_text (codes "{children:[{url:'u',name:'" ++ (replica
 unfolding read_on_literals
 long_name_row = refl
 
-pub name_row : decl_of_text (codes "{children:[{url:'u',name:'" ++ (replicate 255 97 ++ codes "'}]}")) ≡ Ok (record { runner = None; children = record { name = replicate 255 97; url = codes "u"; eager = false } ∷ []; collections = []; capabilities = []; uses = []; offers = []; exposes = [] })
+pub name_row : decl_of_text (codes "{children:[{url:'u',name:'" ++ (replicate 255 97 ++ codes "'}]}")) ≡ Ok (record no_decl { children = record { name = replicate 255 97; url = codes "u"; eager = false; environment = None } ∷ [] })
 unfolding read_on_literals
 name_row = refl
 
@@ -188,7 +189,7 @@ pub bytes_row : decl_of_bytes (123 ∷ 255 ∷ []) ≡ Err (bad (start section.M
 unfolding read_on_literals
 bytes_row = refl
 
-pub text_row : decl_of_bytes (codes "{facets:'" ++ (195 ∷ 169 ∷ codes "'}")) ≡ Ok (record { runner = None; children = []; collections = []; capabilities = []; uses = []; offers = []; exposes = [] })
+pub text_row : decl_of_bytes (codes "{facets:'" ++ (195 ∷ 169 ∷ codes "'}")) ≡ Ok no_decl
 unfolding read_on_literals
 text_row = refl
 

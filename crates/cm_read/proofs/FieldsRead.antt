@@ -16,11 +16,23 @@ use Rattle.cm_decl.specs.declared.origin.Origin.{Origin}
 use Rattle.cm_decl.specs.declared.origin.Origin.TheVariants as origin
 use Rattle.cm_read.specs.declared.fault.Place.{Place}
 use Rattle.cm_read.specs.Numbers.{wrong_type, bad_name, bad_path, unknown_word}
-use Rattle.cm_read.specs.Reading.{bad}
+use Rattle.cm_read.specs.Reading.{bad, ◌>>=◌}
 use Rattle.cm_read.specs.Fields.{needed_at, text_at, name_from, is_url, name_in_at, name_at, url_at, path_in_at, path_at, subdir_in_at, subdir_at, texts_in_at, texts_at, names_at, behind_mark, reference_from, references_at, rights_from, rights_in_at, rights_at}
-use Rattle.cm_read.specs.Words.{use_origin_named, expose_origin_named, offer_origin_named, origin_from, use_from_in_at, offer_from_in_at, expose_from_in_at, use_from_at, offer_from_at, expose_from_at}
-use Rattle.cm_read.specs.Readable.{AreRights, IsSubDir, IsOrigin, ForSomeOf}
-use Rattle.cm_read.proofs.ReadLemmas.{Reads, fails, gives, any, next, tested, defaulted, given, unless, Means, means, means_nothing, each_reads}
+use Rattle.std.specs.Prelude.{◌≢◌, not, ◌&&◌, if◌then◌else◌}
+use Rattle.cm_names.specs.declared.availability.Availability.TheVariants.{Required, Optional, Transitional}
+use Rattle.cm_names.specs.declared.availability.Availability.TheVariants.{SameAsTarget}
+use Rattle.cm_decl.specs.declared.rows.Child.{Child}
+use Rattle.cm_read.specs.declared.rows.UseSource.{UseSource}
+use Rattle.cm_read.specs.declared.rows.UseSource.TheVariants as source
+use Rattle.cm_read.specs.Words.{use_origin_named, expose_origin_named, offer_origin_named, origin_from}
+use Rattle.cm_read.specs.Words.{use_from_in_at, offer_from_in_at, expose_from_in_at, use_from_at, offer_from_at}
+use Rattle.cm_read.specs.Words.{expose_from_at, static_origin_named, static_from_in_at, static_from_at}
+use Rattle.cm_read.specs.Words.{storage_origin_named, storage_from_at, source_from, use_source_in_at}
+use Rattle.cm_read.specs.Words.{use_source_at, environment_from, environment_in_at, environment_at}
+use Rattle.cm_read.specs.Words.{availability_named, availability_at, child_origin, is_declared, settled}
+use Rattle.cm_read.specs.Readable.{AreRights, IsSubDir, IsOrigin, IsStaticSource, IsStorageSource, ForSomeOf}
+use Rattle.cm_read.proofs.ReadLemmas.{Reads, fails, gives, any, next, tested, defaulted, given, unless, Means}
+use Rattle.cm_read.proofs.ReadLemmas.{means, means_nothing, listed_reads, each_reads}
 
 -- ---- names, URLs and paths
 
@@ -188,25 +200,29 @@ offer_named : (t : List ℕ) → Means (IsOrigin true true) (offer_origin_named 
 unfolding offer_origin_named
 offer_named t = means (bytes_eq t (codes "parent")) origin.Parent refl (expose_named true t)
 
-origin_reads : (parent void : Bool) (at : Place) (named : Option Origin) (name : Option (List ℕ)) → IfSome named (IsOrigin parent void) → Reads (IsOrigin parent void) (origin_from at named name)
-origin_reads parent void at named (Some name) h = next (name_from_reads at (codes "from") name) (λ child n. gives (refl, n))
-origin_reads parent void at None None h = fails _
-origin_reads parent void at (Some o) None h = gives h
+origin_reads : (P : Origin → Type 0) (at : Place) (named : Option Origin) (name : Option (List ℕ))
+    → ((n : List ℕ) → IsName n → P (child_origin n)) → IfSome named P → Reads P (origin_from at named name)
+origin_reads P at named (Some name) c h = next (name_from_reads at (codes "from") name) (λ child n. gives (c child n))
+origin_reads P at None None c h = fails _
+origin_reads P at (Some o) None c h = gives h
+
+a_child : (parent void : Bool) (n : List ℕ) → IsName n → IsOrigin parent void (child_origin n)
+a_child parent void n h = (refl, h)
 
 use_from_in_reads : (at : Place) (d : Data) → Reads (IsOrigin true false) (use_from_in_at at d)
 unfolding use_from_in_at
 use_from_in_reads at d =
-    next (any (text_at at (codes "from") d)) (λ text _. origin_reads true false at (use_origin_named text) (behind_mark text) (use_named text).value)
+    next (any (text_at at (codes "from") d)) (λ text _. origin_reads (IsOrigin true false) at (use_origin_named text) (behind_mark text) (a_child true false) (use_named text).value)
 
 offer_from_in_reads : (at : Place) (d : Data) → Reads (IsOrigin true true) (offer_from_in_at at d)
 unfolding offer_from_in_at
 offer_from_in_reads at d =
-    next (any (text_at at (codes "from") d)) (λ text _. origin_reads true true at (offer_origin_named text) (behind_mark text) (offer_named text).value)
+    next (any (text_at at (codes "from") d)) (λ text _. origin_reads (IsOrigin true true) at (offer_origin_named text) (behind_mark text) (a_child true true) (offer_named text).value)
 
 expose_from_in_reads : (at : Place) (d : Data) → Reads (IsOrigin false true) (expose_from_in_at at d)
 unfolding expose_from_in_at
 expose_from_in_reads at d =
-    next (any (text_at at (codes "from") d)) (λ text _. origin_reads false true at (expose_origin_named text) (behind_mark text) (expose_named false text).value)
+    next (any (text_at at (codes "from") d)) (λ text _. origin_reads (IsOrigin false true) at (expose_origin_named text) (behind_mark text) (a_child false true) (expose_named false text).value)
 
 pub use_from_reads : (at : Place) (d : Data) → Reads (IsOrigin true false) (use_from_at at d)
 unfolding use_from_at
@@ -219,3 +235,114 @@ offer_from_reads at d = next (any (needed_at at (codes "from") d)) (λ value _. 
 pub expose_from_reads : (at : Place) (d : Data) → Reads (IsOrigin false true) (expose_from_at at d)
 unfolding expose_from_at
 expose_from_reads at d = next (any (needed_at at (codes "from") d)) (λ value _. expose_from_in_reads at value)
+
+-- where a protocol that is used comes from
+abbrev pub IsUseSource : UseSource → Type 0
+IsUseSource (source.From o) = IsOrigin true false o
+IsUseSource source.Debug = Unit {0}
+
+source_reads : (at : Place) (text : List ℕ) → Reads IsUseSource (source_from at text)
+source_reads at text = by (bytes_eq text (codes "debug"))
+  where
+    by : (b : Bool) → Reads IsUseSource (if b then Ok source.Debug else (origin_from at (use_origin_named text) (behind_mark text) >>= λ from. Ok (source.From from)))
+    by true = gives tt
+    by false =
+        next (origin_reads (IsOrigin true false) at (use_origin_named text) (behind_mark text) (a_child true false) (use_named text).value)
+        (λ from f. gives f)
+
+use_source_in_reads : (at : Place) (d : Data) → Reads IsUseSource (use_source_in_at at d)
+unfolding use_source_in_at
+use_source_in_reads at d = next (any (text_at at (codes "from") d)) (λ text _. source_reads at text)
+
+pub use_source_reads : (at : Place) (d : Data) → Reads IsUseSource (use_source_at at d)
+unfolding use_source_at
+use_source_reads at d =
+    defaulted (get (codes "from") d) (source.From origin.Parent) (use_source_in_at at) refl (use_source_in_reads at)
+
+static_named : (t : List ℕ) → Means IsStaticSource (static_origin_named t)
+unfolding static_origin_named
+static_named t =
+    means (bytes_eq t (codes "parent")) origin.Parent tt
+    (means (bytes_eq t (codes "self")) origin.Own tt
+    means_nothing)
+
+static_from_in_reads : (at : Place) (d : Data) → Reads IsStaticSource (static_from_in_at at d)
+unfolding static_from_in_at
+static_from_in_reads at d =
+    next (any (text_at at (codes "from") d)) (λ text _.
+    origin_reads IsStaticSource at (static_origin_named text) (behind_mark text) (λ n h. (refl, h)) (static_named text).value)
+
+pub static_from_reads : (at : Place) (d : Data) → Reads IsStaticSource (static_from_at at d)
+unfolding static_from_at
+static_from_reads at d = next (any (needed_at at (codes "from") d)) (λ value _. static_from_in_reads at value)
+
+-- the two words without a child
+bare_named : (t : List ℕ) → Means IsStorageSource (static_origin_named t)
+unfolding static_origin_named
+bare_named t =
+    means (bytes_eq t (codes "parent")) origin.Parent tt
+    (means (bytes_eq t (codes "self")) origin.Own tt
+    means_nothing)
+
+storage_named : (t : List ℕ) → Means IsStorageSource (storage_origin_named t)
+unfolding storage_origin_named
+storage_named t = means (bytes_eq t (codes "void")) origin.Void tt (bare_named t)
+
+pub storage_from_reads : (at : Place) (d : Data) → Reads IsStorageSource (storage_from_at at d)
+unfolding storage_from_at
+storage_from_reads at d =
+    next (any (needed_at at (codes "from") d)) (λ value _. listed_reads storage_origin_named at (codes "from") value storage_named)
+
+-- where the source may be missing, void may stand in its place
+pub settled_is : (parent : Bool) (children : List Child) (unknown : Bool) (o : Origin) → IsOrigin parent true o
+    → IsOrigin parent true (settled children unknown o)
+settled_is parent children unknown origin.Parent h = h
+settled_is parent children unknown origin.Own h = h
+settled_is parent children unknown origin.Framework h = h
+settled_is parent children unknown origin.Void h = h
+settled_is parent children unknown (origin.Child c) h = by (unknown && not (is_declared children c))
+  where
+    by : (b : Bool) → IsOrigin parent true (if b then origin.Void else origin.Child c)
+    by true = refl
+    by false = h
+
+-- ---- availability
+
+required_is_stated : Required ≢ SameAsTarget
+required_is_stated e = cc
+
+optional_is_stated : Optional ≢ SameAsTarget
+optional_is_stated e = cc
+
+transitional_is_stated : Transitional ≢ SameAsTarget
+transitional_is_stated e = cc
+
+stated_named : (t : List ℕ) → Means (λ a. a ≢ SameAsTarget) (availability_named t)
+unfolding availability_named
+stated_named t =
+    means (bytes_eq t (codes "required")) Required required_is_stated
+    (means (bytes_eq t (codes "optional")) Optional optional_is_stated
+    (means (bytes_eq t (codes "transitional")) Transitional transitional_is_stated
+    means_nothing))
+
+-- no word of a use takes over what its target says
+pub availability_reads : (at : Place) (d : Data) → Reads (λ a. a ≢ SameAsTarget) (availability_at at d)
+unfolding availability_at
+availability_reads at d =
+    defaulted (get (codes "availability") d) Required _ required_is_stated
+    (λ value. listed_reads availability_named at (codes "availability") value stated_named)
+
+-- ---- environments
+
+environment_from_reads : (at : Place) (o : Option (List ℕ)) → Reads IsName (environment_from at o)
+environment_from_reads at None = fails _
+environment_from_reads at (Some name) = name_from_reads at (codes "environment") name
+
+environment_in_reads : (at : Place) (d : Data) → Reads IsName (environment_in_at at d)
+unfolding environment_in_at
+environment_in_reads at d =
+    next (any (text_at at (codes "environment") d)) (λ text _. environment_from_reads at (behind_mark text))
+
+pub environment_reads : (at : Place) (d : Data) → Reads (λ o. ForSomeOf o IsName) (environment_at at d)
+unfolding environment_at
+environment_reads at d = given (get (codes "environment") d) (environment_in_at at) (environment_in_reads at)

@@ -13,4 +13,6 @@ pub mod TextBack
 pub mod ReadLemmas
 pub mod FieldsRead
 pub mod RowsRead
+pub mod EnvironmentsRead
+pub mod Inside
 pub mod DeclRead

@@ -1,9 +1,9 @@
 -- Objects that are made of pairs, and that no value of a declaration nests deep or has a float.
-use Rattle.std.proofs.Common.{◌≡◌, ℕ, suc, max, ◌≤◌, List, [], ◌∷◌, ◌++◌, map, Bool, true, false, ◌||◌, Option, Some, None, Ok, Less, Equal, Greater, nat_cmp, refl, sym, ap, subst, ◌∙◌, arith, rules}
+use Rattle.std.proofs.Common.{◌≡◌, ℕ, suc, max, ◌≤◌, List, [], ◌∷◌, ◌++◌, map, codes, Bool, true, false, ◌||◌, Option, Some, None, Ok, Less, Equal, Greater, nat_cmp, refl, sym, ap, subst, ◌∙◌, arith, rules}
 use Rattle.std.proofs.Math.Nat.{le-max_left, le-max_right, max-le}
 use Rattle.std.specs.Cmp.Lexicographic.{slice_cmp}
 use Rattle.std.specs.Ordering.{match_ordering}
-use Rattle.serde_json.specs.Data.{Data, string, Items, Members, no_members, member, put, depth, items_depth, members_depth}
+use Rattle.serde_json.specs.Data.{Data, string, array, Items, Members, no_members, member, put, depth, items_depth, members_depth}
 use Rattle.json.specs.Tree.{HasNumbers, ItemsHaveNumbers, MembersHaveNumbers}
 use Rattle.serde_json.specs.Written.{compact_text, has_float, items_have_float, members_have_float, outline, items_outline, members_outline}
 use Rattle.serde_json.specs.View.{items_of}
@@ -18,7 +18,21 @@ use Rattle.cm_decl.specs.declared.rows.Give.{Give}
 use Rattle.cm_decl.specs.declared.rows.Offer.{Offer}
 use Rattle.cm_decl.specs.declared.decl.Decl.{Decl}
 use Rattle.cm_read.specs.Manifest.{of_data, decl_of_json}
-use Rattle.cm_read.specs.Writing.{Pairs, with_pairs, object_of, list_of, rights_pair, subdir_pair, program_pair, child_pairs, collection_pairs, capability_pairs, use_pairs, give_pairs, offer_pairs, runner_pairs, decl_pairs, child_data, collection_data, capability_data, use_data, offer_data, expose_data, decl_data, decl_text}
+use Rattle.cm_decl.specs.declared.environment.Registration.{Registration}
+use Rattle.cm_decl.specs.declared.environment.Environment.{Environment}
+use Rattle.cm_decl.specs.declared.environment.DebugUse.{DebugUse}
+use Rattle.cm_decl.specs.declared.storage.Storage.{Storage}
+use Rattle.cm_decl.specs.declared.storage.StorageUse.{StorageUse}
+use Rattle.cm_decl.specs.declared.storage.StorageOffer.{StorageOffer}
+use Rattle.cm_read.specs.Writing.{Pairs, with_pairs, object_of, list_of, rights_pair, subdir_pair, program_pair}
+use Rattle.cm_read.specs.Writing.{environment_pair, environments_pair, child_pairs, collection_pairs}
+use Rattle.cm_read.specs.Writing.{capability_pairs, use_pairs, give_pairs, offer_pairs, runner_pairs, decl_pairs}
+use Rattle.cm_read.specs.Writing.{storage_pairs, debug_use_pairs, storage_use_pairs, storage_offer_pairs}
+use Rattle.cm_read.specs.Writing.{registration_pairs, registration_data, environment_pairs, child_data}
+use Rattle.cm_read.specs.Writing.{collection_data, capability_data, use_data, offer_data, expose_data}
+use Rattle.cm_read.specs.Writing.{storage_data, debug_use_data, storage_use_data, storage_offer_data}
+use Rattle.cm_read.specs.Writing.{environment_data, capability_items, use_items, offer_items, decl_data}
+use Rattle.cm_read.specs.Writing.{decl_text}
 use Rattle.cm_read.specs.Readable.{IsReadable}
 use Rattle.cm_read.proofs.DeclBack.{reads_back}
 
@@ -104,10 +118,20 @@ items_plain n write (x ∷ xs) h =
     let others : AreItems n (items_of (map write xs)) = items_plain n write xs h in
     record { no_float = rw (first.no_float, others.no_float) refl; numbers = (first.numbers, others.numbers); shallow = max-le first.shallow others.shallow }
 
+-- rows of one kind, and what stands behind them
+items_before : {A : Type 0} (n : ℕ) (write : A → Data) (xs : List A) (rest : List Data) → ((x : A) → IsPlain n (write x))
+    → AreItems n (items_of rest) → AreItems n (items_of (map write xs ++ rest))
+items_before n write [] rest h behind = behind
+items_before n write (x ∷ xs) rest h behind =
+    let first : IsPlain n (write x) = h x in
+    let others : AreItems n (items_of (map write xs ++ rest)) = items_before n write xs rest h behind in
+    record { no_float = rw (first.no_float, others.no_float) refl; numbers = (first.numbers, others.numbers); shallow = max-le first.shallow others.shallow }
+
+array_plain : (n : ℕ) (ds : Items) → AreItems n ds → IsPlain (suc n) (array ds)
+array_plain n ds all = record { no_float = all.no_float; numbers = all.numbers; shallow = omega (arith, all.shallow) }
+
 list_plain : {A : Type 0} (n : ℕ) (write : A → Data) (xs : List A) → ((x : A) → IsPlain n (write x)) → IsPlain (suc n) (list_of write xs)
-list_plain n write xs h =
-    let all : AreItems n (items_of (map write xs)) = items_plain n write xs h in
-    record { no_float = all.no_float; numbers = all.numbers; shallow = omega (arith, all.shallow) }
+list_plain n write xs h = array_plain n (items_of (map write xs)) (items_plain n write xs h)
 
 both_plain : (n : ℕ) (ps qs : Pairs) → ArePairs n ps → ArePairs n qs → ArePairs n (ps ++ qs)
 both_plain n [] qs h g = g
@@ -115,54 +139,118 @@ both_plain n (p ∷ ps) qs h g = (h.0, both_plain n ps qs h.1 g)
 
 -- ---- declarations
 
-rights_plain : (rights : Option RightSet) → ArePairs 1 (rights_pair rights)
+rights_plain : (rights : Option RightSet) → ArePairs 2 (rights_pair rights)
 rights_plain None = tt
-rights_plain (Some rights) = (list_plain 0 string (words_of rights) (string_plain 0), tt)
+rights_plain (Some rights) = (list_plain 1 string (words_of rights) (string_plain 1), tt)
 
-subdir_plain : (subdir : Option (List ℕ)) → ArePairs 1 (subdir_pair subdir)
+subdir_plain : (subdir : Option (List ℕ)) → ArePairs 2 (subdir_pair subdir)
 subdir_plain None = tt
-subdir_plain (Some subdir) = (string_plain 1 subdir, tt)
+subdir_plain (Some subdir) = (string_plain 2 subdir, tt)
 
-limits_plain : (rights : Option RightSet) (subdir : Option (List ℕ)) → ArePairs 1 (rights_pair rights ++ subdir_pair subdir)
-limits_plain rights subdir = both_plain 1 (rights_pair rights) (subdir_pair subdir) (rights_plain rights) (subdir_plain subdir)
+environment_name_plain : (environment : Option (List ℕ)) → ArePairs 2 (environment_pair environment)
+environment_name_plain None = tt
+environment_name_plain (Some name) = (string_plain 2 _, tt)
 
-child_plain : (c : Child) → IsPlain 2 (child_data c)
-child_plain c = object_plain 1 (child_pairs c) (string_plain 1 _, (string_plain 1 _, (string_plain 1 _, tt)))
+limits_plain : (rights : Option RightSet) (subdir : Option (List ℕ)) → ArePairs 2 (rights_pair rights ++ subdir_pair subdir)
+limits_plain rights subdir = both_plain 2 (rights_pair rights) (subdir_pair subdir) (rights_plain rights) (subdir_plain subdir)
 
-collection_plain : (c : Collection) → IsPlain 2 (collection_data c)
-collection_plain c = object_plain 1 (collection_pairs c) (string_plain 1 _, (string_plain 1 _, (string_plain 1 _, tt)))
+child_plain : (c : Child) → IsPlain 3 (child_data c)
+child_plain c = object_plain 2 (child_pairs c) (string_plain 2 _, (string_plain 2 _, (string_plain 2 _, environment_name_plain c.environment)))
 
-capability_plain : (c : Capability) → IsPlain 2 (capability_data c)
-capability_plain c = object_plain 1 (capability_pairs c) (string_plain 1 _, (string_plain 1 _, rights_plain c.rights))
+collection_plain : (c : Collection) → IsPlain 3 (collection_data c)
+collection_plain c =
+    object_plain 2 (collection_pairs c) (string_plain 2 _, (string_plain 2 _, (string_plain 2 _, environment_name_plain c.environment)))
 
-use_plain : (u : Usage) → IsPlain 2 (use_data u)
+capability_plain : (c : Capability) → IsPlain 3 (capability_data c)
+capability_plain c = object_plain 2 (capability_pairs c) (string_plain 2 _, (string_plain 2 _, rights_plain c.rights))
+
+storage_plain : (s : Storage) → IsPlain 3 (storage_data s)
+storage_plain s =
+    object_plain 2 (storage_pairs s) (string_plain 2 _, (string_plain 2 _, (string_plain 2 _, (string_plain 2 _, subdir_plain s.subdir))))
+
+use_plain : (u : Usage) → IsPlain 3 (use_data u)
 use_plain u =
-    object_plain 1 (use_pairs u) (string_plain 1 _, (string_plain 1 _, (string_plain 1 _, (string_plain 1 _, (string_plain 1 _, limits_plain u.rights u.subdir)))))
+    object_plain 2 (use_pairs u) (string_plain 2 _, (string_plain 2 _, (string_plain 2 _, (string_plain 2 _, (string_plain 2 _, limits_plain u.rights u.subdir)))))
 
-give_plain : (g : Give) → ArePairs 1 (give_pairs g)
-give_plain g = (string_plain 1 _, (string_plain 1 _, (string_plain 1 _, (string_plain 1 _, limits_plain g.rights g.subdir))))
+debug_use_plain : (u : DebugUse) → IsPlain 3 (debug_use_data u)
+debug_use_plain u = object_plain 2 (debug_use_pairs u) (string_plain 2 _, (string_plain 2 _, (string_plain 2 _, tt)))
 
-offer_plain : (o : Offer) → IsPlain 2 (offer_data o)
-offer_plain o = object_plain 1 (offer_pairs o) (string_plain 1 _, (string_plain 1 _, give_plain o.give))
+storage_use_plain : (u : StorageUse) → IsPlain 3 (storage_use_data u)
+storage_use_plain u = object_plain 2 (storage_use_pairs u) (string_plain 2 _, (string_plain 2 _, (string_plain 2 _, tt)))
 
-expose_plain : (g : Give) → IsPlain 2 (expose_data g)
-expose_plain g = object_plain 1 (give_pairs g) (give_plain g)
+give_plain : (g : Give) → ArePairs 2 (give_pairs g)
+give_plain g = (string_plain 2 _, (string_plain 2 _, (string_plain 2 _, (string_plain 2 _, limits_plain g.rights g.subdir))))
 
-program_plain : (runner : Option (List ℕ)) → ArePairs 3 (program_pair runner)
-program_plain None = tt
-program_plain (Some runner) = (object_plain 2 (runner_pairs runner) (string_plain 2 runner, tt), tt)
+offer_plain : (o : Offer) → IsPlain 3 (offer_data o)
+offer_plain o = object_plain 2 (offer_pairs o) (string_plain 2 _, (string_plain 2 _, give_plain o.give))
 
-decl_plain : (d : Decl) → IsPlain 4 (decl_data d)
-decl_plain d =
-    object_plain 3 (decl_pairs d) (
-      list_plain 2 child_data d.children child_plain,
+storage_offer_plain : (o : StorageOffer) → IsPlain 3 (storage_offer_data o)
+storage_offer_plain o =
+    object_plain 2 (storage_offer_pairs o) (string_plain 2 _, (string_plain 2 _, (string_plain 2 _, (string_plain 2 _, tt))))
+
+expose_plain : (g : Give) → IsPlain 3 (expose_data g)
+expose_plain g = object_plain 2 (give_pairs g) (give_plain g)
+
+registration_plain : (key : List ℕ) (r : Registration) → IsPlain 1 (registration_data key r)
+registration_plain key r = object_plain 0 (registration_pairs key r) (string_plain 0 _, (string_plain 0 _, (string_plain 0 _, tt)))
+
+environment_plain : (e : Environment) → IsPlain 3 (environment_data e)
+environment_plain e =
+    object_plain 2 (environment_pairs e) (
+      string_plain 2 _,
       (
-        list_plain 2 collection_data d.collections collection_plain,
+        string_plain 2 _,
         (
-          list_plain 2 capability_data d.capabilities capability_plain,
+          list_plain 1 (registration_data (codes "runner")) e.runners (registration_plain (codes "runner")),
+          (list_plain 1 (registration_data (codes "protocol")) e.debug (registration_plain (codes "protocol")), tt),
+        ),
+      ),
+    )
+
+program_plain : (runner : Option (List ℕ)) → ArePairs 4 (program_pair runner)
+program_plain None = tt
+program_plain (Some runner) = (object_plain 3 (runner_pairs runner) (string_plain 3 runner, tt), tt)
+
+environments_plain : (es : List Environment) → ArePairs 4 (environments_pair es)
+environments_plain [] = tt
+environments_plain (e ∷ es) = (list_plain 3 environment_data (e ∷ es) environment_plain, tt)
+
+capabilities_plain : (d : Decl) → IsPlain 4 (array (items_of (capability_items d)))
+capabilities_plain d =
+    array_plain 3 (items_of (capability_items d))
+    (items_before 3 capability_data d.capabilities (map storage_data d.storages) capability_plain
+    (items_plain 3 storage_data d.storages storage_plain))
+
+uses_plain : (d : Decl) → IsPlain 4 (array (items_of (use_items d)))
+uses_plain d =
+    array_plain 3 (items_of (use_items d))
+    (items_before 3 use_data d.uses (map debug_use_data d.debug_uses ++ map storage_use_data d.storage_uses) use_plain
+    (items_before 3 debug_use_data d.debug_uses (map storage_use_data d.storage_uses) debug_use_plain
+    (items_plain 3 storage_use_data d.storage_uses storage_use_plain)))
+
+offers_plain : (d : Decl) → IsPlain 4 (array (items_of (offer_items d)))
+offers_plain d =
+    array_plain 3 (items_of (offer_items d))
+    (items_before 3 offer_data d.offers (map storage_offer_data d.storage_offers) offer_plain
+    (items_plain 3 storage_offer_data d.storage_offers storage_offer_plain))
+
+decl_plain : (d : Decl) → IsPlain 5 (decl_data d)
+decl_plain d =
+    object_plain 4 (decl_pairs d) (
+      list_plain 3 child_data d.children child_plain,
+      (
+        list_plain 3 collection_data d.collections collection_plain,
+        (
+          capabilities_plain d,
           (
-            list_plain 2 use_data d.uses use_plain,
-            (list_plain 2 offer_data d.offers offer_plain, (list_plain 2 expose_data d.exposes expose_plain, program_plain d.runner)),
+            uses_plain d,
+            (
+              offers_plain d,
+              (
+                list_plain 3 expose_data d.exposes expose_plain,
+                both_plain 4 (environments_pair d.environments) (program_pair d.runner) (environments_plain d.environments) (program_plain d.runner),
+              ),
+            ),
           ),
         ),
       ),

@@ -1,14 +1,15 @@
 -- What is read has a property: the steps that all readers have in common.
 use Rattle.std.proofs.Common.{◌≡◌, ℕ, suc, List, [], ◌∷◌, length, Bool, true, false, nat_lt, if◌then◌else◌, Option, Some, None, Ok, Err, refl, arith}
-use Rattle.std.specs.Prelude.{IfOk, IfSome, All, map}
+use Rattle.std.specs.Prelude.{IfOk, IfSome, All, map, filter_map, ok_or}
 use Rattle.std.specs.List.{flat_map}
+use Rattle.std.specs.List.{cons_option}
 use Rattle.std.proofs.lemmas.List.Elements.{All-nil, All-cons, All-append}
 use Rattle.serde_json.specs.Data.{Data}
 use Rattle.cm_read.specs.declared.fault.Place.{Place}
 use Rattle.cm_read.specs.declared.fault.ReadFault.{ReadFault}
-use Rattle.cm_read.specs.Numbers.{not_with_many}
+use Rattle.cm_read.specs.Numbers.{not_with_many, unknown_word}
 use Rattle.cm_read.specs.Reading.{Read, ◌>>=◌, bad}
-use Rattle.cm_read.specs.Fields.{or_default, if_there, unless_fault, each}
+use Rattle.cm_read.specs.Fields.{or_default, if_there, unless_fault, each, text_at, listed_at}
 use Rattle.cm_read.specs.Items.{alone}
 use Rattle.cm_read.specs.Readable.{ForSomeOf}
 
@@ -83,7 +84,28 @@ means false x p h = h
 pub means_nothing : {A : Type 0} {P : A → Type 0} → Means P None
 means_nothing = record { value = tt }
 
+pub meant : {A : Type 0} {P : A → Type 0} (o : Option A) (e : ReadFault) → Means P o → Reads P (ok_or o e)
+meant None e h = fails e
+meant (Some x) e h = gives h.value
+
+pub listed_reads : {A : Type 0} {P : A → Type 0} (meaning : List ℕ → Option A) (at : Place) (key : List ℕ) (d : Data)
+    → ((t : List ℕ) → Means P (meaning t)) → Reads P (listed_at meaning at key d)
+listed_reads meaning at key d h =
+    next (any (text_at at key d)) (λ text _. meant (meaning text) (bad at unknown_word key) (h text))
+
 -- ---- rows
+
+taken_one : {B : Type 0} (Q : B → Type 0) (o : Option B) (ys : List B) → IfSome o Q → All Q ys → All Q (cons_option o ys)
+taken_one Q None ys h qs = qs
+taken_one Q (Some y) ys h qs = All-cons Q y ys h qs
+
+-- the rows that f takes have what it takes over from them
+pub taken : {A B : Type 0} (P : A → Type 0) (Q : B → Type 0) (f : A → Option B) (xs : List A)
+    → ((x : A) → P x → IfSome (f x) Q) → All P xs → All Q (filter_map f xs)
+taken P Q f [] h ps = All-nil Q
+taken P Q f (x ∷ xs) h ps =
+    taken_one Q (f x) (filter_map f xs) (h x (ps 0 x (omega arith)))
+    (taken P Q f xs h (λ k d lt. ps (suc k) d (omega arith)))
 
 pub one_row : {A : Type 0} (P : A → Type 0) (x : A) → P x → All P (x ∷ [])
 one_row P x p = All-cons P x [] p (All-nil P)

@@ -1,8 +1,8 @@
--- What is written for a declaration is read back: children and collections.
-use Rattle.std.proofs.Common.{◌≡◌, ℕ, suc, ◌≤◌, List, [], ◌∷◌, length, map, Bool, true, false, not, ◌==◌, nat_lt, nat_le, Option, Some, None, Ok, IsTrue, refl, arith, rules, get_or}
+-- What is written for a declaration is read back: children and collections, and rows one after another.
+use Rattle.std.proofs.Common.{◌≡◌, ℕ, suc, ◌≤◌, List, [], ◌∷◌, ◌++◌, length, map, Bool, true, false, not, ◌==◌, nat_lt, nat_le, Option, Some, None, Ok, IsTrue, refl, arith, rules, get_or}
 use Rattle.std.specs.Prelude.{position, All}
 use Rattle.std.proofs.lemmas.List.Quantifiers.{position-Some}
-use Rattle.serde_json.specs.Data.{Data}
+use Rattle.serde_json.specs.Data.{Data, array}
 use Rattle.serde_json.specs.View.{items_of}
 use Rattle.cm_names.specs.Name.{IsName, name_fault, continues_name}
 use Rattle.cm_decl.specs.declared.section.Section.{Section}
@@ -12,11 +12,13 @@ use Rattle.cm_decl.specs.declared.rows.Child.{Child}
 use Rattle.cm_decl.specs.declared.rows.Collection.{Collection}
 use Rattle.cm_decl.specs.declared.rows.Durability.TheVariants.{Transient, SingleRun}
 use Rattle.cm_read.specs.declared.fault.Place.{Place}
+use Rattle.cm_read.specs.Numbers.{max_rows}
+use Rattle.cm_read.specs.Fields.{is_url}
 use Rattle.cm_read.specs.Sections.{next, rows_at, section_at}
 use Rattle.cm_read.specs.Reading.{Read, start}
 use Rattle.cm_read.specs.Items.{child_at, collection_at}
 use Rattle.cm_read.specs.Writing.{child_data, collection_data, list_of}
-use Rattle.cm_read.specs.Readable.{IsChild, IsCollection, AreRows}
+use Rattle.cm_read.specs.Readable.{IsChild, IsCollection, AreRows, ForSomeOf}
 use Rattle.cm_read.proofs.OnLiterals.{read_on_literals}
 
 no_bad_rest : (bs : List ℕ) → All (λ c. IsTrue (continues_name c)) bs → position (λ c. not (continues_name c)) bs ≡ None
@@ -40,25 +42,37 @@ pub name_has_no_fault : (t : List ℕ) → IsName t → name_fault t ≡ None
 name_has_no_fault [] h = absurd h
 name_has_no_fault (b ∷ bs) h = rw (not_empty b bs) (rw (not_long (b ∷ bs) h.0) (rw h.1 (rw (no_bad_rest bs h.2) refl)))
 
-pub child_read_back : (at : Place) (c : Child) → IsChild c → child_at at (child_data c) ≡ Ok (c ∷ [])
+child_parts : (at : Place) (name url : List ℕ) (eager : Bool) (environment : Option (List ℕ)) → IsName name
+    → IsTrue (is_url url) → ForSomeOf environment IsName
+    → child_at at (child_data (record { name = name; url = url; eager = eager; environment = environment }))
+    ≡ Ok (record { name = name; url = url; eager = eager; environment = environment } ∷ [])
 unfolding read_on_literals
-child_read_back at c h = by c.eager refl
-  where
-    by : (eager : Bool) → c.eager ≡ eager → child_at at (child_data c) ≡ Ok (c ∷ [])
-    by true e = rw (name_has_no_fault c.name h.name) (rw h.url (rw e refl))
-    by false e = rw (name_has_no_fault c.name h.name) (rw h.url (rw e refl))
+child_parts at name url true None n u e = rw (name_has_no_fault name n) (rw u refl)
+child_parts at name url false None n u e = rw (name_has_no_fault name n) (rw u refl)
+child_parts at name url true (Some x) n u e = rw (name_has_no_fault name n) (rw u (rw (name_has_no_fault x e) refl))
+child_parts at name url false (Some x) n u e = rw (name_has_no_fault name n) (rw u (rw (name_has_no_fault x e) refl))
+
+pub child_read_back : (at : Place) (c : Child) → IsChild c → child_at at (child_data c) ≡ Ok (c ∷ [])
+child_read_back at c h = child_parts at c.name c.url c.eager c.environment h.name h.url h.environment
+
+collection_parts : (at : Place) (name : List ℕ) (w : Durability) (d : Bool) (environment : Option (List ℕ)) → IsName name
+    → ForSomeOf environment IsName
+    → collection_at at (collection_data (record { name = name; durability = w; dynamic_offers = d; environment = environment }))
+    ≡ Ok (record { name = name; durability = w; dynamic_offers = d; environment = environment } ∷ [])
+unfolding read_on_literals
+collection_parts at name Transient true None n e = rw (name_has_no_fault name n) refl
+collection_parts at name SingleRun true None n e = rw (name_has_no_fault name n) refl
+collection_parts at name Transient false None n e = rw (name_has_no_fault name n) refl
+collection_parts at name SingleRun false None n e = rw (name_has_no_fault name n) refl
+collection_parts at name Transient true (Some x) n e = rw (name_has_no_fault name n) (rw (name_has_no_fault x e) refl)
+collection_parts at name SingleRun true (Some x) n e = rw (name_has_no_fault name n) (rw (name_has_no_fault x e) refl)
+collection_parts at name Transient false (Some x) n e = rw (name_has_no_fault name n) (rw (name_has_no_fault x e) refl)
+collection_parts at name SingleRun false (Some x) n e = rw (name_has_no_fault name n) (rw (name_has_no_fault x e) refl)
 
 pub collection_read_back : (at : Place) (c : Collection) → IsCollection c → collection_at at (collection_data c) ≡ Ok (c ∷ [])
-unfolding read_on_literals
-collection_read_back at c h = by c.dynamic_offers c.durability refl refl
-  where
-    by : (d : Bool) (w : Durability) → c.dynamic_offers ≡ d → c.durability ≡ w → collection_at at (collection_data c) ≡ Ok (c ∷ [])
-    by true Transient e f = rw (name_has_no_fault c.name h.name) (rw e (rw f refl))
-    by true SingleRun e f = rw (name_has_no_fault c.name h.name) (rw e (rw f refl))
-    by false Transient e f = rw (name_has_no_fault c.name h.name) (rw e (rw f refl))
-    by false SingleRun e f = rw (name_has_no_fault c.name h.name) (rw e (rw f refl))
+collection_read_back at c h = collection_parts at c.name c.durability c.dynamic_offers c.environment h.name h.environment
 
-within : (n : ℕ) → n ≤ 16384 → nat_le n 16384 ≡ true
+pub within : (n : ℕ) → n ≤ 16384 → nat_le n 16384 ≡ true
 within n le = grind (arith, rules)
 
 -- rows that are read back one by one are read back
@@ -66,6 +80,32 @@ pub rows_read_back : {A : Type 0} (read : Place → Data → Read (List A)) (wri
 rows_read_back read write IsRow [] at one h = refl
 rows_read_back read write IsRow (x ∷ xs) at one h =
     rw (one at x (h 0 x (omega arith))) (rw (rows_read_back read write IsRow xs (next at) one (λ k d lt. h (suc k) d (omega arith))) refl)
+
+-- rows of one kind, each of which is read back as a row of a section with several kinds, and what stands behind them
+pub rows_before : {A R : Type 0} (read : Place → Data → Read (List R)) (write : A → Data) (wrap : A → R) (IsRow : A → Type 0)
+    (rows : List A) (rest : List Data) (others : List R) (at : Place)
+    → ((at : Place) (x : A) → IsRow x → read at (write x) ≡ Ok (wrap x ∷ [])) → All IsRow rows
+    → ((at : Place) → rows_at read at (items_of rest) ≡ Ok others)
+    → rows_at read at (items_of (map write rows ++ rest)) ≡ Ok (map wrap rows ++ others)
+rows_before read write wrap IsRow [] rest others at one h behind = behind at
+rows_before read write wrap IsRow (x ∷ xs) rest others at one h behind =
+    rw (one at x (h 0 x (omega arith)))
+    (rw (rows_before read write wrap IsRow xs rest others (next at) one (λ k d lt. h (suc k) d (omega arith)) behind) refl)
+
+-- and the last ones
+pub rows_last : {A R : Type 0} (read : Place → Data → Read (List R)) (write : A → Data) (wrap : A → R) (IsRow : A → Type 0)
+    (rows : List A) (at : Place) → ((at : Place) (x : A) → IsRow x → read at (write x) ≡ Ok (wrap x ∷ [])) → All IsRow rows
+    → rows_at read at (items_of (map write rows)) ≡ Ok (map wrap rows)
+rows_last read write wrap IsRow [] at one h = refl
+rows_last read write wrap IsRow (x ∷ xs) at one h =
+    rw (one at x (h 0 x (omega arith)))
+    (rw (rows_last read write wrap IsRow xs (next at) one (λ k d lt. h (suc k) d (omega arith))) refl)
+
+-- a section whose items are read as that many rows
+pub section_of_items : {R : Type 0} (read : Place → Data → Read (List R)) (s : Section) (items : List Data) (rows : List R)
+    → rows_at read (start s) (items_of items) ≡ Ok rows → length rows ≤ max_rows
+    → section_at read s (Some (array (items_of items))) ≡ Ok rows
+section_of_items read s items rows e few = rw e (rw (within (length rows) few) refl)
 
 pub section_read_back : {A : Type 0} (read : Place → Data → Read (List A)) (write : A → Data) (IsRow : A → Type 0) (rows : List A) (s : Section) → ((at : Place) (x : A) → IsRow x → read at (write x) ≡ Ok (x ∷ [])) → AreRows IsRow rows → section_at read s (Some (list_of write rows)) ≡ Ok rows
 section_read_back read write IsRow rows s one h =

@@ -21,11 +21,46 @@ use Rattle.cm_read.specs.declared.fault.Place.{Place}
 use Rattle.cm_read.specs.declared.rows.Terms.{Terms}
 use Rattle.cm_read.specs.Reading.{Read}
 use Rattle.cm_read.specs.Fields.{needed_at, if_there, object_at, no_unknown, known_at, unknown_in, subdir_in_at, subdir_at, rights_in_at}
-use Rattle.cm_read.specs.Words.{startup_at, durability_at, allowed_offers_at, dependency_at, availability_at, expose_to_at}
-use Rattle.cm_read.specs.Items.{child_fields, child_at, collection_fields, collection_at, kind_at, directory_name_at, item_names_at, protocol_path_in_at, protocol_path_at, path_of, capability_fields, protocol_row, protocol_capability_at, directory_capability_at, capability_of_kind, capability_at, use_fields, protocol_usage, protocol_use_at, directory_use_at, use_of_kind, use_at, as_in_at, as_at, given_rights_at, give_row, offer_fields, targets_at, offer_row, offer_rows, offer_at, expose_fields, expose_at}
-use Rattle.cm_read.specs.Readable.{AreRights, IsSubDir, IsOrigin, ForSomeOf, MayHave, IsChild, IsCollection, IsCapability, IsUsage, IsGive, IsOffer, IsExpose}
-use Rattle.cm_read.proofs.ReadLemmas.{Reads, gives, any, exact, next, given, alone_reads, one_row, all_mapped, all_in_turn}
-use Rattle.cm_read.proofs.FieldsRead.{name_in_reads, name_reads, url_reads, IsPath, path_in_reads, path_reads, subdir_in_reads, subdir_reads, names_reads, references_reads, rights_in_reads, rights_reads, use_from_reads, offer_from_reads, expose_from_reads}
+use Rattle.cm_decl.specs.declared.rows.Child.{Child}
+use Rattle.cm_decl.specs.declared.origin.Origin.{Origin}
+use Rattle.cm_names.specs.declared.dependency.Dependency.{Dependency}
+use Rattle.cm_names.specs.declared.availability.Availability.{Availability}
+use Rattle.cm_names.specs.declared.availability.Availability.TheVariants.{SameAsTarget}
+use Rattle.std.specs.Prelude.{◌≢◌}
+use Rattle.cm_read.specs.declared.rows.Sort.{Sort}
+use Rattle.cm_read.specs.declared.rows.Sort.TheVariants as sort
+use Rattle.cm_read.specs.declared.rows.UseSource.{UseSource}
+use Rattle.cm_read.specs.declared.rows.UseSource.TheVariants as source
+use Rattle.cm_read.specs.declared.rows.CapabilityRow.{CapabilityRow}
+use Rattle.cm_read.specs.declared.rows.CapabilityRow.TheVariants as capability_row
+use Rattle.cm_read.specs.declared.rows.UseRow.{UseRow}
+use Rattle.cm_read.specs.declared.rows.UseRow.TheVariants as use_row
+use Rattle.cm_read.specs.declared.rows.OfferRow.{OfferRow}
+use Rattle.cm_read.specs.declared.rows.OfferRow.TheVariants as offered
+use Rattle.cm_read.specs.Words.{startup_at, durability_at, allowed_offers_at, dependency_at}
+use Rattle.cm_read.specs.Words.{given_availability_at, source_unknown_at, settled, expose_to_at}
+use Rattle.cm_read.specs.Words.{storage_use_from_at, storage_id_at}
+use Rattle.cm_read.specs.Items.{child_fields, child_at, collection_fields, collection_at, kind_at, sort_at}
+use Rattle.cm_read.specs.Items.{directory_name_at, item_names_at, storage_name_at, backing_at}
+use Rattle.cm_read.specs.Items.{storage_names_at, protocol_path_in_at}
+use Rattle.cm_read.specs.Items.{protocol_path_at, path_of, capability_fields}
+use Rattle.cm_read.specs.Items.{protocol_capability_row, protocol_capability_at, directory_capability_at}
+use Rattle.cm_read.specs.Items.{storage_at, capability_of_sort, capability_at, use_fields}
+use Rattle.cm_read.specs.Items.{protocol_use_row, protocol_use_at, directory_use_at, storage_use_at}
+use Rattle.cm_read.specs.Items.{use_of_sort, use_at, as_in_at, as_at, given_rights_at, give_row, offer_fields}
+use Rattle.cm_read.specs.Items.{targets_at, offer_row, offer_rows, routed_offer_at, storage_offer}
+use Rattle.cm_read.specs.Items.{storage_offer_rows, storage_offer_at, offer_of_sort, offer_at, expose_fields}
+use Rattle.cm_read.specs.Items.{expose_at}
+use Rattle.cm_read.specs.Readable.{AreRights, IsSubDir, IsOrigin, IsStorageSource, ForSomeOf}
+use Rattle.cm_read.specs.Readable.{MayHave, IsChild, IsCollection, IsCapability, IsUsage, IsGive, IsOffer}
+use Rattle.cm_read.specs.Readable.{IsExpose, IsDebugUse, IsStorage, IsStorageUse, IsStorageOffer}
+use Rattle.cm_read.proofs.ReadLemmas.{Reads, gives, any, exact, next, given, alone_reads, one_row, all_mapped}
+use Rattle.cm_read.proofs.ReadLemmas.{all_in_turn}
+use Rattle.cm_read.proofs.FieldsRead.{name_in_reads, name_reads, url_reads, IsPath, path_in_reads, path_reads}
+use Rattle.cm_read.proofs.FieldsRead.{subdir_in_reads, subdir_reads, names_reads, references_reads}
+use Rattle.cm_read.proofs.FieldsRead.{rights_in_reads, rights_reads, use_from_reads, offer_from_reads}
+use Rattle.cm_read.proofs.FieldsRead.{expose_from_reads, IsUseSource, use_source_reads, static_from_reads}
+use Rattle.cm_read.proofs.FieldsRead.{storage_from_reads, settled_is, availability_reads, environment_reads}
 
 -- ---- children and collections
 
@@ -37,7 +72,9 @@ child_reads at d =
     next (name_reads at (codes "name") d) (λ name n.
     next (url_reads at (codes "url") d) (λ url u.
     next (any (startup_at at d)) (λ eager _.
-    gives (one_row IsChild (record { name = name; url = url; eager = eager }) (record { name = n; url = u })))))))
+    next (environment_reads at d) (λ environment e.
+    gives (one_row IsChild (record { name = name; url = url; eager = eager; environment = environment })
+    (record { name = n; url = u; environment = e }))))))))
 
 pub collection_reads : (at : Place) (d : Data) → Reads (All IsCollection) (collection_at at d)
 unfolding collection_at
@@ -47,13 +84,29 @@ collection_reads at d =
     next (name_reads at (codes "name") d) (λ name n.
     next (any (durability_at at d)) (λ durability _.
     next (any (allowed_offers_at at d)) (λ dynamic_offers _.
-    gives (one_row IsCollection (record { name = name; durability = durability; dynamic_offers = dynamic_offers }) (record { name = n })))))))
+    next (environment_reads at d) (λ environment e.
+    gives (one_row IsCollection
+    (record { name = name; durability = durability; dynamic_offers = dynamic_offers; environment = environment })
+    (record { name = n; environment = e }))))))))
 
 -- ---- names and paths
 
-item_names_reads : (k : Kind) (at : Place) (d : Data) → Reads (All IsName) (item_names_at k at d)
+pub item_names_reads : (k : Kind) (at : Place) (d : Data) → Reads (All IsName) (item_names_at k at d)
 unfolding item_names_at
 item_names_reads k at d = next (any (needed_at at (kind_word k) d)) (λ value _. names_reads at (kind_word k) value)
+
+storage_name_reads : (at : Place) (d : Data) → Reads IsName (storage_name_at at d)
+unfolding storage_name_at
+storage_name_reads at d = name_reads at (codes "storage") d
+
+backing_reads : (at : Place) (d : Data) → Reads IsName (backing_at at d)
+unfolding backing_at
+backing_reads at d = name_reads at (codes "backing_dir") d
+
+storage_names_reads : (at : Place) (d : Data) → Reads (All IsName) (storage_names_at at d)
+unfolding storage_names_at
+storage_names_reads at d =
+    next (any (needed_at at (codes "storage") d)) (λ value _. names_reads at (codes "storage") value)
 
 directory_name_reads : (at : Place) (d : Data) → Reads IsName (directory_name_at at d)
 unfolding directory_name_at
@@ -75,47 +128,85 @@ path_is_path (Some path) name p n = p
 
 -- ---- capabilities
 
-protocol_capability_reads : (at : Place) (d : Data) → Reads (All IsCapability) (protocol_capability_at at d)
+-- a row of `capabilities` of either sort
+abbrev pub IsCapabilityRow : CapabilityRow → Type 0
+IsCapabilityRow (capability_row.Capability c) = IsCapability c
+IsCapabilityRow (capability_row.Storage s) = IsStorage s
+
+protocol_is_row : (path : Option (List ℕ)) (name : List ℕ) → ForSomeOf path IsPath → IsName name
+    → IsCapabilityRow (protocol_capability_row path name)
+protocol_is_row path name p n = record { name = n; path = path_is_path path name p n; rights = refl }
+
+protocol_capability_reads : (at : Place) (d : Data) → Reads (All IsCapabilityRow) (protocol_capability_at at d)
 unfolding protocol_capability_at
 protocol_capability_reads at d =
     next (item_names_reads kind.Protocol at d) (λ names ns.
     next (protocol_path_reads at names d) (λ path p.
-    gives (all_mapped IsName IsCapability (protocol_row path) names (λ name n. record { name = n; path = path_is_path path name p n; rights = refl }) ns)))
+    gives (all_mapped IsName IsCapabilityRow (protocol_capability_row path) names
+    (λ name n. protocol_is_row path name p n) ns)))
 
-directory_capability_reads : (at : Place) (d : Data) → Reads (All IsCapability) (directory_capability_at at d)
+directory_capability_reads : (at : Place) (d : Data) → Reads (All IsCapabilityRow) (directory_capability_at at d)
 unfolding directory_capability_at
 directory_capability_reads at d =
     next (directory_name_reads at d) (λ name n.
     next (path_reads at (codes "path") d) (λ path p.
     next (rights_reads at (codes "rights") d) (λ rights r.
-    gives (one_row IsCapability (record { kind = kind.Directory; name = name; path = path; rights = Some rights }) (record { name = n; path = p; rights = r })))))
+    gives (one_row IsCapabilityRow
+    (capability_row.Capability (record { kind = kind.Directory; name = name; path = path; rights = Some rights }))
+    (record { name = n; path = p; rights = r })))))
 
-capability_of_kind_reads : (k : Kind) (at : Place) (d : Data) → Reads (All IsCapability) (capability_of_kind k at d)
-capability_of_kind_reads kind.Protocol at d = protocol_capability_reads at d
-capability_of_kind_reads kind.Directory at d = directory_capability_reads at d
+storage_reads : (at : Place) (d : Data) → Reads (All IsCapabilityRow) (storage_at at d)
+unfolding storage_at
+storage_reads at d =
+    next (storage_name_reads at d) (λ name n.
+    next (static_from_reads at d) (λ from f.
+    next (backing_reads at d) (λ backing b.
+    next (subdir_reads at (codes "subdir") d) (λ subdir s.
+    next (any (storage_id_at at d)) (λ by_moniker _.
+    gives (one_row IsCapabilityRow
+    (capability_row.Storage (record { name = name; from = from; backing = backing; subdir = subdir; by_moniker = by_moniker }))
+    (record { name = n; from = f; backing = b; subdir = s })))))))
 
-pub capability_reads : (at : Place) (d : Data) → Reads (All IsCapability) (capability_at at d)
+capability_of_sort_reads : (s : Sort) (at : Place) (d : Data) → Reads (All IsCapabilityRow) (capability_of_sort s at d)
+capability_of_sort_reads (sort.Routed kind.Protocol) at d = protocol_capability_reads at d
+capability_of_sort_reads (sort.Routed kind.Directory) at d = directory_capability_reads at d
+capability_of_sort_reads sort.Storage at d = storage_reads at d
+
+pub capability_reads : (at : Place) (d : Data) → Reads (All IsCapabilityRow) (capability_at at d)
 unfolding capability_at
 capability_reads at d =
     next (any (object_at at d)) (λ members _.
-    next (any (kind_at at d)) (λ k _.
-    next (any (known_at at (capability_fields k) members)) (λ known _.
-    capability_of_kind_reads k at d)))
+    next (any (sort_at at d)) (λ s _.
+    next (any (known_at at (capability_fields s) members)) (λ known _.
+    capability_of_sort_reads s at d)))
 
 -- ---- uses
 
-protocol_use_reads : (at : Place) (d : Data) → Reads (All IsUsage) (protocol_use_at at d)
+-- a row of `use` of one of the three sorts
+abbrev pub IsUseRow : UseRow → Type 0
+IsUseRow (use_row.Usage u) = IsUsage u
+IsUseRow (use_row.Debug u) = IsDebugUse u
+IsUseRow (use_row.Storage u) = IsStorageUse u
+
+protocol_is_use : (from : UseSource) (path : Option (List ℕ)) (dependency : Dependency) (a : Availability) (name : List ℕ)
+    → IsUseSource from → ForSomeOf path IsPath → a ≢ SameAsTarget → IsName name
+    → IsUseRow (protocol_use_row from path dependency a name)
+protocol_is_use (source.From from) path dependency a name f p s n =
+    record { name = n; from = f; path = path_is_path path name p n; rights = refl; subdir = refl; availability = s }
+protocol_is_use source.Debug path dependency a name f p s n = record { name = n; path = path_is_path path name p n }
+
+protocol_use_reads : (at : Place) (d : Data) → Reads (All IsUseRow) (protocol_use_at at d)
 unfolding protocol_use_at
 protocol_use_reads at d =
     next (item_names_reads kind.Protocol at d) (λ names ns.
-    next (use_from_reads at d) (λ from f.
+    next (use_source_reads at d) (λ from f.
     next (protocol_path_reads at names d) (λ path p.
     next (any (dependency_at at d)) (λ dependency _.
-    next (any (availability_at at d)) (λ availability _.
-    gives (all_mapped IsName IsUsage (protocol_usage from path dependency availability) names
-    (λ name n. record { name = n; from = f; path = path_is_path path name p n; rights = refl; subdir = refl }) ns))))))
+    next (availability_reads at d) (λ availability a.
+    gives (all_mapped IsName IsUseRow (protocol_use_row from path dependency availability) names
+    (λ name n. protocol_is_use from path dependency availability name f p a n) ns))))))
 
-directory_use_reads : (at : Place) (d : Data) → Reads (All IsUsage) (directory_use_at at d)
+directory_use_reads : (at : Place) (d : Data) → Reads (All IsUseRow) (directory_use_at at d)
 unfolding directory_use_at
 directory_use_reads at d =
     next (directory_name_reads at d) (λ name n.
@@ -124,21 +215,31 @@ directory_use_reads at d =
     next (rights_reads at (codes "rights") d) (λ rights r.
     next (subdir_reads at (codes "subdir") d) (λ subdir s.
     next (any (dependency_at at d)) (λ dependency _.
-    next (any (availability_at at d)) (λ availability _.
-    gives (one_row IsUsage (record { kind = kind.Directory; name = name; from = from; path = path; rights = Some rights; subdir = subdir; dependency = dependency; availability = availability })
-    (record { name = n; from = f; path = p; rights = r; subdir = s })))))))))
+    next (availability_reads at d) (λ availability a.
+    gives (one_row IsUseRow (use_row.Usage (record { kind = kind.Directory; name = name; from = from; path = path; rights = Some rights; subdir = subdir; dependency = dependency; availability = availability }))
+    (record { name = n; from = f; path = p; rights = r; subdir = s; availability = a })))))))))
 
-use_of_kind_reads : (k : Kind) (at : Place) (d : Data) → Reads (All IsUsage) (use_of_kind k at d)
-use_of_kind_reads kind.Protocol at d = protocol_use_reads at d
-use_of_kind_reads kind.Directory at d = directory_use_reads at d
+storage_use_reads : (at : Place) (d : Data) → Reads (All IsUseRow) (storage_use_at at d)
+unfolding storage_use_at
+storage_use_reads at d =
+    next (storage_name_reads at d) (λ name n.
+    next (any (storage_use_from_at at d)) (λ from _.
+    next (path_reads at (codes "path") d) (λ path p.
+    next (availability_reads at d) (λ availability _.
+    gives (one_row IsUseRow (use_row.Storage (record { name = name; path = path })) (record { name = n; path = p }))))))
 
-pub use_reads : (at : Place) (d : Data) → Reads (All IsUsage) (use_at at d)
+use_of_sort_reads : (s : Sort) (at : Place) (d : Data) → Reads (All IsUseRow) (use_of_sort s at d)
+use_of_sort_reads (sort.Routed kind.Protocol) at d = protocol_use_reads at d
+use_of_sort_reads (sort.Routed kind.Directory) at d = directory_use_reads at d
+use_of_sort_reads sort.Storage at d = storage_use_reads at d
+
+pub use_reads : (at : Place) (d : Data) → Reads (All IsUseRow) (use_at at d)
 unfolding use_at
 use_reads at d =
     next (any (object_at at d)) (λ members _.
-    next (any (kind_at at d)) (λ k _.
-    next (any (known_at at (use_fields k) members)) (λ known _.
-    use_of_kind_reads k at d)))
+    next (any (sort_at at d)) (λ s _.
+    next (any (known_at at (use_fields s) members)) (λ known _.
+    use_of_sort_reads s at d)))
 
 -- ---- fields that aren't known are not there
 
@@ -197,11 +298,11 @@ as_in_reads : (at : Place) (names : List (List ℕ)) (d : Data) → Reads IsName
 unfolding as_in_at
 as_in_reads at names d = next (name_in_reads at (codes "as") d) (λ name n. alone_reads at (codes "as") names name n)
 
-as_reads : (at : Place) (names : List (List ℕ)) (d : Data) → Reads (λ o. ForSomeOf o IsName) (as_at at names d)
+pub as_reads : (at : Place) (names : List (List ℕ)) (d : Data) → Reads (λ o. ForSomeOf o IsName) (as_at at names d)
 unfolding as_at
 as_reads at names d = given (get (codes "as") d) (as_in_at at names) (as_in_reads at names)
 
-target_is_name : (target : Option (List ℕ)) (name : List ℕ) → ForSomeOf target IsName → IsName name → IsName (unwrap_or target name)
+pub target_is_name : (target : Option (List ℕ)) (name : List ℕ) → ForSomeOf target IsName → IsName name → IsName (unwrap_or target name)
 target_is_name None name t n = n
 target_is_name (Some target) name t n = t
 
@@ -227,31 +328,74 @@ targets_reads : (at : Place) (d : Data) → Reads (All IsName) (targets_at at d)
 unfolding targets_at
 targets_reads at d = next (any (needed_at at (codes "to") d)) (λ value _. references_reads at (codes "to") value)
 
-offers_are : (targets : List (List ℕ)) (t : Terms) (names : List (List ℕ)) → All IsName targets → AreTerms true t → All IsName names → All IsOffer (flat_map (offer_rows targets) (map (give_row t) names))
+-- a row of `offer` of either sort
+abbrev pub IsOfferRow : OfferRow → Type 0
+IsOfferRow (offered.Offer o) = IsOffer o
+IsOfferRow (offered.Storage o) = IsStorageOffer o
+
+offers_are : (targets : List (List ℕ)) (t : Terms) (names : List (List ℕ)) → All IsName targets → AreTerms true t
+    → All IsName names → All IsOfferRow (flat_map (offer_rows targets) (map (give_row t) names))
 offers_are targets t names ts h ns =
-    all_in_turn (IsGive true) IsOffer (offer_rows targets) (map (give_row t) names)
-    (λ give g. all_mapped IsName IsOffer (offer_row give) targets (λ to o. record { to = o; give = g }) ts)
+    all_in_turn (IsGive true) IsOfferRow (offer_rows targets) (map (give_row t) names)
+    (λ give g. all_mapped IsName IsOfferRow (λ to. offered.Offer (offer_row give to)) targets (λ to o. record { to = o; give = g }) ts)
     (all_mapped IsName (IsGive true) (give_row t) names (λ name n. row_is_give true t name h n) ns)
 
-unknown_in_offer : (k : Kind) (key : List ℕ) → list_any (λ w. bytes_eq w key) (offer_fields kind.Protocol) ≡ false → k ≡ kind.Protocol → list_any (λ w. bytes_eq w key) (offer_fields k) ≡ false
-unknown_in_offer k key out e = ap (λ p. list_any (λ w. bytes_eq w key) (offer_fields p)) e ∙ out
+unknown_in_offer : (k : Kind) (key : List ℕ)
+    → list_any (λ w. bytes_eq w key) (offer_fields (sort.Routed kind.Protocol)) ≡ false → k ≡ kind.Protocol
+    → list_any (λ w. bytes_eq w key) (offer_fields (sort.Routed k)) ≡ false
+unknown_in_offer k key out e = ap (λ p. list_any (λ w. bytes_eq w key) (offer_fields (sort.Routed p))) e ∙ out
 
-pub offer_reads : (at : Place) (d : Data) → Reads (All IsOffer) (offer_at at d)
-unfolding offer_at
-offer_reads at d =
-    next (exact (object_at at d)) (λ members m.
-    next (any (kind_at at d)) (λ k _.
-    next (exact (known_at at (offer_fields k) members)) (λ known u.
+routed_offer_reads : (k : Kind) (children : List Child) (at : Place) (d : Data)
+    → (k ≡ kind.Protocol → get (codes "rights") d ≡ None) → (k ≡ kind.Protocol → get (codes "subdir") d ≡ None)
+    → Reads (All IsOfferRow) (routed_offer_at k children at d)
+unfolding routed_offer_at
+routed_offer_reads k children at d no_rights no_subdir =
     next (item_names_reads k at d) (λ names ns.
     next (offer_from_reads at d) (λ from f.
     next (targets_reads at d) (λ targets ts.
     next (as_reads at names d) (λ target t.
-    next (given_rights_reads k at d (λ e. no_field at d members (offer_fields k) (codes "rights") known (unknown_in_offer k (codes "rights") refl e) m u)) (λ rights r.
-    next (given_subdir_reads k at d (λ e. no_field at d members (offer_fields k) (codes "subdir") known (unknown_in_offer k (codes "subdir") refl e) m u)) (λ subdir s.
+    next (given_rights_reads k at d no_rights) (λ rights r.
+    next (given_subdir_reads k at d no_subdir) (λ subdir s.
     next (any (dependency_at at d)) (λ dependency _.
-    next (any (availability_at at d)) (λ availability _.
-    gives (offers_are targets (record { kind = k; from = from; target = target; rights = rights; subdir = subdir; dependency = dependency; availability = availability })
-    names ts (record { from = f; target = t; rights = r; subdir = s }) ns))))))))))))
+    next (any (given_availability_at at d)) (λ availability _.
+    next (any (source_unknown_at at d)) (λ unknown _.
+    gives (offers_are targets (record { kind = k; from = settled children unknown from; target = target; rights = rights; subdir = subdir; dependency = dependency; availability = availability })
+    names ts (record { from = settled_is true children unknown from f; target = t; rights = r; subdir = s }) ns))))))))))
+
+storage_offers_are : (from : Origin) (target : Option (List ℕ)) (targets names : List (List ℕ)) → IsStorageSource from
+    → ForSomeOf target IsName → All IsName targets → All IsName names
+    → All IsOfferRow (flat_map (storage_offer_rows from target targets) names)
+storage_offers_are from target targets names f t ts ns =
+    all_in_turn IsName IsOfferRow (storage_offer_rows from target targets) names
+    (λ name n. all_mapped IsName IsOfferRow (λ to. offered.Storage (storage_offer from target name to)) targets
+    (λ to o. record { to = o; source_name = n; from = f; target_name = target_is_name target name t n }) ts) ns
+
+storage_offer_reads : (at : Place) (d : Data) → Reads (All IsOfferRow) (storage_offer_at at d)
+unfolding storage_offer_at
+storage_offer_reads at d =
+    next (storage_names_reads at d) (λ names ns.
+    next (storage_from_reads at d) (λ from f.
+    next (targets_reads at d) (λ targets ts.
+    next (as_reads at names d) (λ target t.
+    next (any (given_availability_at at d)) (λ availability _.
+    gives (storage_offers_are from target targets names f t ts ns))))))
+
+offer_of_sort_reads : (s : Sort) (children : List Child) (at : Place) (d : Data) (members : Members) (u : Unit {0})
+    → object_at at d ≡ Ok members → known_at at (offer_fields s) members ≡ Ok u
+    → Reads (All IsOfferRow) (offer_of_sort s children at d)
+offer_of_sort_reads (sort.Routed k) children at d members u m known =
+    routed_offer_reads k children at d
+    (λ e. no_field at d members (offer_fields (sort.Routed k)) (codes "rights") u (unknown_in_offer k (codes "rights") refl e) m known)
+    (λ e. no_field at d members (offer_fields (sort.Routed k)) (codes "subdir") u (unknown_in_offer k (codes "subdir") refl e) m known)
+offer_of_sort_reads sort.Storage children at d members u m known = storage_offer_reads at d
+
+pub offer_reads : (children : List Child) (at : Place) (d : Data) → Reads (All IsOfferRow) (offer_at children at d)
+unfolding offer_at
+offer_reads children at d =
+    next (exact (object_at at d)) (λ members m.
+    next (any (sort_at at d)) (λ s _.
+    next (exact (known_at at (offer_fields s) members)) (λ known u.
+    offer_of_sort_reads s children at d members known m u)))
 
 -- ---- exposes
 
@@ -262,9 +406,9 @@ exposes_are t names h strong ns =
 unknown_in_expose : (k : Kind) (key : List ℕ) → list_any (λ w. bytes_eq w key) (expose_fields kind.Protocol) ≡ false → k ≡ kind.Protocol → list_any (λ w. bytes_eq w key) (expose_fields k) ≡ false
 unknown_in_expose k key out e = ap (λ p. list_any (λ w. bytes_eq w key) (expose_fields p)) e ∙ out
 
-pub expose_reads : (at : Place) (d : Data) → Reads (All IsExpose) (expose_at at d)
+pub expose_reads : (children : List Child) (at : Place) (d : Data) → Reads (All IsExpose) (expose_at children at d)
 unfolding expose_at
-expose_reads at d =
+expose_reads children at d =
     next (exact (object_at at d)) (λ members m.
     next (any (kind_at at d)) (λ k _.
     next (exact (known_at at (expose_fields k) members)) (λ known u.
@@ -274,6 +418,7 @@ expose_reads at d =
     next (as_reads at names d) (λ target t.
     next (given_rights_reads k at d (λ e. no_field at d members (expose_fields k) (codes "rights") known (unknown_in_expose k (codes "rights") refl e) m u)) (λ rights r.
     next (given_subdir_reads k at d (λ e. no_field at d members (expose_fields k) (codes "subdir") known (unknown_in_expose k (codes "subdir") refl e) m u)) (λ subdir s.
-    next (any (availability_at at d)) (λ availability _.
-    gives (exposes_are (record { kind = k; from = from; target = target; rights = rights; subdir = subdir; dependency = Strong; availability = availability })
-    names (record { from = f; target = t; rights = r; subdir = s }) refl ns)))))))))))
+    next (any (given_availability_at at d)) (λ availability _.
+    next (any (source_unknown_at at d)) (λ unknown _.
+    gives (exposes_are (record { kind = k; from = settled children unknown from; target = target; rights = rights; subdir = subdir; dependency = Strong; availability = availability })
+    names (record { from = settled_is false children unknown from f; target = t; rights = r; subdir = s }) refl ns))))))))))))

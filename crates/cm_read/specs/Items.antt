@@ -19,6 +19,20 @@ use Rattle.cm_decl.specs.declared.rows.Capability.{Capability}
 use Rattle.cm_decl.specs.declared.rows.Usage.{Usage}
 use Rattle.cm_decl.specs.declared.rows.Give.{Give}
 use Rattle.cm_decl.specs.declared.rows.Offer.{Offer}
+use Rattle.cm_decl.specs.declared.environment.DebugUse.{DebugUse}
+use Rattle.cm_decl.specs.declared.storage.Storage.{Storage}
+use Rattle.cm_decl.specs.declared.storage.StorageUse.{StorageUse}
+use Rattle.cm_decl.specs.declared.storage.StorageOffer.{StorageOffer}
+use Rattle.cm_read.specs.declared.rows.Sort.{Sort}
+use Rattle.cm_read.specs.declared.rows.Sort.TheVariants as sort
+use Rattle.cm_read.specs.declared.rows.CapabilityRow.{CapabilityRow}
+use Rattle.cm_read.specs.declared.rows.CapabilityRow.TheVariants as capability_row
+use Rattle.cm_read.specs.declared.rows.UseRow.{UseRow}
+use Rattle.cm_read.specs.declared.rows.UseRow.TheVariants as use_row
+use Rattle.cm_read.specs.declared.rows.OfferRow.{OfferRow}
+use Rattle.cm_read.specs.declared.rows.OfferRow.TheVariants as offered
+use Rattle.cm_read.specs.declared.rows.UseSource.{UseSource}
+use Rattle.cm_read.specs.declared.rows.UseSource.TheVariants as source
 use Rattle.cm_read.specs.declared.fault.Place.{Place}
 use Rattle.cm_read.specs.declared.rows.Terms.{Terms}
 use Rattle.cm_read.specs.Numbers.{kind_count, not_with_many}
@@ -26,14 +40,16 @@ use Rattle.cm_read.specs.Reading.{Read, ◌>>=◌, bad}
 use Rattle.cm_read.specs.Fields.{needed_at, if_there, name_in_at, name_at, url_at, path_in_at, path_at}
 use Rattle.cm_read.specs.Fields.{subdir_at, names_at, references_at, rights_in_at, rights_at, object_at}
 use Rattle.cm_read.specs.Fields.{known_at}
-use Rattle.cm_read.specs.Words.{startup_at, durability_at, allowed_offers_at, dependency_at, availability_at}
-use Rattle.cm_read.specs.Words.{expose_to_at, use_from_at, offer_from_at, expose_from_at}
+use Rattle.cm_read.specs.Words.{startup_at, durability_at, allowed_offers_at, environment_at, dependency_at}
+use Rattle.cm_read.specs.Words.{availability_at, given_availability_at, source_unknown_at, settled}
+use Rattle.cm_read.specs.Words.{expose_to_at, use_from_at, use_source_at, offer_from_at, expose_from_at}
+use Rattle.cm_read.specs.Words.{static_from_at, storage_from_at, storage_use_from_at, storage_id_at}
 
 -- ---- children and collections
 
 -- the fields of a child
 abbrev pub child_fields : List (List ℕ)
-child_fields = codes "name" ∷ codes "url" ∷ codes "startup" ∷ []
+child_fields = codes "name" ∷ codes "url" ∷ codes "startup" ∷ codes "environment" ∷ []
 
 -- an item of `children`: one row
 unfoldable pub child_at : Place → Data → Read (List Child)
@@ -43,11 +59,12 @@ child_at at d = do
   name ← name_at at (codes "name") d
   url ← url_at at (codes "url") d
   eager ← startup_at at d
-  Ok (record { name = name; url = url; eager = eager } ∷ [])
+  environment ← environment_at at d
+  Ok (record { name = name; url = url; eager = eager; environment = environment } ∷ [])
 
 -- the fields of a collection
 abbrev pub collection_fields : List (List ℕ)
-collection_fields = codes "name" ∷ codes "durability" ∷ codes "allowed_offers" ∷ []
+collection_fields = codes "name" ∷ codes "durability" ∷ codes "allowed_offers" ∷ codes "environment" ∷ []
 
 -- an item of `collections`: one row
 unfoldable pub collection_at : Place → Data → Read (List Collection)
@@ -57,7 +74,13 @@ collection_at at d = do
   name ← name_at at (codes "name") d
   durability ← durability_at at d
   dynamic_offers ← allowed_offers_at at d
-  Ok (record { name = name; durability = durability; dynamic_offers = dynamic_offers } ∷ [])
+  environment ← environment_at at d
+  Ok (record {
+    name = name;
+    durability = durability;
+    dynamic_offers = dynamic_offers;
+    environment = environment;
+  } ∷ [])
 
 -- ---- kinds
 
@@ -68,7 +91,18 @@ one_kind at None (Some d) = Ok kind.Directory
 one_kind at None None = Err (bad at kind_count [])
 one_kind at (Some d) (Some e) = Err (bad at kind_count [])
 
--- the kind of an item, which has exactly one of the fields `protocol` and `directory`
+-- what an item of a section with storage is about, whose field alone is there
+abbrev pub one_sort : Place → Option Data → Option Data → Option Data → Read Sort
+one_sort at (Some d) None None = Ok (sort.Routed kind.Protocol)
+one_sort at None (Some d) None = Ok (sort.Routed kind.Directory)
+one_sort at None None (Some d) = Ok sort.Storage
+one_sort at _ _ _ = Err (bad at kind_count [])
+
+-- exactly one of the fields `protocol`, `directory` and `storage` is there
+unfoldable pub sort_at : Place → Data → Read Sort
+sort_at at d = one_sort at (get (codes "protocol") d) (get (codes "directory") d) (get (codes "storage") d)
+
+-- the kind of an item of `expose`, which has exactly one of the fields `protocol` and `directory`
 unfoldable pub kind_at : Place → Data → Read Kind
 kind_at at d = one_kind at (get (codes "protocol") d) (get (codes "directory") d)
 
@@ -81,6 +115,20 @@ unfoldable pub item_names_at : Kind → Place → Data → Read (List (List ℕ)
 item_names_at k at d = do
   value ← needed_at at (kind_word k) d
   names_at at (kind_word k) value
+
+-- the name of a storage that is provided or used, of which an item has one
+unfoldable pub storage_name_at : Place → Data → Read (List ℕ)
+storage_name_at at d = name_at at (codes "storage") d
+
+-- the name that the directory of a storage has at its source
+unfoldable pub backing_at : Place → Data → Read (List ℕ)
+backing_at at d = name_at at (codes "backing_dir") d
+
+-- the names of storages that are offered, one or more
+unfoldable pub storage_names_at : Place → Data → Read (List (List ℕ))
+storage_names_at at d = do
+  value ← needed_at at (codes "storage") d
+  names_at at (codes "storage") value
 
 -- a value in a field that may not stand beside several names
 abbrev pub alone : {A : Type 0} → Place → List ℕ → List (List ℕ) → A → Read A
@@ -103,9 +151,21 @@ path_of given name = unwrap_or given (service_path name)
 -- ---- capabilities
 
 -- the fields of a capability
-abbrev pub capability_fields : Kind → List (List ℕ)
-capability_fields kind.Protocol = codes "protocol" ∷ codes "path" ∷ []
-capability_fields kind.Directory = codes "directory" ∷ codes "path" ∷ codes "rights" ∷ []
+abbrev pub capability_fields : Sort → List (List ℕ)
+capability_fields (sort.Routed kind.Protocol) = codes "protocol" ∷ codes "path" ∷ []
+capability_fields (sort.Routed kind.Directory) = codes "directory" ∷ codes "path" ∷ codes "rights" ∷ []
+capability_fields sort.Storage =
+    codes "storage" ∷ codes "from" ∷ codes "backing_dir" ∷ codes "subdir" ∷ codes "storage_id" ∷ []
+
+-- what is a capability that is routed
+abbrev pub capability_in : CapabilityRow → Option Capability
+capability_in (capability_row.Capability c) = Some c
+capability_in (capability_row.Storage s) = None
+
+-- what is a storage
+abbrev pub storage_in : CapabilityRow → Option Storage
+storage_in (capability_row.Capability c) = None
+storage_in (capability_row.Storage s) = Some s
 
 -- the row of a protocol
 abbrev pub protocol_row : Option (List ℕ) → List ℕ → Capability
@@ -116,43 +176,88 @@ protocol_row path name = record {
   rights = None;
 }
 
+-- the same among the rows of all sorts
+abbrev pub protocol_capability_row : Option (List ℕ) → List ℕ → CapabilityRow
+protocol_capability_row path name = capability_row.Capability (protocol_row path name)
+
 -- a row for each name
-unfoldable pub protocol_capability_at : Place → Data → Read (List Capability)
+unfoldable pub protocol_capability_at : Place → Data → Read (List CapabilityRow)
 protocol_capability_at at d = do
   names ← item_names_at kind.Protocol at d
   path ← protocol_path_at at names d
-  Ok (map (protocol_row path) names)
+  Ok (map (protocol_capability_row path) names)
 
 -- one row
-unfoldable pub directory_capability_at : Place → Data → Read (List Capability)
+unfoldable pub directory_capability_at : Place → Data → Read (List CapabilityRow)
 directory_capability_at at d = do
   name ← directory_name_at at d
   path ← path_at at (codes "path") d
   rights ← rights_at at (codes "rights") d
-  Ok (record { kind = kind.Directory; name = name; path = path; rights = Some rights } ∷ [])
+  Ok (capability_row.Capability (record {
+    kind = kind.Directory;
+    name = name;
+    path = path;
+    rights = Some rights;
+  }) ∷ [])
 
--- the rows of a capability of that kind
-abbrev pub capability_of_kind : Kind → Place → Data → Read (List Capability)
-capability_of_kind kind.Protocol at d = protocol_capability_at at d
-capability_of_kind kind.Directory at d = directory_capability_at at d
+-- one row
+unfoldable pub storage_at : Place → Data → Read (List CapabilityRow)
+storage_at at d = do
+  name ← storage_name_at at d
+  from ← static_from_at at d
+  backing ← backing_at at d
+  subdir ← subdir_at at (codes "subdir") d
+  by_moniker ← storage_id_at at d
+  Ok (capability_row.Storage (record {
+    name = name;
+    from = from;
+    backing = backing;
+    subdir = subdir;
+    by_moniker = by_moniker;
+  }) ∷ [])
+
+-- the rows of a capability of that sort
+abbrev pub capability_of_sort : Sort → Place → Data → Read (List CapabilityRow)
+capability_of_sort (sort.Routed kind.Protocol) at d = protocol_capability_at at d
+capability_of_sort (sort.Routed kind.Directory) at d = directory_capability_at at d
+capability_of_sort sort.Storage at d = storage_at at d
 
 -- an item of `capabilities`
-unfoldable pub capability_at : Place → Data → Read (List Capability)
+unfoldable pub capability_at : Place → Data → Read (List CapabilityRow)
 capability_at at d = do
   members ← object_at at d
-  k ← kind_at at d
-  known ← known_at at (capability_fields k) members
-  capability_of_kind k at d
+  s ← sort_at at d
+  known ← known_at at (capability_fields s) members
+  capability_of_sort s at d
 
 -- ---- uses
 
 -- the fields of a use
-abbrev pub use_fields : Kind → List (List ℕ)
-use_fields kind.Protocol =
+abbrev pub use_fields : Sort → List (List ℕ)
+use_fields (sort.Routed kind.Protocol) =
     codes "protocol" ∷ codes "from" ∷ codes "path" ∷ codes "dependency" ∷ codes "availability" ∷ []
-use_fields kind.Directory =
+use_fields (sort.Routed kind.Directory) =
     codes "directory" ∷ codes "from" ∷ codes "path" ∷ codes "rights" ∷ codes "subdir"
     ∷ codes "dependency" ∷ codes "availability" ∷ []
+use_fields sort.Storage = codes "storage" ∷ codes "from" ∷ codes "path" ∷ codes "availability" ∷ []
+
+-- what is a use that is routed
+abbrev pub usage_in : UseRow → Option Usage
+usage_in (use_row.Usage u) = Some u
+usage_in (use_row.Debug u) = None
+usage_in (use_row.Storage u) = None
+
+-- what is a use of a debug protocol
+abbrev pub debug_use_in : UseRow → Option DebugUse
+debug_use_in (use_row.Usage u) = None
+debug_use_in (use_row.Debug u) = Some u
+debug_use_in (use_row.Storage u) = None
+
+-- what is a use of a storage
+abbrev pub storage_use_in : UseRow → Option StorageUse
+storage_use_in (use_row.Usage u) = None
+storage_use_in (use_row.Debug u) = None
+storage_use_in (use_row.Storage u) = Some u
 
 -- the row of a protocol
 abbrev pub protocol_usage : Origin → Option (List ℕ) → Dependency → Availability → List ℕ → Usage
@@ -167,18 +272,29 @@ protocol_usage from path dependency availability name = record {
   availability = availability;
 }
 
+-- the row of a debug protocol
+abbrev pub debug_use : Option (List ℕ) → List ℕ → DebugUse
+debug_use path name = record { name = name; path = path_of path name }
+
+-- a debug use keeps neither its dependency nor its availability
+abbrev pub protocol_use_row : UseSource → Option (List ℕ) → Dependency → Availability → List ℕ → UseRow
+protocol_use_row (source.From from) path dependency availability name =
+    use_row.Usage (protocol_usage from path dependency availability name)
+protocol_use_row source.Debug path dependency availability name =
+    use_row.Debug (debug_use path name)
+
 -- a row for each name
-unfoldable pub protocol_use_at : Place → Data → Read (List Usage)
+unfoldable pub protocol_use_at : Place → Data → Read (List UseRow)
 protocol_use_at at d = do
   names ← item_names_at kind.Protocol at d
-  from ← use_from_at at d
+  from ← use_source_at at d
   path ← protocol_path_at at names d
   dependency ← dependency_at at d
   availability ← availability_at at d
-  Ok (map (protocol_usage from path dependency availability) names)
+  Ok (map (protocol_use_row from path dependency availability) names)
 
 -- one row
-unfoldable pub directory_use_at : Place → Data → Read (List Usage)
+unfoldable pub directory_use_at : Place → Data → Read (List UseRow)
 directory_use_at at d = do
   name ← directory_name_at at d
   from ← use_from_at at d
@@ -187,7 +303,7 @@ directory_use_at at d = do
   subdir ← subdir_at at (codes "subdir") d
   dependency ← dependency_at at d
   availability ← availability_at at d
-  Ok (record {
+  Ok (use_row.Usage (record {
     kind = kind.Directory;
     name = name;
     from = from;
@@ -196,20 +312,30 @@ directory_use_at at d = do
     subdir = subdir;
     dependency = dependency;
     availability = availability;
-  } ∷ [])
+  }) ∷ [])
 
--- the rows of a use of that kind
-abbrev pub use_of_kind : Kind → Place → Data → Read (List Usage)
-use_of_kind kind.Protocol at d = protocol_use_at at d
-use_of_kind kind.Directory at d = directory_use_at at d
+-- one row; its availability isn't kept
+unfoldable pub storage_use_at : Place → Data → Read (List UseRow)
+storage_use_at at d = do
+  name ← storage_name_at at d
+  from ← storage_use_from_at at d
+  path ← path_at at (codes "path") d
+  availability ← availability_at at d
+  Ok (use_row.Storage (record { name = name; path = path }) ∷ [])
+
+-- the rows of a use of that sort
+abbrev pub use_of_sort : Sort → Place → Data → Read (List UseRow)
+use_of_sort (sort.Routed kind.Protocol) at d = protocol_use_at at d
+use_of_sort (sort.Routed kind.Directory) at d = directory_use_at at d
+use_of_sort sort.Storage at d = storage_use_at at d
 
 -- an item of `use`
-unfoldable pub use_at : Place → Data → Read (List Usage)
+unfoldable pub use_at : Place → Data → Read (List UseRow)
 use_at at d = do
   members ← object_at at d
-  k ← kind_at at d
-  known ← known_at at (use_fields k) members
-  use_of_kind k at d
+  s ← sort_at at d
+  known ← known_at at (use_fields s) members
+  use_of_sort s at d
 
 -- ---- offers and exposes
 
@@ -241,12 +367,25 @@ give_row terms name = record {
 }
 
 -- the fields of an offer
-abbrev pub offer_fields : Kind → List (List ℕ)
-offer_fields kind.Protocol =
-    codes "protocol" ∷ codes "from" ∷ codes "to" ∷ codes "as" ∷ codes "dependency" ∷ codes "availability" ∷ []
-offer_fields kind.Directory =
+abbrev pub offer_fields : Sort → List (List ℕ)
+offer_fields (sort.Routed kind.Protocol) =
+    codes "protocol" ∷ codes "from" ∷ codes "to" ∷ codes "as" ∷ codes "dependency" ∷ codes "availability"
+    ∷ codes "source_availability" ∷ []
+offer_fields (sort.Routed kind.Directory) =
     codes "directory" ∷ codes "from" ∷ codes "to" ∷ codes "as" ∷ codes "rights" ∷ codes "subdir"
-    ∷ codes "dependency" ∷ codes "availability" ∷ []
+    ∷ codes "dependency" ∷ codes "availability" ∷ codes "source_availability" ∷ []
+offer_fields sort.Storage =
+    codes "storage" ∷ codes "from" ∷ codes "to" ∷ codes "as" ∷ codes "availability" ∷ []
+
+-- what is an offer that is routed
+abbrev pub offer_in : OfferRow → Option Offer
+offer_in (offered.Offer o) = Some o
+offer_in (offered.Storage o) = None
+
+-- what is an offer of a storage
+abbrev pub storage_offer_in : OfferRow → Option StorageOffer
+storage_offer_in (offered.Offer o) = None
+storage_offer_in (offered.Storage o) = Some o
 
 -- `to` of an offer, which has to be there
 unfoldable pub targets_at : Place → Data → Read (List (List ℕ))
@@ -259,16 +398,13 @@ abbrev pub offer_row : Give → List ℕ → Offer
 offer_row give to = record { to = to; give = give }
 
 -- the rows of a name, one for each target
-abbrev pub offer_rows : List (List ℕ) → Give → List Offer
-offer_rows targets give = map (offer_row give) targets
+abbrev pub offer_rows : List (List ℕ) → Give → List OfferRow
+offer_rows targets give = map (λ to. offered.Offer (offer_row give to)) targets
 
--- an item of `offer`: for each of its names in turn a row for each of its targets; `rights` and
+-- beside these declared children, for each of its names in turn a row for each of its targets; `rights` and
 -- `subdir` are known for directories alone
-unfoldable pub offer_at : Place → Data → Read (List Offer)
-offer_at at d = do
-  members ← object_at at d
-  k ← kind_at at d
-  known ← known_at at (offer_fields k) members
+unfoldable pub routed_offer_at : Kind → List Child → Place → Data → Read (List OfferRow)
+routed_offer_at k children at d = do
   names ← item_names_at k at d
   from ← offer_from_at at d
   targets ← targets_at at d
@@ -276,10 +412,11 @@ offer_at at d = do
   rights ← given_rights_at at d
   subdir ← subdir_at at (codes "subdir") d
   dependency ← dependency_at at d
-  availability ← availability_at at d
+  availability ← given_availability_at at d
+  unknown ← source_unknown_at at d
   Ok (flat_map (offer_rows targets) (map (give_row (record {
     kind = k;
-    from = from;
+    from = settled children unknown from;
     target = target;
     rights = rights;
     subdir = subdir;
@@ -287,17 +424,55 @@ offer_at at d = do
     availability = availability;
   })) names))
 
+-- the row of a target
+abbrev pub storage_offer : Origin → Option (List ℕ) → List ℕ → List ℕ → StorageOffer
+storage_offer from target name to = record {
+  to = to;
+  source_name = name;
+  from = from;
+  target_name = unwrap_or target name;
+}
+
+-- the rows of a name, one for each target
+abbrev pub storage_offer_rows : Origin → Option (List ℕ) → List (List ℕ) → List ℕ → List OfferRow
+storage_offer_rows from target targets name =
+    map (λ to. offered.Storage (storage_offer from target name to)) targets
+
+-- likewise; its availability isn't kept
+unfoldable pub storage_offer_at : Place → Data → Read (List OfferRow)
+storage_offer_at at d = do
+  names ← storage_names_at at d
+  from ← storage_from_at at d
+  targets ← targets_at at d
+  target ← as_at at names d
+  availability ← given_availability_at at d
+  Ok (flat_map (storage_offer_rows from target targets) names)
+
+-- the rows of an offer of that sort
+abbrev pub offer_of_sort : Sort → List Child → Place → Data → Read (List OfferRow)
+offer_of_sort (sort.Routed k) children at d = routed_offer_at k children at d
+offer_of_sort sort.Storage children at d = storage_offer_at at d
+
+-- an item of `offer` beside these declared children
+unfoldable pub offer_at : List Child → Place → Data → Read (List OfferRow)
+offer_at children at d = do
+  members ← object_at at d
+  s ← sort_at at d
+  known ← known_at at (offer_fields s) members
+  offer_of_sort s children at d
+
 -- the fields of an expose
 abbrev pub expose_fields : Kind → List (List ℕ)
 expose_fields kind.Protocol =
-    codes "protocol" ∷ codes "from" ∷ codes "to" ∷ codes "as" ∷ codes "availability" ∷ []
+    codes "protocol" ∷ codes "from" ∷ codes "to" ∷ codes "as" ∷ codes "availability"
+    ∷ codes "source_availability" ∷ []
 expose_fields kind.Directory =
     codes "directory" ∷ codes "from" ∷ codes "to" ∷ codes "as" ∷ codes "rights" ∷ codes "subdir"
-    ∷ codes "availability" ∷ []
+    ∷ codes "availability" ∷ codes "source_availability" ∷ []
 
--- an item of `expose`: a row for each name
-unfoldable pub expose_at : Place → Data → Read (List Give)
-expose_at at d = do
+-- an item of `expose` beside these declared children: a row for each name
+unfoldable pub expose_at : List Child → Place → Data → Read (List Give)
+expose_at children at d = do
   members ← object_at at d
   k ← kind_at at d
   known ← known_at at (expose_fields k) members
@@ -307,10 +482,11 @@ expose_at at d = do
   target ← as_at at names d
   rights ← given_rights_at at d
   subdir ← subdir_at at (codes "subdir") d
-  availability ← availability_at at d
+  availability ← given_availability_at at d
+  unknown ← source_unknown_at at d
   Ok (map (give_row (record {
     kind = k;
-    from = from;
+    from = settled children unknown from;
     target = target;
     rights = rights;
     subdir = subdir;

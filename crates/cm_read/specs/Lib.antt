@@ -3,6 +3,7 @@ pub mod Reading
 pub mod Fields
 pub mod Words
 pub mod Items
+pub mod Environments
 pub mod Sections
 pub mod Manifest
 pub mod Texts

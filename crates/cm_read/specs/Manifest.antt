@@ -1,6 +1,6 @@
 -- What a manifest declares, or its first fault.
-use Rattle.std.specs.Prelude.{ℕ, List, [], ◌∷◌, length, codes, nat_lt, Option, Some, None, ok_or, Result, Ok}
-use Rattle.std.specs.Prelude.{Err, if◌then◌else◌}
+use Rattle.std.specs.Prelude.{ℕ, List, [], ◌∷◌, length, codes, nat_lt, Option, Some, None, filter_map}
+use Rattle.std.specs.Prelude.{ok_or, Result, Ok, Err, if◌then◌else◌}
 use Rattle.std.specs.Str.{is_utf8}
 use Rattle.serde_json.specs.Data.{Data}
 use Rattle.serde_json.specs.Find.{get, as_object}
@@ -8,19 +8,24 @@ use Rattle.serde_json.specs.Read as json
 use Rattle.cm_text.specs.Json.{json_of}
 use Rattle.cm_text.specs.declared.fault.TextFault.{TextFault}
 use Rattle.cm_decl.specs.declared.section.Section.TheVariants as section
+use Rattle.cm_decl.specs.declared.rows.Child.{Child}
 use Rattle.cm_decl.specs.declared.decl.Decl.{Decl}
 use Rattle.cm_read.specs.declared.fault.ReadFault.{ReadFault}
 use Rattle.cm_read.specs.Numbers.{not_utf8, not_json, not_object, too_large, max_bytes}
 use Rattle.cm_read.specs.Reading.{Read, ◌>>=◌, bad, start}
 use Rattle.cm_read.specs.Fields.{if_there, object_at, known_at, name_at}
 use Rattle.cm_read.specs.Sections.{section_at}
-use Rattle.cm_read.specs.Items.{child_at, collection_at, capability_at, use_at, offer_at, expose_at}
+use Rattle.cm_read.specs.declared.rows.SectionRows.{SectionRows}
+use Rattle.cm_read.specs.Items.{child_at, collection_at, capability_at, capability_in, storage_in, use_at}
+use Rattle.cm_read.specs.Items.{usage_in, debug_use_in, storage_use_in, offer_at, offer_in, storage_offer_in}
+use Rattle.cm_read.specs.Items.{expose_at}
+use Rattle.cm_read.specs.Environments.{environment_item_at}
 
 -- the sections of a manifest
 abbrev pub section_names : List (List ℕ)
 section_names =
     codes "program" ∷ codes "children" ∷ codes "collections" ∷ codes "capabilities" ∷ codes "use"
-    ∷ codes "offer" ∷ codes "expose" ∷ codes "facets" ∷ []
+    ∷ codes "offer" ∷ codes "expose" ∷ codes "facets" ∷ codes "environments" ∷ []
 
 -- a fault of the whole manifest
 abbrev pub whole : ℕ → ReadFault
@@ -42,26 +47,54 @@ sections_at d = do
   members ← ok_or (as_object d) (whole not_object)
   known_at (start section.Manifest) section_names members
 
--- the declaration that a value is: the sections in their order, and `facets` is read over
-unfoldable pub decl_at : Data → Read Decl
-decl_at d = do
-  known ← sections_at d
-  runner ← runner_at d
-  children ← section_at child_at section.Children (get (codes "children") d)
+-- the rows of `children`, beside which the others are read
+unfoldable pub children_at : Data → Read (List Child)
+children_at d = section_at child_at section.Children (get (codes "children") d)
+
+-- the rows of all sections that list them, in the order of the sections; `facets` is read over
+unfoldable pub section_rows_at : Data → Read SectionRows
+section_rows_at d = do
+  children ← children_at d
   collections ← section_at collection_at section.Collections (get (codes "collections") d)
   capabilities ← section_at capability_at section.Capabilities (get (codes "capabilities") d)
   uses ← section_at use_at section.Uses (get (codes "use") d)
-  offers ← section_at offer_at section.Offers (get (codes "offer") d)
-  exposes ← section_at expose_at section.Exposes (get (codes "expose") d)
+  offers ← section_at (offer_at children) section.Offers (get (codes "offer") d)
+  exposes ← section_at (expose_at children) section.Exposes (get (codes "expose") d)
+  environments ← section_at environment_item_at section.Environments (get (codes "environments") d)
   Ok (record {
-    runner = runner;
     children = children;
     collections = collections;
     capabilities = capabilities;
     uses = uses;
     offers = offers;
     exposes = exposes;
+    environments = environments;
   })
+
+-- the declaration of a runner and these rows: a section's rows of each kind stand in a list of their own
+abbrev pub declared_by : Option (List ℕ) → SectionRows → Decl
+declared_by runner rows = record {
+  runner = runner;
+  children = rows.children;
+  collections = rows.collections;
+  capabilities = filter_map capability_in rows.capabilities;
+  uses = filter_map usage_in rows.uses;
+  offers = filter_map offer_in rows.offers;
+  exposes = rows.exposes;
+  environments = rows.environments;
+  debug_uses = filter_map debug_use_in rows.uses;
+  storages = filter_map storage_in rows.capabilities;
+  storage_uses = filter_map storage_use_in rows.uses;
+  storage_offers = filter_map storage_offer_in rows.offers;
+}
+
+-- the declaration that a value is
+unfoldable pub decl_at : Data → Read Decl
+decl_at d = do
+  known ← sections_at d
+  runner ← runner_at d
+  rows ← section_rows_at d
+  Ok (declared_by runner rows)
 
 -- the declaration that a value is, where the text has one
 abbrev pub of_data : Option Data → Read Decl

@@ -49,7 +49,7 @@ bad_rights = 38
 abbrev pub unknown_word : ℕ
 unknown_word = 39
 
--- not exactly one of `protocol` and `directory`
+-- not exactly one of the fields that tell an item's kind
 abbrev pub kind_count : ℕ
 kind_count = 40
 

@@ -1,10 +1,11 @@
 -- Which declarations a manifest can have, and that these are read back from their text.
-use Rattle.std.specs.Prelude.{◌≡◌, ◌≢◌, ℕ, ◌≤◌, List, length, Bool, true, false, Option, Some, None, Ok}
-use Rattle.std.specs.Prelude.{IsTrue, All}
+use Rattle.std.specs.Prelude.{◌≡◌, ◌≢◌, ℕ, ◌≤◌, ◌+◌, List, length, Bool, true, false, Option, Some, None}
+use Rattle.std.specs.Prelude.{Ok, IsTrue, All}
 use Rattle.cm_names.specs.Name.{IsName}
 use Rattle.cm_names.specs.Path.{is_path, is_subdir}
 use Rattle.cm_names.specs.Rights.{RightSet, no_rights}
 use Rattle.cm_names.specs.declared.dependency.Dependency.TheVariants.{Strong}
+use Rattle.cm_names.specs.declared.availability.Availability.TheVariants.{SameAsTarget}
 use Rattle.cm_decl.specs.declared.kind.Kind.{Kind}
 use Rattle.cm_decl.specs.declared.kind.Kind.TheVariants as kind
 use Rattle.cm_decl.specs.declared.origin.Origin.{Origin}
@@ -15,6 +16,12 @@ use Rattle.cm_decl.specs.declared.rows.Capability.{Capability}
 use Rattle.cm_decl.specs.declared.rows.Usage.{Usage}
 use Rattle.cm_decl.specs.declared.rows.Give.{Give}
 use Rattle.cm_decl.specs.declared.rows.Offer.{Offer}
+use Rattle.cm_decl.specs.declared.environment.Registration.{Registration}
+use Rattle.cm_decl.specs.declared.environment.Environment.{Environment}
+use Rattle.cm_decl.specs.declared.environment.DebugUse.{DebugUse}
+use Rattle.cm_decl.specs.declared.storage.Storage.{Storage}
+use Rattle.cm_decl.specs.declared.storage.StorageUse.{StorageUse}
+use Rattle.cm_decl.specs.declared.storage.StorageOffer.{StorageOffer}
 use Rattle.cm_decl.specs.declared.decl.Decl.{Decl}
 use Rattle.cm_decl.specs.Valid.{is_well_formed}
 use Rattle.cm_read.specs.Numbers.{max_rows}
@@ -32,13 +39,27 @@ AreRights rights = rights ≢ no_rights
 abbrev pub IsSubDir : List ℕ → Type 0
 IsSubDir t = IsTrue (is_subdir t)
 
--- an origin of a section that has parent and void where it is said; a child is one that is declared
+-- an origin of a section that has parent and void where it is said; a child is in no collection
 abbrev pub IsOrigin : Bool → Bool → Origin → Type 0
 IsOrigin parent void origin.Parent = IsTrue parent
 IsOrigin parent void origin.Own = Unit {0}
 IsOrigin parent void origin.Framework = Unit {0}
 IsOrigin parent void (origin.Child child) = (child.coll ≡ None) × IsName child.name
 IsOrigin parent void origin.Void = IsTrue void
+
+-- the source of a registration or a storage: the parent, the component itself, or a child in no collection
+abbrev pub IsStaticSource : Origin → Type 0
+IsStaticSource origin.Parent = Unit {0}
+IsStaticSource origin.Own = Unit {0}
+IsStaticSource (origin.Child child) = (child.coll ≡ None) × IsName child.name
+IsStaticSource _ = ⊥
+
+-- the source of an offer of a storage: the parent, the component itself, or void
+abbrev pub IsStorageSource : Origin → Type 0
+IsStorageSource origin.Parent = Unit {0}
+IsStorageSource origin.Own = Unit {0}
+IsStorageSource origin.Void = Unit {0}
+IsStorageSource _ = ⊥
 
 -- a fact of the value, if there is one
 abbrev pub ForSomeOf : {A : Type 0} → Option A → (A → Type 0) → Type 0
@@ -62,10 +83,12 @@ MustHave kind.Directory (Some x) P = P x
 pub record IsChild (c : Child) : Type 0 where
   pub name : IsName c.name
   pub url : IsTrue (is_url c.url)
+  pub environment : ForSomeOf c.environment IsName
 
 -- a row of `collections`
 pub record IsCollection (c : Collection) : Type 0 where
   pub name : IsName c.name
+  pub environment : ForSomeOf c.environment IsName
 
 -- a row of `capabilities`
 pub record IsCapability (c : Capability) : Type 0 where
@@ -80,6 +103,7 @@ pub record IsUsage (u : Usage) : Type 0 where
   pub path : IsTrue (is_path u.path)
   pub rights : MustHave u.kind u.rights AreRights
   pub subdir : MayHave u.kind u.subdir IsSubDir
+  pub availability : u.availability ≢ SameAsTarget
 
 -- what a row of `offer` and one of `expose` have in common; an offer may come from the parent
 pub record IsGive (parent : Bool) (g : Give) : Type 0 where
@@ -99,6 +123,42 @@ pub record IsExpose (g : Give) : Type 0 where
   pub give : IsGive false g
   pub dependency : g.dependency ≡ Strong
 
+-- a registration
+pub record IsRegistration (r : Registration) : Type 0 where
+  pub name : IsName r.name
+  pub from : IsStaticSource r.from
+  pub target : IsName r.target
+
+-- a row of `environments`
+pub record IsEnvironment (e : Environment) : Type 0 where
+  pub name : IsName e.name
+  pub runners : All IsRegistration e.runners
+  pub debug : All IsRegistration e.debug
+
+-- a debug use
+pub record IsDebugUse (u : DebugUse) : Type 0 where
+  pub name : IsName u.name
+  pub path : IsTrue (is_path u.path)
+
+-- a storage
+pub record IsStorage (s : Storage) : Type 0 where
+  pub name : IsName s.name
+  pub from : IsStaticSource s.from
+  pub backing : IsName s.backing
+  pub subdir : ForSomeOf s.subdir IsSubDir
+
+-- a use of a storage
+pub record IsStorageUse (u : StorageUse) : Type 0 where
+  pub name : IsName u.name
+  pub path : IsTrue (is_path u.path)
+
+-- an offer of a storage
+pub record IsStorageOffer (o : StorageOffer) : Type 0 where
+  pub to : IsName o.to
+  pub source_name : IsName o.source_name
+  pub from : IsStorageSource o.from
+  pub target_name : IsName o.target_name
+
 -- a section of such rows, within the limit
 pub record AreRows {A : Type 0} (IsRow : A → Type 0) (rows : List A) : Type 0 where
   pub limit : length rows ≤ max_rows
@@ -115,6 +175,15 @@ pub record IsReadable (d : Decl) : Type 0 where
   pub uses : AreRows IsUsage d.uses
   pub offers : AreRows IsOffer d.offers
   pub exposes : AreRows IsExpose d.exposes
+  pub environments : AreRows IsEnvironment d.environments
+  pub debug_uses : All IsDebugUse d.debug_uses
+  pub storages : All IsStorage d.storages
+  pub storage_uses : All IsStorageUse d.storage_uses
+  pub storage_offers : All IsStorageOffer d.storage_offers
+  -- all rows of one section count for its limit
+  pub capability_rows : length d.capabilities + length d.storages ≤ max_rows
+  pub use_rows : length d.uses + (length d.debug_uses + length d.storage_uses) ≤ max_rows
+  pub offer_rows : length d.offers + length d.storage_offers ≤ max_rows
 
 -- the text of a readable declaration is read as that declaration
 abbrev pub TextsAreReadBack : Type 0
@@ -129,6 +198,6 @@ abbrev pub WhatIsReadIsReadBack : Type 0
 WhatIsReadIsReadBack =
     (text : List ℕ) (d : Decl) → decl_of_json text ≡ Ok d → decl_of_json (decl_text d) ≡ Ok d
 
--- and it has no use from void and no expose from the parent
+-- and its rows come from where they may
 abbrev pub ReadableIsWellFormed : Type 0
 ReadableIsWellFormed = (d : Decl) → IsReadable d → IsTrue (is_well_formed d)

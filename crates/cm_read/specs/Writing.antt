@@ -18,6 +18,12 @@ use Rattle.cm_decl.specs.declared.rows.Capability.{Capability}
 use Rattle.cm_decl.specs.declared.rows.Usage.{Usage}
 use Rattle.cm_decl.specs.declared.rows.Give.{Give}
 use Rattle.cm_decl.specs.declared.rows.Offer.{Offer}
+use Rattle.cm_decl.specs.declared.environment.Registration.{Registration}
+use Rattle.cm_decl.specs.declared.environment.Environment.{Environment}
+use Rattle.cm_decl.specs.declared.environment.DebugUse.{DebugUse}
+use Rattle.cm_decl.specs.declared.storage.Storage.{Storage}
+use Rattle.cm_decl.specs.declared.storage.StorageUse.{StorageUse}
+use Rattle.cm_decl.specs.declared.storage.StorageOffer.{StorageOffer}
 use Rattle.cm_decl.specs.declared.decl.Decl.{Decl}
 use Rattle.cm_decl.specs.declared.rows.Durability.{Durability}
 use Rattle.cm_decl.specs.declared.rows.Durability.TheVariants.{Transient, SingleRun}
@@ -86,7 +92,12 @@ abbrev pub subdir_pair : Option (List ℕ) → Pairs
 subdir_pair None = []
 subdir_pair (Some subdir) = (codes "subdir", string subdir) ∷ []
 
--- ---- rows: each is an item with one name, one target and every field of its kind
+-- `environment` where there is one
+abbrev pub environment_pair : Option (List ℕ) → Pairs
+environment_pair None = []
+environment_pair (Some name) = (codes "environment", string (reference name)) ∷ []
+
+-- ---- rows: an item for each row, in which nothing is left to a default
 
 -- the members of a row of `children`
 abbrev pub child_pairs : Child → Pairs
@@ -94,7 +105,7 @@ child_pairs c =
     (codes "name", string c.name)
     ∷ (codes "url", string c.url)
     ∷ (codes "startup", string (startup_word c.eager))
-    ∷ []
+    ∷ environment_pair c.environment
 
 -- the members of a row of `collections`
 abbrev pub collection_pairs : Collection → Pairs
@@ -102,7 +113,7 @@ collection_pairs c =
     (codes "name", string c.name)
     ∷ (codes "durability", string (durability_word c.durability))
     ∷ (codes "allowed_offers", string (offers_word c.dynamic_offers))
-    ∷ []
+    ∷ environment_pair c.environment
 
 -- the members of a row of `capabilities`
 abbrev pub capability_pairs : Capability → Pairs
@@ -135,22 +146,109 @@ offer_pairs o =
     ∷ (codes "dependency", string (dependency_word o.give.dependency))
     ∷ give_pairs o.give
 
--- the rows
+-- the word of `storage_id`
+abbrev pub storage_id_word : Bool → List ℕ
+storage_id_word true = codes "static_instance_id_or_moniker"
+storage_id_word false = codes "static_instance_id"
+
+-- the members of a storage in `capabilities`
+abbrev pub storage_pairs : Storage → Pairs
+storage_pairs s =
+    (codes "storage", string s.name)
+    ∷ (codes "from", string (origin_text s.from))
+    ∷ (codes "backing_dir", string s.backing)
+    ∷ (codes "storage_id", string (storage_id_word s.by_moniker))
+    ∷ subdir_pair s.subdir
+
+-- the members of a debug use in `use`
+abbrev pub debug_use_pairs : DebugUse → Pairs
+debug_use_pairs u =
+    (codes "protocol", string u.name)
+    ∷ (codes "from", string (codes "debug"))
+    ∷ (codes "path", string u.path)
+    ∷ []
+
+-- the members of a use of a storage in `use`
+abbrev pub storage_use_pairs : StorageUse → Pairs
+storage_use_pairs u =
+    (codes "storage", string u.name)
+    ∷ (codes "from", string (codes "parent"))
+    ∷ (codes "path", string u.path)
+    ∷ []
+
+-- the members of an offer of a storage in `offer`
+abbrev pub storage_offer_pairs : StorageOffer → Pairs
+storage_offer_pairs o =
+    (codes "storage", string o.source_name)
+    ∷ (codes "from", string (origin_text o.from))
+    ∷ (codes "to", string (reference o.to))
+    ∷ (codes "as", string o.target_name)
+    ∷ []
+
+-- the members of a registration, whose name stands at this key
+abbrev pub registration_pairs : List ℕ → Registration → Pairs
+registration_pairs key r =
+    (key, string r.name) ∷ (codes "from", string (origin_text r.from)) ∷ (codes "as", string r.target) ∷ []
+
+-- a registration
+abbrev pub registration_data : List ℕ → Registration → Data
+registration_data key r = object_of (registration_pairs key r)
+
+-- the word of `extends`
+abbrev pub extends_word : Bool → List ℕ
+extends_word true = codes "realm"
+extends_word false = codes "none"
+
+-- the members of a row of `environments`: all four
+abbrev pub environment_pairs : Environment → Pairs
+environment_pairs e =
+    (codes "name", string e.name)
+    ∷ (codes "extends", string (extends_word e.extends))
+    ∷ (codes "runners", list_of (registration_data (codes "runner")) e.runners)
+    ∷ (codes "debug", list_of (registration_data (codes "protocol")) e.debug)
+    ∷ []
+
+-- a storage
+abbrev pub storage_data : Storage → Data
+storage_data s = object_of (storage_pairs s)
+
+-- a use of a debug protocol
+abbrev pub debug_use_data : DebugUse → Data
+debug_use_data u = object_of (debug_use_pairs u)
+
+-- a use of a storage
+abbrev pub storage_use_data : StorageUse → Data
+storage_use_data u = object_of (storage_use_pairs u)
+
+-- an offer of a storage
+abbrev pub storage_offer_data : StorageOffer → Data
+storage_offer_data o = object_of (storage_offer_pairs o)
+
+-- a row of `environments`
+abbrev pub environment_data : Environment → Data
+environment_data e = object_of (environment_pairs e)
+
+-- a row of `children`
 abbrev pub child_data : Child → Data
 child_data c = object_of (child_pairs c)
 
+-- a row of `collections`
 abbrev pub collection_data : Collection → Data
 collection_data c = object_of (collection_pairs c)
 
+-- a row of `capabilities` that is routed
 abbrev pub capability_data : Capability → Data
 capability_data c = object_of (capability_pairs c)
 
+-- a row of `use` that is routed
 abbrev pub use_data : Usage → Data
 use_data u = object_of (use_pairs u)
 
+-- a row of `offer` that is routed
 abbrev pub offer_data : Offer → Data
 offer_data o = object_of (offer_pairs o)
 
+-- a row of `expose`
 abbrev pub expose_data : Give → Data
 expose_data g = object_of (give_pairs g)
 
@@ -165,16 +263,34 @@ abbrev pub program_pair : Option (List ℕ) → Pairs
 program_pair None = []
 program_pair (Some runner) = (codes "program", object_of (runner_pairs runner)) ∷ []
 
--- the sections: all that list rows, and `program` where there is a runner
+-- the items of `capabilities`: what is routed, then storages
+abbrev pub capability_items : Decl → List Data
+capability_items d = map capability_data d.capabilities ++ map storage_data d.storages
+
+-- the items of `use`: what is routed, then debug protocols, then storages
+abbrev pub use_items : Decl → List Data
+use_items d = map use_data d.uses ++ (map debug_use_data d.debug_uses ++ map storage_use_data d.storage_uses)
+
+-- the items of `offer`: what is routed, then storages
+abbrev pub offer_items : Decl → List Data
+offer_items d = map offer_data d.offers ++ map storage_offer_data d.storage_offers
+
+-- `environments` where there are any
+abbrev pub environments_pair : List Environment → Pairs
+environments_pair [] = []
+environments_pair (e ∷ es) = (codes "environments", list_of environment_data (e ∷ es)) ∷ []
+
+-- the sections: all that list rows, but `environments` only where there are any, and `program` where there is
+-- a runner
 abbrev pub decl_pairs : Decl → Pairs
 decl_pairs d =
     (codes "children", list_of child_data d.children)
     ∷ (codes "collections", list_of collection_data d.collections)
-    ∷ (codes "capabilities", list_of capability_data d.capabilities)
-    ∷ (codes "use", list_of use_data d.uses)
-    ∷ (codes "offer", list_of offer_data d.offers)
+    ∷ (codes "capabilities", array (items_of (capability_items d)))
+    ∷ (codes "use", array (items_of (use_items d)))
+    ∷ (codes "offer", array (items_of (offer_items d)))
     ∷ (codes "expose", list_of expose_data d.exposes)
-    ∷ program_pair d.runner
+    ∷ (environments_pair d.environments ++ program_pair d.runner)
 
 -- the value of a declaration
 abbrev pub decl_data : Decl → Data

@@ -39,7 +39,7 @@ pub struct Place {
 /// - 33: a section is unknown. The field is the least unknown name in byte order.
 ///
 /// Then the sections come in the order `program`, `children`, `collections`, `capabilities`, `use`,
-/// `offer`, `expose`. These faults have the index 0 and an empty field.
+/// `offer`, `expose`, `environments`. These faults have the index 0 and an empty field.
 ///
 /// - 35: `program` is no object, or another section no list.
 /// - 43, after the faults of its items: the section gives more than 16,384 rows.
@@ -50,7 +50,7 @@ pub struct Place {
 ///
 /// - 35 with an empty field: the item is no object.
 /// - 40 with an empty field, in `capabilities`, `use`, `offer` and `expose` alone: not exactly one
-///   of `protocol` and `directory` is there.
+///   of `protocol`, `directory` and `storage` is there; in `expose` the first two count alone.
 /// - 33: a field is unknown for the item's kind. The field is the least unknown name in byte order.
 ///
 /// Then its fields come in the order in which [`read_decl`](crate::read_decl) lists them. In a
@@ -58,11 +58,16 @@ pub struct Place {
 ///
 /// - 34: it is missing and has no default.
 /// - 35: it has the wrong type, or is an empty list of names or references.
-/// - 36: a name, the name of a reference or a URL text is bad.
+/// - 36: a name, the name of a reference or a URL text is bad, or `environment` doesn't begin with
+///   `#`.
 /// - 37: a path or a subdirectory is bad.
 /// - 38: words stand for no rights.
-/// - 39: a word isn't listed, or in `from` and `to` a text is no reference and no listed word.
+/// - 39: a word isn't listed, or in `from` and `to` a text is no reference and no listed word; `from`
+///   of a use or an offer of a storage may be no reference either.
 /// - 42: `path` or `as` stands beside several names.
+///
+/// A registration in an environment is looked at in the same way, without 40. Its fault has the
+/// environment's index and the field `runners` or `debug`, also at 33 and where it is no object.
 #[derive(Debug, Drop, Clone, PartialEq, Eq)]
 pub enum ReadFault {
     /// The manifest has a fault.

@@ -1,4 +1,4 @@
-//! The items of each section.
+//! The items of `children`, `collections`, `capabilities` and `use`.
 
 ghost use Rattle.std.specs.Prelude.{◌≡◌};
 ghost use Rattle.serde_json.specs.View.{view};
@@ -8,38 +8,47 @@ ghost use Rattle.cm_read.specs.Reading.{Gives};
 
 use crate::fault::{Place, ReadFault, fault};
 use crate::fields::{
-    name_in, name_of, names_of, needed, object_of, path_in, path_of, references_of, rights_in,
-    rights_of, subdir_of, url_of,
+    name_of, names_of, needed, object_of, path_in, path_of, rights_of, subdir_of, url_of,
 };
-use crate::known::{
-    capability_known, child_known, collection_known, expose_known, offer_known, use_known,
-};
+use crate::known::{capability_known, child_known, collection_known, use_known};
 use crate::number::{KIND_COUNT, NOT_WITH_MANY};
-use crate::rows::{Terms, give_rows, offer_rows, protocol_rows, protocol_usages};
+use crate::rows::{CapabilityRow, Sort, UseRow, protocol_rows, protocol_use_rows};
 use crate::sections::Item;
+use crate::storage::{storage_capability, storage_use};
 use crate::words::{
-    allowed_offers_of, availability_of, dependency_of, durability_of, expose_from_of, expose_to_of,
-    offer_from_of, startup_of, use_from_of,
+    allowed_offers_of, availability_of, dependency_of, durability_of, environment_of, startup_of,
+    use_from_of, use_source_of,
 };
-use cm_decl::{Capability, Child, Collection, Give, Kind, Offer, Usage};
-use cm_names::{CapPath, Dependency, List, Name, Rights};
+use cm_decl::{Capability, Child, Collection, Kind, Usage};
+use cm_names::{CapPath, List, Name};
 use serde_json::Value;
 use std::alloc::Global;
 
 impl Item for Child {
     ghost use Rattle.cm_read.specs.Items.{child_at};
 
-    ghost reads = { child_at };
+    ghost reads = { λ _. child_at };
 
     #[tactic(auto, unfolding(crate::specs::Items::child_at))]
-    fn read(alloc: Global, at: Place, item: &Value) -> Result<List<Child>, ReadFault> {
+    fn read(
+        alloc: Global,
+        at: Place,
+        _children: &[Child],
+        item: &Value,
+    ) -> Result<List<Child>, ReadFault> {
         let members = object_of(alloc, at, item)?;
         child_known(alloc, at, members)?;
         let name = name_of(alloc, at, item, "name")?;
         let url = url_of(alloc, at, item, "url")?;
         let eager = startup_of(alloc, at, item)?;
+        let environment = environment_of(alloc, at, item)?;
         let mut rows = List::new(alloc);
-        rows.push(Child { name, url, eager })?;
+        rows.push(Child {
+            name,
+            url,
+            eager,
+            environment,
+        })?;
         Ok(rows)
     }
 }
@@ -47,28 +56,52 @@ impl Item for Child {
 impl Item for Collection {
     ghost use Rattle.cm_read.specs.Items.{collection_at};
 
-    ghost reads = { collection_at };
+    ghost reads = { λ _. collection_at };
 
     #[tactic(auto, unfolding(crate::specs::Items::collection_at))]
-    fn read(alloc: Global, at: Place, item: &Value) -> Result<List<Collection>, ReadFault> {
+    fn read(
+        alloc: Global,
+        at: Place,
+        _children: &[Child],
+        item: &Value,
+    ) -> Result<List<Collection>, ReadFault> {
         let members = object_of(alloc, at, item)?;
         collection_known(alloc, at, members)?;
         let name = name_of(alloc, at, item, "name")?;
         let durability = durability_of(alloc, at, item)?;
         let dynamic_offers = allowed_offers_of(alloc, at, item)?;
+        let environment = environment_of(alloc, at, item)?;
         let mut rows = List::new(alloc);
         rows.push(Collection {
             name,
             durability,
             dynamic_offers,
+            environment,
         })?;
         Ok(rows)
     }
 }
 
+/// What an item with exactly one of the three fields is about.
+#[tactic(auto, unfolding(crate::specs::Items::sort_at))]
+pub fn sort_of(alloc: Global, at: Place, item: &Value) -> Result<Sort, ReadFault>
+    ensures { Gives result (spec.sort_at at (view item.now)) }
+{
+    match (
+        item.get("protocol"),
+        item.get("directory"),
+        item.get("storage"),
+    ) {
+        (Some(_), None, None) => Ok(Sort::Routed(Kind::Protocol)),
+        (None, Some(_), None) => Ok(Sort::Routed(Kind::Directory)),
+        (None, None, Some(_)) => Ok(Sort::Storage),
+        _ => Err(fault(alloc, at, KIND_COUNT, "")),
+    }
+}
+
 /// The kind of an item with exactly one of the two fields.
 #[tactic(auto, unfolding(crate::specs::Items::kind_at))]
-fn kind_of(alloc: Global, at: Place, item: &Value) -> Result<Kind, ReadFault>
+pub fn kind_of(alloc: Global, at: Place, item: &Value) -> Result<Kind, ReadFault>
     ensures { Gives result (spec.kind_at at (view item.now)) }
 {
     match (item.get("protocol"), item.get("directory")) {
@@ -98,7 +131,7 @@ fn directory_name_of(alloc: Global, at: Place, item: &Value) -> Result<Name, Rea
 
 /// The names of an item of that kind, one or more.
 #[tactic(auto, unfolding(crate::specs::Items::item_names_at))]
-fn item_names_of(
+pub fn item_names_of(
     alloc: Global,
     kind: Kind,
     at: Place,
@@ -150,7 +183,7 @@ fn protocol_capability(
     alloc: Global,
     at: Place,
     item: &Value,
-) -> Result<List<Capability>, ReadFault>
+) -> Result<List<CapabilityRow>, ReadFault>
     ensures { Gives result (spec.protocol_capability_at at (view item.now)) }
 {
     let names = item_names_of(alloc, Kind::Protocol, at, item)?;
@@ -164,50 +197,56 @@ fn directory_capability(
     alloc: Global,
     at: Place,
     item: &Value,
-) -> Result<List<Capability>, ReadFault>
+) -> Result<List<CapabilityRow>, ReadFault>
     ensures { Gives result (spec.directory_capability_at at (view item.now)) }
 {
     let name = directory_name_of(alloc, at, item)?;
     let path = path_of(alloc, at, item, "path")?;
     let rights = rights_of(alloc, at, item, "rights")?;
     let mut rows = List::new(alloc);
-    rows.push(Capability {
+    rows.push(CapabilityRow::Capability(Capability {
         kind: Kind::Directory,
         name,
         path,
         rights: Some(rights),
-    })?;
+    }))?;
     Ok(rows)
 }
 
-impl Item for Capability {
+impl Item for CapabilityRow {
     ghost use Rattle.cm_read.specs.Items.{capability_at};
 
-    ghost reads = { capability_at };
+    ghost reads = { λ _. capability_at };
 
     #[tactic(auto, unfolding(crate::specs::Items::capability_at))]
-    fn read(alloc: Global, at: Place, item: &Value) -> Result<List<Capability>, ReadFault> {
+    fn read(
+        alloc: Global,
+        at: Place,
+        _children: &[Child],
+        item: &Value,
+    ) -> Result<List<CapabilityRow>, ReadFault> {
         let members = object_of(alloc, at, item)?;
-        let kind = kind_of(alloc, at, item)?;
-        capability_known(alloc, at, kind, members)?;
-        match kind {
-            Kind::Protocol => protocol_capability(alloc, at, item),
-            Kind::Directory => directory_capability(alloc, at, item),
+        let sort = sort_of(alloc, at, item)?;
+        capability_known(alloc, at, sort, members)?;
+        match sort {
+            Sort::Routed(Kind::Protocol) => protocol_capability(alloc, at, item),
+            Sort::Routed(Kind::Directory) => directory_capability(alloc, at, item),
+            Sort::Storage => storage_capability(alloc, at, item),
         }
     }
 }
 
 /// The rows of a protocol that is used, one for each name.
 #[tactic(auto, unfolding(crate::specs::Items::protocol_use_at))]
-fn protocol_use(alloc: Global, at: Place, item: &Value) -> Result<List<Usage>, ReadFault>
+fn protocol_use(alloc: Global, at: Place, item: &Value) -> Result<List<UseRow>, ReadFault>
     ensures { Gives result (spec.protocol_use_at at (view item.now)) }
 {
     let names = item_names_of(alloc, Kind::Protocol, at, item)?;
-    let from = use_from_of(alloc, at, item)?;
+    let from = use_source_of(alloc, at, item)?;
     let path = protocol_path_of(alloc, at, names.as_slice(), item)?;
     let dependency = dependency_of(alloc, at, item)?;
     let availability = availability_of(alloc, at, item)?;
-    Ok(protocol_usages(
+    Ok(protocol_use_rows(
         alloc,
         &from,
         &path,
@@ -219,7 +258,7 @@ fn protocol_use(alloc: Global, at: Place, item: &Value) -> Result<List<Usage>, R
 
 /// The row of a directory that is used.
 #[tactic(auto, unfolding(crate::specs::Items::directory_use_at))]
-fn directory_use(alloc: Global, at: Place, item: &Value) -> Result<List<Usage>, ReadFault>
+fn directory_use(alloc: Global, at: Place, item: &Value) -> Result<List<UseRow>, ReadFault>
     ensures { Gives result (spec.directory_use_at at (view item.now)) }
 {
     let name = directory_name_of(alloc, at, item)?;
@@ -230,7 +269,7 @@ fn directory_use(alloc: Global, at: Place, item: &Value) -> Result<List<Usage>, 
     let dependency = dependency_of(alloc, at, item)?;
     let availability = availability_of(alloc, at, item)?;
     let mut rows = List::new(alloc);
-    rows.push(Usage {
+    rows.push(UseRow::Usage(Usage {
         kind: Kind::Directory,
         name,
         from,
@@ -239,130 +278,29 @@ fn directory_use(alloc: Global, at: Place, item: &Value) -> Result<List<Usage>, 
         subdir,
         dependency,
         availability,
-    })?;
+    }))?;
     Ok(rows)
 }
 
-impl Item for Usage {
+impl Item for UseRow {
     ghost use Rattle.cm_read.specs.Items.{use_at};
 
-    ghost reads = { use_at };
+    ghost reads = { λ _. use_at };
 
     #[tactic(auto, unfolding(crate::specs::Items::use_at))]
-    fn read(alloc: Global, at: Place, item: &Value) -> Result<List<Usage>, ReadFault> {
+    fn read(
+        alloc: Global,
+        at: Place,
+        _children: &[Child],
+        item: &Value,
+    ) -> Result<List<UseRow>, ReadFault> {
         let members = object_of(alloc, at, item)?;
-        let kind = kind_of(alloc, at, item)?;
-        use_known(alloc, at, kind, members)?;
-        match kind {
-            Kind::Protocol => protocol_use(alloc, at, item),
-            Kind::Directory => directory_use(alloc, at, item),
+        let sort = sort_of(alloc, at, item)?;
+        use_known(alloc, at, sort, members)?;
+        match sort {
+            Sort::Routed(Kind::Protocol) => protocol_use(alloc, at, item),
+            Sort::Routed(Kind::Directory) => directory_use(alloc, at, item),
+            Sort::Storage => storage_use(alloc, at, item),
         }
-    }
-}
-
-/// The target name that a value is.
-#[tactic(auto, unfolding(crate::specs::Items::as_in_at))]
-fn as_in(alloc: Global, at: Place, names: &[Name], value: &Value) -> Result<Name, ReadFault>
-    ensures { Gives result (spec.as_in_at at names.now (view value.now)) }
-{
-    let name = name_in(alloc, at, value, "as")?;
-    if names.len() > 1 {
-        return Err(fault(alloc, at, NOT_WITH_MANY, "as"));
-    }
-    Ok(name)
-}
-
-/// `as`, which may be missing.
-#[tactic(auto, unfolding(crate::specs::Items::as_at))]
-fn as_of(alloc: Global, at: Place, names: &[Name], item: &Value) -> Result<Option<Name>, ReadFault>
-    ensures { Gives result (spec.as_at at names.now (view item.now)) }
-{
-    let Some(value) = item.get("as") else {
-        return Ok(None);
-    };
-    let name = as_in(alloc, at, names, value)?;
-    Ok(Some(name))
-}
-
-/// `rights` that may be missing.
-#[tactic(auto, unfolding(crate::specs::Items::given_rights_at))]
-fn given_rights_of(alloc: Global, at: Place, item: &Value) -> Result<Option<Rights>, ReadFault>
-    ensures { Gives result (spec.given_rights_at at (view item.now)) }
-{
-    let Some(value) = item.get("rights") else {
-        return Ok(None);
-    };
-    let rights = rights_in(alloc, at, value, "rights")?;
-    Ok(Some(rights))
-}
-
-/// `to` of an offer, which has to be there.
-#[tactic(auto, unfolding(crate::specs::Items::targets_at))]
-fn targets_of(alloc: Global, at: Place, item: &Value) -> Result<List<Name>, ReadFault>
-    ensures { Gives result (spec.targets_at at (view item.now)) }
-{
-    let value = needed(alloc, at, item, "to")?;
-    references_of(alloc, at, value, "to")
-}
-
-impl Item for Offer {
-    ghost use Rattle.cm_read.specs.Items.{offer_at};
-
-    ghost reads = { offer_at };
-
-    #[tactic(auto, unfolding(crate::specs::Items::offer_at))]
-    fn read(alloc: Global, at: Place, item: &Value) -> Result<List<Offer>, ReadFault> {
-        let members = object_of(alloc, at, item)?;
-        let kind = kind_of(alloc, at, item)?;
-        offer_known(alloc, at, kind, members)?;
-        let names = item_names_of(alloc, kind, at, item)?;
-        let from = offer_from_of(alloc, at, item)?;
-        let targets = targets_of(alloc, at, item)?;
-        let target = as_of(alloc, at, names.as_slice(), item)?;
-        let rights = given_rights_of(alloc, at, item)?;
-        let subdir = subdir_of(alloc, at, item, "subdir")?;
-        let dependency = dependency_of(alloc, at, item)?;
-        let availability = availability_of(alloc, at, item)?;
-        let terms = Terms {
-            kind,
-            from,
-            target,
-            rights,
-            subdir,
-            dependency,
-            availability,
-        };
-        let gives = give_rows(alloc, &terms, names.as_slice())?;
-        Ok(offer_rows(alloc, targets.as_slice(), gives.as_slice())?)
-    }
-}
-
-impl Item for Give {
-    ghost use Rattle.cm_read.specs.Items.{expose_at};
-
-    ghost reads = { expose_at };
-
-    #[tactic(auto, unfolding(crate::specs::Items::expose_at))]
-    fn read(alloc: Global, at: Place, item: &Value) -> Result<List<Give>, ReadFault> {
-        let members = object_of(alloc, at, item)?;
-        let kind = kind_of(alloc, at, item)?;
-        expose_known(alloc, at, kind, members)?;
-        let names = item_names_of(alloc, kind, at, item)?;
-        let from = expose_from_of(alloc, at, item)?;
-        expose_to_of(alloc, at, item)?;
-        let target = as_of(alloc, at, names.as_slice(), item)?;
-        let rights = given_rights_of(alloc, at, item)?;
-        let subdir = subdir_of(alloc, at, item, "subdir")?;
-        let availability = availability_of(alloc, at, item)?;
-        let terms = Terms {
-            kind,
-            from,
-            target,
-            rights,
-            subdir,
-            dependency: Dependency::Strong,
-            availability,
-        };
-        Ok(give_rows(alloc, &terms, names.as_slice())?)
     }
 }

@@ -21,7 +21,8 @@ pub fn what_is_read_is_read_back()
     ensures { WhatIsReadIsReadBack }
 {}
 
-/// A readable declaration has no use from void and no expose from the parent.
+/// A readable declaration has no use from void and no expose from the parent, and its registrations
+/// and storages come from where they may.
 #[tactic(auto, using(crate::proofs::DeclRead::readable_is_well_formed_lem))]
 pub fn readable_is_well_formed()
     ensures { ReadableIsWellFormed }

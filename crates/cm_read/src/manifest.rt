@@ -1,20 +1,24 @@
 //! Whole manifests.
 
-ghost use Rattle.std.specs.Prelude.{◌<◌, ◌^◌, length, IfOk, IsTrue};
+ghost use Rattle.std.specs.Prelude.{◌≡◌, ◌<◌, ◌^◌, length, IfOk, IsTrue};
+ghost use Rattle.serde_json.specs.Find.{get};
 ghost use Rattle.serde_json.specs.View.{view};
 ghost use Rattle.cm_text.specs.Json.{json_of};
 ghost use Rattle.cm_decl.specs.Valid.{is_well_formed};
 ghost use Rattle.cm_read.specs.Manifest as spec;
 ghost use Rattle.cm_read.specs.Readable.{IsReadable};
 ghost use Rattle.cm_read.specs.Reading.{Gives, GivesBy};
+ghost use Rattle.cm_read.specs.Sections.{section_at};
 
+use crate::apart::{Uses, part_capabilities, part_offers, part_uses};
 use crate::fault::{ReadFault, start, whole};
 use crate::fields::{name_of, object_of};
 use crate::known::section_known;
 use crate::number::{NOT_JSON, NOT_OBJECT, NOT_UTF8, TOO_LARGE};
-use crate::sections::section_of;
-use cm_decl::{Capability, Child, Collection, Decl, Give, Offer, Section, Usage};
-use cm_names::{Name, Text};
+use crate::rows::{CapabilityRow, OfferRow, SectionRows, UseRow};
+use crate::sections::{Item, section_of};
+use cm_decl::{Child, Collection, Decl, Environment, Give, Section};
+use cm_names::{List, Memory, Name, Text};
 use cm_text::TextFault;
 use serde_json::Value;
 use std::alloc::Global;
@@ -54,27 +58,95 @@ fn check_sections(alloc: Global, value: &Value) -> Result<(), ReadFault>
     section_known(alloc, start(Section::Manifest), members)
 }
 
-/// The declaration that a value is.
-#[tactic(auto, unfolding(crate::specs::Manifest::decl_at))]
-fn decl_of(alloc: Global, value: &Value) -> Result<Decl, ReadFault>
-    ensures { Gives result (spec.decl_at (view value.now)) }
+/// The rows of `children`.
+#[tactic(auto, unfolding(crate::specs::Manifest::children_at))]
+fn children_of(alloc: Global, value: &Value) -> Result<List<Child>, ReadFault>
+    ensures { Gives result (spec.children_at (view value.now)) }
 {
-    check_sections(alloc, value)?;
-    let runner = runner_of(alloc, value)?;
-    let children = section_of::<Child>(alloc, Section::Children, value.get("children"))?;
-    let collections = section_of::<Collection>(
+    let none = List::new(alloc);
+    section_of::<Child>(
         alloc,
+        Section::Children,
+        none.as_slice(),
+        value.get("children"),
+    )
+}
+
+/// The rows of a section beside these declared children.
+fn rows_in<T: Item>(
+    alloc: Global,
+    value: &Value,
+    section: Section,
+    key: &str,
+    children: &List<Child>,
+) -> Result<List<T>, ReadFault>
+    ensures { Gives result
+        (section_at (T.reads children.now) section (get key.now (view value.now))) }
+{
+    section_of::<T>(alloc, section, children.as_slice(), value.get(key))
+}
+
+/// The rows of all sections that list them, in the order of the sections.
+#[tactic(auto, unfolding(crate::specs::Manifest::section_rows_at))]
+fn section_rows_of(alloc: Global, value: &Value) -> Result<SectionRows, ReadFault>
+    ensures { Gives result (spec.section_rows_at (view value.now)) }
+{
+    let children = children_of(alloc, value)?;
+    let collections = rows_in::<Collection>(
+        alloc,
+        value,
         Section::Collections,
-        value.get("collections"),
+        "collections",
+        &children,
     )?;
-    let capabilities = section_of::<Capability>(
+    let capabilities = rows_in::<CapabilityRow>(
         alloc,
+        value,
         Section::Capabilities,
-        value.get("capabilities"),
+        "capabilities",
+        &children,
     )?;
-    let uses = section_of::<Usage>(alloc, Section::Uses, value.get("use"))?;
-    let offers = section_of::<Offer>(alloc, Section::Offers, value.get("offer"))?;
-    let exposes = section_of::<Give>(alloc, Section::Exposes, value.get("expose"))?;
+    let uses = rows_in::<UseRow>(alloc, value, Section::Uses, "use", &children)?;
+    let offers = rows_in::<OfferRow>(alloc, value, Section::Offers, "offer", &children)?;
+    let exposes = rows_in::<Give>(alloc, value, Section::Exposes, "expose", &children)?;
+    let environments = rows_in::<Environment>(
+        alloc,
+        value,
+        Section::Environments,
+        "environments",
+        &children,
+    )?;
+    Ok(SectionRows {
+        children,
+        collections,
+        capabilities,
+        uses,
+        offers,
+        exposes,
+        environments,
+    })
+}
+
+/// The declaration of a runner and these rows.
+fn declared_by(alloc: Global, runner: Option<Name>, rows: SectionRows) -> Result<Decl, Memory>
+    ensures { IfOk result (λ decl. decl ≡ spec.declared_by runner rows) }
+{
+    let SectionRows {
+        children,
+        collections,
+        capabilities,
+        uses,
+        offers,
+        exposes,
+        environments,
+    } = rows;
+    let (capabilities, storages) = part_capabilities(alloc, capabilities)?;
+    let Uses {
+        routed: uses,
+        debug: debug_uses,
+        storages: storage_uses,
+    } = part_uses(alloc, uses)?;
+    let (offers, storage_offers) = part_offers(alloc, offers)?;
     Ok(Decl {
         runner,
         children,
@@ -83,14 +155,31 @@ fn decl_of(alloc: Global, value: &Value) -> Result<Decl, ReadFault>
         uses,
         offers,
         exposes,
+        environments,
+        debug_uses,
+        storages,
+        storage_uses,
+        storage_offers,
     })
+}
+
+/// The declaration that a value is.
+#[tactic(auto, unfolding(crate::specs::Manifest::decl_at))]
+fn decl_of(alloc: Global, value: &Value) -> Result<Decl, ReadFault>
+    ensures { Gives result (spec.decl_at (view value.now)) }
+{
+    check_sections(alloc, value)?;
+    let runner = runner_of(alloc, value)?;
+    let rows = section_rows_of(alloc, value)?;
+    Ok(declared_by(alloc, runner, rows)?)
 }
 
 /// The declaration of a manifest in plain JSON, or its first fault. Faults 41 and 30 don't come.
 ///
 /// The fields are those that [`read_decl`] lists. Of a repeated key the last value counts. What is
 /// read is readable: it is read back from the text that [`write_decl`](crate::write_decl) gives of
-/// it, has no use from `void` and no expose from the parent.
+/// it, has no use from `void`, no expose from the parent, and environments and storage come from
+/// where they may.
 ///
 /// # Errors
 ///
@@ -153,26 +242,45 @@ fn json_text(alloc: Global, text: &str) -> Result<Text, ReadFault>
 ///
 /// - `program`: `runner` (a name). Its other members are read over.
 /// - `children`: `name`; `url` (1 to 4,096 bytes of printing ASCII without spaces); `startup`
-///   (`lazy` or `eager`, by default `lazy`).
+///   (`lazy` or `eager`, by default `lazy`); `environment` (`#name`, may be missing).
 /// - `collections`: `name`; `durability` (`transient` or `single_run`); `allowed_offers`
-///   (`static_only` or `static_and_dynamic`, by default `static_only`).
+///   (`static_only` or `static_and_dynamic`, by default `static_only`); `environment` (may be
+///   missing).
 /// - `capabilities`, a protocol: `protocol` (a name or a list of names); `path` (by default `/svc/`
 ///   and the name; not beside several names).
 /// - `capabilities`, a directory: `directory` (a name); `path`; `rights` (a list of words).
+/// - `capabilities`, a storage: `storage` (a name); `from` (`parent`, `self` or `#name`);
+///   `backing_dir` (a name); `subdir` (may be missing); `storage_id` (`static_instance_id` or
+///   `static_instance_id_or_moniker`).
 /// - `use`, a protocol: `protocol` (a name or a list of names); `from` (`parent`, `self`,
-///   `framework` or `#name`, by default `parent`); `path` (as in `capabilities`); `dependency`
-///   (`strong` or `weak`, by default `strong`); `availability` (`required` or `optional`, by
-///   default `required`).
-/// - `use`, a directory: `directory` (a name); `from`; `path`; `rights`; `subdir` (may be missing);
-///   `dependency`; `availability`. The path and the rights have no default.
+///   `framework`, `debug` or `#name`, by default `parent`); `path` (as in `capabilities`);
+///   `dependency` (`strong` or `weak`, by default `strong`); `availability` (`required`,
+///   `optional` or `transitional`, by default `required`). From `debug` the last two aren't kept.
+/// - `use`, a directory: `directory` (a name); `from` (as above without `debug`); `path`;
+///   `rights`; `subdir` (may be missing); `dependency`; `availability`. The path and the rights
+///   have no default.
+/// - `use`, a storage: `storage` (a name); `from` (`parent`, which is the default); `path`;
+///   `availability`, which isn't kept.
 /// - `offer`: `protocol` or `directory` (a name or a list of names); `from` (`parent`, `self`,
 ///   `framework`, `void` or `#name`); `to` (`#name` or a list of these); `as` (a name, by default
 ///   the name itself; not beside several names); for a directory `rights` and `subdir` (each may be
-///   missing); `dependency`; `availability`.
+///   missing); `dependency`; `availability` (also `same_as_target`); `source_availability`
+///   (`required` or `unknown`, by default `required`).
+/// - `offer`, a storage: `storage` (a name or a list of names); `from` (`parent`, `self` or
+///   `void`); `to`; `as`; `availability`, which isn't kept.
 /// - `expose`: `protocol` or `directory` (a name or a list of names); `from` (`self`, `framework`,
 ///   `void` or `#name`); `to` (`parent`, which is the default); `as`; for a directory `rights` and
-///   `subdir`; `availability`.
+///   `subdir`; `availability` (also `same_as_target`); `source_availability`.
 /// - `facets`: anything.
+/// - `environments`: `name`; `extends` (`none` or `realm`, by default `none`); `runners` and `debug`
+///   (lists of registrations, by default empty). `resolvers` and `__stop_timeout_ms` are read over.
+/// - A registration in `runners`: `runner` (a name); `from` (`parent`, `self` or `#name`); `as` (a
+///   name, by default the runner's).
+/// - A registration in `debug`: `protocol` (a name or a list of names); `from`; `as` (not beside
+///   several names).
+///
+/// Where the `source_availability` of an offer or an expose is `unknown` and `from` names a child
+/// that `children` doesn't list, its rows come from `void`. That field itself isn't kept.
 ///
 /// # Errors
 ///

@@ -20,7 +20,7 @@ pub const BAD_PATH: u8 = 37;
 pub const BAD_RIGHTS: u8 = 38;
 /// A word that isn't listed.
 pub const UNKNOWN_WORD: u8 = 39;
-/// Not exactly one of `protocol` and `directory`.
+/// Not exactly one of the fields that tell an item's kind.
 pub const KIND_COUNT: u8 = 40;
 /// There are too many bytes.
 pub const TOO_LARGE: u8 = 41;

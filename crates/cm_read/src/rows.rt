@@ -2,11 +2,90 @@
 
 ghost use Rattle.std.specs.Prelude.{◌≡◌, ◌++◌, map, IfOk, OnOk, unwrap_or};
 ghost use Rattle.std.specs.List.{flat_map};
+ghost use Rattle.cm_read.specs.Environments as environments;
 ghost use Rattle.cm_read.specs.Items as spec;
 
-use cm_decl::{Capability, Give, Kind, Offer, Origin, Usage};
+use cm_decl::{
+    Capability, Child, Collection, DebugUse, Environment, Give, Kind, Offer, Origin, Registration,
+    Storage, StorageOffer, StorageUse, Usage,
+};
 use cm_names::{Availability, CapPath, Dependency, List, Memory, Name, Rights, SubDir};
 use std::alloc::Global;
+
+/// What an item of a section with storage is about.
+#[derive(Debug, Clone, Copy, PartialEq, Eq)]
+pub enum Sort {
+    /// A capability that is routed, of this kind.
+    Routed(Kind),
+    /// A storage.
+    Storage,
+}
+
+/// A row of `capabilities`.
+#[derive(Drop)]
+pub enum CapabilityRow {
+    /// A capability that is routed.
+    Capability(Capability),
+    /// A storage.
+    Storage(Storage),
+}
+
+/// A row of `use`.
+#[derive(Drop)]
+pub enum UseRow {
+    /// Of a capability that is routed.
+    Usage(Usage),
+    /// Of a debug protocol.
+    Debug(DebugUse),
+    /// Of a storage.
+    Storage(StorageUse),
+}
+
+/// A row of `offer`.
+#[derive(Drop)]
+pub enum OfferRow {
+    /// Of a capability that is routed.
+    Offer(Offer),
+    /// Of a storage.
+    Storage(StorageOffer),
+}
+
+/// Where a protocol that is used comes from.
+#[derive(Drop)]
+pub enum UseSource {
+    /// An origin, from which it is routed.
+    From(Origin),
+    /// The debug registrations of the environment.
+    Debug,
+}
+
+/// What an environment registers.
+#[derive(Debug, Clone, Copy, PartialEq, Eq)]
+pub enum Registry {
+    /// Runners: `runners`.
+    Runners,
+    /// Debug protocols: `debug`.
+    Debug,
+}
+
+/// The rows of all sections that list them.
+#[derive(Drop)]
+pub struct SectionRows {
+    /// The rows of `children`.
+    pub children: List<Child>,
+    /// The rows of `collections`.
+    pub collections: List<Collection>,
+    /// The rows of `capabilities`.
+    pub capabilities: List<CapabilityRow>,
+    /// The rows of `use`.
+    pub uses: List<UseRow>,
+    /// The rows of `offer`.
+    pub offers: List<OfferRow>,
+    /// The rows of `expose`.
+    pub exposes: List<Give>,
+    /// The rows of `environments`.
+    pub environments: List<Environment>,
+}
 
 /// The given path, or the default one of the name.
 fn path_for(alloc: Global, given: &Option<CapPath>, name: &Name) -> Result<CapPath, Memory>
@@ -35,12 +114,13 @@ pub fn protocol_rows(
     alloc: Global,
     path: &Option<CapPath>,
     names: &[Name],
-) -> Result<List<Capability>, Memory>
-    ensures { IfOk result (λ rows. rows ≡ map (spec.protocol_row path.now) names.now) }
+) -> Result<List<CapabilityRow>, Memory>
+    ensures { IfOk result (λ rows. rows ≡ map (spec.protocol_capability_row path.now) names.now) }
 {
     let mut rows = List::new(alloc);
     for name in names {
-        rows.push(protocol_row(alloc, path, name)?)?;
+        let row = protocol_row(alloc, path, name)?;
+        rows.push(CapabilityRow::Capability(row))?;
     }
     Ok(rows)
 }
@@ -69,22 +149,57 @@ fn protocol_usage(
     })
 }
 
-/// A row for each name.
-pub fn protocol_usages(
+/// The use of a debug protocol.
+fn debug_use(alloc: Global, path: &Option<CapPath>, name: &Name) -> Result<DebugUse, Memory>
+    ensures { IfOk result (λ row. row ≡ spec.debug_use path.now name.now) }
+{
+    Ok(DebugUse {
+        name: name.clone()?,
+        path: path_for(alloc, path, name)?,
+    })
+}
+
+/// The row of a protocol that is used; a debug use keeps neither its dependency nor its
+/// availability.
+fn protocol_use_row(
     alloc: Global,
-    from: &Origin,
+    from: &UseSource,
+    path: &Option<CapPath>,
+    dependency: Dependency,
+    availability: Availability,
+    name: &Name,
+) -> Result<UseRow, Memory>
+    ensures { IfOk result
+        (λ row. row ≡ spec.protocol_use_row from.now path.now dependency availability name.now) }
+{
+    match from {
+        UseSource::From(from) => {
+            let usage = protocol_usage(alloc, from, path, dependency, availability, name)?;
+            Ok(UseRow::Usage(usage))
+        }
+        UseSource::Debug => {
+            let usage = debug_use(alloc, path, name)?;
+            Ok(UseRow::Debug(usage))
+        }
+    }
+}
+
+/// A row for each name.
+pub fn protocol_use_rows(
+    alloc: Global,
+    from: &UseSource,
     path: &Option<CapPath>,
     dependency: Dependency,
     availability: Availability,
     names: &[Name],
-) -> Result<List<Usage>, Memory>
+) -> Result<List<UseRow>, Memory>
     ensures { IfOk result
         (λ rows. rows
-        ≡ map (spec.protocol_usage from.now path.now dependency availability) names.now) }
+        ≡ map (spec.protocol_use_row from.now path.now dependency availability) names.now) }
 {
     let mut rows = List::new(alloc);
     for name in names {
-        rows.push(protocol_usage(alloc, from, path, dependency, availability, name)?)?;
+        rows.push(protocol_use_row(alloc, from, path, dependency, availability, name)?)?;
     }
     Ok(rows)
 }
@@ -155,22 +270,109 @@ fn offer_row(give: &Give, to: &Name) -> Result<Offer, Memory>
 }
 
 /// Puts a row for each target at the end.
-fn push_offers(rows: &mut List<Offer>, targets: &[Name], give: &Give) -> Result<(), Memory>
+fn push_offers(rows: &mut List<OfferRow>, targets: &[Name], give: &Give) -> Result<(), Memory>
     ensures { OnOk result (rows.new ≡ rows.old ++ spec.offer_rows targets.now give.now) }
 {
     for to in targets {
-        rows.push(offer_row(give, to)?)?;
+        let row = offer_row(give, to)?;
+        rows.push(OfferRow::Offer(row))?;
     }
     Ok(())
 }
 
 /// For each name in turn, a row for each target.
-pub fn offer_rows(alloc: Global, targets: &[Name], gives: &[Give]) -> Result<List<Offer>, Memory>
+pub fn offer_rows(alloc: Global, targets: &[Name], gives: &[Give]) -> Result<List<OfferRow>, Memory>
     ensures { IfOk result (λ rows. rows ≡ flat_map (spec.offer_rows targets.now) gives.now) }
 {
     let mut rows = List::new(alloc);
     for give in gives {
         push_offers(&mut rows, targets, give)?;
+    }
+    Ok(rows)
+}
+
+/// The row of a storage that is offered to a target.
+fn storage_offer(
+    from: &Origin,
+    target: &Option<Name>,
+    name: &Name,
+    to: &Name,
+) -> Result<StorageOffer, Memory>
+    ensures { IfOk result (λ row. row ≡ spec.storage_offer from.now target.now name.now to.now) }
+{
+    Ok(StorageOffer {
+        to: to.clone()?,
+        source_name: name.clone()?,
+        from: from.clone()?,
+        target_name: target_for(target, name)?,
+    })
+}
+
+/// Puts a row for each target at the end.
+fn push_storage_offers(
+    rows: &mut List<OfferRow>,
+    from: &Origin,
+    target: &Option<Name>,
+    targets: &[Name],
+    name: &Name,
+) -> Result<(), Memory>
+    ensures { OnOk result (rows.new
+        ≡ rows.old ++ spec.storage_offer_rows from.now target.now targets.now name.now) }
+{
+    for to in targets {
+        let row = storage_offer(from, target, name, to)?;
+        rows.push(OfferRow::Storage(row))?;
+    }
+    Ok(())
+}
+
+/// For each name in turn, a row for each target.
+pub fn storage_offer_rows(
+    alloc: Global,
+    from: &Origin,
+    target: &Option<Name>,
+    targets: &[Name],
+    names: &[Name],
+) -> Result<List<OfferRow>, Memory>
+    ensures { IfOk result (λ rows. rows
+        ≡ flat_map (spec.storage_offer_rows from.now target.now targets.now) names.now) }
+{
+    let mut rows = List::new(alloc);
+    for name in names {
+        push_storage_offers(&mut rows, from, target, targets, name)?;
+    }
+    Ok(rows)
+}
+
+/// The registration of a name.
+fn registration_row(
+    from: &Origin,
+    target: &Option<Name>,
+    name: &Name,
+) -> Result<Registration, Memory>
+    ensures { IfOk result
+        (λ row. row ≡ environments.registration from.now target.now name.now) }
+{
+    Ok(Registration {
+        name: name.clone()?,
+        from: from.clone()?,
+        target: target_for(target, name)?,
+    })
+}
+
+/// A registration for each name.
+pub fn registration_rows(
+    alloc: Global,
+    from: &Origin,
+    target: &Option<Name>,
+    names: &[Name],
+) -> Result<List<Registration>, Memory>
+    ensures { IfOk result
+        (λ rows. rows ≡ map (environments.registration from.now target.now) names.now) }
+{
+    let mut rows = List::new(alloc);
+    for name in names {
+        rows.push(registration_row(from, target, name)?)?;
     }
     Ok(rows)
 }

@@ -7,7 +7,7 @@ ghost use Rattle.cm_read.specs.Sections.{section_at, rows_at};
 
 use crate::fault::{Place, ReadFault, fault, start};
 use crate::number::{TOO_MANY_ROWS, WRONG_TYPE};
-use cm_decl::Section;
+use cm_decl::{Child, Section};
 use cm_names::List;
 use serde_json::Value;
 use std::alloc::Global;
@@ -21,35 +21,48 @@ pub trait Item: Drop {
     ghost use Rattle.serde_json.specs.Data.{Data};
     ghost use Rattle.cm_read.specs.Reading.{Read};
     ghost use Rattle.cm_read.specs.declared.fault.Place.{Place};
+    ghost use Rattle.cm_decl.specs.declared.rows.Child.{Child as DeclaredChild};
 
-    ghost reads: { Place → Data → Read (List Self) };
+    ghost reads: { List DeclaredChild → Place → Data → Read (List Self) };
 
-    /// The rows that the item at that place gives.
-    fn read(alloc: Global, at: Place, item: &Value) -> Result<List<Self>, ReadFault>
-        ensures { Gives result (reads at (view item.now)) };
+    /// The rows that the item at that place gives beside these declared children.
+    fn read(
+        alloc: Global,
+        at: Place,
+        children: &[Child],
+        item: &Value,
+    ) -> Result<List<Self>, ReadFault>
+        ensures { Gives result (reads children.now at (view item.now)) };
 }
 
 /// The rows of the items, one item after another.
-fn rows_of<T: Item>(alloc: Global, start: Place, items: &[Value]) -> Result<List<T>, ReadFault>
-    ensures { Gives result (rows_at T.reads start (items_view items.now)) }
+fn rows_of<T: Item>(
+    alloc: Global,
+    start: Place,
+    children: &[Child],
+    items: &[Value],
+) -> Result<List<T>, ReadFault>
+    ensures { Gives result (rows_at (T.reads children.now) start (items_view items.now)) }
 {
     let mut rows = List::new(alloc);
     let mut at = start;
     for item in items {
-        rows.append(T::read(alloc, at, item)?)?;
+        rows.append(T::read(alloc, at, children, item)?)?;
         at.index = at.index.saturating_add(1);
     }
     Ok(rows)
 }
 
-/// The rows of a section: none where it is missing.
+/// The rows of a section beside these declared children: none where it is missing.
 pub fn section_of<T: Item>(
     alloc: Global,
     section: Section,
+    children: &[Child],
     value: Option<&Value>,
 ) -> Result<List<T>, ReadFault>
     ensures { Gives result
-        (section_at T.reads section (option_map (λ v. view v.now) value.entry)) }
+        (section_at (T.reads children.now) section
+        (option_map (λ v. view v.now) value.entry)) }
 {
     let Some(value) = value else {
         return Ok(List::new(alloc));
@@ -57,7 +70,7 @@ pub fn section_of<T: Item>(
     let Some(items) = value.as_array() else {
         return Err(fault(alloc, start(section), WRONG_TYPE, ""));
     };
-    let rows = rows_of::<T>(alloc, start(section), items.as_slice())?;
+    let rows = rows_of::<T>(alloc, start(section), children, items.as_slice())?;
     if rows.len() > MAX_ROWS {
         return Err(fault(alloc, start(section), TOO_MANY_ROWS, ""));
     }

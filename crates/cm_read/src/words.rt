@@ -1,6 +1,6 @@
 //! Fields with listed words, and where a capability comes from.
 
-ghost use Rattle.std.specs.Prelude.{◌≡◌, option_map};
+ghost use Rattle.std.specs.Prelude.{◌≡◌};
 ghost use Rattle.serde_json.specs.View.{view};
 ghost use Rattle.cm_read.specs.Fields as fields;
 ghost use Rattle.cm_read.specs.Words as spec;
@@ -8,9 +8,10 @@ ghost use Rattle.cm_read.specs.Reading.{Gives};
 
 use crate::fault::{Place, ReadFault, fault};
 use crate::fields::{behind_mark, name_from, needed, text_of};
-use crate::number::UNKNOWN_WORD;
-use cm_decl::{Durability, Origin};
-use cm_names::{Availability, ChildName, Dependency};
+use crate::number::{BAD_NAME, UNKNOWN_WORD};
+use crate::rows::UseSource;
+use cm_decl::{Child, Durability, Origin};
+use cm_names::{Availability, ChildName, Dependency, Name};
 use serde_json::Value;
 use std::alloc::Global;
 
@@ -62,7 +63,7 @@ fn dependency_named(text: &str) -> Option<Dependency>
     }
 }
 
-/// How much a capability is needed.
+/// How much a use needs a capability.
 #[tactic(auto, unfolding(crate::specs::Words::availability_named))]
 fn availability_named(text: &str) -> Option<Availability>
     ensures { result ≡ spec.availability_named text.now }
@@ -70,6 +71,30 @@ fn availability_named(text: &str) -> Option<Availability>
     match text {
         "required" => Some(Availability::Required),
         "optional" => Some(Availability::Optional),
+        "transitional" => Some(Availability::Transitional),
+        _ => None,
+    }
+}
+
+/// How surely an offer or an expose gives one: it may also take over what its target says.
+#[tactic(auto, unfolding(crate::specs::Words::given_availability_named))]
+fn given_availability_named(text: &str) -> Option<Availability>
+    ensures { result ≡ spec.given_availability_named text.now }
+{
+    match text {
+        "same_as_target" => Some(Availability::SameAsTarget),
+        _ => availability_named(text),
+    }
+}
+
+/// Whether the source of an offer or an expose may be missing.
+#[tactic(auto, unfolding(crate::specs::Words::source_named))]
+fn source_named(text: &str) -> Option<bool>
+    ensures { result ≡ spec.source_named text.now }
+{
+    match text {
+        "required" => Some(false),
+        "unknown" => Some(true),
         _ => None,
     }
 }
@@ -108,6 +133,53 @@ fn offer_origin_named(text: &str) -> Option<Origin>
     match text {
         "parent" => Some(Origin::Parent),
         _ => expose_origin_named(text),
+    }
+}
+
+/// Where a registration or a storage comes from, other than from a child.
+#[tactic(auto, unfolding(crate::specs::Words::static_origin_named))]
+fn static_origin_named(text: &str) -> Option<Origin>
+    ensures { result ≡ spec.static_origin_named text.now }
+{
+    match text {
+        "parent" => Some(Origin::Parent),
+        "self" => Some(Origin::Own),
+        _ => None,
+    }
+}
+
+/// Where an offer of a storage comes from.
+#[tactic(auto, unfolding(crate::specs::Words::storage_origin_named))]
+fn storage_origin_named(text: &str) -> Option<Origin>
+    ensures { result ≡ spec.storage_origin_named text.now }
+{
+    match text {
+        "void" => Some(Origin::Void),
+        _ => static_origin_named(text),
+    }
+}
+
+/// Whether an environment extends that of its component.
+#[tactic(auto, unfolding(crate::specs::Words::extends_named))]
+fn extends_named(text: &str) -> Option<bool>
+    ensures { result ≡ spec.extends_named text.now }
+{
+    match text {
+        "none" => Some(false),
+        "realm" => Some(true),
+        _ => None,
+    }
+}
+
+/// Whether an instance without an id gets a place by its moniker.
+#[tactic(auto, unfolding(crate::specs::Words::storage_id_named))]
+fn storage_id_named(text: &str) -> Option<bool>
+    ensures { result ≡ spec.storage_id_named text.now }
+{
+    match text {
+        "static_instance_id" => Some(false),
+        "static_instance_id_or_moniker" => Some(true),
+        _ => None,
     }
 }
 
@@ -180,7 +252,7 @@ pub fn dependency_of(alloc: Global, at: Place, item: &Value) -> Result<Dependenc
     }
 }
 
-/// `availability`, by default `required`.
+/// `availability` of a use, by default `required`.
 #[tactic(auto, unfolding(crate::specs::Words::availability_at))]
 pub fn availability_of(alloc: Global, at: Place, item: &Value) -> Result<Availability, ReadFault>
     ensures { Gives result (spec.availability_at at (view item.now)) }
@@ -192,6 +264,40 @@ pub fn availability_of(alloc: Global, at: Place, item: &Value) -> Result<Availab
     match availability_named(text) {
         Some(word) => Ok(word),
         None => Err(fault(alloc, at, UNKNOWN_WORD, "availability")),
+    }
+}
+
+/// `availability` of an offer or an expose, by default `required`.
+#[tactic(auto, unfolding(crate::specs::Words::given_availability_at))]
+pub fn given_availability_of(
+    alloc: Global,
+    at: Place,
+    item: &Value,
+) -> Result<Availability, ReadFault>
+    ensures { Gives result (spec.given_availability_at at (view item.now)) }
+{
+    let Some(value) = item.get("availability") else {
+        return Ok(Availability::Required);
+    };
+    let text = text_of(alloc, at, value, "availability")?;
+    match given_availability_named(text) {
+        Some(word) => Ok(word),
+        None => Err(fault(alloc, at, UNKNOWN_WORD, "availability")),
+    }
+}
+
+/// `source_availability`, by default `required`.
+#[tactic(auto, unfolding(crate::specs::Words::source_unknown_at))]
+pub fn source_unknown_of(alloc: Global, at: Place, item: &Value) -> Result<bool, ReadFault>
+    ensures { Gives result (spec.source_unknown_at at (view item.now)) }
+{
+    let Some(value) = item.get("source_availability") else {
+        return Ok(false);
+    };
+    let text = text_of(alloc, at, value, "source_availability")?;
+    match source_named(text) {
+        Some(word) => Ok(word),
+        None => Err(fault(alloc, at, UNKNOWN_WORD, "source_availability")),
     }
 }
 
@@ -207,6 +313,35 @@ pub fn expose_to_of(alloc: Global, at: Place, item: &Value) -> Result<(), ReadFa
     match expose_target_named(text) {
         Some(word) => Ok(word),
         None => Err(fault(alloc, at, UNKNOWN_WORD, "to")),
+    }
+}
+
+/// Whether a child of that name is declared.
+fn is_declared(children: &[Child], name: &ChildName) -> bool
+    ensures { result ≡ spec.is_declared children.now name.now }
+{
+    children
+        .iter()
+        .any(|child| name.coll.is_none() && child.name == name.name)
+}
+
+/// The source of an offer or an expose: where it may be missing, `void` in the place of a child
+/// that isn't declared.
+pub fn settle(from: Origin, unknown: bool, children: &[Child]) -> Origin
+    ensures { result ≡ spec.settled children.now unknown from }
+{
+    match from {
+        Origin::Child(name) => {
+            if unknown && !is_declared(children, &name) {
+                Origin::Void
+            } else {
+                Origin::Child(name)
+            }
+        }
+        Origin::Parent => Origin::Parent,
+        Origin::Own => Origin::Own,
+        Origin::Framework => Origin::Framework,
+        Origin::Void => Origin::Void,
     }
 }
 
@@ -285,4 +420,142 @@ pub fn expose_from_of(alloc: Global, at: Place, item: &Value) -> Result<Origin, 
 {
     let value = needed(alloc, at, item, "from")?;
     expose_from_in(alloc, at, value)
+}
+
+/// What a text says of where a protocol that is used comes from.
+fn source_from(alloc: Global, at: Place, text: &str) -> Result<UseSource, ReadFault>
+    ensures { Gives result (spec.source_from at text.now) }
+{
+    match text {
+        "debug" => Ok(UseSource::Debug),
+        _ => {
+            let from = origin_from(alloc, at, use_origin_named(text), text)?;
+            Ok(UseSource::From(from))
+        }
+    }
+}
+
+/// Where a protocol that is used comes from, as a value says it.
+#[tactic(auto, unfolding(crate::specs::Words::use_source_in_at))]
+fn use_source_in(alloc: Global, at: Place, value: &Value) -> Result<UseSource, ReadFault>
+    ensures { Gives result (spec.use_source_in_at at (view value.now)) }
+{
+    let text = text_of(alloc, at, value, "from")?;
+    source_from(alloc, at, text)
+}
+
+/// `from` of a protocol that is used, by default `parent`.
+#[tactic(auto, unfolding(crate::specs::Words::use_source_at))]
+pub fn use_source_of(alloc: Global, at: Place, item: &Value) -> Result<UseSource, ReadFault>
+    ensures { Gives result (spec.use_source_at at (view item.now)) }
+{
+    let Some(value) = item.get("from") else {
+        return Ok(UseSource::From(Origin::Parent));
+    };
+    use_source_in(alloc, at, value)
+}
+
+/// The origin of a registration or a storage that a value is.
+#[tactic(auto, unfolding(crate::specs::Words::static_from_in_at))]
+fn static_from_in(alloc: Global, at: Place, value: &Value) -> Result<Origin, ReadFault>
+    ensures { Gives result (spec.static_from_in_at at (view value.now)) }
+{
+    let text = text_of(alloc, at, value, "from")?;
+    origin_from(alloc, at, static_origin_named(text), text)
+}
+
+/// `from` of a registration or a storage, which has to be there.
+#[tactic(auto, unfolding(crate::specs::Words::static_from_at))]
+pub fn static_from_of(alloc: Global, at: Place, item: &Value) -> Result<Origin, ReadFault>
+    ensures { Gives result (spec.static_from_at at (view item.now)) }
+{
+    let value = needed(alloc, at, item, "from")?;
+    static_from_in(alloc, at, value)
+}
+
+/// `from` of an offer of a storage, which has to be there; no child is meant.
+#[tactic(auto, unfolding(crate::specs::Words::storage_from_at))]
+pub fn storage_from_of(alloc: Global, at: Place, item: &Value) -> Result<Origin, ReadFault>
+    ensures { Gives result (spec.storage_from_at at (view item.now)) }
+{
+    let value = needed(alloc, at, item, "from")?;
+    let text = text_of(alloc, at, value, "from")?;
+    match storage_origin_named(text) {
+        Some(origin) => Ok(origin),
+        None => Err(fault(alloc, at, UNKNOWN_WORD, "from")),
+    }
+}
+
+/// `from` of a use of a storage: the parent alone, by default.
+#[tactic(auto, unfolding(crate::specs::Words::storage_use_from_at))]
+pub fn storage_use_from_of(alloc: Global, at: Place, item: &Value) -> Result<(), ReadFault>
+    ensures { Gives result (spec.storage_use_from_at at (view item.now)) }
+{
+    let Some(value) = item.get("from") else {
+        return Ok(());
+    };
+    let text = text_of(alloc, at, value, "from")?;
+    match expose_target_named(text) {
+        Some(word) => Ok(word),
+        None => Err(fault(alloc, at, UNKNOWN_WORD, "from")),
+    }
+}
+
+/// `extends`, by default `none`.
+#[tactic(auto, unfolding(crate::specs::Words::extends_at))]
+pub fn extends_of(alloc: Global, at: Place, item: &Value) -> Result<bool, ReadFault>
+    ensures { Gives result (spec.extends_at at (view item.now)) }
+{
+    let Some(value) = item.get("extends") else {
+        return Ok(false);
+    };
+    let text = text_of(alloc, at, value, "extends")?;
+    match extends_named(text) {
+        Some(word) => Ok(word),
+        None => Err(fault(alloc, at, UNKNOWN_WORD, "extends")),
+    }
+}
+
+/// `storage_id`, which has to be there.
+#[tactic(auto, unfolding(crate::specs::Words::storage_id_at))]
+pub fn storage_id_of(alloc: Global, at: Place, item: &Value) -> Result<bool, ReadFault>
+    ensures { Gives result (spec.storage_id_at at (view item.now)) }
+{
+    let value = needed(alloc, at, item, "storage_id")?;
+    let text = text_of(alloc, at, value, "storage_id")?;
+    match storage_id_named(text) {
+        Some(word) => Ok(word),
+        None => Err(fault(alloc, at, UNKNOWN_WORD, "storage_id")),
+    }
+}
+
+/// The name behind the `#` of a reference; a text without one is no name.
+fn environment_from(alloc: Global, at: Place, text: &str) -> Result<Name, ReadFault>
+    ensures { Gives result (spec.environment_from at (fields.behind_mark text.now)) }
+{
+    match behind_mark(text) {
+        Some(name) => name_from(alloc, at, "environment", name),
+        None => Err(fault(alloc, at, BAD_NAME, "environment")),
+    }
+}
+
+/// The name of an environment that a value is.
+#[tactic(auto, unfolding(crate::specs::Words::environment_in_at))]
+fn environment_in(alloc: Global, at: Place, value: &Value) -> Result<Name, ReadFault>
+    ensures { Gives result (spec.environment_in_at at (view value.now)) }
+{
+    let text = text_of(alloc, at, value, "environment")?;
+    environment_from(alloc, at, text)
+}
+
+/// `environment` of a child or a collection, which may be missing.
+#[tactic(auto, unfolding(crate::specs::Words::environment_at))]
+pub fn environment_of(alloc: Global, at: Place, item: &Value) -> Result<Option<Name>, ReadFault>
+    ensures { Gives result (spec.environment_at at (view item.now)) }
+{
+    let Some(value) = item.get("environment") else {
+        return Ok(None);
+    };
+    let name = environment_in(alloc, at, value)?;
+    Ok(Some(name))
 }

@@ -46,6 +46,11 @@ escaped : absolute_of (codes "") (codes "fuchsia-pkg://t/x/../a b#meta/root cm")
 unfolding url_on_literals absolute_of key_of
 escaped = refl
 
+-- but for a path that doesn't begin with a slash, whose spaces stay, so that no manifest could have the text
+space_stays : absolute_of (codes "") (codes "foo:a b#x") ≡ Err BadUrl
+unfolding url_on_literals absolute_of key_of
+space_stays = refl
+
 -- two spellings of a URL have one key
 repeated : added ((codes "fuchsia-pkg://t/a%20b#meta/root.cm", codes "{}") ∷ []) (codes "fuchsia-pkg://t/a b#meta/root.cm") (codes "[]") ≡ Err Repeated
 unfolding url_on_literals key_of

@@ -7,8 +7,8 @@ use thiserror::Error;
 /// Why a URL has no absolute text.
 #[derive(Debug, Clone, Copy, PartialEq, Eq, Error)]
 pub enum UrlFault {
-    /// It isn't a URL by the URL Standard, it is a fragment without a base, or its text is longer
-    /// than 4,096 bytes.
+    /// It isn't a URL by the URL Standard, it is a fragment without a base, or its text isn't 1 to
+    /// 4,096 printing bytes of ASCII without a space.
     #[error("bad URL")]
     BadUrl,
     /// It has no fragment, or an empty one, so it names no manifest.
@@ -33,7 +33,8 @@ impl From<Memory> for UrlFault {
 /// Why a repository doesn't take a block.
 #[derive(Debug, Clone, Copy, PartialEq, Eq, Error)]
 pub enum RepoFault {
-    /// The block's URL isn't one by the URL Standard, or its text is longer than 4,096 bytes.
+    /// The block's URL isn't one by the URL Standard, or its text isn't 1 to 4,096 printing bytes of
+    /// ASCII without a space.
     #[error("bad URL")]
     BadUrl,
     /// The block's URL has no fragment, or an empty one.

@@ -54,8 +54,9 @@ impl Repository {
     /// A block that is refused is dropped, and the repository is as before. The faults are tried
     /// in this order:
     ///
-    /// - `BadUrl` where `url` isn't an absolute URL, or its text is longer than 4,096 bytes, as it
-    ///   may be where spaces were written `%20`;
+    /// - `BadUrl` where `url` isn't an absolute URL, and where its text is longer than 4,096 bytes,
+    ///   as it may be where spaces were written `%20`, or has a byte that isn't a printing one of
+    ///   ASCII, as the space in `foo:a b#x`;
     /// - `NoFragment` where the URL has no fragment or an empty one;
     /// - `Repeated` where a block has that key;
     /// - `Memory`.

@@ -1,11 +1,13 @@
 //! Absolute URLs.
 
 ghost use Rattle.std.specs.Prelude.{◌≡◌, None};
+ghost use Rattle.std.specs.List.{list_all};
 ghost use Rattle.url.specs.Parser.{Parsed};
 ghost use Rattle.url.specs.Parser as url;
 ghost use Rattle.url.specs.Parts.{Parts};
 ghost use Rattle.cm_repo.specs.Answers.{GivesUnless};
 ghost use Rattle.cm_repo.specs.Urls.{accepted, text_of, key_of, begins_with_hash, absolute_of};
+ghost use Rattle.cm_repo.specs.Urls.{is_url_byte, is_url_text};
 ghost use Rattle.cm_repo.specs.declared.fault.UrlFault.TheVariants.{Memory};
 
 use crate::UrlFault;
@@ -29,11 +31,25 @@ fn accepted(given: ParseResult<Url>) -> Result<Url, UrlFault>
     }
 }
 
-/// The text of a URL that isn't too long and names a manifest.
+/// Whether the text is 1 to 4,096 printing bytes of ASCII other than the space.
+fn is_url_text(text: &str) -> bool
+    ensures { result ≡ is_url_text text.now }
+{
+    !text.is_empty() && text.len() <= LONGEST_URL && has_url_bytes(text)
+}
+
+/// Whether each byte is a printing one of ASCII other than the space.
+fn has_url_bytes(text: &str) -> bool
+    ensures { result ≡ list_all is_url_byte text.now }
+{
+    text.as_bytes().iter().all(|b| *b >= 33 && *b <= 126)
+}
+
+/// The text of a URL that a manifest or a command can have too, and that names a manifest.
 fn text_of(alloc: Global, url: &Url) -> Result<Text, UrlFault>
     ensures { GivesUnless Memory result (text_of url.now) }
 {
-    if url.as_str().len() > LONGEST_URL {
+    if !is_url_text(url.as_str()) {
         return Err(UrlFault::BadUrl);
     }
     match url.fragment() {
@@ -42,6 +58,7 @@ fn text_of(alloc: Global, url: &Url) -> Result<Text, UrlFault>
     }
 }
 
+/// Whether the text is a fragment alone, which is joined to a base.
 fn begins_with_hash(url: &str) -> bool
     ensures { result ≡ begins_with_hash url.now }
 {
@@ -65,7 +82,8 @@ pub(crate) fn key(alloc: Global, url: &str) -> Result<Text, UrlFault>
 /// `%20`. The faults are tried in this order:
 ///
 /// - `BadUrl` where a URL that begins with `#` has no base or one that isn't a URL, where `url`
-///   isn't one, and where the text that comes out is longer than 4,096 bytes;
+///   isn't one, and where the text that comes out is longer than 4,096 bytes or has a byte that
+///   isn't a printing one of ASCII, as the space in `foo:a b#x`;
 /// - `NoFragment` where the URL that comes out has no fragment or an empty one;
 /// - `Memory`.
 #[tactic(auto, unfolding(crate::specs::Urls::absolute_of))]

@@ -3,7 +3,7 @@ use Rattle.std.specs.Prelude.{is_some}
 use Rattle.std.proofs.lemmas.Bool.{cases_order, cases_lt}
 use Rattle.cm_decl.specs.declared.decl.Decl.{Decl}
 use Rattle.cm_decl.specs.declared.section.Section.{Section}
-use Rattle.cm_decl.specs.declared.section.Section.TheVariants.{Manifest, Program, Children, Collections, Capabilities, Uses, Offers, Exposes, Graph}
+use Rattle.cm_decl.specs.declared.section.Section.TheVariants.{Manifest, Program, Children, Collections, Capabilities, Uses, Offers, Exposes, Environments, Graph}
 use Rattle.cm_decl.specs.Faults.{Fault, IsFirst, IsFirstIn, IsFaultless, section_rank}
 use Rattle.cm_decl.proofs.FirstFaults as faults
 use Rattle.cm_decl.proofs.FirstFaults.{same_section, first_below_more, first_in_section, broken_within}
@@ -19,6 +19,7 @@ same_rows d Capabilities = refl
 same_rows d Uses = refl
 same_rows d Offers = refl
 same_rows d Exposes = refl
+same_rows d Environments = refl
 same_rows d Graph = refl
 
 -- ---- the rows of a section

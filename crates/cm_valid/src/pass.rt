@@ -67,7 +67,7 @@ fn apart_in(alloc: Global, decl: &Decl, section: Section) -> Result<usize, Memor
         Section::Uses => apart(alloc, decl.uses.as_slice()),
         Section::Offers => apart(alloc, decl.offers.as_slice()),
         Section::Exposes => apart(alloc, decl.exposes.as_slice()),
-        Section::Manifest | Section::Program | Section::Graph => Ok(0),
+        Section::Manifest | Section::Program | Section::Environments | Section::Graph => Ok(0),
     }
 }
 
@@ -82,6 +82,6 @@ fn rows_of(decl: &Decl, section: Section) -> usize
         Section::Uses => decl.uses.len(),
         Section::Offers => decl.offers.len(),
         Section::Exposes => decl.exposes.len(),
-        Section::Manifest | Section::Program | Section::Graph => 0,
+        Section::Manifest | Section::Program | Section::Environments | Section::Graph => 0,
     }
 }

@@ -29,7 +29,7 @@ pub(crate) fn row_fault(index: &Index, section: Section, row: usize, apart: usiz
         Section::Uses => use_fault(index, row, apart),
         Section::Offers => offer_fault(index, row, apart),
         Section::Exposes => expose_fault(index, row, apart),
-        Section::Manifest | Section::Program | Section::Graph => None,
+        Section::Manifest | Section::Program | Section::Environments | Section::Graph => None,
     }
 }
 

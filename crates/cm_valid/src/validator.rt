@@ -8,7 +8,9 @@ ghost use Rattle.cm_valid.specs.Reports.{Reports};
 
 use crate::ValidFault;
 use crate::pass::first_fault;
-use cm_decl::{Decl, Give, Origin, Section, Usage};
+use cm_decl::{
+    Decl, Environment, Give, Origin, Registration, Section, Storage, StorageOffer, Usage,
+};
 use cm_deps::{Order, order_of};
 use std::alloc::Global;
 use std::marker::Model;
@@ -32,9 +34,9 @@ impl Model for ValidDecl {
 
 /// The declaration, if it is valid; else its first fault. A declaration that is refused is dropped.
 ///
-/// `decl` has no use from `void` and no expose from `parent`, as none has that is read from a
-/// manifest: [`is_well_formed`] tells. [`ValidFault`] says when each fault comes; `Err(Memory)`
-/// where memory runs out.
+/// `decl` has no use from `void` and no expose from `parent`, and its registrations and storages
+/// come from where they may, as in each that is read from a manifest: [`is_well_formed`] tells.
+/// [`ValidFault`] says when each fault comes; `Err(Memory)` where memory runs out.
 ///
 /// This is what Fuchsia's component manager does with each declaration that it resolves
 /// (`fuchsia.component.decl` and the component manifest reference, fuchsia.dev).
@@ -48,11 +50,82 @@ pub fn validate(alloc: Global, decl: Decl) -> Result<ValidDecl, ValidFault>
     Ok(ValidDecl { decl })
 }
 
-/// Whether no use is from `void` and no expose from `parent`, which [`validate`] takes for granted.
+/// Whether no use is from `void`, no expose from `parent`, and environments and storage come from
+/// where they may, which [`validate`] takes for granted.
 pub fn is_well_formed(decl: &Decl) -> bool
     ensures { result ≡ valid.is_well_formed decl.now }
 {
-    is_never_void(decl.uses.as_slice()) && is_never_parent(decl.exposes.as_slice())
+    is_never_void(decl.uses.as_slice())
+        && (is_never_parent(decl.exposes.as_slice()) && is_further_formed(decl))
+}
+
+/// Whether environments and storage come from where they may.
+fn is_further_formed(decl: &Decl) -> bool
+    ensures { result ≡ valid.is_further_formed decl.now }
+{
+    are_environments(decl.environments.as_slice())
+        && (are_storages(decl.storages.as_slice())
+            && are_storage_offers(decl.storage_offers.as_slice()))
+}
+
+/// Whether all registrations of all these environments come from where they may.
+fn are_environments(environments: &[Environment]) -> bool
+    ensures { result ≡ list_all valid.is_environment environments.now }
+{
+    environments
+        .iter()
+        .all(|environment| is_environment(environment))
+}
+
+/// Whether all these storages come from where they may.
+fn are_storages(storages: &[Storage]) -> bool
+    ensures { result ≡ list_all (λ s. valid.is_static_source s.from) storages.now }
+{
+    storages
+        .iter()
+        .all(|storage| is_static_source(&storage.from))
+}
+
+/// Whether all these offers of storages come from where they may.
+fn are_storage_offers(offers: &[StorageOffer]) -> bool
+    ensures { result ≡ list_all (λ o. valid.is_storage_source o.from) offers.now }
+{
+    offers.iter().all(|offer| is_storage_source(&offer.from))
+}
+
+/// Whether all registrations of an environment come from where they may.
+fn is_environment(environment: &Environment) -> bool
+    ensures { result ≡ valid.is_environment environment.now }
+{
+    are_registrations(environment.runners.as_slice())
+        && are_registrations(environment.debug.as_slice())
+}
+
+/// Whether all these registrations come from where they may.
+fn are_registrations(registrations: &[Registration]) -> bool
+    ensures { result ≡ valid.are_registrations registrations.now }
+{
+    registrations
+        .iter()
+        .all(|registration| is_static_source(&registration.from))
+}
+
+/// Whether it is the parent, the component itself or a child in no collection.
+fn is_static_source(from: &Origin) -> bool
+    ensures { result ≡ valid.is_static_source from.now }
+{
+    match from {
+        Origin::Parent | Origin::Own => true,
+        Origin::Child(child) => child.coll.is_none(),
+        Origin::Framework | Origin::Void => false,
+    }
+}
+
+/// Whether it is the parent, the component itself or `void`.
+fn is_storage_source(from: &Origin) -> bool
+    ensures { result ≡ valid.is_storage_source from.now }
+{
+    matches!(from, Origin::Parent | Origin::Own | Origin::Void)
 }
 
 /// Whether no use is from `void`.

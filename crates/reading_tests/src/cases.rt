@@ -404,6 +404,10 @@ pub const URLS: &str = "\
     => bad URL\n\
     == url fuchsia-pkg://t:70000/a#c\n\
     => bad URL\n\
+    == url foo:a b#c\n\
+    => bad URL\n\
+    == url foo:a%20b#c d\n\
+    => foo:a%20b#c%20d\n\
     == url fuchsia-pkg://t/a\n\
     => no fragment\n\
     == url #\n\
@@ -455,6 +459,8 @@ pub const COMMANDS: &str = "\
     => create a c n #m + protocol p #x:y + directory d self as=e rights=connect,enumerate,\
     get_attributes,modify_directory,read_bytes,traverse,update_attributes,write_bytes subdir=a/b \
     weak optional + protocol q void weak\n\
+    == command create . c n #m + protocol p parent transitional + protocol q self weak same_as_target\n\
+    => create . c n #m + protocol p parent transitional + protocol q self weak same_as_target\n\
     == command \n\
     => fault BadCommand(0)\n\
     == command x\n\
@@ -499,6 +505,18 @@ pub const COMMANDS: &str = "\
     => fault BadCommand(41)\n\
     == command create . c n u weak\n\
     => fault BadCommand(15)\n\
+    == command create . c n u + protocol n parent transitionalx\n\
+    => fault BadCommand(47)\n\
+    == command create . c n u + protocol n parent same_as_targets\n\
+    => fault BadCommand(49)\n\
+    == command create . c n u + protocol n parent s\n\
+    => fault BadCommand(36)\n\
+    == command create . c n u + protocol n parent su\n\
+    => fault BadCommand(36)\n\
+    == command create . c n u + directory n parent su\n\
+    => fault BadCommand(38)\n\
+    == command create . c n u + protocol n parent optional transitional\n\
+    => fault BadCommand(44)\n\
     == command start @\n\
     => fault BadCommand(7)\n\
     == command start a:\n\
@@ -508,7 +526,21 @@ pub const COMMANDS: &str = "\
     == bytes command start \u{ff}\n\
     => fault BadCommand(6)\n\
     == bytes command open . /\u{c3}\n\
-    => fault BadCommand(8)\n";
+    => fault BadCommand(8)\n\
+    == number-word 18446744073709551615\n\
+    => 18446744073709551615\n\
+    == number-word 18446744073709551616\n\
+    => fault Bad(20)\n\
+    == number-word 07\n\
+    => fault Bad(2)\n\
+    == number-word 1a\n\
+    => fault Bad(2)\n\
+    == moniker-word core/coll:b\n\
+    => core/coll:b\n\
+    == moniker-word .\n\
+    => .\n\
+    == moniker-word a//b\n\
+    => fault Bad(3)\n";
 
 /// Scripts: their first fault, or what they have.
 pub const SCRIPTS: &str = "\

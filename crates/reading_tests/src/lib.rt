@@ -8,6 +8,8 @@
 #[cfg(test)]
 mod cases;
 #[cfg(test)]
+mod fields;
+#[cfg(test)]
 mod graphs;
 #[cfg(test)]
 mod player;

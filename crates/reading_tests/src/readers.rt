@@ -4,7 +4,8 @@
 use crate::rights::rights;
 use crate::{graphs, repositories, values};
 use cm_command::{
-    Command, CommandFault, Script, ScriptFault, read_command, read_script, write_command,
+    Command, CommandFault, Script, ScriptFault, read_command, read_moniker, read_number,
+    read_script, write_command,
 };
 use cm_decl::Decl;
 use cm_names::{CapPath, Memory, Moniker, Name, SubDir, Text};
@@ -61,6 +62,8 @@ fn told_of_bytes(alloc: Global, reader: &str, input: &[u8]) -> Option<Text> {
         "valid" => valid(alloc, input),
         "command" => command(alloc, input),
         "script" => script(alloc, input),
+        "number-word" => number_word(alloc, input),
+        "moniker-word" => moniker_word(alloc, input),
         _ => None,
     }
 }
@@ -225,6 +228,22 @@ pub fn command_of(alloc: Global, line: &[u8]) -> Result<Command, CommandFault> {
         return Err(CommandFault::Memory);
     }
     read_command(alloc, line)
+}
+
+/// A number in a line, as it is written.
+fn number_word(alloc: Global, word: &[u8]) -> Option<Text> {
+    match read_number(word) {
+        Ok(number) => shown(alloc, number),
+        Err(found) => fault(alloc, found),
+    }
+}
+
+/// A moniker in a line, as it is written.
+fn moniker_word(alloc: Global, word: &[u8]) -> Option<Text> {
+    match read_moniker(alloc, word) {
+        Ok(moniker) => moniker.write(alloc).ok(),
+        Err(found) => fault(alloc, found),
+    }
 }
 
 /// The line that the command of a line is written as.

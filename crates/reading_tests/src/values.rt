@@ -5,6 +5,7 @@ use crate::readers::shown;
 use cm_decl::{Node, Section};
 use cm_names::*;
 use std::alloc::Global;
+use std::collections::HashMap;
 use std::test::Fail;
 
 /// A path with two subdirectories more.
@@ -48,8 +49,13 @@ pub fn below(alloc: Global, input: &str) -> Option<Text> {
 /// The moniker of the child of an instance by a name.
 pub fn child_of(alloc: Global, input: &str) -> Option<Text> {
     let (above, name) = input.split_once(' ')?;
+    written(alloc, &below_by(alloc, above, child_name(alloc, name)?)?)
+}
+
+/// The name of a child, as it stands in a moniker.
+fn child_name(alloc: Global, name: &str) -> Option<ChildName> {
     match child(alloc, name) {
-        Some(Node::Child(name)) => written(alloc, &below_by(alloc, above, name)?),
+        Some(Node::Child(name)) => Some(name),
         _ => None,
     }
 }
@@ -82,8 +88,10 @@ fn words(alloc: Global) -> Result<Text, Memory> {
     let weak = Dependency::Weak;
     let required = Availability::Required;
     let optional = Availability::Optional;
+    let passing = Availability::Transitional;
+    let same = Availability::SameAsTarget;
     let mut text = Text::new(alloc);
-    text.push(format_args!("{strong} {weak} {required} {optional}"))?;
+    text.push(format_args!("{strong} {weak} {required} {optional} {passing} {same}"))?;
     Ok(text)
 }
 
@@ -93,10 +101,14 @@ fn writes_words(rt: HostRuntime) -> Result<(), Fail> {
     let optional = Availability::Optional;
     assert_eq!(rt;
         words(rt.alloc())?.as_str(),
-        "strong weak required optional"
+        "strong weak required optional transitional same_as_target"
     );
     assert!(rt; Availability::fits(optional, required) && !Availability::fits(required, optional));
     assert!(rt; optional.allows_void() && !required.allows_void());
+    let passing = Availability::Transitional;
+    let same = Availability::SameAsTarget;
+    assert!(rt; !Availability::fits(optional, passing) && Availability::fits(required, same));
+    assert!(rt; passing.allows_void() && !same.allows_void() && same.stated_itself().is_none());
     Ok(())
 }
 
@@ -164,6 +176,21 @@ fn orders_nodes_as_written(rt: HostRuntime) {
     assert!(rt; text.is_some_and(|text| text.as_str() == "self a a-b a9 a:b a:z aa b b:b "));
 }
 
+/// How many children these names tell apart in a map.
+fn told_apart(alloc: Global, names: &str) -> Option<usize> {
+    let mut map: HashMap<ChildName, ()> = HashMap::new(alloc);
+    for name in names.split(' ') {
+        map.insert(child_name(alloc, name)?, ()).ok()?;
+    }
+    Some(map.len())
+}
+
+/// Names that are equal have one hash: the texts in them and the names of collections count.
+#[test]
+fn hashes_names(rt: HostRuntime) {
+    assert!(rt; told_apart(rt.alloc(), "a b a:b b:a a a:b c:a b:a a") == Some(5));
+}
+
 /// The words of all sections.
 fn sections(alloc: Global) -> Result<Text, Memory> {
     let mut text = Text::new(alloc);
@@ -176,6 +203,7 @@ fn sections(alloc: Global) -> Result<Text, Memory> {
         Section::Uses,
         Section::Offers,
         Section::Exposes,
+        Section::Environments,
         Section::Graph,
     ] {
         text.push(format_args!("{section} "))?;
@@ -187,7 +215,7 @@ fn sections(alloc: Global) -> Result<Text, Memory> {
 fn prints_sections(rt: HostRuntime) -> Result<(), Fail> {
     assert_eq!(rt;
         sections(rt.alloc())?.as_str(),
-        "manifest program children collections capabilities use offer expose graph "
+        "manifest program children collections capabilities use offer expose environments graph "
     );
     Ok(())
 }

@@ -4,5 +4,5 @@ use Rattle.cm_read.proofs.known.collection_known.Goals as goal
 
 pub returns : goal.returns
 returns c =
-    let known : map_now c.as_slice.result.now ≡ codes "name" ∷ codes "durability" ∷ codes "allowed_offers" ∷ [] = search rules in
+    let known : map_now c.as_slice.result.now ≡ codes "name" ∷ codes "durability" ∷ codes "allowed_offers" ∷ codes "environment" ∷ [] = search rules in
     rw known at c.check_known.ensures

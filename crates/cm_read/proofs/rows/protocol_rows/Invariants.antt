@@ -3,4 +3,4 @@ use Rattle.cm_read.specs.Items as spec
 use Rattle.cm_read.proofs.rows.protocol_rows.Given as goal
 
 abbrev pub invariant-loop-name : goal.invariant-loop-name
-invariant-loop-name l = l.rows ≡ map (spec.protocol_row l.path) (take l.name-index l.names)
+invariant-loop-name l = l.rows ≡ map (spec.protocol_capability_row l.path) (take l.name-index l.names)

@@ -5,4 +5,6 @@ use Rattle.cm_read.proofs.RowLemmas.{with_front}
 use Rattle.cm_read.proofs.sections.rows_of.Given as goal
 
 abbrev pub invariant-loop-item : goal.invariant-loop-item
-invariant-loop-item g l = with_front l.rows (rows_at g.T.Item.reads l.at (items_view (drop l.item-index l.items))) ≡ rows_at g.T.Item.reads l.fn.start (items_view l.items)
+invariant-loop-item g l =
+    with_front l.rows (rows_at (g.T.Item.reads l.children) l.at (items_view (drop l.item-index l.items)))
+    ≡ rows_at (g.T.Item.reads l.children) l.fn.start (items_view l.items)

@@ -1,0 +1,58 @@
+//! Environments, in which runners and debug protocols are registered.
+
+use crate::Origin;
+use cm_names::{CapPath, List, Name, Plain};
+
+/// A runner or a debug protocol that an environment knows: an item of `runners` or of `debug`.
+#[derive(Debug, Drop, Clone, PartialEq, Eq)]
+pub struct Registration {
+    /// The name that it has at its source.
+    pub name: Name,
+    /// Where it comes from. A valid declaration has `parent`, `self` and children in no collection
+    /// alone; whether such a child is declared isn't judged.
+    pub from: Origin,
+    /// The name by which it is known in the environment.
+    pub target: Name,
+}
+
+impl Plain for Registration {
+    ghost use Rattle.std.proofs.Common.{rules};
+
+    ghost exact = { Prim.search rules };
+}
+
+/// What children and the instances of collections find registered: a row of `environments`.
+#[derive(Debug, Drop, Clone, PartialEq, Eq)]
+pub struct Environment {
+    /// Its name among the environments of this component.
+    pub name: Name,
+    /// Whether what isn't registered here is looked for in the component's own environment
+    /// (`extends`: `realm`), or nowhere (`none`).
+    pub extends: bool,
+    /// The runners, in order.
+    pub runners: List<Registration>,
+    /// The debug protocols, in order, with one registration for each name.
+    pub debug: List<Registration>,
+}
+
+impl Plain for Environment {
+    ghost use Rattle.std.proofs.Common.{rules};
+
+    ghost exact = { Prim.search rules };
+}
+
+/// A protocol that the component uses from the debug registrations of its environment: a row of
+/// `use` from `debug`.
+#[derive(Debug, Drop, Clone, PartialEq, Eq)]
+pub struct DebugUse {
+    /// The name by which it is known in the environment.
+    pub name: Name,
+    /// Where it stands in the namespace of the component.
+    pub path: CapPath,
+}
+
+impl Plain for DebugUse {
+    ghost use Rattle.std.proofs.Common.{rules};
+
+    ghost exact = { Prim.search rules };
+}

@@ -1,0 +1,61 @@
+//! Storage: a place of its own for each instance that uses it.
+
+use crate::Origin;
+use cm_names::{CapPath, Name, Plain, SubDir};
+
+/// A storage that the component provides from a directory: a row of `capabilities`.
+#[derive(Debug, Drop, Clone, PartialEq, Eq)]
+pub struct Storage {
+    /// Its name among the storages of this component.
+    pub name: Name,
+    /// Where its directory comes from. A valid declaration has `parent`, `self` and children in no
+    /// collection alone; whether such a child is declared isn't judged.
+    pub from: Origin,
+    /// The name that the directory has at its source (`backing_dir`).
+    pub backing: Name,
+    /// The part of the directory that is used, if it isn't the whole.
+    pub subdir: Option<SubDir>,
+    /// Whether an instance without an id gets a place by its moniker (`storage_id`:
+    /// `static_instance_id_or_moniker`), and not none (`static_instance_id`).
+    pub by_moniker: bool,
+}
+
+impl Plain for Storage {
+    ghost use Rattle.std.proofs.Common.{rules};
+
+    ghost exact = { Prim.search rules };
+}
+
+/// A storage that the component uses, always from its parent: a row of `use`.
+#[derive(Debug, Drop, Clone, PartialEq, Eq)]
+pub struct StorageUse {
+    /// The name that the storage has at its source.
+    pub name: Name,
+    /// Where it stands in the namespace of the component.
+    pub path: CapPath,
+}
+
+impl Plain for StorageUse {
+    ghost use Rattle.std.proofs.Common.{rules};
+
+    ghost exact = { Prim.search rules };
+}
+
+/// A storage that is passed on to a child or to all children in a collection: a row of `offer`.
+#[derive(Debug, Drop, Clone, PartialEq, Eq)]
+pub struct StorageOffer {
+    /// The name of the child or the collection.
+    pub to: Name,
+    /// The name that the storage has at its source.
+    pub source_name: Name,
+    /// Where it comes from. A valid declaration has `parent`, `self` and `void` alone.
+    pub from: Origin,
+    /// The name that the storage has at its target.
+    pub target_name: Name,
+}
+
+impl Plain for StorageOffer {
+    ghost use Rattle.std.proofs.Common.{rules};
+
+    ghost exact = { Prim.search rules };
+}

@@ -1,6 +1,0 @@
-use Rattle.std.proofs.Common.{◌≡◌, map, take}
-use Rattle.cm_read.specs.Items as spec
-use Rattle.cm_read.proofs.rows.protocol_usages.Given as goal
-
-abbrev pub invariant-loop-name : goal.invariant-loop-name
-invariant-loop-name l = l.rows ≡ map (spec.protocol_usage l.from l.path l.dependency l.availability) (take l.name-index l.names)

@@ -1,0 +1,102 @@
+-- The items of `environments`, and the registrations in them.
+use Rattle.std.specs.Prelude.{ℕ, List, [], ◌∷◌, ◌++◌, map, codes, Option, unwrap_or, ok_or, Ok, Err}
+use Rattle.serde_json.specs.Data.{Data, Items, no_items, item}
+use Rattle.serde_json.specs.Find.{get, as_array}
+use Rattle.cm_decl.specs.declared.kind.Kind.TheVariants as kind
+use Rattle.cm_decl.specs.declared.origin.Origin.{Origin}
+use Rattle.cm_decl.specs.declared.environment.Registration.{Registration}
+use Rattle.cm_decl.specs.declared.environment.Environment.{Environment}
+use Rattle.cm_read.specs.declared.fault.Place.{Place}
+use Rattle.cm_read.specs.declared.fault.ReadFault.{ReadFault}
+use Rattle.cm_read.specs.declared.fault.ReadFault.TheVariants.{Bad, Memory}
+use Rattle.cm_read.specs.declared.rows.Registry.{Registry}
+use Rattle.cm_read.specs.declared.rows.Registry.TheVariants.{Runners, Debug}
+use Rattle.cm_read.specs.Numbers.{wrong_type}
+use Rattle.cm_read.specs.Reading.{Read, ◌>>=◌, bad}
+use Rattle.cm_read.specs.Fields.{or_default, name_at, object_at, known_at}
+use Rattle.cm_read.specs.Words.{extends_at, static_from_at}
+use Rattle.cm_read.specs.Items.{item_names_at, as_at}
+
+-- ---- registrations
+
+-- the field of an environment that lists them
+abbrev pub registry_word : Registry → List ℕ
+registry_word Runners = codes "runners"
+registry_word Debug = codes "debug"
+
+-- the fields of a registration
+abbrev pub registration_fields : Registry → List (List ℕ)
+registration_fields Runners = codes "runner" ∷ codes "from" ∷ codes "as" ∷ []
+registration_fields Debug = codes "protocol" ∷ codes "from" ∷ codes "as" ∷ []
+
+-- the name of a runner, of which an item has one
+unfoldable pub runner_names_at : Place → Data → Read (List (List ℕ))
+runner_names_at at d = do
+  name ← name_at at (codes "runner") d
+  Ok (name ∷ [])
+
+-- the names of a registration: one runner, or one or more protocols
+abbrev pub registration_names_at : Registry → Place → Data → Read (List (List ℕ))
+registration_names_at Runners at d = runner_names_at at d
+registration_names_at Debug at d = item_names_at kind.Protocol at d
+
+-- the registration of a name; its target name is by default the name itself
+abbrev pub registration : Origin → Option (List ℕ) → List ℕ → Registration
+registration from target name = record { name = name; from = from; target = unwrap_or target name }
+
+-- an item of `runners` or of `debug`: a registration for each name
+unfoldable pub registration_at : Registry → Place → Data → Read (List Registration)
+registration_at which at d = do
+  members ← object_at at d
+  known ← known_at at (registration_fields which) members
+  names ← registration_names_at which at d
+  from ← static_from_at at d
+  target ← as_at at names d
+  Ok (map (registration from target) names)
+
+-- the registrations of the items, one item after another; all stand at the place of the environment
+abbrev pub registrations_in_at : Registry → Place → Items → Read (List Registration)
+registrations_in_at which at no_items = Ok []
+registrations_in_at which at (item d ds) = do
+  first ← registration_at which at d
+  others ← registrations_in_at which at ds
+  Ok (first ++ others)
+
+-- the fault, told with another field
+abbrev pub in_field : List ℕ → ReadFault → ReadFault
+in_field field (Bad number section index inner) = Bad number section index field
+in_field field Memory = Memory
+
+-- a fault inside a field that lists items is told with that field
+abbrev pub inside : {A : Type 0} → List ℕ → Read A → Read A
+inside field (Ok x) = Ok x
+inside field (Err fault) = Err (in_field field fault)
+
+-- the registrations that a value lists
+unfoldable pub registry_in_at : Registry → Place → Data → Read (List Registration)
+registry_in_at which at d = do
+  items ← ok_or (as_array d) (bad at wrong_type (registry_word which))
+  inside (registry_word which) (registrations_in_at which at items)
+
+-- `runners` or `debug`, by default no registrations
+unfoldable pub registry_at : Registry → Place → Data → Read (List Registration)
+registry_at which at d = or_default (get (registry_word which) d) [] (registry_in_at which at)
+
+-- ---- environments
+
+-- the fields of an environment; the last two are read over
+abbrev pub environment_fields : List (List ℕ)
+environment_fields =
+    codes "name" ∷ codes "extends" ∷ codes "runners" ∷ codes "debug" ∷ codes "resolvers"
+    ∷ codes "__stop_timeout_ms" ∷ []
+
+-- an item of `environments`: one row
+unfoldable pub environment_item_at : Place → Data → Read (List Environment)
+environment_item_at at d = do
+  members ← object_at at d
+  known ← known_at at environment_fields members
+  name ← name_at at (codes "name") d
+  extends ← extends_at at d
+  runners ← registry_at Runners at d
+  debug ← registry_at Debug at d
+  Ok (record { name = name; extends = extends; runners = runners; debug = debug } ∷ [])

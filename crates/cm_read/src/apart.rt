@@ -1,0 +1,129 @@
+//! The rows of a section with several kinds of them, each kind in a list of its own.
+
+ghost use Rattle.std.specs.Prelude.{◌≡◌, [], ◌∷◌, ◌++◌, filter_map, IfOk, OnOk};
+ghost use Rattle.cm_read.specs.Items as spec;
+
+use crate::rows::{CapabilityRow, OfferRow, UseRow};
+use cm_decl::{Capability, DebugUse, Offer, Storage, StorageOffer, StorageUse, Usage};
+use cm_names::{List, Memory};
+use std::alloc::Global;
+
+/// Puts a row at the end of the list of its kind.
+fn put_capability(
+    routed: &mut List<Capability>,
+    storages: &mut List<Storage>,
+    row: CapabilityRow,
+) -> Result<(), Memory>
+    ensures routed { OnOk result
+        (routed.new ≡ routed.old ++ filter_map spec.capability_in (row ∷ [])) }
+    ensures storages { OnOk result
+        (storages.new ≡ storages.old ++ filter_map spec.storage_in (row ∷ [])) }
+{
+    match row {
+        CapabilityRow::Capability(row) => routed.push(row),
+        CapabilityRow::Storage(row) => storages.push(row),
+    }
+}
+
+/// The rows of `capabilities`: what is routed, and the storages.
+#[tactic(auto, using(crate::proofs::RowLemmas::part_more, crate::proofs::RowLemmas::part_all))]
+pub fn part_capabilities(
+    alloc: Global,
+    rows: List<CapabilityRow>,
+) -> Result<(List<Capability>, List<Storage>), Memory>
+    ensures routed { IfOk result (λ made. made.0 ≡ filter_map spec.capability_in rows) }
+    ensures storages { IfOk result (λ made. made.1 ≡ filter_map spec.storage_in rows) }
+{
+    let mut routed = List::new(alloc);
+    let mut storages = List::new(alloc);
+    for row in rows.into_vec() {
+        put_capability(&mut routed, &mut storages, row)?;
+    }
+    Ok((routed, storages))
+}
+
+/// The rows of `use`.
+#[derive(Drop)]
+pub struct Uses {
+    /// Uses of what is routed.
+    pub routed: List<Usage>,
+    /// Uses of debug protocols.
+    pub debug: List<DebugUse>,
+    /// Uses of storages.
+    pub storages: List<StorageUse>,
+}
+
+/// Puts a row at the end of the list of its kind.
+fn put_use(
+    routed: &mut List<Usage>,
+    debug: &mut List<DebugUse>,
+    storages: &mut List<StorageUse>,
+    row: UseRow,
+) -> Result<(), Memory>
+    ensures routed { OnOk result
+        (routed.new ≡ routed.old ++ filter_map spec.usage_in (row ∷ [])) }
+    ensures debug { OnOk result
+        (debug.new ≡ debug.old ++ filter_map spec.debug_use_in (row ∷ [])) }
+    ensures storages { OnOk result
+        (storages.new ≡ storages.old ++ filter_map spec.storage_use_in (row ∷ [])) }
+{
+    match row {
+        UseRow::Usage(row) => routed.push(row),
+        UseRow::Debug(row) => debug.push(row),
+        UseRow::Storage(row) => storages.push(row),
+    }
+}
+
+/// The rows of `use` by their kinds.
+#[tactic(auto, using(crate::proofs::RowLemmas::part_more, crate::proofs::RowLemmas::part_all))]
+pub fn part_uses(alloc: Global, rows: List<UseRow>) -> Result<Uses, Memory>
+    ensures routed { IfOk result (λ made. made.routed ≡ filter_map spec.usage_in rows) }
+    ensures debug { IfOk result (λ made. made.debug ≡ filter_map spec.debug_use_in rows) }
+    ensures storages { IfOk result (λ made. made.storages ≡ filter_map spec.storage_use_in rows) }
+{
+    let mut routed = List::new(alloc);
+    let mut debug = List::new(alloc);
+    let mut storages = List::new(alloc);
+    for row in rows.into_vec() {
+        put_use(&mut routed, &mut debug, &mut storages, row)?;
+    }
+    Ok(Uses {
+        routed,
+        debug,
+        storages,
+    })
+}
+
+/// Puts a row at the end of the list of its kind.
+fn put_offer(
+    routed: &mut List<Offer>,
+    storages: &mut List<StorageOffer>,
+    row: OfferRow,
+) -> Result<(), Memory>
+    ensures routed { OnOk result
+        (routed.new ≡ routed.old ++ filter_map spec.offer_in (row ∷ [])) }
+    ensures storages { OnOk result
+        (storages.new ≡ storages.old ++ filter_map spec.storage_offer_in (row ∷ [])) }
+{
+    match row {
+        OfferRow::Offer(row) => routed.push(row),
+        OfferRow::Storage(row) => storages.push(row),
+    }
+}
+
+/// The rows of `offer`: of what is routed, and of storages.
+#[tactic(auto, using(crate::proofs::RowLemmas::part_more, crate::proofs::RowLemmas::part_all))]
+pub fn part_offers(
+    alloc: Global,
+    rows: List<OfferRow>,
+) -> Result<(List<Offer>, List<StorageOffer>), Memory>
+    ensures routed { IfOk result (λ made. made.0 ≡ filter_map spec.offer_in rows) }
+    ensures storages { IfOk result (λ made. made.1 ≡ filter_map spec.storage_offer_in rows) }
+{
+    let mut routed = List::new(alloc);
+    let mut storages = List::new(alloc);
+    for row in rows.into_vec() {
+        put_offer(&mut routed, &mut storages, row)?;
+    }
+    Ok((routed, storages))
+}

@@ -1,0 +1,239 @@
+//! The items of `environments` and the registrations in them, and how they are written.
+
+ghost use Rattle.std.specs.Prelude.{◌≡◌, [], ◌∷◌, IfOk, OnOk};
+ghost use Rattle.serde_json.specs.View.{view, items_view};
+ghost use Rattle.cm_read.specs.Environments as spec;
+ghost use Rattle.cm_read.specs.Reading.{Gives, IsFault};
+ghost use Rattle.cm_read.specs.Writing as writing;
+ghost use Rattle.cm_read.specs.Writing.{Puts};
+
+use crate::fault::{Place, ReadFault, fault};
+use crate::fields::{name_of, object_of};
+use crate::gives::as_of;
+use crate::items::item_names_of;
+use crate::known::{environment_known, registration_known};
+use crate::number::WRONG_TYPE;
+use crate::puts::{Row, extends_word, origin_text, put_text};
+use crate::rows::{Registry, registration_rows};
+use crate::sections::Item;
+use crate::words::{extends_of, static_from_of};
+use cm_decl::{Child, Environment, Kind, Registration};
+use cm_names::{List, Memory, Name};
+use serde_json::{Map, Value};
+use std::alloc::Global;
+
+/// The field of an environment that lists the registrations.
+fn registry_word(which: Registry) -> &'static str
+    ensures { result.now ≡ spec.registry_word which }
+{
+    match which {
+        Registry::Runners => "runners",
+        Registry::Debug => "debug",
+    }
+}
+
+/// The name of a runner, of which an item has one.
+#[tactic(auto, unfolding(crate::specs::Environments::runner_names_at))]
+fn runner_names_of(alloc: Global, at: Place, item: &Value) -> Result<List<Name>, ReadFault>
+    ensures { Gives result (spec.runner_names_at at (view item.now)) }
+{
+    let name = name_of(alloc, at, item, "runner")?;
+    let mut names = List::new(alloc);
+    names.push(name)?;
+    Ok(names)
+}
+
+/// The names of a registration: one runner, or one or more protocols.
+fn registration_names_of(
+    alloc: Global,
+    which: Registry,
+    at: Place,
+    item: &Value,
+) -> Result<List<Name>, ReadFault>
+    ensures { Gives result (spec.registration_names_at which at (view item.now)) }
+{
+    match which {
+        Registry::Runners => runner_names_of(alloc, at, item),
+        Registry::Debug => item_names_of(alloc, Kind::Protocol, at, item),
+    }
+}
+
+/// The registrations that an item gives, one for each name.
+#[tactic(auto, unfolding(crate::specs::Environments::registration_at))]
+fn registration_of(
+    alloc: Global,
+    which: Registry,
+    at: Place,
+    item: &Value,
+) -> Result<List<Registration>, ReadFault>
+    ensures { Gives result (spec.registration_at which at (view item.now)) }
+{
+    let members = object_of(alloc, at, item)?;
+    registration_known(alloc, at, which, members)?;
+    let names = registration_names_of(alloc, which, at, item)?;
+    let from = static_from_of(alloc, at, item)?;
+    let target = as_of(alloc, at, names.as_slice(), item)?;
+    Ok(registration_rows(alloc, &from, &target, names.as_slice())?)
+}
+
+/// The registrations of the items, one item after another.
+fn registrations_in(
+    alloc: Global,
+    which: Registry,
+    at: Place,
+    items: &[Value],
+) -> Result<List<Registration>, ReadFault>
+    ensures { Gives result (spec.registrations_in_at which at (items_view items.now)) }
+{
+    let mut rows = List::new(alloc);
+    for item in items {
+        rows.append(registration_of(alloc, which, at, item)?)?;
+    }
+    Ok(rows)
+}
+
+/// The fault, told with another field, unless memory runs out.
+fn in_field(alloc: Global, field: &str, found: ReadFault) -> ReadFault
+    ensures { IsFault result (spec.in_field field.now found) }
+{
+    match found {
+        ReadFault::Bad {
+            number,
+            section,
+            index,
+            field: _inner,
+        } => fault(alloc, Place { section, index }, number, field),
+        ReadFault::Memory => ReadFault::Memory,
+    }
+}
+
+/// The registrations that a value lists.
+#[tactic(auto, unfolding(crate::specs::Environments::registry_in_at), using(crate::proofs::Inside::fails))]
+fn registry_in(
+    alloc: Global,
+    which: Registry,
+    at: Place,
+    value: &Value,
+) -> Result<List<Registration>, ReadFault>
+    ensures { Gives result (spec.registry_in_at which at (view value.now)) }
+{
+    let Some(items) = value.as_array() else {
+        return Err(fault(alloc, at, WRONG_TYPE, registry_word(which)));
+    };
+    match registrations_in(alloc, which, at, items.as_slice()) {
+        Ok(rows) => Ok(rows),
+        Err(found) => Err(in_field(alloc, registry_word(which), found)),
+    }
+}
+
+/// `runners` or `debug`, by default no registrations.
+#[tactic(auto, unfolding(crate::specs::Environments::registry_at))]
+fn registry_of(
+    alloc: Global,
+    which: Registry,
+    at: Place,
+    item: &Value,
+) -> Result<List<Registration>, ReadFault>
+    ensures { Gives result (spec.registry_at which at (view item.now)) }
+{
+    let Some(value) = item.get(registry_word(which)) else {
+        return Ok(List::new(alloc));
+    };
+    registry_in(alloc, which, at, value)
+}
+
+impl Item for Environment {
+    ghost use Rattle.cm_read.specs.Environments.{environment_item_at};
+
+    ghost reads = { λ _. environment_item_at };
+
+    #[tactic(auto, unfolding(crate::specs::Environments::environment_item_at))]
+    fn read(
+        alloc: Global,
+        at: Place,
+        _children: &[Child],
+        item: &Value,
+    ) -> Result<List<Environment>, ReadFault> {
+        let members = object_of(alloc, at, item)?;
+        environment_known(alloc, at, members)?;
+        let name = name_of(alloc, at, item, "name")?;
+        let extends = extends_of(alloc, at, item)?;
+        let runners = registry_of(alloc, Registry::Runners, at, item)?;
+        let debug = registry_of(alloc, Registry::Debug, at, item)?;
+        let mut rows = List::new(alloc);
+        rows.push(Environment {
+            name,
+            extends,
+            runners,
+            debug,
+        })?;
+        Ok(rows)
+    }
+}
+
+/// What a registration is written as, with its name at this key.
+fn registration_value(alloc: Global, key: &str, row: &Registration) -> Result<Value, Memory>
+    ensures { IfOk result (λ v. view v ≡ writing.registration_data key.now row.now) }
+{
+    let from = origin_text(alloc, &row.from)?;
+    let mut members = Map::new(alloc);
+    put_text(alloc, &mut members, key, row.name.as_str())?;
+    put_text(alloc, &mut members, "from", from.as_str())?;
+    put_text(alloc, &mut members, "as", row.target.as_str())?;
+    Ok(Value::from(members))
+}
+
+/// The list of what registrations are written as.
+fn registrations_value(alloc: Global, key: &str, rows: &[Registration]) -> Result<Value, Memory>
+    ensures { IfOk result
+        (λ v. view v ≡ writing.list_of (writing.registration_data key.now) rows.now) }
+{
+    let mut values = Vec::new(alloc);
+    for row in rows {
+        values.push(registration_value(alloc, key, row)?)?;
+    }
+    Ok(Value::from(values))
+}
+
+/// Puts registrations among the members, with their names at this key.
+fn put_registrations(
+    alloc: Global,
+    members: &mut Map<String, Value>,
+    field: &str,
+    key: &str,
+    rows: &[Registration],
+) -> Result<(), Memory>
+    ensures { OnOk result
+        (Puts members.old.entries members.new.entries
+        ((field.now, writing.list_of (writing.registration_data key.now) rows.now) ∷ [])) }
+{
+    let value = registrations_value(alloc, key, rows)?;
+    Ok(serde_json::put(members, alloc, field, value)?)
+}
+
+impl Row for Environment {
+    ghost use Rattle.cm_read.specs.Writing.{environment_data};
+
+    ghost writes = { environment_data };
+
+    fn write(&self, alloc: Global) -> Result<Value, Memory> {
+        let mut members = Map::new(alloc);
+        put_text(alloc, &mut members, "name", self.name.as_str())?;
+        put_text(alloc, &mut members, "extends", extends_word(self.extends))?;
+        put_registrations(
+            alloc,
+            &mut members,
+            "runners",
+            "runner",
+            self.runners.as_slice(),
+        )?;
+        put_registrations(
+            alloc,
+            &mut members,
+            "debug",
+            "protocol",
+            self.debug.as_slice(),
+        )?;
+        Ok(Value::from(members))
+    }
+}

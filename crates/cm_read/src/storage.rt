@@ -1,0 +1,132 @@
+//! Storages in `capabilities`, `use` and `offer`, and how they are written.
+
+ghost use Rattle.serde_json.specs.View.{view};
+ghost use Rattle.cm_read.specs.Items as spec;
+ghost use Rattle.cm_read.specs.Reading.{Gives};
+
+use crate::fault::{Place, ReadFault};
+use crate::fields::{name_of, names_of, needed, path_of, subdir_of};
+use crate::puts::{Row, origin_text, put_subdir, put_text, reference, storage_id_word};
+use crate::rows::{CapabilityRow, UseRow};
+use crate::words::{availability_of, static_from_of, storage_id_of, storage_use_from_of};
+use cm_decl::{Storage, StorageOffer, StorageUse};
+use cm_names::{List, Memory, Name};
+use serde_json::{Map, Value};
+use std::alloc::Global;
+
+/// The name of a storage that is provided or used.
+#[tactic(auto, unfolding(crate::specs::Items::storage_name_at))]
+fn storage_name_of(alloc: Global, at: Place, item: &Value) -> Result<Name, ReadFault>
+    ensures { Gives result (spec.storage_name_at at (view item.now)) }
+{
+    name_of(alloc, at, item, "storage")
+}
+
+/// The name that the directory of a storage has at its source.
+#[tactic(auto, unfolding(crate::specs::Items::backing_at))]
+fn backing_of(alloc: Global, at: Place, item: &Value) -> Result<Name, ReadFault>
+    ensures { Gives result (spec.backing_at at (view item.now)) }
+{
+    name_of(alloc, at, item, "backing_dir")
+}
+
+/// The row of a storage that is provided.
+#[tactic(auto, unfolding(crate::specs::Items::storage_at))]
+pub fn storage_capability(
+    alloc: Global,
+    at: Place,
+    item: &Value,
+) -> Result<List<CapabilityRow>, ReadFault>
+    ensures { Gives result (spec.storage_at at (view item.now)) }
+{
+    let name = storage_name_of(alloc, at, item)?;
+    let from = static_from_of(alloc, at, item)?;
+    let backing = backing_of(alloc, at, item)?;
+    let subdir = subdir_of(alloc, at, item, "subdir")?;
+    let by_moniker = storage_id_of(alloc, at, item)?;
+    let mut rows = List::new(alloc);
+    rows.push(CapabilityRow::Storage(Storage {
+        name,
+        from,
+        backing,
+        subdir,
+        by_moniker,
+    }))?;
+    Ok(rows)
+}
+
+/// The row of a storage that is used; its availability isn't kept.
+#[tactic(auto, unfolding(crate::specs::Items::storage_use_at))]
+pub fn storage_use(alloc: Global, at: Place, item: &Value) -> Result<List<UseRow>, ReadFault>
+    ensures { Gives result (spec.storage_use_at at (view item.now)) }
+{
+    let name = storage_name_of(alloc, at, item)?;
+    storage_use_from_of(alloc, at, item)?;
+    let path = path_of(alloc, at, item, "path")?;
+    availability_of(alloc, at, item)?;
+    let mut rows = List::new(alloc);
+    rows.push(UseRow::Storage(StorageUse { name, path }))?;
+    Ok(rows)
+}
+
+/// The names of storages that are offered, one or more.
+#[tactic(auto, unfolding(crate::specs::Items::storage_names_at))]
+pub fn storage_names_of(alloc: Global, at: Place, item: &Value) -> Result<List<Name>, ReadFault>
+    ensures { Gives result (spec.storage_names_at at (view item.now)) }
+{
+    let value = needed(alloc, at, item, "storage")?;
+    names_of(alloc, at, value, "storage")
+}
+
+impl Row for Storage {
+    ghost use Rattle.cm_read.specs.Writing.{storage_data};
+
+    ghost writes = { storage_data };
+
+    fn write(&self, alloc: Global) -> Result<Value, Memory> {
+        let from = origin_text(alloc, &self.from)?;
+        let mut members = Map::new(alloc);
+        put_text(alloc, &mut members, "storage", self.name.as_str())?;
+        put_text(alloc, &mut members, "from", from.as_str())?;
+        put_text(alloc, &mut members, "backing_dir", self.backing.as_str())?;
+        put_text(
+            alloc,
+            &mut members,
+            "storage_id",
+            storage_id_word(self.by_moniker),
+        )?;
+        put_subdir(alloc, &mut members, &self.subdir)?;
+        Ok(Value::from(members))
+    }
+}
+
+impl Row for StorageUse {
+    ghost use Rattle.cm_read.specs.Writing.{storage_use_data};
+
+    ghost writes = { storage_use_data };
+
+    fn write(&self, alloc: Global) -> Result<Value, Memory> {
+        let mut members = Map::new(alloc);
+        put_text(alloc, &mut members, "storage", self.name.as_str())?;
+        put_text(alloc, &mut members, "from", "parent")?;
+        put_text(alloc, &mut members, "path", self.path.as_str())?;
+        Ok(Value::from(members))
+    }
+}
+
+impl Row for StorageOffer {
+    ghost use Rattle.cm_read.specs.Writing.{storage_offer_data};
+
+    ghost writes = { storage_offer_data };
+
+    fn write(&self, alloc: Global) -> Result<Value, Memory> {
+        let from = origin_text(alloc, &self.from)?;
+        let to = reference(alloc, &self.to)?;
+        let mut members = Map::new(alloc);
+        put_text(alloc, &mut members, "storage", self.source_name.as_str())?;
+        put_text(alloc, &mut members, "from", from.as_str())?;
+        put_text(alloc, &mut members, "to", to.as_str())?;
+        put_text(alloc, &mut members, "as", self.target_name.as_str())?;
+        Ok(Value::from(members))
+    }
+}
