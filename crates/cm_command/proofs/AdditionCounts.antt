@@ -7,7 +7,7 @@ use Rattle.cm_names.specs.Rights.{RightSet, rights_of, rights_of_word}
 use Rattle.cm_decl.specs.declared.kind.Kind.{Kind}
 use Rattle.cm_decl.specs.declared.kind.Kind.TheVariants.{Protocol, Directory}
 use Rattle.cm_command.specs.declared.addition.Addition.{Addition}
-use Rattle.cm_command.specs.declared.addition.Addition.TheVariants.{Target, Rights, Subdir, Weak, Optional, Group}
+use Rattle.cm_command.specs.declared.addition.Addition.TheVariants.{Target, Rights, Subdir, Weak, Optional, Transitional, SameAsTarget, Group}
 use Rattle.cm_command.specs.declared.tokens.WordFault.{WordFault}
 use Rattle.cm_command.specs.Additions.{IsTargetWord, IsRightsWord, IsSubdirWord, IsAddition, IsSomeAddition}
 use Rattle.cm_command.specs.Counts.{IsWordFault, either_fault}
@@ -64,18 +64,38 @@ later n m kind t (Rights r) le h = (omega (arith, h.0), h.1, h.2)
 later n m kind t (Subdir s) le h = (omega (arith, h.0), h.1, h.2)
 later n m kind t Weak le h = (omega (arith, h.0), h.1)
 later n m kind t Optional le h = (omega (arith, h.0), h.1)
+later n m kind t Transitional le h = (omega (arith, h.0), h.1)
+later n m kind t SameAsTarget le h = (omega (arith, h.0), h.1)
 later n m kind t Group le h = h
 
 some_later : (n m : ℕ) (kind : Kind) (t : List ℕ) → n ≤ m → IsSomeAddition m kind t → IsSomeAddition n kind t
 some_later n m kind t le h = (h.0, later n m kind t h.0 le h.1)
 
-parts_4 : (kind : Kind) (t : List ℕ) (a : Addition) → IsAddition 4 kind t a → (t ≡ codes "optional") ⊎ (t ≡ codes "+")
+-- `same_as_target`, or the word that begins another group
+abbrev pub IsSameOrGroup : List ℕ → Type 0
+IsSameOrGroup t = (t ≡ codes "same_as_target") ⊎ (t ≡ codes "+")
+
+-- `transitional`, or one of those
+abbrev pub IsTransitionalOr : List ℕ → Type 0
+IsTransitionalOr t = (t ≡ codes "transitional") ⊎ IsSameOrGroup t
+
+parts_4 : (kind : Kind) (t : List ℕ) (a : Addition) → IsAddition 4 kind t a → (t ≡ codes "optional") ⊎ IsTransitionalOr t
 parts_4 kind t (Target name) h = absurd (omega (arith, h.0))
 parts_4 kind t (Rights r) h = absurd (omega (arith, h.0))
 parts_4 kind t (Subdir s) h = absurd (omega (arith, h.0))
 parts_4 kind t Weak h = absurd (omega (arith, h.0))
 parts_4 kind t Optional h = inl h.1
-parts_4 kind t Group h = inr h
+parts_4 kind t Transitional h = inr (inl h.1)
+parts_4 kind t SameAsTarget h = inr (inr (inl h.1))
+parts_4 kind t Group h = inr (inr (inr h))
+
+same_added : (kind : Kind) (t : List ℕ) → IsSameOrGroup t → IsSomeAddition 4 kind t
+same_added kind t (inl e) = (SameAsTarget, (omega arith, e))
+same_added kind t (inr e) = (Group, e)
+
+transitional_added : (kind : Kind) (t : List ℕ) → IsTransitionalOr t → IsSomeAddition 4 kind t
+transitional_added kind t (inl e) = (Transitional, (omega arith, e))
+transitional_added kind t (inr h) = same_added kind t h
 
 parts_3 : (kind : Kind) (t : List ℕ) (a : Addition) → IsAddition 3 kind t a → (t ≡ codes "weak") ⊎ IsSomeAddition 4 kind t
 parts_3 kind t (Target name) h = absurd (omega (arith, h.0))
@@ -83,6 +103,8 @@ parts_3 kind t (Rights r) h = absurd (omega (arith, h.0))
 parts_3 kind t (Subdir s) h = absurd (omega (arith, h.0))
 parts_3 kind t Weak h = inl h.1
 parts_3 kind t Optional h = inr (Optional, (omega arith, h.1))
+parts_3 kind t Transitional h = inr (Transitional, (omega arith, h.1))
+parts_3 kind t SameAsTarget h = inr (SameAsTarget, (omega arith, h.1))
 parts_3 kind t Group h = inr (Group, h)
 
 parts_2 : (kind : Kind) (t : List ℕ) (a : Addition) → IsAddition 2 kind t a → IsSomeSubdirWord t ⊎ IsSomeAddition 3 kind t
@@ -91,6 +113,8 @@ parts_2 kind t (Rights r) h = absurd (omega (arith, h.0))
 parts_2 kind t (Subdir s) h = inl (s, h.2)
 parts_2 kind t Weak h = inr (Weak, (omega arith, h.1))
 parts_2 kind t Optional h = inr (Optional, (omega arith, h.1))
+parts_2 kind t Transitional h = inr (Transitional, (omega arith, h.1))
+parts_2 kind t SameAsTarget h = inr (SameAsTarget, (omega arith, h.1))
 parts_2 kind t Group h = inr (Group, h)
 
 parts_1 : (kind : Kind) (t : List ℕ) (a : Addition) → IsAddition 1 kind t a → IsSomeRightsWord t ⊎ IsSomeAddition 2 kind t
@@ -99,6 +123,8 @@ parts_1 kind t (Rights r) h = inl (r, h.2)
 parts_1 kind t (Subdir s) h = inr (Subdir s, (omega arith, h.1, h.2))
 parts_1 kind t Weak h = inr (Weak, (omega arith, h.1))
 parts_1 kind t Optional h = inr (Optional, (omega arith, h.1))
+parts_1 kind t Transitional h = inr (Transitional, (omega arith, h.1))
+parts_1 kind t SameAsTarget h = inr (SameAsTarget, (omega arith, h.1))
 parts_1 kind t Group h = inr (Group, h)
 
 parts_0 : (kind : Kind) (t : List ℕ) (a : Addition) → IsAddition 0 kind t a → IsSomeTargetWord t ⊎ IsSomeAddition 1 kind t
@@ -107,11 +133,21 @@ parts_0 kind t (Rights r) h = inr (Rights r, (omega arith, h.1, h.2))
 parts_0 kind t (Subdir s) h = inr (Subdir s, (omega arith, h.1, h.2))
 parts_0 kind t Weak h = inr (Weak, (omega arith, h.1))
 parts_0 kind t Optional h = inr (Optional, (omega arith, h.1))
+parts_0 kind t Transitional h = inr (Transitional, (omega arith, h.1))
+parts_0 kind t SameAsTarget h = inr (SameAsTarget, (omega arith, h.1))
 parts_0 kind t Group h = inr (Group, h)
 
-pub fault_4 : (kind : Kind) (w : List ℕ) (d e f : WordFault) → f ≡ either_fault d e → IsWordFault (λ t. t ≡ codes "optional") w d → IsWordFault (λ t. t ≡ codes "+") w e → IsWordFault (IsSomeAddition 4 kind) w f
+pub same_fault : (w : List ℕ) (d e f : WordFault) → f ≡ either_fault d e → IsWordFault (λ t. t ≡ codes "same_as_target") w d → IsWordFault (λ t. t ≡ codes "+") w e → IsWordFault IsSameOrGroup w f
+same_fault w d e f same g h =
+    fault_either {P = λ t. t ≡ codes "same_as_target"} {Q = λ t. t ≡ codes "+"} {R = IsSameOrGroup} w d e f (λ t p. inl p) (λ t q. inr q) (λ t r. r) same g h
+
+pub transitional_fault : (w : List ℕ) (d e f : WordFault) → f ≡ either_fault d e → IsWordFault (λ t. t ≡ codes "transitional") w d → IsWordFault IsSameOrGroup w e → IsWordFault IsTransitionalOr w f
+transitional_fault w d e f same g h =
+    fault_either {P = λ t. t ≡ codes "transitional"} {Q = IsSameOrGroup} {R = IsTransitionalOr} w d e f (λ t p. inl p) (λ t q. inr q) (λ t r. r) same g h
+
+pub fault_4 : (kind : Kind) (w : List ℕ) (d e f : WordFault) → f ≡ either_fault d e → IsWordFault (λ t. t ≡ codes "optional") w d → IsWordFault IsTransitionalOr w e → IsWordFault (IsSomeAddition 4 kind) w f
 fault_4 kind w d e f same g h =
-    fault_either {P = λ t. t ≡ codes "optional"} {Q = λ t. t ≡ codes "+"} {R = IsSomeAddition 4 kind} w d e f (λ t p. (Optional, (omega arith, p))) (λ t q. (Group, q)) (λ t r. parts_4 kind t r.0 r.1) same g h
+    fault_either {P = λ t. t ≡ codes "optional"} {Q = IsTransitionalOr} {R = IsSomeAddition 4 kind} w d e f (λ t p. (Optional, (omega arith, p))) (transitional_added kind) (λ t r. parts_4 kind t r.0 r.1) same g h
 
 pub fault_3 : (kind : Kind) (w : List ℕ) (d e f : WordFault) → f ≡ either_fault d e → IsWordFault (λ t. t ≡ codes "weak") w d → IsWordFault (IsSomeAddition 4 kind) w e → IsWordFault (IsSomeAddition 3 kind) w f
 fault_3 kind w d e f same g h =
@@ -137,6 +173,8 @@ protocol_3 n t (Rights r) some few h = absurd (cc h.1)
 protocol_3 n t (Subdir s) some few h = absurd (cc h.1)
 protocol_3 n t Weak some few h = (omega arith, h.1)
 protocol_3 n t Optional some few h = (omega arith, h.1)
+protocol_3 n t Transitional some few h = (omega arith, h.1)
+protocol_3 n t SameAsTarget some few h = (omega arith, h.1)
 protocol_3 n t Group some few h = h
 
 pub protocol_reads : (n : ℕ) (kind : Kind) (w : List ℕ) (r : Result Addition WordFault) → kind ≡ Protocol → 1 ≤ n → n ≤ 3 → MatchResult r (λ a. IsAddition 3 kind w a) (λ e. IsWordFault (IsSomeAddition 3 kind) w e) → MatchResult r (λ a. IsAddition n kind w a) (λ e. IsWordFault (IsSomeAddition n kind) w e)
@@ -152,6 +190,8 @@ parts_5 n kind t (Rights r) le h = absurd (omega (arith, h.0))
 parts_5 n kind t (Subdir s) le h = absurd (omega (arith, h.0))
 parts_5 n kind t Weak le h = absurd (omega (arith, h.0))
 parts_5 n kind t Optional le h = absurd (omega (arith, h.0))
+parts_5 n kind t Transitional le h = absurd (omega (arith, h.0))
+parts_5 n kind t SameAsTarget le h = absurd (omega (arith, h.0))
 parts_5 n kind t Group le h = h
 
 pub fault_5 : (n : ℕ) (kind : Kind) (w : List ℕ) (e : WordFault) → 5 ≤ n → IsWordFault (λ t. t ≡ codes "+") w e → IsWordFault (IsSomeAddition n kind) w e

@@ -15,6 +15,7 @@ pub mod NumberCounts
 pub mod OneScript
 pub mod PathCounts
 pub mod Pieces
+pub mod ReadCommands
 pub mod RightCounts
 pub mod ScriptSteps
 pub mod SpacelessWords

@@ -126,14 +126,14 @@ rights_one w r s h g =
     let same : Ok r ≡ Ok s = sym h ∙ g in
     cc same
 
--- the place of an addition in the order of what a group may add
+-- the place of an addition in the order of what a group may add, which its second byte tells
 abbrev order_of : Text → ℕ
 order_of w =
-    let b = get_or w 0 0 in
-    if b == 97 then 0
-    else if b == 114 then 1
-    else if b == 115 then 2
-    else if b == 119 then 3
+    let b = get_or w 1 0 in
+    if b == 115 then 0
+    else if b == 105 then 1
+    else if b == 117 then 2
+    else if b == 101 then 3
     else 4
 
 order_found : {m : ℕ} {w : Text} {g h : Give} → Adds m w g h → m ≡ order_of w
@@ -142,6 +142,8 @@ order_found (Adds.rights dir is) = refl
 order_found (Adds.subdir dir is) = refl
 order_found Adds.weak = refl
 order_found Adds.optional = refl
+order_found Adds.transitional = refl
+order_found Adds.same_as_target = refl
 
 abbrev rights_or_none : Result RightSet RightsFault → RightSet
 rights_or_none (Ok r) = r
@@ -150,12 +152,14 @@ rights_or_none (Err e) = no_rights
 -- what an addition makes of a give
 abbrev added_to : Text → Give → Give
 added_to w g =
-    let b = get_or w 0 0 in
-    if b == 97 then record g { target_name = drop 3 w }
-    else if b == 114 then record g { rights = Some (rights_or_none (rights_of (slice_split (λ b. b == 44) (drop 7 w)))) }
-    else if b == 115 then record g { subdir = Some (drop 7 w) }
-    else if b == 119 then record g { dependency = dependency.Weak }
-    else record g { availability = availability.Optional }
+    let b = get_or w 1 0 in
+    if b == 115 then record g { target_name = drop 3 w }
+    else if b == 105 then record g { rights = Some (rights_or_none (rights_of (slice_split (λ b. b == 44) (drop 7 w)))) }
+    else if b == 117 then record g { subdir = Some (drop 7 w) }
+    else if b == 101 then record g { dependency = dependency.Weak }
+    else if b == 112 then record g { availability = availability.Optional }
+    else if b == 114 then record g { availability = availability.Transitional }
+    else record g { availability = availability.SameAsTarget }
 
 added_found : {m : ℕ} {w : Text} {g h : Give} → Adds m w g h → h ≡ added_to w g
 added_found (Adds.target is) = refl
@@ -163,6 +167,8 @@ added_found {g = g} (Adds.rights dir is) = ap (λ r. record g { rights = Some (r
 added_found (Adds.subdir dir is) = refl
 added_found Adds.weak = refl
 added_found Adds.optional = refl
+added_found Adds.transitional = refl
+added_found Adds.same_as_target = refl
 
 -- `+` begins no addition
 no_plus : {m : ℕ} {w : Text} {g h : Give} → Adds m w g h → w ≡ codes "+" → ⊥
@@ -174,6 +180,8 @@ no_plus a e = true≢false (sym (ap (λ t. get_or t 0 0 == 43) e) ∙ not_plus a
     not_plus (Adds.subdir dir is) = refl
     not_plus Adds.weak = refl
     not_plus Adds.optional = refl
+    not_plus Adds.transitional = refl
+    not_plus Adds.same_as_target = refl
 
 -- ---- a word leads to one place
 
@@ -217,6 +225,8 @@ adds_lack (Adds.rights {w = w} {r = r} dir is) = lacks_front (codes "rights=") w
 adds_lack (Adds.subdir {w = w} dir is) = lacks_front (codes "subdir=") w (lacks_by 32 (codes "subdir=") refl) (subdir_lacks w is)
 adds_lack Adds.weak = lacks_by 32 (codes "weak") refl
 adds_lack Adds.optional = lacks_by 32 (codes "optional") refl
+adds_lack Adds.transitional = lacks_by 32 (codes "transitional") refl
+adds_lack Adds.same_as_target = lacks_by 32 (codes "same_as_target") refl
 
 steps_clean : (p : Place) (w : Text) (a : Place) → Steps p w a → Lacks 32 w
 steps_clean place.Start w a h = lacks_same w (verb_word h.0) h.1 (verb_lacks h.0)

@@ -15,7 +15,8 @@ use Rattle.cm_names.proofs.MonikerGrammar.{moniker_accepted}
 use Rattle.cm_world.specs.declared.event.Target.{Target}
 use Rattle.cm_world.specs.declared.event.Target.TheVariants.{Named, Inc}
 use Rattle.cm_command.specs.declared.tokens.WordFault.{WordFault}
-use Rattle.cm_command.specs.Counts.{CountsFronts, IsWordFault, either_fault}
+use Rattle.cm_command.specs.declared.tokens.WordFault.TheVariants.{Bad, Memory}
+use Rattle.cm_command.specs.Counts.{CountsFronts, IsWordFault, IsSureFault, either_fault}
 use Rattle.cm_command.specs.Numbers.{IsNumber}
 use Rattle.cm_command.specs.Words.{IsTargetText, IsIncarnation}
 use Rattle.cm_command.proofs.KindLemmas.{IsBehind, counts_limited, counts_longest, counts_whole, fault_either}
@@ -82,6 +83,11 @@ incarnation_rest t h = (h.1.0, (h.0, h.1.2, h.1.3), h.1.1)
 pub incarnation_behind : IsBehind (codes "@") IsNumber IsIncarnation
 incarnation_behind =
     record { rest = incarnation_rest; whole = λ x p. (p.0, (x, refl, p.1, p.2)); some = number_begins }
+
+-- a fault of a reader that takes no memory is one
+pub sure_fault : (w : List ℕ) (e : WordFault) → IsSureFault IsNumber w e → IsWordFault IsNumber w e
+sure_fault w (Bad n) h = h
+sure_fault w Memory h = absurd h
 
 target_parts : (t : List ℕ) (a : Target) → IsTargetText t a → IsIncarnation t ⊎ IsMonikerText t
 target_parts t (Named m) h = inr (m, h.0, h.1)

@@ -28,9 +28,6 @@ piece_whole k xs i e =
     let at : get_or xs i 0 ≡ k = eqb-true (get_or xs i 0) k found.1 in
     sym (take-append-drop i xs) ∙ ap (λ r. take i xs ++ r) (drop-cons xs i 0 found.0) ∙ ap (λ b. take i xs ++ b ∷ drop (suc i) xs) at ∙ ap (λ n. take i xs ++ k ∷ drop n xs) (sym (add-one i))
 
-pub fronted : (xs front : List ℕ) (n : ℕ) → take n xs ≡ front → xs ≡ front ++ drop n xs
-fronted xs front n e = sym (take-append-drop n xs) ∙ ap (λ t. t ++ drop n xs) e
-
 tail_lacks : (k b : ℕ) (bs : List ℕ) → Lacks k (b ∷ bs) → Lacks k bs
 tail_lacks k b bs h j d lt = h (suc j) d (omega arith)
 

@@ -78,10 +78,6 @@ pub array_not : (ls : List (Bor (List ℕ))) (w : List ℕ) (d : Bor (List ℕ))
 array_not ls w d i lt other never h =
     ⊎_elim never (λ e. other (sym e ∙ now_at ls i d lt)) (one_of_more (map now_of ls) i w (now_within ls i lt) h)
 
-pub array_none : (ls : List (Bor (List ℕ))) (w : List ℕ) (i : ℕ) → length ls ≤ i → map (λ l. l.now) ls ≡ right_words → (Contains (take i (map (λ l. l.now) ls)) w → ⊥) → Contains right_words w → ⊥
-array_none ls w i le e never h =
-    never (subst (λ xs. Contains xs w) (sym (all_now ls i le ∙ e)) h)
-
 pub array_is : (ls : List (Bor (List ℕ))) (w : List ℕ) (d : Bor (List ℕ)) (i : ℕ) → i < length ls → map (λ l. l.now) ls ≡ right_words → w ≡ (get_or ls i d).now → Contains right_words w
 array_is ls w d i lt e is =
     subst (Contains right_words) (now_at ls i d lt ∙ sym is) (subst (λ xs. Contains xs (get_or (map now_of ls) i [])) e (Contains-get_or (map now_of ls) i [] (now_within ls i lt)))

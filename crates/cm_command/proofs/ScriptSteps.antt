@@ -10,7 +10,7 @@ use Rattle.cm_command.specs.declared.script_reader.Draft.{Draft}
 use Rattle.cm_command.specs.declared.script_reader.LineFault.{LineFault as Refused}
 use Rattle.cm_command.specs.declared.script_reader.LineFault.TheVariants as refused
 use Rattle.cm_command.specs.Words.{IsUrlText}
-use Rattle.cm_command.specs.Grammar.{Text, IsCommandFault, BuiltinText, IsBuiltinFault}
+use Rattle.cm_command.specs.Grammar.{Text, BuiltinText, IsBuiltinFault}
 use Rattle.cm_command.specs.Scripts.{Takes, TakesInside, LineFault, IsLineFault, IsUrlFault, IsRepeated, fault_behind, place_of}
 
 pub none_of : {A : Type 0} (o : Option A) → is_none o ≡ true → o ≡ None
@@ -76,9 +76,3 @@ builtin_fault d w command_fault.Memory closed early h = tt
 pub builtin_place : (w : Text) (e : CommandFault) → (e ≢ command_fault.Memory → IsBuiltinFault w e) → place_of e ≤ length w
 builtin_place w (command_fault.BadCommand at) h = let bad = h (λ same. absurd (cc same)) in bad.1.within
 builtin_place w command_fault.Memory h = omega arith
-
--- ---- lanes
-
-pub command_place : (w : Text) (e : CommandFault) → (e ≢ command_fault.Memory → IsCommandFault w e) → place_of e ≤ length w
-command_place w (command_fault.BadCommand at) h = let bad = h (λ same. absurd (cc same)) in bad.1.within
-command_place w command_fault.Memory h = omega arith

@@ -17,7 +17,6 @@ use Rattle.cm_command.specs.declared.addition.Addition.TheVariants as addition
 use Rattle.cm_command.specs.declared.command.Command.TheVariants as command
 use Rattle.cm_command.specs.declared.place.Verb.{Verb}
 use Rattle.cm_command.specs.declared.place.Verb.TheVariants as verb
-use Rattle.cm_command.specs.declared.place.Sentence.{Sentence}
 use Rattle.cm_command.specs.declared.place.Creation.{Creation}
 use Rattle.cm_command.specs.declared.place.Place.TheVariants as place
 use Rattle.cm_command.specs.declared.tokens.WordFault.{WordFault}
@@ -105,6 +104,14 @@ pub optional_adds : (c : Creation) (g : Give) (n : ℕ) (t : Text) → IsAdditio
 optional_adds c g n t h =
     inr (4, record g { availability = availability.Optional }, h.0, subst (λ x. Adds 4 x g (record g { availability = availability.Optional })) (sym h.1) Adds.optional, refl)
 
+pub transitional_adds : (c : Creation) (g : Give) (n : ℕ) (t : Text) → IsAddition n g.kind t addition.Transitional → Steps (place.Additions c g n) t (place.Additions c (record g { availability = availability.Transitional }) 5)
+transitional_adds c g n t h =
+    inr (4, record g { availability = availability.Transitional }, h.0, subst (λ x. Adds 4 x g (record g { availability = availability.Transitional })) (sym h.1) Adds.transitional, refl)
+
+pub same_adds : (c : Creation) (g : Give) (n : ℕ) (t : Text) → IsAddition n g.kind t addition.SameAsTarget → Steps (place.Additions c g n) t (place.Additions c (record g { availability = availability.SameAsTarget }) 5)
+same_adds c g n t h =
+    inr (4, record g { availability = availability.SameAsTarget }, h.0, subst (λ x. Adds 4 x g (record g { availability = availability.SameAsTarget })) (sym h.1) Adds.same_as_target, refl)
+
 adds : (c : Creation) (g : Give) (n : ℕ) (t : Text) (a : Addition) → IsAddition n g.kind t a → Wants Steps (place.Additions c g n) t
 adds c g n t (addition.Target name) h = (place.Additions c (record g { target_name = name }) 1, target_adds c g n t name h)
 adds c g n t (addition.Rights r) h = (place.Additions c (record g { rights = Some r }) 2, rights_add c g n t r h)
@@ -112,6 +119,10 @@ adds c g n t (addition.Subdir s) h = (place.Additions c (record g { subdir = Som
 adds c g n t addition.Weak h = (place.Additions c (record g { dependency = dependency.Weak }) 4, weak_adds c g n t h)
 adds c g n t addition.Optional h =
     (place.Additions c (record g { availability = availability.Optional }) 5, optional_adds c g n t h)
+adds c g n t addition.Transitional h =
+    (place.Additions c (record g { availability = availability.Transitional }) 5, transitional_adds c g n t h)
+adds c g n t addition.SameAsTarget h =
+    (place.Additions c (record g { availability = availability.SameAsTarget }) 5, same_adds c g n t h)
 adds c g n t addition.Group h = (place.GroupKind (with_give c g), inl (h, refl))
 
 is_added : {m : ℕ} {t : Text} {g h : Give} → Adds m t g h → (n : ℕ) → n ≤ m → IsSomeAddition n g.kind t
@@ -120,6 +131,8 @@ is_added (Adds.rights {w = w} {r = r} dir is) n le = (addition.Rights r, (le, di
 is_added (Adds.subdir {w = w} dir is) n le = (addition.Subdir w, (le, dir, (is, refl)))
 is_added Adds.weak n le = (addition.Weak, (le, refl))
 is_added Adds.optional n le = (addition.Optional, (le, refl))
+is_added Adds.transitional n le = (addition.Transitional, (le, refl))
+is_added Adds.same_as_target n le = (addition.SameAsTarget, (le, refl))
 
 wants_addition : (c : Creation) (g : Give) (n : ℕ) (t : Text) → Wants Steps (place.Additions c g n) t → IsSomeAddition n g.kind t
 wants_addition c g n t (p, inl h) = (addition.Group, h.0)
@@ -144,10 +157,6 @@ builtin_path_fault name w e =
 pub builtin_rights_fault : (name path w : Text) (e : WordFault) → IsWordFault (λ t. (r : RightSet) × IsRightsText t r) w e → IsWordFault (Wants Steps (place.BuiltinRights name path)) w e
 builtin_rights_fault name path w e =
     fault_same {P = λ t. (r : RightSet) × IsRightsText t r} {Q = Wants Steps (place.BuiltinRights name path)} w e (λ t r. (provides (directory_of name path r.0), (r.0, r.1, refl))) (λ t s. (s.1.0, s.1.1))
-
--- behind a whole line no word leads on
-pub whole_fault : (s : Sentence) (w : Text) → IsWordFault (Wants Steps (place.Whole s)) w (Bad 0)
-whole_fault s w = ((λ h. h.1), counts_none w (λ t h. h.1))
 
 -- ---- verbs and kinds
 

@@ -1,8 +1,7 @@
 -- The words of a command, put together.
-use Rattle.std.proofs.Common.{◌≡◌, ℕ, ◌+◌, ◌<◌, List, [], ◌∷◌, ◌++◌, length, take, get_or, codes, sym, ap, ◌∙◌, append_assoc, append-nil}
+use Rattle.std.proofs.Common.{◌≡◌, List, [], ◌∷◌, ◌++◌, codes, sym, ap, ◌∙◌, append_assoc, append-nil}
 use Rattle.std.specs.List.{join_with_byte, flat_map}
 use Rattle.std.proofs.lemmas.Grind.{flat_map-append}
-use Rattle.std.proofs.lemmas.List.{take_more}
 use Rattle.cm_decl.specs.declared.rows.Give.{Give}
 use Rattle.cm_decl.specs.Words.{kind_word}
 use Rattle.cm_command.specs.Grammar.{Text}
@@ -20,22 +19,6 @@ parts_are g =
 
 pub give_is : (g : Give) (old a b d e f h i : Text) → a ≡ (old ++ codes " ") ++ codes "+" → b ≡ (a ++ codes " ") ++ kind_word g.kind → d ≡ (b ++ codes " ") ++ g.source_name → e ≡ (d ++ codes " ") ++ origin_text g.from → f ≡ e ++ flat_map spaced (target_word g) → h ≡ (f ++ flat_map spaced (rights_word g.rights)) ++ flat_map spaced (subdir_word g.subdir) → i ≡ (h ++ flat_map spaced (dependency_word g.dependency)) ++ flat_map spaced (availability_word g.availability) → i ≡ old ++ flat_map spaced (give_words g)
 give_is g old a b d e f h i ea eb ed ee ef eh ei = rw (parts_are g, ei, eh, ef, ee, ed, eb, ea) (simp append_assoc)
-
--- one group more
-pub gives_more : (gs : List Give) (i : ℕ) (g : Give) (start t u : Text) → i < length gs → g ≡ get_or gs i g → t ≡ start ++ flat_map spaced (flat_map give_words (take i gs)) → u ≡ t ++ flat_map spaced (give_words g) → u ≡ start ++ flat_map spaced (flat_map give_words (take (i + 1) gs))
-gives_more gs i g start t u lt at e f =
-    f ∙ ap (λ x. x ++ flat_map spaced (give_words g)) e ∙ append_assoc start _ _ ∙ ap (λ x. start ++ x) (sym (flat_map-append spaced (flat_map give_words (take i gs)) (give_words g)) ∙ ap (flat_map spaced) (sym (whole gs i g lt at)))
-  where
-    whole : (gs : List Give) (i : ℕ) (g : Give) → i < length gs → g ≡ get_or gs i g → flat_map give_words (take (i + 1) gs) ≡ flat_map give_words (take i gs) ++ give_words g
-    whole gs i g lt at =
-        ap (flat_map give_words) (take_more gs i g lt) ∙ flat_map-append give_words (take i gs) (get_or gs i g ∷ []) ∙ ap (λ x. flat_map give_words (take i gs) ++ x) (append-nil (give_words (get_or gs i g)) ∙ ap give_words (sym at))
-
--- a verb, a target and one word
-pub word_is : (verb target word old t : Text) → old ≡ (verb ++ codes " ") ++ target → t ≡ (old ++ codes " ") ++ word → t ≡ (((verb ++ codes " ") ++ target) ++ codes " ") ++ word
-word_is verb target word old t e f = f ∙ ap (λ x. (x ++ codes " ") ++ word) e
-
-pub three_words : (verb target word t : Text) → t ≡ (((verb ++ codes " ") ++ target) ++ codes " ") ++ word → t ≡ verb ++ 32 ∷ (target ++ 32 ∷ word)
-three_words verb target word t e = e ∙ simp append_assoc
 
 pub create_is : (target coll name url t a b c : Text) (ws : List Text) → t ≡ (((codes "create" ++ codes " ") ++ target) ++ codes " ") ++ coll → a ≡ (t ++ codes " ") ++ name → b ≡ (a ++ codes " ") ++ url → c ≡ b ++ flat_map spaced ws → c ≡ join_with_byte 32 (codes "create" ∷ target ∷ coll ∷ name ∷ url ∷ ws)
 create_is target coll name url t a b c ws et ea eb ec =

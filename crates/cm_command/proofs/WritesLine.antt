@@ -75,6 +75,8 @@ give_of k n o t r s d a =
 with_availability : (m : ℕ) → m ≤ 4 → (k : Kind) (n : Text) (o : Origin) (t : Text) (r : Option RightSet) (s : Option Text) (d : Dependency) (a : Availability) (ws : List Text) (gs : List Give) → Groups ws gs → Behind m (give_of k n o t r s d availability.Required) (availability_word a ++ ws) (give_of k n o t r s d a ∷ gs)
 with_availability m le k n o t r s d availability.Required ws gs h = Behind.whole h
 with_availability m le k n o t r s d availability.Optional ws gs h = Behind.addition le Adds.optional (Behind.whole h)
+with_availability m le k n o t r s d availability.Transitional ws gs h = Behind.addition le Adds.transitional (Behind.whole h)
+with_availability m le k n o t r s d availability.SameAsTarget ws gs h = Behind.addition le Adds.same_as_target (Behind.whole h)
 
 with_dependency : (m : ℕ) → m ≤ 3 → (k : Kind) (n : Text) (o : Origin) (t : Text) (r : Option RightSet) (s : Option Text) (d : Dependency) (a : Availability) (ws : List Text) (gs : List Give) → Groups ws gs → Behind m (give_of k n o t r s dependency.Strong availability.Required) (dependency_word d ++ (availability_word a ++ ws)) (give_of k n o t r s d a ∷ gs)
 with_dependency m le k n o t r s dependency.Strong a ws gs h = with_availability m (omega arith) k n o t r s dependency.Strong a ws gs h
@@ -136,6 +138,8 @@ dependency_word_lacks dependency.Weak = (lacks_by 32 (codes "weak") refl, tt)
 availability_word_lacks : (a : Availability) → AllLack 32 (availability_word a)
 availability_word_lacks availability.Required = tt
 availability_word_lacks availability.Optional = (lacks_by 32 (codes "optional") refl, tt)
+availability_word_lacks availability.Transitional = (lacks_by 32 (codes "transitional") refl, tt)
+availability_word_lacks availability.SameAsTarget = (lacks_by 32 (codes "same_as_target") refl, tt)
 
 give_lacks : (g : Give) → IsGive g → AllLack 32 (give_words g)
 give_lacks g h =

@@ -7,7 +7,7 @@ use Rattle.cm_decl.specs.declared.kind.Kind.{Kind}
 use Rattle.cm_decl.specs.declared.kind.Kind.TheVariants.{Directory}
 use Rattle.cm_command.specs.declared.addition.Addition.{Addition}
 use Rattle.cm_command.specs.declared.addition.Addition.TheVariants.{Target, Rights, Subdir, Weak, Optional}
-use Rattle.cm_command.specs.declared.addition.Addition.TheVariants.{Group}
+use Rattle.cm_command.specs.declared.addition.Addition.TheVariants.{Transitional, SameAsTarget, Group}
 use Rattle.cm_command.specs.Words.{IsRightsText}
 
 -- `as=` and the name
@@ -29,6 +29,8 @@ IsAddition n kind t (Rights r) = (n ≤ 1) × (kind ≡ Directory) × IsRightsWo
 IsAddition n kind t (Subdir s) = (n ≤ 2) × (kind ≡ Directory) × IsSubdirWord t s
 IsAddition n kind t Weak = (n ≤ 3) × (t ≡ codes "weak")
 IsAddition n kind t Optional = (n ≤ 4) × (t ≡ codes "optional")
+IsAddition n kind t Transitional = (n ≤ 4) × (t ≡ codes "transitional")
+IsAddition n kind t SameAsTarget = (n ≤ 4) × (t ≡ codes "same_as_target")
 IsAddition n kind t Group = t ≡ codes "+"
 
 -- the word is some addition of those

@@ -15,6 +15,11 @@ abbrev pub IsWordFault : (List ℕ → Type 0) → List ℕ → WordFault → Ty
 IsWordFault P t (Bad n) = (P t → ⊥) × CountsFronts P t n
 IsWordFault P t Memory = Unit {0}
 
+-- the same of a reader that takes no memory
+abbrev pub IsSureFault : (List ℕ → Type 0) → List ℕ → WordFault → Type 0
+IsSureFault P t (Bad n) = (P t → ⊥) × CountsFronts P t n
+IsSureFault P t Memory = ⊥
+
 -- the fault of a word behind so many bytes
 abbrev pub fault_behind : ℕ → WordFault → WordFault
 fault_behind len (Bad n) = Bad (len + n)

@@ -46,6 +46,10 @@ pub data Adds : ℕ → Text → Give → Give → Type 0 where
       → Adds 2 (codes "subdir=" ++ w) g (record g { subdir = Some w })
   weak : {g : Give} → Adds 3 (codes "weak") g (record g { dependency = dependency.Weak })
   optional : {g : Give} → Adds 4 (codes "optional") g (record g { availability = availability.Optional })
+  transitional : {g : Give}
+      → Adds 4 (codes "transitional") g (record g { availability = availability.Transitional })
+  same_as_target : {g : Give}
+      → Adds 4 (codes "same_as_target") g (record g { availability = availability.SameAsTarget })
 
 mutual
   -- groups, each of which begins with the word `+`

@@ -61,6 +61,8 @@ dependency_word dependency.Weak = codes "weak" ∷ []
 abbrev pub availability_word : Availability → List Text
 availability_word availability.Required = []
 availability_word availability.Optional = codes "optional" ∷ []
+availability_word availability.Transitional = codes "transitional" ∷ []
+availability_word availability.SameAsTarget = codes "same_as_target" ∷ []
 
 -- the words of a group
 abbrev pub give_words : Give → List Text
@@ -140,3 +142,7 @@ IsWritable (command.Exited a) = IsTarget a
 -- the line that such a command is written as asks for it
 abbrev pub WritesItsLine : Type 0
 WritesItsLine = (c : Command) → IsWritable c → CommandText (command_text c) c
+
+-- and what a line asks for is such a command, so that it can be written
+abbrev pub WhatIsReadIsWritable : Type 0
+WhatIsReadIsWritable = (t : Text) (c : Command) → CommandText t c → IsWritable c

@@ -3,7 +3,7 @@
 //! What can be added is what an offer can say in Fuchsia's component manifest reference
 //! (fuchsia.dev). The words, and their order, are this project's own choice.
 
-ghost use Rattle.std.specs.Prelude.{◌≡◌, ℕ, List as Seq, MatchResult};
+ghost use Rattle.std.specs.Prelude.{◌≡◌, ◌⊎◌, ℕ, codes, List as Seq, MatchResult};
 ghost use Rattle.cm_names.specs.Rights.{RightSet};
 ghost use Rattle.cm_command.specs.Additions.{IsAddition, IsRightsWord, IsSomeAddition, IsSubdirWord};
 ghost use Rattle.cm_command.specs.Additions.{IsTargetWord};
@@ -29,6 +29,10 @@ pub enum Addition {
     Weak,
     /// `optional`
     Optional,
+    /// `transitional`
+    Transitional,
+    /// `same_as_target`
+    SameAsTarget,
     /// `+`, which begins another group
     Group,
 }
@@ -87,15 +91,44 @@ fn read_subdir_word(alloc: Global, word: &[u8]) -> Result<SubDir, WordFault>
     }
 }
 
-/// `optional`, or what may stand behind it.
+/// `same_as_target`, or `+`.
+fn from_same(kind: Kind, word: &[u8]) -> Result<Addition, WordFault>
+    ensures { MatchResult result (λ addition. IsAddition 4 kind word.now addition)
+        (λ e. IsWordFault (λ t. (t ≡ codes "same_as_target") ⊎ (t ≡ codes "+")) word.now e) }
+{
+    match read_literal(word, "same_as_target") {
+        Ok(()) => Ok(Addition::SameAsTarget),
+        Err(fault) => match read_literal(word, "+") {
+            Ok(()) => Ok(Addition::Group),
+            Err(other) => Err(either(fault, other)),
+        },
+    }
+}
+
+/// `transitional` or `same_as_target`, or `+`.
+fn from_transitional(kind: Kind, word: &[u8]) -> Result<Addition, WordFault>
+    ensures { MatchResult result (λ addition. IsAddition 4 kind word.now addition)
+        (λ e. IsWordFault (λ t. (t ≡ codes "transitional") ⊎ ((t ≡ codes "same_as_target")
+        ⊎ (t ≡ codes "+"))) word.now e) }
+{
+    match read_literal(word, "transitional") {
+        Ok(()) => Ok(Addition::Transitional),
+        Err(fault) => match from_same(kind, word) {
+            Ok(addition) => Ok(addition),
+            Err(other) => Err(either(fault, other)),
+        },
+    }
+}
+
+/// `optional`, `transitional` or `same_as_target`, or what may stand behind it.
 fn from_optional(kind: Kind, word: &[u8]) -> Result<Addition, WordFault>
     ensures { MatchResult result (λ addition. IsAddition 4 kind word.now addition)
         (λ e. IsWordFault (IsSomeAddition 4 kind) word.now e) }
 {
     match read_literal(word, "optional") {
         Ok(()) => Ok(Addition::Optional),
-        Err(fault) => match read_literal(word, "+") {
-            Ok(()) => Ok(Addition::Group),
+        Err(fault) => match from_transitional(kind, word) {
+            Ok(addition) => Ok(addition),
             Err(other) => Err(either(fault, other)),
         },
     }
@@ -164,8 +197,9 @@ fn from_target(alloc: Global, kind: Kind, word: &[u8]) -> Result<Addition, WordF
 }
 
 /// The addition that the word is to a group of that kind, of those from that number on: 0 is `as=`,
-/// 1 `rights=`, 2 `subdir=`, 3 `weak` and 4 `optional`; rights and a subdirectory stand at
-/// directories alone. `+`, which begins another group, is read whatever the number is.
+/// 1 `rights=`, 2 `subdir=`, 3 `weak`, and 4 `optional`, `transitional` and `same_as_target`;
+/// rights and a subdirectory stand at directories alone. `+`, which begins another group, is read
+/// whatever the number is.
 ///
 /// `Err(Bad(n))` comes where the word is none of these, with the count of its fronts that one of
 /// them begins with. `Err(Memory)` comes where memory runs out.

@@ -3,7 +3,7 @@
 //! A [`Command`] is one call of the component manager. [`read_command`] reads the line that asks
 //! for it, and [`write_command`] writes that line. A [`Script`] is a whole text of such lines with
 //! the manifests, the builtin capabilities and the root that they work on; [`read_script`] reads
-//! it, or finds its first fault.
+//! it, or finds its first fault. [`read_number`] and [`read_moniker`] read single words of a line.
 //!
 //! The calls are those of the FIDL protocols `fuchsia.component.Realm` and
 //! `fuchsia.sys2.LifecycleController`, and what an offer of a created child can say is that of
@@ -40,4 +40,5 @@ pub use fault::{ScriptFault, ScriptNumber};
 pub use reader::read_command;
 pub use script::{Block, Line, Script};
 pub use script_reader::read_script;
+pub use tokens::{WordFault, read_moniker, read_number};
 pub use writer::write_command;

@@ -402,6 +402,14 @@ fn add(mut creation: Creation, mut give: Give, addition: Addition) -> Result<Pla
             give.availability = Availability::Optional;
             Ok(Place::Additions(creation, give, 5))
         }
+        Addition::Transitional => {
+            give.availability = Availability::Transitional;
+            Ok(Place::Additions(creation, give, 5))
+        }
+        Addition::SameAsTarget => {
+            give.availability = Availability::SameAsTarget;
+            Ok(Place::Additions(creation, give, 5))
+        }
     }
 }
 

@@ -20,7 +20,8 @@ ghost use Rattle.cm_names.specs.Moniker.{IsChild, IsChildText, IsMonikerText};
 ghost use Rattle.cm_names.specs.Child.{child_text};
 ghost use Rattle.cm_decl.specs.declared.origin.Origin.{Origin as OneOrigin};
 ghost use Rattle.cm_world.specs.declared.event.Target.{Target as OneTarget};
-ghost use Rattle.cm_command.specs.Counts.{CountsFronts, IsWordFault, Fits, fault_behind, either_fault};
+ghost use Rattle.cm_command.specs.Counts.{CountsFronts, IsWordFault, IsSureFault, Fits, fault_behind};
+ghost use Rattle.cm_command.specs.Counts.{either_fault};
 ghost use Rattle.cm_command.specs.Numbers.{is_digit, IsNumber, IsNumberText};
 ghost use Rattle.cm_command.specs.PathPlaces.{path_front};
 ghost use Rattle.cm_command.specs.Words as spec;
@@ -351,9 +352,12 @@ fn next_number(number: u64, byte: u8) -> Option<u64>
 }
 
 /// The number of 64 bits that the word is, in decimal digits without a needless zero in front.
-fn read_number(word: &[u8]) -> Result<u64, WordFault>
+///
+/// `Err(Bad(n))` comes where the word is no such number, with the count of its fronts that some
+/// number begins with. It takes no memory, so `Err(Memory)` never comes.
+pub fn read_number(word: &[u8]) -> Result<u64, WordFault>
     ensures { MatchResult result (λ n. IsNumberText word.now n)
-        (λ e. IsWordFault IsNumber word.now e) }
+        (λ e. IsSureFault IsNumber word.now e) }
 {
     let mut number: u64 = 0;
     for (i, byte) in word.iter().enumerate() {
@@ -404,7 +408,10 @@ fn moniker_fronts(word: &[u8]) -> Option<usize>
 }
 
 /// The moniker that the word is, of at most 4,096 bytes.
-fn read_moniker(alloc: Global, word: &[u8]) -> Result<Moniker, WordFault>
+///
+/// `Err(Bad(n))` comes where the word is no such moniker, with the count of its fronts that some
+/// moniker begins with. `Err(Memory)` comes where memory runs out.
+pub fn read_moniker(alloc: Global, word: &[u8]) -> Result<Moniker, WordFault>
     ensures { MatchResult result (λ moniker. IsTargetText word.now (Target.Named moniker))
         (λ e. IsWordFault IsMonikerText word.now e) }
 {

@@ -71,6 +71,7 @@ pub fn target_text(alloc: Global, target: &Target) -> Result<Text, Memory>
     }
 }
 
+/// The line of a verb and a target.
 fn with_target(alloc: Global, verb: &str, target: &Target) -> Result<Text, Memory>
     ensures { IfOk result (λ text. text ≡ verb.now ++ codes " " ++ spec.target_text target.now) }
 {
@@ -80,6 +81,7 @@ fn with_target(alloc: Global, verb: &str, target: &Target) -> Result<Text, Memor
     Ok(text)
 }
 
+/// The line of a verb, a target and one word.
 fn with_word(alloc: Global, verb: &str, target: &Target, word: &str) -> Result<Text, Memory>
     ensures { IfOk result
         (λ text. text
@@ -102,6 +104,7 @@ pub fn push_gives(alloc: Global, text: &mut Text, gives: &List<Give>) -> Result<
     Ok(())
 }
 
+/// The words of one group.
 fn push_give(alloc: Global, text: &mut Text, give: &Give) -> Result<(), Memory>
     ensures { OnOk result (text.new ≡ text.old ++ flat_map spec.spaced (spec.give_words give.now)) }
 {
@@ -139,6 +142,7 @@ fn origin_text(alloc: Global, origin: &Origin) -> Result<Text, Memory>
     }
 }
 
+/// The word of the name at the target, where it isn't that at the source.
 fn push_target(text: &mut Text, give: &Give) -> Result<(), Memory>
     ensures { OnOk result (text.new ≡ text.old ++ flat_map spec.spaced
         (spec.target_word give.now)) }
@@ -150,6 +154,7 @@ fn push_target(text: &mut Text, give: &Give) -> Result<(), Memory>
     Ok(())
 }
 
+/// The words of the rights and of the subdirectory, where they are stated.
 fn push_parts(alloc: Global, text: &mut Text, give: &Give) -> Result<(), Memory>
     ensures { OnOk result (text.new ≡ text.old ++ flat_map spec.spaced
         (spec.rights_word give.now.rights) ++ flat_map spec.spaced
@@ -167,22 +172,48 @@ fn push_parts(alloc: Global, text: &mut Text, give: &Give) -> Result<(), Memory>
     Ok(())
 }
 
+/// The words of the dependency and of the availability.
 fn push_words(text: &mut Text, give: &Give) -> Result<(), Memory>
     ensures { OnOk result (text.new ≡ text.old ++ flat_map spec.spaced
         (spec.dependency_word give.now.dependency) ++ flat_map spec.spaced
         (spec.availability_word give.now.availability)) }
 {
-    if give.dependency == Dependency::Weak {
-        text.push_str(" weak")?;
+    push_dependency(text, give.dependency)?;
+    push_availability(text, give.availability)
+}
+
+/// A space and the word of the dependency, or nothing where it is the default.
+fn push_dependency(text: &mut Text, dependency: Dependency) -> Result<(), Memory>
+    ensures { OnOk result (text.new ≡ text.old ++ flat_map spec.spaced
+        (spec.dependency_word dependency)) }
+{
+    match dependency {
+        Dependency::Strong => Ok(()),
+        Dependency::Weak => text.push_str(" weak"),
     }
-    if give.availability == Availability::Optional {
-        text.push_str(" optional")?;
+}
+
+/// A space and the word of the availability, or nothing where it is the default.
+fn push_availability(text: &mut Text, availability: Availability) -> Result<(), Memory>
+    ensures { OnOk result (text.new ≡ text.old ++ flat_map spec.spaced
+        (spec.availability_word availability)) }
+{
+    match availability {
+        Availability::Required => Ok(()),
+        Availability::Optional => text.push_str(" optional"),
+        Availability::Transitional => text.push_str(" transitional"),
+        Availability::SameAsTarget => text.push_str(" same_as_target"),
     }
-    Ok(())
 }
 
 /// Law: the line that a command in the grammar is written as asks for it. So what
 /// [`crate::read_command`] gives for it is the command, since a line asks for one at most.
 pub fn writes_its_line()
     ensures { spec.WritesItsLine }
+{}
+
+/// Law: what a line asks for is a command in the grammar. So whatever [`crate::read_command`] gives
+/// is written as a line that asks for it again.
+pub fn what_is_read_is_writable()
+    ensures { spec.WhatIsReadIsWritable }
 {}

@@ -1,5 +1,5 @@
 -- The parts of a caller's lines, and lines that are lost.
-use Rattle.std.proofs.Common.{◌≡◌, ℕ, ◌==◌, List, [], ◌∷◌, ◌++◌, All, map, flat_map, cond, Bool, true, false, Some, Result, Ok, Err, IsTrue, refl, sym, ap, ◌∙◌, subst, inl, inr, append-nil, append_assoc, suc, arith}
+use Rattle.std.proofs.Common.{◌≡◌, ℕ, ◌==◌, List, [], ◌∷◌, ◌++◌, All, map, flat_map, cond, Bool, true, false, Option, Some, None, Result, Ok, Err, IsTrue, refl, sym, ap, ◌∙◌, subst, inl, inr, append-nil, append_assoc, suc, arith}
 use Rattle.std.proofs.lemmas.List.Elements.{filter-append}
 use Rattle.cm_turn.specs.History.{StartsWith}
 use Rattle.cm_world.specs.declared.action.ActKind.{ActKind}
@@ -14,6 +14,7 @@ use Rattle.cm_world.specs.declared.event.Target.TheVariants as target
 use Rattle.cm_world.specs.declared.frame.Frame.{Frame}
 use Rattle.cm_world.specs.declared.reply.Entry.{Entry}
 use Rattle.cm_world.specs.declared.reply.Reply.{Reply}
+use Rattle.cm_world.specs.declared.reply.Reply.TheVariants as reply
 use Rattle.cm_world.specs.declared.report.SurveyRow.{SurveyRow}
 use Rattle.cm_world.specs.World.{start}
 use Rattle.cm_world.specs.Legal.{Legal}
@@ -22,12 +23,13 @@ use Rattle.cm_command.specs.declared.command.Command.TheVariants as command
 use Rattle.cm_command.specs.declared.script.Line.{Line}
 use Rattle.cm_manager.specs.declared.acted.Acted.{Acted}
 use Rattle.cm_manager.specs.Turns.{own_entries, Later}
-use Rattle.cm_manager.specs.Runs.{Acts, Tries, decided, needs, failed, cut_try, lost_try}
-use Rattle.cm_manager.specs.Calls.{Way, Finding, Behind, OnRow, Tried, ActedOn, Reaches, Calls, Goes}
+use Rattle.cm_manager.specs.Runs.{Acts, Tries, Onces, decided, needs, failed, cut_try, lost_try}
+use Rattle.cm_manager.specs.Calls.{Way, Finding, Behind, OnRow, Tried, Nothing, Then, TriedThen, OnceCreated, SweptLeft}
+use Rattle.cm_manager.specs.Calls.{ActedOn, Reaches, Calls, Goes}
 use Rattle.cm_manager.specs.Shutdowns.{Shuts, Destroys}
 use Rattle.cm_manager.specs.Doctor.{Checks, Each, OfPath, OfRow, Doctors}
 use Rattle.cm_manager.proofs.Joining.{starts-trans}
-use Rattle.cm_manager.proofs.Closing.{makes-own, cut-later, acts-close}
+use Rattle.cm_manager.proofs.Closing.{makes-own, cut-later, acts-close, sweeps_close}
 use Rattle.cm_manager.proofs.ShuttingDown.{shuts_close, destroys_close}
 use Rattle.cm_manager.specs.Done.{Done, rests, performs}
 use Rattle.cm_manager.specs.Done as done
@@ -61,6 +63,33 @@ on_row_grows f c t call a b r grows is = starts-trans a is.h₁ b (finding_grows
 tried_grows : (f : Frame) (c : ℕ) (e : ℕ → Event) → Growing (Tried f c e)
 tried_grows f c e i a b r is = tries_grow f c (e i) is.1
 
+-- and what follows from a reply
+
+nothing_grows : (a b : List Entry) (end : Option Refusal) → Nothing a b end → StartsWith b a
+nothing_grows a b end is = subst (λ (l : List Entry). StartsWith l a) (sym is.0) (starts_same a)
+
+abbrev Following : (ℕ → Reply → Way (Option Refusal)) → Type 0
+Following follow = (i : ℕ) (r : Reply) (a b : List Entry) (end : Option Refusal) → follow i r a b end → StartsWith b a
+
+onces_grow : (f : Frame) (c i : ℕ) {a b : List Entry} {end : Option Refusal} → Onces f c i a b end → StartsWith b a
+onces_grow f c i (Onces.not_once later is) = later.grows
+onces_grow f c i (Onces.once later is act) = starts-trans _ _ _ later.grows (acts-close f c act).grows
+
+created_grows : (f : Frame) (c : ℕ) → Following (OnceCreated f c)
+created_grows f c i (reply.Created j) a b end is = onces_grow f c j is
+created_grows f c i _ a b end is = nothing_grows a b end is
+
+left_grows : (f : Frame) (c : ℕ) → Following (SweptLeft f c)
+left_grows f c i (reply.Left m) a b end is = (sweeps_close f c i is).grows
+left_grows f c i _ a b end is = nothing_grows a b end is
+
+then_grows : (follow : ℕ → Reply → Way (Option Refusal)) (i : ℕ) (went : Result Reply Refusal) (a b : List Entry) (end : Option Refusal) → Following follow → Then (follow i) went a b end → StartsWith b a
+then_grows follow i (Ok r) a b end grows is = grows i r a b end is
+then_grows follow i (Err x) a b end grows is = nothing_grows a b end is
+
+tried_then_grows : (f : Frame) (c : ℕ) (e : ℕ → Event) (follow : ℕ → Reply → Way (Option Refusal)) → Following follow → Growing (TriedThen f c e follow)
+tried_then_grows f c e follow grows i a b r is = starts-trans a is.h₁ b (tries_grow f c (e i) is.tries) (then_grows follow i is.went is.h₁ b is.end grows is.follows)
+
 acted_grows : (f : Frame) (c : ℕ) (k : ActKind) (value : Result Acted Refusal → Result Answer Refusal) → Growing (ActedOn f c k value)
 acted_grows f c k value i a b r is = (acts-close f c is.1).grows
 
@@ -83,7 +112,7 @@ calls_grow f c (command.Resolve t) a b r is = on_row_grows f c t _ a b r (acted_
 calls_grow f c (command.Start t) a b r is = on_row_grows f c t _ a b r (acted_grows f c _ _) is
 calls_grow f c (command.Stop t) a b r is = on_row_grows f c t _ a b r (acted_grows f c _ _) is
 calls_grow f c (command.Shutdown t) a b r is = on_row_grows f c t _ a b r (λ i a b r is. (shuts_close f c false i is.1).grows) is
-calls_grow f c (command.Create t coll name url gives) a b r is = on_row_grows f c t _ a b r (tried_grows f c _) is
+calls_grow f c (command.Create t coll name url gives) a b r is = on_row_grows f c t _ a b r (tried_then_grows f c _ _ (created_grows f c)) is
 calls_grow f c (command.Destroy t) a b r is = on_row_grows f c t _ a b r (λ i a b r is. (destroys_close f c i is.1).grows) is
 calls_grow f c (command.ListChildren t coll) a b r is = on_row_grows f c t _ a b r (tried_grows f c _) is
 calls_grow f c (command.OpenUse t path) a b r is = on_row_grows f c t _ a b r (tried_grows f c _) is
@@ -92,7 +121,7 @@ calls_grow f c (command.RouteOf t path) a b r is = on_row_grows f c t _ a b r (t
 calls_grow f c (command.Doctor t) a b r is = on_row_grows f c t _ a b r (doctors_grow f c) is
 calls_grow f c (command.Show t) a b r is = on_row_grows f c t _ a b r (tried_grows f c _) is
 calls_grow f c (command.Survey t) a b r is = on_row_grows f c t _ a b r (tried_grows f c _) is
-calls_grow f c (command.Exited t) a b r is = on_row_grows f c t _ a b r (tried_grows f c _) is
+calls_grow f c (command.Exited t) a b r is = on_row_grows f c t _ a b r (tried_then_grows f c _ _ (left_grows f c)) is
 
 goes_grows : (f : Frame) (c : ℕ) (cmd : Command) (a b : List Entry) (r : Result Answer Refusal) → Goes f c cmd a b r → StartsWith b a
 goes_grows f c cmd a b r (inl is) = calls_grow f c cmd a b r is
@@ -147,6 +176,9 @@ on_row_lost f c (target.Named m) call h lost = record { row = Err refusal.Memory
 tried_lost : (f : Frame) (c : ℕ) (e : ℕ → Event) (h : List Entry) → Losing h (Tried f c e)
 tried_lost f c e h i = (Err refusal.Memory, tries_lost f c (e i) h, refl)
 
+tried_then_lost : (f : Frame) (c : ℕ) (e : ℕ → Event) (follow : ℕ → Reply → Way (Option Refusal)) (h : List Entry) → Losing h (TriedThen f c e follow)
+tried_then_lost f c e follow h i = record { went = Err refusal.Memory; h₁ = h; end = None; tries = tries_lost f c (e i) h; follows = (refl, refl); answer = refl }
+
 acted_lost : (f : Frame) (c : ℕ) (k : ActKind) (value : Result Acted Refusal → Result Answer Refusal) (h : List Entry) → Err refusal.Memory ≡ value (Err refusal.Memory) → Losing h (ActedOn f c k value)
 acted_lost f c k value h same i = (Err refusal.Memory, Acts.cut (no_later c h), same)
 
@@ -164,7 +196,7 @@ calls_lost f c (command.Resolve t) h = on_row_lost f c t _ h (acted_lost f c _ _
 calls_lost f c (command.Start t) h = on_row_lost f c t _ h (acted_lost f c _ _ h refl)
 calls_lost f c (command.Stop t) h = on_row_lost f c t _ h (acted_lost f c _ _ h refl)
 calls_lost f c (command.Shutdown t) h = on_row_lost f c t _ h (shut_lost f c h)
-calls_lost f c (command.Create t coll name url gives) h = on_row_lost f c t _ h (tried_lost f c _ h)
+calls_lost f c (command.Create t coll name url gives) h = on_row_lost f c t _ h (tried_then_lost f c _ _ h)
 calls_lost f c (command.Destroy t) h = on_row_lost f c t _ h (destroyed_lost f c h)
 calls_lost f c (command.ListChildren t coll) h = on_row_lost f c t _ h (tried_lost f c _ h)
 calls_lost f c (command.OpenUse t path) h = on_row_lost f c t _ h (tried_lost f c _ h)
@@ -173,7 +205,7 @@ calls_lost f c (command.RouteOf t path) h = on_row_lost f c t _ h (tried_lost f 
 calls_lost f c (command.Doctor t) h = on_row_lost f c t _ h (doctored_lost f c h)
 calls_lost f c (command.Show t) h = on_row_lost f c t _ h (tried_lost f c _ h)
 calls_lost f c (command.Survey t) h = on_row_lost f c t _ h (tried_lost f c _ h)
-calls_lost f c (command.Exited t) h = on_row_lost f c t _ h (tried_lost f c _ h)
+calls_lost f c (command.Exited t) h = on_row_lost f c t _ h (tried_then_lost f c _ _ h)
 
 follows_lost : (f : Frame) (c : ℕ) (lines : List Line) (h : List Entry) → Follows f c (answers_of c (map no_answer lines)) h h
 follows_lost f c [] h = done.Follows.rests (no_later c h)

@@ -6,7 +6,7 @@ use Rattle.cm_laws.proofs.actions.Outcomes.{outcomes_are_one}
 use Rattle.cm_laws.proofs.sound.Healthy.{trees_stay_sound}
 use Rattle.cm_laws.proofs.clients.First.{clients_stop_first}
 use Rattle.cm_laws.proofs.MarksLast.{marks_hold, done_stays_shut, goes_on}
-use Rattle.cm_laws.proofs.destroyed.Gone.{marked_are_destroyed, destroyed_stay_gone, leaves_gone}
+use Rattle.cm_laws.proofs.destroyed.Gone.{doomed_are_destroyed, destroyed_stay_gone, leaves_gone}
 
 pub histories_keep_laws : HistoriesKeepLaws
 histories_keep_laws f es legal = record {
@@ -16,7 +16,7 @@ histories_keep_laws f es legal = record {
   marks = marks_hold f es legal;
   done = done_stays_shut f es legal;
   goes_on = goes_on (λ f es i r legal. no_dead_end _ _ i r (trees_stay_sound f es legal)) f es legal;
-  doomed = λ i it. marked_are_destroyed f es i legal it;
+  doomed = λ i it. doomed_are_destroyed f es i legal it;
   destroyed = destroyed_stay_gone f es legal;
   left = leaves_gone f es legal;
   sound = trees_stay_sound f es legal;

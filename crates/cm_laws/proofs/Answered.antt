@@ -19,7 +19,7 @@ use Rattle.cm_world.specs.declared.route.Start.TheVariants.{UseAt, ExposeAt}
 use Rattle.cm_world.specs.declared.route.Walked.{Walked}
 use Rattle.cm_world.specs.declared.route.Walked.TheVariants as walked
 use Rattle.cm_world.specs.declared.event.Event.{Event}
-use Rattle.cm_world.specs.declared.event.Event.TheVariants.{Find, Begin, End, Await, Create, Mark, Pick, Purge, Route as RouteOf, OpenUse, OpenExposed, Listing, Show, Survey, Exited, Tail}
+use Rattle.cm_world.specs.declared.event.Event.TheVariants.{Find, Begin, End, Await, Create, Mark, Pick, Purge, Route as RouteOf, OpenUse, OpenExposed, Listing, Show, Survey, Exited, Tail, Reap}
 use Rattle.cm_world.specs.declared.reply.Reply.{Reply}
 use Rattle.cm_world.specs.declared.reply.Reply.TheVariants as reply
 use Rattle.cm_world.specs.Rows.{row_of, decl_of, child_of, is_gone, is_closed, is_resolved, is_on, is_live, has_closing}
@@ -212,6 +212,7 @@ plain_reply w caller (Show i) r plainly it =
 plain_reply w caller (Survey i) r plainly it = ap is_plain it ∙ if_passes is_plain (is_gone w.rows i) _ _ refl refl
 plain_reply w caller (Exited i) r plainly it = said_passes is_plain (exit_reply w.rows i) r (exit_plain w.rows i _ (row_of w.rows i)) it
 plain_reply w caller (Tail i from) r plainly it = ap is_plain it ∙ if_passes is_plain (is_gone w.rows i) _ _ refl refl
+plain_reply w caller (Reap i) r plainly it = ap is_plain it
 
 -- ---- openings
 

@@ -1,5 +1,6 @@
 -- What is marked to be shut down or destroyed stays so, and what is shut with all below it stays so.
 use Rattle.std.proofs.Common.{◌≡◌, ℕ, ◌+◌, ◌<◌, ◌≤◌, List, [], ◌∷◌, ◌++◌, Bool, true, false, cond, not, ◌&&◌, ◌||◌, true≢false, length, Option, Some, None, is_some, IsTrue, refl, sym, ◌∙◌, ap, subst, arith, inl, inr, ◌⊎◌}
+use Rattle.std.specs.Prelude.{Contains}
 use Rattle.std.specs.Option.{option_map_or}
 use Rattle.cm_decl.specs.declared.rows.Give.{Give}
 use Rattle.cm_world.specs.declared.frame.Frame.{Frame}
@@ -11,7 +12,7 @@ use Rattle.cm_world.specs.declared.action.Outcome.TheVariants as outcome
 use Rattle.cm_world.specs.declared.action.Finish.{Finish}
 use Rattle.cm_world.specs.declared.action.Finish.TheVariants as finish
 use Rattle.cm_world.specs.declared.event.Event.{Event}
-use Rattle.cm_world.specs.declared.event.Event.TheVariants.{Begin, End, Await, Create, Mark, Pick, Purge, Exited}
+use Rattle.cm_world.specs.declared.event.Event.TheVariants.{Begin, End, Await, Create, Mark, Pick, Purge, Exited, Reap}
 use Rattle.cm_world.specs.declared.reply.Reply.{Reply}
 use Rattle.cm_world.specs.declared.reply.Reply.TheVariants as reply
 use Rattle.cm_world.specs.declared.reply.Entry.{Entry}
@@ -21,7 +22,8 @@ use Rattle.cm_world.specs.End.{changed, set_pending, set_on, set_closing, set_do
 use Rattle.cm_world.specs.Create.{created_row}
 use Rattle.cm_world.specs.Marks.{is_dynamic, mark_reply}
 use Rattle.cm_world.specs.Step.{Allowed}
-use Rattle.cm_world.specs.After.{moved, after}
+use Rattle.cm_world.specs.Expiring.{expired, is_stopped, reaped}
+use Rattle.cm_world.specs.After.{with_end_of, moved, after}
 use Rattle.cm_world.specs.Legal.{IsStep, Legal, replay}
 use Rattle.cm_world.specs.Sound.{IsOrderly}
 use Rattle.cm_world.proofs.Finding.{none_some, some_same}
@@ -29,10 +31,12 @@ use Rattle.cm_world.proofs.Histories.{replay-append, Legal-split}
 use Rattle.cm_table.proofs.Rows.{Becomes, becomes_after, row_of-changed, lives_below}
 use Rattle.cm_order.proofs.Trees.{climb, and_pair, or_left, below_cases, below_lives, below_self, below_up, shut_each, shut_all}
 use Rattle.cm_laws.specs.Story.{Story, world_of, IsLegal, entry_of}
-use Rattle.cm_laws.specs.Shutdowns.{IsLeaving, IsDying, IsMarked, MarksMark, MarksStay, MarksHold, MarkedMayClose, IsOver, DoneIsOver, OverStays, OverMayPurge, DoneStaysShut, ShutdownsGoOn, GoesOn}
+use Rattle.cm_laws.specs.Shutdowns.{IsLeaving, IsDying, IsMarked, MarksMark, MarksStay, MarksHold, ReapsMarked, MarkedMayClose, IsOver, DoneIsOver, OverStays, OverMayPurge, DoneStaysShut, ShutdownsGoOn, GoesOn}
 use Rattle.cm_laws.proofs.actions.Beginners.{told_world}
 use Rattle.cm_laws.proofs.sound.Rows.{Lasts, Follows, follows_itself, follows_changed, follows_more, follows_left}
 use Rattle.cm_laws.proofs.sound.Growth.{created_new, kids_new}
+use Rattle.cm_laws.proofs.sound.Expiries.{follows_expired}
+use Rattle.cm_laws.proofs.sound.Reaps.{reaped_row}
 use Rattle.cm_laws.proofs.sound.Replies.{IsCreating, creating, marked_dynamic}
 use Rattle.cm_laws.proofs.sound.Marks.{IsLight, light_pending, light_on, light_end, light_lasts, closing_lasting, doomed_lasting, shut_lasting}
 use Rattle.cm_laws.proofs.sound.Healthy.{IsHealthy, IsUnder, Leads, leads_after, healthy_after, healthy_history}
@@ -75,9 +79,24 @@ module _ (w : World) where
       }
   ends a (finish.Resolved url d) o x = light _ x.inc (end_row o) refl (omega arith) (light_end o)
 
-  ends_by : (a : ℕ) (f : Finish) (o : Outcome) (x : Option Act) → Goes w (elim x as (λ _. World) [ None ↦ w | Some y ↦ record w { rows = rows_by y.inc w.next_inc f o w.rows; next_inc = w.next_inc + added_by f o; acts = ended a o w.acts } ])
+  -- rows expire
+  expires : (v : World) (i : ℕ) → Goes w v → Goes w (record v { rows = expired i v.rows })
+  expires v i g = record { follows = follows_expired v.rows i w.rows w.next_inc g.follows; higher = g.higher }
+
+  expires_if : (b : Bool) (v : World) (i : ℕ) → Goes w v → Goes w (record v { rows = cond b (expired i v.rows) v.rows })
+  expires_if true v i g = expires v i g
+  expires_if false v i g = record { follows = g.follows; higher = g.higher }
+
+  ends_by : (a : ℕ) (f : Finish) (o : Outcome) (x : Option Act) → Goes w (with_end_of w a f o x)
   ends_by a f o None = same w refl refl
-  ends_by a f o (Some x) = ends a f o x
+  ends_by a f o (Some x) =
+      expires_if (is_stopped o)
+      (record w { rows = rows_by x.inc w.next_inc f o w.rows; next_inc = w.next_inc + added_by f o; acts = ended a o w.acts })
+      x.inc (ends a f o x)
+
+  exits : (i : ℕ) → Goes w (record w { rows = expired i (changed i (set_on false) w.rows) })
+  exits i =
+      expires (record w { rows = changed i (set_on false) w.rows }) i (light _ i (set_on false) refl refl (light_on false))
 
   creates : (p : ℕ) (coll name url : List ℕ) (gives : List Give) (i : ℕ) → IsCreating w.rows w.next_inc p coll name gives i → Goes w (record w { rows = w.rows ++ created_row i p coll name url gives ∷ []; next_inc = w.next_inc + 1 })
   creates p coll name url gives i it =
@@ -104,7 +123,7 @@ module _ (w : World) where
   moves caller (Pick t) (reply.Stopping work) it = light _ work.inc (set_pending (Some (Stop, w.next_action))) refl refl (light_pending (Some (Stop, w.next_action)))
   moves caller (Pick t) (reply.ShutDown i) it = changes _ i set_shut refl refl (λ r. refl) shut_lasting
   moves caller (Purge i) (reply.Purged lost) it = record { follows = follows_left (λ j. not (is_below w.rows i j)) w.rows w.next_inc; higher = omega arith }
-  moves caller (Exited i) (reply.Left m) it = light _ i (set_on false) refl refl (light_on false)
+  moves caller (Exited i) (reply.Left m) it = exits i
   moves caller e r it = same w refl refl
 
 pub goes_after : (w : World) (e : Entry) → IsStep w e → Goes w (after w e)
@@ -252,6 +271,30 @@ marks_hold f es legal front mid rest e i doom whole marks said =
     subst (λ v. IsMarked doom v i) (sym (replay-append (start f) front (e ∷ mid)))
     (marks_stay (after w e) mid i doom (Legal-split (after w e) mid rest both.1.1).0
     (marked_by w e i doom (healthy_history f front both.0) both.1.0 marks said))
+
+-- ---- behind a reap
+
+reaping_in : Reply → List ℕ
+reaping_in (reply.Reaping incs) = incs
+reaping_in _ = []
+
+reaped_by : (rows : List Row) (i : ℕ) (incs : List ℕ) → reply.Reaping incs ≡ reply.Reaping (reaped rows i) → incs ≡ reaped rows i
+unfolding reaping_in
+reaped_by rows i incs e = ap reaping_in e
+
+-- what it names is marked before it
+reap_marked : (w : World) (i c : ℕ) (incs : List ℕ) → IsHealthy w → reply.Reaping incs ≡ reply.Reaping (reaped w.rows i) → Contains incs c → IsMarked true w c
+reap_marked w i c incs healthy said there =
+    let found : (r : Row) × (row_of w.rows c ≡ Some r) × (r.doomed ≡ true) = reaped_row w.rows w.next_inc healthy.sound.orderly i c (subst (λ xs. Contains xs c) (reaped_by w.rows i incs said) there) in
+    marked_row w true c found.0 healthy.sound.orderly found.1 (healthy.sound.doomed c found.0 found.1 found.2) (λ is. found.2)
+
+-- and stays so
+pub reaps_marked : ReapsMarked
+reaps_marked old new caller i c incs legal tells there =
+    let w : World = world_of old in
+    let e : Entry = entry_of caller (Reap i) (reply.Reaping incs) in
+    subst (λ v. IsMarked true v c) (sym (told_world old new caller (Reap i) (reply.Reaping incs) tells))
+    (marks_stay w (e ∷ []) c true (tells.step, tt) (reap_marked w i c incs (healthy_of old legal) tells.step.allowed there))
 
 -- ---- what is shut with all below it
 

@@ -25,7 +25,7 @@ use Rattle.cm_world.specs.Rows.{is_on, is_closed}
 use Rattle.cm_world.specs.World.{World, start}
 use Rattle.cm_world.specs.Stations.{Station}
 use Rattle.cm_world.specs.Next.{Next, To, Ends, Needs, FromVoid, NoChild, Misses, next_of}
-use Rattle.cm_world.specs.Route.{Named, First, NoUse, NoneExposed, named_by, IsRoute, IsDecided, IsWalkedFrom, trial_by, said_by, weak_availability, weak_rights, unless_fitting, unless_within, is_offer_or_expose, stated_before, is_use, first_rights, asked_rights, last_of, provider_of, route_of}
+use Rattle.cm_world.specs.Route.{Named, First, NoUse, NoneExposed, named_by, IsRoute, IsDecided, IsWalkedFrom, trial_by, said_by, weak_availability, weak_rights, unless_fitting, unless_within, is_offer_or_expose, standing, is_use, first_rights, asked_rights, last_of, provider_of, route_of}
 use Rattle.cm_world.specs.Openings.{unready, unopened, opened, opened_at, WalksUnless}
 use Rattle.cm_world.specs.Step.{Allowed}
 use Rattle.cm_world.specs.Legal.{replay}
@@ -96,7 +96,7 @@ gives_by : (front : List Station) (s : Station) (n : Next) (r : Route) → or_el
 gives_by front s n r e =
     let both : (weak_rights front s ≡ None) × (said_by front s n ≡ Some (Given r)) =
     third_gives (weak_availability front s) (weak_rights front s) (said_by front s n) r
-    (if_fails (is_offer_or_expose s.hop.step) _ (fitting_fails s.hop (stated_before front) s.hop.availability))
+    (if_fails (is_offer_or_expose s.hop.step) _ (fitting_fails s.hop (standing front) (standing (front ++ s ∷ []))))
     (within_fails s.hop (asked_rights (front ++ s ∷ [])) s.hop.rights) e in
     let said : (n ≡ Ends) × (r ≡ route_of front s) = said_gives front s n r both.1 in
     record { ends = said.0; within = both.0; is = said.1 }

@@ -5,5 +5,7 @@ pub mod Growth
 pub mod Purges
 pub mod Replies
 pub mod Marks
+pub mod Expiries
+pub mod Reaps
 pub mod Tasks
 pub mod Healthy

@@ -8,7 +8,7 @@ use Rattle.cm_world.specs.declared.route.Provider.TheVariants as provider
 use Rattle.cm_world.specs.declared.route.Route.{Route}
 use Rattle.cm_world.specs.declared.report.Lost.{Lost}
 use Rattle.cm_world.specs.declared.event.Event.{Event}
-use Rattle.cm_world.specs.declared.event.Event.TheVariants.{Begin, Create, Mark, Purge, Exited, Tail}
+use Rattle.cm_world.specs.declared.event.Event.TheVariants.{Begin, Create, Purge, Exited, Tail}
 use Rattle.cm_world.specs.declared.event.Event.TheVariants.{Route as RouteOf, OpenUse, OpenExposed}
 use Rattle.cm_world.specs.declared.event.Event.TheVariants.{Listing, Show, Survey}
 use Rattle.cm_world.specs.declared.reply.Reply.{Reply}
@@ -17,6 +17,7 @@ use Rattle.cm_world.specs.declared.reply.Entry.{Entry}
 use Rattle.cm_world.specs.Rows.{is_live, is_gone, is_below}
 use Rattle.cm_world.specs.Find.{found_from}
 use Rattle.cm_world.specs.World.{World, start}
+use Rattle.cm_world.specs.After.{dooms}
 use Rattle.cm_world.specs.Legal.{Legal, replay}
 use Rattle.cm_laws.specs.Lasting.{OfEachEntry}
 
@@ -71,6 +72,7 @@ named_in (reply.Shown look) = look.inc ∷ []
 named_in (reply.Surveyed rows) = map (λ r. r.inc) rows
 named_in (reply.Left moniker) = []
 named_in (reply.Tailed entries) = []
+named_in (reply.Reaping incs) = incs
 
 -- the instance that an event asks for something: for an action, a child, a route, an opening or a report
 abbrev pub asked_of : Event → Option ℕ
@@ -85,8 +87,9 @@ asked_of (Survey i) = Some i
 asked_of (Tail i from) = Some i
 asked_of _ = None
 
--- a reply to a pick or a purge, which takes an instance a step on towards its end
+-- a reply to a reap, a pick or a purge, which takes an instance a step on towards its end
 abbrev pub is_removing : Reply → Bool
+is_removing (reply.Reaping incs) = true
 is_removing (reply.Stopping work) = true
 is_removing (reply.ShutDown i) = true
 is_removing (reply.Purged lost) = true
@@ -94,20 +97,22 @@ is_removing _ = false
 
 -- ---- what was destroyed
 
--- one of these entries marked the row to be destroyed
-pub record IsDoomed (es : List Entry) (i : ℕ) : Type 0 where
+-- one of these entries doomed the row: it was marked to be destroyed, or it went with an instance that
+-- stopped
+pub record IsDoomed (f : Frame) (es : List Entry) (i : ℕ) : Type 0 where
+  pub front : List Entry
   pub entry : Entry
-  pub there : Contains es entry
-  pub marks : entry.event ≡ Mark true i
-  pub marked : entry.reply ≡ reply.Marked
+  pub rest : List Entry
+  pub whole : es ≡ front ++ entry ∷ rest
+  pub dooms : IsTrue (dooms (replay (start f) front) entry i)
 
--- at some time the row was at or below one that had been marked to be destroyed
+-- at some time the row was at or below one that had been doomed
 pub record IsDestroyed (f : Frame) (es : List Entry) (i : ℕ) : Type 0 where
   pub first : List Entry
   pub rest : List Entry
   pub whole : es ≡ first ++ rest
   pub top : ℕ
-  pub doomed : IsDoomed first top
+  pub doomed : IsDoomed f first top
   pub below : IsTrue (is_below (replay (start f) first).rows top i)
 
 -- one of these entries removed the row, as one of those at and below another
@@ -129,7 +134,7 @@ pub record IsShunned (w : World) (e : Entry) (i : ℕ) : Type 0 where
   pub asked : asked_of e.event ≡ Some i → e.reply ≡ reply.Gone i
   -- it isn't on a route that is opened, nor does it provide at the end
   pub provides : (r : Route) → e.reply ≡ reply.Opened r → Contains (incs_of_route r) i → ⊥
-  -- no other reply names it but one to a pick or a purge
+  -- no other reply names it but one to a reap, a pick or a purge
   pub named : Contains (named_in e.reply) i → (e.reply ≡ reply.Gone i) ⊎ IsTrue (is_removing e.reply)
 
 -- an entry treats a row as one that was there and is no more
@@ -160,10 +165,10 @@ pub record LeavesGone (f : Frame) (es : List Entry) : Type 0 where
 
 -- ---- the laws
 
--- a row that is marked to be destroyed is so from then on
-abbrev pub MarkedAreDestroyed : Type 0
-MarkedAreDestroyed =
-    (f : Frame) (es : List Entry) (i : ℕ) → Legal (start f) es → IsDoomed es i → IsDestroyed f es i
+-- a row that is doomed is destroyed from then on
+abbrev pub DoomedAreDestroyed : Type 0
+DoomedAreDestroyed =
+    (f : Frame) (es : List Entry) (i : ℕ) → Legal (start f) es → IsDoomed f es i → IsDestroyed f es i
 
 -- and what is destroyed stays gone
 abbrev pub DestroyedStayGone : Type 0

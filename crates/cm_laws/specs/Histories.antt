@@ -24,8 +24,8 @@ pub record KeepsLaws (f : Frame) (es : List Entry) : Type 0 where
   pub done : DoneStaysShut f es
   -- a shutdown never comes to a dead end
   pub goes_on : GoesOn f es
-  -- what is marked to be destroyed is destroyed, and what is destroyed stays gone
-  pub doomed : (i : ℕ) → IsDoomed es i → IsDestroyed f es i
+  -- what an entry dooms is destroyed, and what is destroyed stays gone
+  pub doomed : (i : ℕ) → IsDoomed f es i → IsDestroyed f es i
   pub destroyed : OfEachEntry (KeepsGone f) es
   -- and in the tree that is left what was destroyed is gone
   pub left : LeavesGone f es

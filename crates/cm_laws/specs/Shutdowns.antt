@@ -1,11 +1,12 @@
 -- What holds of trees in which instances are shut down and destroyed.
-use Rattle.std.specs.Prelude.{◌≡◌, ℕ, ◌<◌, List, ◌∷◌, ◌++◌, Bool, true, false, not, ◌||◌, Some, IsTrue, ◌⊎◌}
+use Rattle.std.specs.Prelude.{◌≡◌, ℕ, ◌<◌, List, ◌∷◌, ◌++◌, Contains, Bool, true, false, not, ◌||◌, Some}
+use Rattle.std.specs.Prelude.{IsTrue, ◌⊎◌}
 use Rattle.cm_world.specs.declared.frame.Frame.{Frame}
 use Rattle.cm_world.specs.declared.row.Row.{Row}
 use Rattle.cm_world.specs.declared.action.ActKind.TheVariants.{Stop}
 use Rattle.cm_world.specs.declared.action.Finish.{Finish}
 use Rattle.cm_world.specs.declared.action.Work.{Work}
-use Rattle.cm_world.specs.declared.event.Event.TheVariants.{Mark, Pick}
+use Rattle.cm_world.specs.declared.event.Event.TheVariants.{Mark, Pick, Reap}
 use Rattle.cm_world.specs.declared.reply.Reply.{Reply}
 use Rattle.cm_world.specs.declared.reply.Reply.TheVariants as reply
 use Rattle.cm_world.specs.declared.reply.Entry.{Entry}
@@ -59,6 +60,12 @@ MarksHold f es =
     (front mid rest : List Entry) (e : Entry) (i : ℕ) (doom : Bool) → es ≡ front ++ e ∷ (mid ++ rest)
     → e.event ≡ Mark doom i → (e.reply ≡ reply.Marked) ⊎ (e.reply ≡ reply.Already)
     → IsMarked doom (replay (start f) (front ++ e ∷ mid)) i
+
+-- what a reap names is marked to be destroyed
+abbrev pub ReapsMarked : Type 0
+ReapsMarked =
+    (old new : Story) (caller i c : ℕ) (incs : List ℕ) → IsLegal old
+    → Tells old new caller (Reap i) (reply.Reaping incs) → Contains incs c → IsMarked true (world_of new) c
 
 -- a pick may be made for it
 abbrev pub MarkedMayClose : Type 0

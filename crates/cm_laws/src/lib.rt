@@ -58,6 +58,11 @@ pub fn marks_stay()
     ensures closes { shutdowns.MarkedMayClose }
 {}
 
+/// What a reap names is marked to be destroyed.
+pub fn reaps_marked()
+    ensures { shutdowns.ReapsMarked }
+{}
+
 /// Once a shutdown is done, all at and below its target stays shut, and what is to be destroyed
 /// may be removed.
 pub fn shutdowns_last()
@@ -88,15 +93,15 @@ pub fn clients_stop_first()
     ensures first { clients.ClientsStopFirst }
 {}
 
-/// What was marked to be destroyed, and all that is below it at any time from then on, is gone
-/// in each later tree.
+/// What was doomed, since it was marked to be destroyed or went with an instance that stopped, and
+/// all that is below it at any time from then on, is gone in each later tree.
 ///
 /// Who asks it for an action, a child, a route, an opening or a report is told so, and gets
-/// nothing else. No route that is opened passes it or ends at it, and only a pick or a purge,
-/// which take it to its end, still name it in another reply. Once it is removed an exit of it is
-/// told so too, no reply names it but this one, and no row ever has its incarnation again.
+/// nothing else. No route that is opened passes it or ends at it, and only a reap, a pick or a
+/// purge, which take it to its end, still name it in another reply. Once it is removed an exit of
+/// it is told so too, no reply names it but this one, and no row ever has its incarnation again.
 pub fn the_destroyed_stay_gone()
-    ensures marked { destroying.MarkedAreDestroyed }
+    ensures doomed { destroying.DoomedAreDestroyed }
     ensures gone { destroying.DestroyedStayGone }
 {}
 

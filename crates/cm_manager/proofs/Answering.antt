@@ -27,13 +27,15 @@ use Rattle.cm_manager.specs.Asking.{frame_of}
 use Rattle.cm_manager.specs.Calls.{Behind, Calls, Finding, Goes, OnRow, Reaches, Way}
 use Rattle.cm_manager.specs.Contract.{GatesView, Performs, RealmPass}
 use Rattle.cm_manager.specs.Laws.{DestructionsRemove, IsRemoved, Leaves, LeavesSo, ShutdownsLeaveShut}
-use Rattle.cm_manager.specs.Shutdowns.{Destroys, Shuts, Stops}
+use Rattle.cm_manager.specs.Shutdowns.{Destroys, Shuts}
+use Rattle.cm_manager.specs.Sweeps.{Stops}
 use Rattle.cm_manager.specs.Turns.{world_after}
 use Rattle.cm_manager.specs.Work.{Shelf}
 use Rattle.cm_manager.proofs.Closing.{makes-own}
 use Rattle.cm_manager.proofs.Due.{leaving_stays, marked_stays}
 use Rattle.cm_manager.proofs.Joining.{starts-trans}
-use Rattle.cm_manager.proofs.ShuttingDown.{destroys_close, shuts_close, stops_close, unmarked_not}
+use Rattle.cm_manager.proofs.Closing.{stops_close}
+use Rattle.cm_manager.proofs.ShuttingDown.{destroys_close, shuts_close, unmarked_not}
 use Rattle.cm_manager.proofs.Standing.{last_step, told}
 
 -- ---- a row that is removed

@@ -20,6 +20,7 @@ use Rattle.cm_world.specs.Step.{MayEnd}
 use Rattle.cm_world.specs.Legal.{Legal}
 use Rattle.cm_laws.specs.Laws.{IsJoined}
 use Rattle.cm_manager.specs.Turns.{Makes, Asks, world_after}
+use Rattle.cm_world.specs.Expiring.{is_stopped}
 use Rattle.cm_manager.specs.Runs.{is_started}
 use Rattle.cm_manager.specs.Acting.{BeginsBy}
 use Rattle.cm_manager.specs.Asking.{Asked, Told, frame_of}
@@ -57,6 +58,27 @@ apart_end kind.Stop (finish.Resolved url d) limit rows next fits apart = full_or
 apart_end kind.Stop (finish.Other outcome.Started) limit rows next fits apart = absurd (cc fits)
 apart_end kind.Stop (finish.Other _) limit rows next fits apart = refl
 
+unstopped_or_not : (b : Bool) → IsFalse (is_stopped (if b then outcome.Resolved else outcome.Full))
+unstopped_or_not true = refl
+unstopped_or_not false = refl
+
+-- only a stop has stopped the row
+unstopped_end : (k : ActKind) (end : Finish) (limit : ℕ) (rows : List Row) (next : ℕ) → IsTrue (fits_kind k end) → k ≢ kind.Stop → IsFalse (is_stopped (outcome_by limit rows next end))
+unstopped_end kind.Stop end limit rows next fits apart = absurd (apart refl)
+unstopped_end k (finish.Resolved url d) limit rows next fits apart = unstopped_or_not (rows_fit limit rows next (length d.children))
+unstopped_end kind.Resolve (finish.Other outcome.Stopped) limit rows next fits apart = absurd (cc fits)
+unstopped_end kind.Resolve (finish.Other outcome.Killed) limit rows next fits apart = absurd (cc fits)
+unstopped_end kind.Resolve (finish.Other _) limit rows next fits apart = refl
+unstopped_end kind.Start (finish.Other outcome.Stopped) limit rows next fits apart = absurd (cc fits)
+unstopped_end kind.Start (finish.Other outcome.Killed) limit rows next fits apart = absurd (cc fits)
+unstopped_end kind.Start (finish.Other _) limit rows next fits apart = refl
+
+-- and a stop has
+stopped_end : (end : Finish) (limit : ℕ) (rows : List Row) (next : ℕ) → IsTrue (fits_kind kind.Stop end) → IsTrue (is_stopped (outcome_by limit rows next end))
+stopped_end (finish.Other outcome.Stopped) limit rows next fits = refl
+stopped_end (finish.Other outcome.Killed) limit rows next fits = refl
+stopped_end _ limit rows next fits = absurd (cc fits)
+
 same_outcome : (o p : Outcome) → reply.Ended o ≡ reply.Ended p → o ≡ p
 same_outcome o p e = cc e
 
@@ -66,6 +88,20 @@ apart_by f c a k end o old new legal makes fits apart =
     let by = outcome_by w.frame.limits.rows w.rows w.next_inc end in
     subst (λ (o : Outcome). IsFalse (is_started o)) (sym (same_outcome o by (last_step f c old (event.End a end) (reply.Ended o) new legal makes).allowed))
     (apart_end k end w.frame.limits.rows w.rows w.next_inc fits apart)
+
+-- what an end comes to has what its definition has
+ended_as : (P : Outcome → Type 0) (f : Frame) (c a : ℕ) (end : Finish) (o : Outcome) (old new : List Entry) → Legal (start f) new → (makes : Makes c old (event.End a end) (reply.Ended o) new) → P (outcome_by (world_after f makes.found).frame.limits.rows (world_after f makes.found).rows (world_after f makes.found).next_inc end) → P o
+ended_as P f c a end o old new legal makes it =
+    let w = world_after f makes.found in
+    subst P (sym (same_outcome o (outcome_by w.frame.limits.rows w.rows w.next_inc end) (last_step f c old (event.End a end) (reply.Ended o) new legal makes).allowed)) it
+
+unstopped_by : (f : Frame) (c a : ℕ) (k : ActKind) (end : Finish) (o : Outcome) (old new : List Entry) → Legal (start f) new → Makes c old (event.End a end) (reply.Ended o) new → IsTrue (fits_kind k end) → k ≢ kind.Stop → IsFalse (is_stopped o)
+unstopped_by f c a k end o old new legal makes fits apart =
+    ended_as (λ (o : Outcome). IsFalse (is_stopped o)) f c a end o old new legal makes (unstopped_end k end _ _ _ fits apart)
+
+stopped_by : (f : Frame) (c a : ℕ) (k : ActKind) (end : Finish) (o : Outcome) (old new : List Entry) → Legal (start f) new → Makes c old (event.End a end) (reply.Ended o) new → IsTrue (fits_kind k end) → k ≡ kind.Stop → IsTrue (is_stopped o)
+stopped_by f c a k end o old new legal makes fits is =
+    ended_as (λ (o : Outcome). IsTrue (is_stopped o)) f c a end o old new legal makes (stopped_end end _ _ _ (subst (λ (k : ActKind). IsTrue (fits_kind k end)) is fits))
 
 -- ---- the conditions of the second turn
 
@@ -100,6 +136,8 @@ begun_help shelf k i w end o eager p q r g h first asked did fits children secon
       action = refl;
       children = children;
       apart = apart_by f c w.action k end o q.seen r.seen last.legal makes fits.fitting;
+      unstopped = unstopped_by f c w.action k end o q.seen r.seen last.legal makes fits.fitting;
+      whole = stopped_by f c w.action k end o q.seen r.seen last.legal makes fits.fitting;
     })
     asked.1 told.mine did
 

@@ -13,7 +13,8 @@ use Rattle.cm_world.specs.declared.answer.Refusal.{Refusal}
 use Rattle.cm_world.specs.declared.answer.Refusal.TheVariants as refusal
 use Rattle.cm_turn.specs.History.{StartsWith}
 use Rattle.cm_manager.specs.Turns.{Later, Makes, IsCut, own_entries}
-use Rattle.cm_manager.specs.Runs.{Acts, ended, started, started_cut, joined, quiet, resolved_first, not_resolved, cut, lost, Eagers, all_done, next_one, cut_at, is_quiet}
+use Rattle.cm_manager.specs.Sweeps.{Stops, Removes, Clears, Sweeps}
+use Rattle.cm_manager.specs.Runs.{Acts, ended, started, started_cut, stopped, stopped_cut, joined, quiet, resolved_first, not_resolved, cut, lost, Eagers, all_done, next_one, cut_at, is_quiet}
 use Rattle.cm_manager.specs.Work.{begins}
 use Rattle.cm_manager.specs.Closed.{joins, IsClosed, empty, plain, acted, awaited, Grows}
 use Rattle.cm_manager.proofs.Joining.{starts-trans}
@@ -70,11 +71,38 @@ cut-later f c a b e refusal.Memory l = l
 cut-later f c a b e refusal.HistoryFull l = l.0
 cut-later f c a b e _ l = absurd l
 
+later-self : (c : ℕ) (h : List Entry) → Later c h h
+later-self c h = record { grows = ([], sym (append-nil h)); own = refl }
+
+-- each stop that was picked has its End
+pub stops_close : (f : Frame) (c t : ℕ) {a b : List Entry} {end : Option Refusal} → Stops f c t a b end → Grows c a b
+stops_close f c t (Stops.all_shut asks) = plain-grows c _ _ _ _ refl refl asks.made
+stops_close f c t (Stops.was_off asks rest) = grows-trans c _ _ _ (plain-grows c _ _ _ _ refl refl asks.made) (stops_close f c t rest)
+stops_close f c t (Stops.was_on asks makes rest) = grows-trans c _ _ _ (two c _ _ _ _ _ _ _ asks.made makes (acted refl refl empty)) (stops_close f c t rest)
+stops_close f c t (Stops.cut_pick {h₀ = a} {h₁ = b} {x = x} is) = later-grows c a b (cut-later f c a b (event.Pick t) x is)
+
+removes_close : (f : Frame) (c i : ℕ) {a b : List Entry} {end : Option Refusal} → Removes f c i a b end → Grows c a b
+removes_close f c i (Removes.removed stops asks) = grows-trans c _ _ _ (stops_close f c i stops) (plain-grows c _ _ _ _ refl refl asks.made)
+removes_close f c i (Removes.cut_remove {h₁ = a} {h₂ = b} {x = x} stops is) = grows-trans c _ _ _ (stops_close f c i stops) (later-grows c a b (cut-later f c a b (event.Purge i) x is))
+removes_close f c i (Removes.not_stopped stops) = stops_close f c i stops
+
+clears_close : (f : Frame) (c : ℕ) {is : List ℕ} {a b : List Entry} {end : Option Refusal} → Clears f c is a b end → Grows c a b
+clears_close f c (Clears.none_left {h = h}) = later-grows c h h (later-self c h)
+clears_close f c (Clears.next_row {i = i} first rest) = grows-trans c _ _ _ (removes_close f c i first) (clears_close f c rest)
+clears_close f c (Clears.cut_row {i = i} first) = removes_close f c i first
+
+-- and so has each of those that are removed
+pub sweeps_close : (f : Frame) (c i : ℕ) {a b : List Entry} {end : Option Refusal} → Sweeps f c i a b end → Grows c a b
+sweeps_close f c i (Sweeps.swept asks rest) = grows-trans c _ _ _ (plain-grows c _ _ _ _ refl refl asks.made) (clears_close f c rest)
+sweeps_close f c i (Sweeps.cut_reap {h₀ = a} {h₁ = b} {x = x} is) = later-grows c a b (cut-later f c a b (event.Reap i) x is)
+
 mutual
   pub acts-close : (f : Frame) (c : ℕ) {k : ActKind} {i : ℕ} {a b : List Entry} {end : Result Acted Refusal} → Acts f c k i a b end → Grows c a b
   acts-close f c (ended asks makes other) = two c _ _ _ _ _ _ _ asks.made makes (acted refl refl empty)
   acts-close f c (started asks makes eagers) = grows-trans c _ _ _ (two c _ _ _ _ _ _ _ asks.made makes (acted refl refl empty)) (eagers-close f c eagers)
   acts-close f c (started_cut asks makes eagers) = grows-trans c _ _ _ (two c _ _ _ _ _ _ _ asks.made makes (acted refl refl empty)) (eagers-close f c eagers)
+  acts-close f c (stopped {i = i} asks makes is sweeps) = grows-trans c _ _ _ (two c _ _ _ _ _ _ _ asks.made makes (acted refl refl empty)) (sweeps_close f c i sweeps)
+  acts-close f c (stopped_cut {i = i} asks makes is sweeps) = grows-trans c _ _ _ (two c _ _ _ _ _ _ _ asks.made makes (acted refl refl empty)) (sweeps_close f c i sweeps)
   acts-close f c (joined asks makes) = two c _ _ _ _ _ _ _ asks.made makes (awaited refl refl empty)
   acts-close f c (quiet {k = k} {i = i} {r = r} asks q) = plain-grows c _ _ _ _ (quiet-begins k i r q).0 (quiet-begins k i r q).1 asks.made
   acts-close f c (resolved_first asks first fine again) = grows-trans c _ _ _ (plain-grows c _ _ _ _ refl refl asks.made) (grows-trans c _ _ _ (acts-close f c first) (acts-close f c again))
@@ -83,6 +111,6 @@ mutual
   acts-close f c (lost way) = acts-close f c way
 
   pub eagers-close : (f : Frame) (c : ℕ) {es : List ℕ} {a b : List Entry} {end : Option Refusal} → Eagers f c es a b end → Grows c a b
-  eagers-close f c (all_done {h = h}) = later-grows c h h (record { grows = ([], sym (append-nil h)); own = refl })
+  eagers-close f c (all_done {h = h}) = later-grows c h h (later-self c h)
   eagers-close f c (next_one act fine rest) = grows-trans c _ _ _ (acts-close f c act) (eagers-close f c rest)
   eagers-close f c (cut_at act is) = acts-close f c act

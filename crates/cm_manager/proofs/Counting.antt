@@ -11,7 +11,7 @@ use Rattle.cm_world.specs.declared.reply.Reply.{Reply}
 use Rattle.cm_gate.specs.declared.asked.Asked.{Asked}
 use Rattle.cm_gate.specs.Logs.{Grew, RoseBy}
 use Rattle.cm_gate.proofs.Logs.{rose_nothing, rose_trans}
-use Rattle.cm_manager.specs.Work.{begins, Shelf, Counts, IsEndOf, Works, nothing, passes, ends, is_end, is_gate_failure, tells_failure, failures, WorksWith}
+use Rattle.cm_manager.specs.Work.{begins, Shelf, Counts, Works, nothing, passes, ends, is_end, is_gate_failure, tells_failure, failures, WorksWith}
 
 failures_of : Bool → ℕ
 failures_of true = 1

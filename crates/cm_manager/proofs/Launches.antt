@@ -1,5 +1,5 @@
 -- What a start comes to by its begin, and behind it.
-use Rattle.std.proofs.Common.{◌≡◌, ◌≢◌, inl, inr, ℕ, List, [], ◌∷◌, ◌++◌, Bool, true, false, not, Option, Some, None, is_some, Result, Ok, Err, IsFalse, refl, sym, ap, subst, ◌∙◌, append-nil}
+use Rattle.std.proofs.Common.{◌≡◌, ◌≢◌, inl, inr, ℕ, List, [], ◌∷◌, ◌++◌, Bool, true, false, not, ◌||◌, Option, Some, None, is_some, Result, Ok, Err, IsFalse, refl, sym, ap, subst, ◌∙◌, append-nil}
 use Rattle.cm_world.specs.declared.action.ActKind.{ActKind}
 use Rattle.cm_world.specs.declared.action.ActKind.TheVariants as kind
 use Rattle.cm_world.specs.declared.action.Outcome.{Outcome}
@@ -10,8 +10,9 @@ use Rattle.cm_world.specs.declared.event.Event.TheVariants as event
 use Rattle.cm_world.specs.declared.frame.Frame.{Frame}
 use Rattle.cm_world.specs.declared.reply.Entry.{Entry}
 use Rattle.cm_world.specs.declared.reply.Reply.TheVariants as reply
+use Rattle.cm_world.specs.Expiring.{is_stopped}
 use Rattle.cm_manager.specs.Turns.{Later, Asks}
-use Rattle.cm_manager.specs.Runs.{Acts, Eagers, ends_call, failure, is_started}
+use Rattle.cm_manager.specs.Runs.{Acts, Eagers, ends_call, failure, is_started, is_followed}
 use Rattle.cm_manager.specs.Acting.{Ends, Joins, BeginsBy, StartsBy, is_well}
 use Rattle.cm_manager.specs.declared.acted.Acted.{Acted}
 use Rattle.cm_manager.specs.declared.acted.Acted.TheVariants as acted
@@ -26,7 +27,7 @@ use Rattle.cm_manager.proofs.Joining.{eagers-split}
 
 -- ---- one begin
 
-pub ended_acts : (f : Frame) (c : ℕ) (k : ActKind) (i n : ℕ) (o : Outcome) (eager : List ℕ) (a b : List Entry) → Ends f c k i n o eager a b → IsFalse (is_started o) → Acts f c k i a b (Ok (acted.Ended k n o))
+pub ended_acts : (f : Frame) (c : ℕ) (k : ActKind) (i n : ℕ) (o : Outcome) (eager : List ℕ) (a b : List Entry) → Ends f c k i n o eager a b → IsFalse (is_followed o) → Acts f c k i a b (Ok (acted.Ended k n o))
 ended_acts f c k i n o eager a b ends other =
     subst (λ (n : ℕ). Acts f c k i a b (Ok (acted.Ended k n o))) (sym ends.action) (Acts.ended {finish = ends.finish} ends.asks ends.makes other)
 
@@ -36,6 +37,17 @@ joined_acts f c k i n o a b joins = Acts.joined joins.asks joins.makes
 pub not_started : (o : Outcome) → o ≢ outcome.Started → IsFalse (is_started o)
 not_started outcome.Started other = absurd (other refl)
 not_started _ other = refl
+
+-- a resolve is neither a start nor a stop
+pub not_a_start : (k : ActKind) → k ≡ kind.Resolve → k ≢ kind.Start
+not_a_start k is e = absurd (cc (is, e))
+
+pub not_a_stop : (k : ActKind) → k ≡ kind.Resolve → k ≢ kind.Stop
+not_a_stop k is e = absurd (cc (is, e))
+
+-- nothing follows an end that neither starts a row nor has stopped it
+pub unfollowed : (o : Outcome) → IsFalse (is_started o) → IsFalse (is_stopped o) → IsFalse (is_followed o)
+unfollowed o started stopped = ap (λ (t : Bool). t || is_stopped o) started ∙ stopped
 
 -- who started a row itself goes on with its eager children
 pub children_start : (f : Frame) (c i n : ℕ) (eager : List ℕ) (a b : List Entry) → Ends f c kind.Start i n outcome.Started eager a b → StartsBy f c i (launch.Children n eager) a b

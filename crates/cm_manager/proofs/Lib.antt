@@ -22,3 +22,5 @@ pub mod Tryings
 pub mod Calling
 pub mod DoctorLines
 pub mod Keeping
+pub mod Sweepings
+pub mod Followings

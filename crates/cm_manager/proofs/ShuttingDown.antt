@@ -20,7 +20,8 @@ use Rattle.cm_laws.specs.Shutdowns.{IsLeaving, IsMarked, IsOver, MarksMark, Mark
 use Rattle.cm_laws.specs.Story.{IsLegal, world_of}
 use Rattle.cm_manager.specs.Turns.{Makes, Asks, IsCut, world_after}
 use Rattle.cm_manager.specs.Answers.{answer_unless}
-use Rattle.cm_manager.specs.Shutdowns.{unmarked, unmarked_by, Stops, Shuts, Destroys}
+use Rattle.cm_manager.specs.Shutdowns.{unmarked, unmarked_by, Shuts, Destroys}
+use Rattle.cm_manager.specs.Sweeps.{Stops}
 use Rattle.cm_manager.specs.Calls.{Reaches}
 use Rattle.cm_manager.specs.Acting.{PicksBy}
 use Rattle.cm_manager.specs.Asking.{Asked, Told, frame_of}
@@ -29,8 +30,8 @@ use Rattle.cm_manager.specs.Doing.{Did, Fits}
 use Rattle.cm_manager.specs.Work.{Shelf}
 use Rattle.cm_manager.specs.declared.began.Picked.{Picked}
 use Rattle.cm_manager.specs.declared.began.Picked.TheVariants as picked
-use Rattle.cm_manager.specs.Closed.{acted, empty, Grows}
-use Rattle.cm_manager.proofs.Closing.{cut-later, grows-trans, later-grows, plain-grows, two}
+use Rattle.cm_manager.specs.Closed.{Grows}
+use Rattle.cm_manager.proofs.Closing.{cut-later, grows-trans, later-grows, plain-grows, stops_close}
 use Rattle.cm_manager.proofs.Due.{leaving_stays, marked_stays}
 use Rattle.cm_manager.proofs.Helping.{helps_acted, helps_as, helps_nothing, helps_plain, helps_then}
 use Rattle.cm_manager.proofs.Onward.{Ways, Onward, onward_next, by_first, frame_kept}
@@ -207,11 +208,11 @@ ends_purge (Ok r) = None
 ends_purge (Err x) = Some x
 
 -- one turn with the removal, or the cut of it
-abbrev Purges : ℕ → Frame → ℕ → Result Reply Refusal → List Entry → List Entry → Type 0
+abbrev pub Purges : ℕ → Frame → ℕ → Result Reply Refusal → List Entry → List Entry → Type 0
 Purges i f c (Ok r) a b = Asks f c a (event.Purge i) r b
 Purges i f c (Err x) a b = IsCut f c a (event.Purge i) b x
 
-purge_help : (shelf : Shelf) (i : ℕ) (asked : Result Reply Refusal) (p q : RealmPass) (g : GatesView) → IsSamePass (frame_of p) p q → Asked (event.Purge i) p q asked → Helps shelf (frame_of p) (λ a b. Purges i (frame_of p) p.caller asked a b) p q g g
+pub purge_help : (shelf : Shelf) (i : ℕ) (asked : Result Reply Refusal) (p q : RealmPass) (g : GatesView) → IsSamePass (frame_of p) p q → Asked (event.Purge i) p q asked → Helps shelf (frame_of p) (λ a b. Purges i (frame_of p) p.caller asked a b) p q g g
 purge_help shelf i (Ok r) p q g same it = helps_plain shelf (frame_of p) (λ a b. Purges i (frame_of p) p.caller (Ok r) a b) p q g (event.Purge i) r refl refl refl same it.0 it.1
 purge_help shelf i (Err x) p q g same it = helps_nothing shelf (frame_of p) (λ a b. Purges i (frame_of p) p.caller (Err x) a b) p q g same it.0 it.1
 
@@ -235,13 +236,6 @@ reaches_on shelf Over made end p q g h a help is =
     helps_as shelf (frame_of p) (λ x y. Over (frame_of p) p.caller end x y) (λ x y. Reaches made (λ b d o. Over (frame_of p) p.caller o b d) x y a) p q g h (λ way. (end, way, is)) help
 
 -- ---- parts
-
--- each stop that was picked has its End
-pub stops_close : (f : Frame) (c t : ℕ) {a b : List Entry} {end : Option Refusal} → Stops f c t a b end → Grows c a b
-stops_close f c t (Stops.all_shut asks) = plain-grows c _ _ _ _ refl refl asks.made
-stops_close f c t (Stops.was_off asks rest) = grows-trans c _ _ _ (plain-grows c _ _ _ _ refl refl asks.made) (stops_close f c t rest)
-stops_close f c t (Stops.was_on asks makes rest) = grows-trans c _ _ _ (two c _ _ _ _ _ _ _ asks.made makes (acted refl refl empty)) (stops_close f c t rest)
-stops_close f c t (Stops.cut_pick {h₀ = a} {h₁ = b} {x = x} is) = later-grows c a b (cut-later f c a b (event.Pick t) x is)
 
 pub shuts_close : (f : Frame) (c : ℕ) (doom : Bool) (i : ℕ) {a b : List Entry} {end : Option Refusal} → Shuts f c doom i a b end → Grows c a b
 shuts_close f c doom i (Shuts.marked asks is rest) = grows-trans c _ _ _ (plain-grows c _ _ _ _ refl refl asks.made) (stops_close f c i rest)

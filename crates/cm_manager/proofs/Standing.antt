@@ -15,7 +15,7 @@ use Rattle.cm_world.specs.End.{fits_kind, HasValid}
 use Rattle.cm_world.specs.Step.{MayEnd}
 use Rattle.cm_world.specs.Legal.{Legal, IsStep, replay}
 use Rattle.cm_world.proofs.Histories.{Legal-split, replay-append}
-use Rattle.cm_laws.specs.Story.{Story, world_of, Tells, entry_of}
+use Rattle.cm_laws.specs.Story.{world_of, Tells, entry_of}
 use Rattle.cm_laws.specs.Laws.{IsJoined}
 use Rattle.cm_laws.proofs.actions.Beginners.{beginners_may_end, joiners_are_joined, others_leave_ends, others_leave_joins}
 use Rattle.cm_manager.specs.Turns.{world_after, own_entries, Later, Makes, Asks}

@@ -40,6 +40,7 @@ apart_of (event.Listing i coll) r asked plain = (refl, refl, refl)
 apart_of (event.Show i) r asked plain = (refl, refl, refl)
 apart_of (event.Survey i) r asked plain = (refl, refl, refl)
 apart_of (event.Exited i) r asked plain = (refl, refl, refl)
+apart_of (event.Reap i) r asked plain = (refl, refl, refl)
 apart_of _ r asked plain = absurd (cc asked)
 
 asked_help : (shelf : Shelf) (e : Event) (r : Reply) (p q : RealmPass) (g : GatesView) → IsTrue (is_asked e) → IsTrue (is_plain e) → IsSamePass (frame_of p) p q → Asked e p q (Ok r) → Helps shelf (frame_of p) (λ a b. Replying e r (frame_of p) p.caller a b) p q g g

@@ -1,5 +1,5 @@
 -- What a turn comes to, from what its step is.
-use Rattle.std.proofs.Common.{◌≡◌, ℕ, ◌<◌, ◌≤◌, List, [], ◌∷◌, ◌++◌, All, Option, Some, None, Result, Ok, Err, IfOk, IfErr, OnOk, OnErr, refl, sym, ap, subst, ◌∙◌, append-nil}
+use Rattle.std.proofs.Common.{◌≡◌, ℕ, ◌<◌, ◌≤◌, List, [], ◌∷◌, ◌++◌, All, Bool, Option, Some, None, Result, Ok, Err, IfOk, IfErr, OnOk, OnErr, refl, sym, ap, subst, ◌∙◌, append-nil}
 use Rattle.std.proofs.lemmas.List.Elements.{All-cons, All-nil}
 use Rattle.cm_turn.specs.History.{StartsWith}
 use Rattle.cm_turn.specs.Passes.{seen_up_to}
@@ -14,6 +14,7 @@ use Rattle.cm_world.specs.declared.reply.Entry.{Entry}
 use Rattle.cm_world.specs.declared.reply.Reply.{Reply}
 use Rattle.cm_world.specs.declared.reply.Reply.TheVariants as reply
 use Rattle.cm_world.specs.World.{start}
+use Rattle.cm_world.specs.Expiring.{runs_once}
 use Rattle.cm_world.specs.Step.{MayEnd}
 use Rattle.cm_world.specs.Legal.{Legal}
 use Rattle.cm_world.proofs.Histories.{Legal-push}
@@ -120,6 +121,13 @@ nothing_by p q s t is = (
   subst (Later p.caller p.seen) (sym (is.left.seen ∙ is.goes.entries ∙ append-nil s.entries)) (since_seen p s is.entered),
   grown p q s t [] is ∙ append-nil p.mine,
 )
+
+-- what such a turn reads of the tree is so in what the pass has seen then
+pub looked_by : (p q : RealmPass) (s t : Story) (i : ℕ) (once : Bool) → Took p q s t [] → once ≡ runs_once (world_of s).rows i → once ≡ runs_once (world_after (frame_of p) q.seen).rows i
+unfolding world_of
+looked_by p q s t i once is read =
+    subst (λ (f : Frame). once ≡ runs_once (world_after f q.seen).rows i) (sym (ap frame_in is.entered.frame))
+    (subst (λ (l : List Entry). once ≡ runs_once (world_after s.frame l).rows i) (sym (is.left.seen ∙ is.goes.entries ∙ append-nil s.entries)) read)
 
 -- ---- a turn
 

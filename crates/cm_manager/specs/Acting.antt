@@ -13,9 +13,10 @@ use Rattle.cm_world.specs.declared.reply.Entry.{Entry}
 use Rattle.cm_world.specs.declared.reply.Reply.{Reply}
 use Rattle.cm_world.specs.declared.reply.Reply.TheVariants as reply
 use Rattle.cm_world.specs.declared.answer.Refusal.{Refusal}
+use Rattle.cm_world.specs.Expiring.{is_stopped}
 use Rattle.cm_manager.specs.Turns.{Makes, Asks, IsCut}
 use Rattle.cm_manager.specs.Runs.{Acts, Eagers, is_quiet, is_started, needed, ends_call}
-use Rattle.cm_manager.specs.Shutdowns.{Stops}
+use Rattle.cm_manager.specs.Sweeps.{Stops}
 use Rattle.cm_manager.specs.declared.acted.Acted.{Acted}
 use Rattle.cm_manager.specs.declared.acted.Acted.TheVariants as acted
 use Rattle.cm_manager.specs.declared.began.Began.{Began}
@@ -27,7 +28,7 @@ use Rattle.cm_manager.specs.declared.began.Picked.TheVariants as picked
 use Rattle.cm_manager.specs.declared.began.Demand.{Demand}
 use Rattle.cm_manager.specs.declared.began.Demand.TheVariants as demand
 
--- it was begun and ended; only a start ends in Started
+-- it was begun and ended; only a start ends in Started, and only a stop has stopped the row
 pub record Ends (f : Frame) (c : ℕ) (k : ActKind) (i a : ℕ) (o : Outcome) (eager : List ℕ)
     (h₀ h₂ : List Entry) : Type 0 where
   pub work : Work
@@ -38,6 +39,8 @@ pub record Ends (f : Frame) (c : ℕ) (k : ActKind) (i a : ℕ) (o : Outcome) (e
   pub action : a ≡ work.action
   pub children : k ≡ kind.Start → eager ≡ work.eager
   pub apart : k ≢ kind.Start → IsFalse (is_started o)
+  pub unstopped : k ≢ kind.Stop → IsFalse (is_stopped o)
+  pub whole : k ≡ kind.Stop → IsTrue (is_stopped o)
 
 -- it was joined and awaited
 pub record Joins (f : Frame) (c : ℕ) (k : ActKind) (i a : ℕ) (o : Outcome) (h₀ h₂ : List Entry) : Type 0 where

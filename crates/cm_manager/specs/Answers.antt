@@ -53,6 +53,21 @@ abbrev pub answer_unless : Answer → Option Refusal → Result Answer Refusal
 answer_unless a None = Ok a
 answer_unless a (Some x) = Err x
 
+-- an answer, or what ended the call behind it
+abbrev pub unless_ended : Option Refusal → Result Answer Refusal → Result Answer Refusal
+unless_ended None a = a
+unless_ended (Some x) a = Err x
+
+-- the child that a create made
+abbrev pub created_in : Result Reply Refusal → Option ℕ
+created_in (Ok (reply.Created i)) = Some i
+created_in _ = None
+
+-- whether an exit found its program on
+abbrev pub has_left : Result Reply Refusal → Bool
+has_left (Ok (reply.Left m)) = true
+has_left _ = false
+
 -- the row that a finding gives
 abbrev pub found_by : Result Reply Refusal → Result ℕ Refusal
 found_by (Ok (reply.Found i)) = Ok i

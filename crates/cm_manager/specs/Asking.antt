@@ -53,6 +53,7 @@ is_asked (event.Listing i coll) = true
 is_asked (event.Show i) = true
 is_asked (event.Survey i) = true
 is_asked (event.Exited i) = true
+is_asked (event.Reap i) = true
 is_asked _ = false
 
 -- and those of them that may come at any time and begin no action themselves

@@ -1,5 +1,5 @@
 -- The run of each call.
-use Rattle.std.specs.Prelude.{◌≡◌, ◌⊎◌, ℕ, List, ◌++◌, Bool, true, false, Option, Result, Ok, Err}
+use Rattle.std.specs.Prelude.{◌≡◌, ◌⊎◌, ℕ, List, ◌++◌, Bool, true, false, Option, None, Result, Ok, Err}
 use Rattle.cm_turn.specs.History.{StartsWith}
 use Rattle.cm_world.specs.declared.frame.Frame.{Frame}
 use Rattle.cm_world.specs.declared.action.ActKind.{ActKind}
@@ -10,6 +10,7 @@ use Rattle.cm_world.specs.declared.event.Target.{Target}
 use Rattle.cm_world.specs.declared.event.Target.TheVariants as target
 use Rattle.cm_world.specs.declared.reply.Entry.{Entry}
 use Rattle.cm_world.specs.declared.reply.Reply.{Reply}
+use Rattle.cm_world.specs.declared.reply.Reply.TheVariants as reply
 use Rattle.cm_world.specs.declared.answer.Answer.{Answer}
 use Rattle.cm_world.specs.declared.answer.Answer.TheVariants as answer
 use Rattle.cm_world.specs.declared.answer.Refusal.{Refusal}
@@ -20,10 +21,11 @@ use Rattle.cm_command.specs.declared.command.Command.{Command}
 use Rattle.cm_command.specs.declared.command.Command.TheVariants as command
 use Rattle.cm_manager.specs.declared.acted.Acted.{Acted}
 use Rattle.cm_manager.specs.Turns.{own_entries}
-use Rattle.cm_manager.specs.Runs.{Acts, Tries}
+use Rattle.cm_manager.specs.Runs.{Acts, Tries, Onces}
+use Rattle.cm_manager.specs.Sweeps.{Sweeps}
 use Rattle.cm_manager.specs.Doctor.{Doctors}
-use Rattle.cm_manager.specs.Answers.{answer_unless, decided_by, found_by, resolved_answer, started_answer}
-use Rattle.cm_manager.specs.Answers.{stopped_answer}
+use Rattle.cm_manager.specs.Answers.{answer_unless, unless_ended, decided_by, found_by, resolved_answer}
+use Rattle.cm_manager.specs.Answers.{started_answer, stopped_answer}
 use Rattle.cm_manager.specs.Shutdowns.{Shuts, Destroys}
 
 -- a way from one history to a later one, with what it ends in
@@ -53,6 +55,36 @@ pub record OnRow (f : Frame) (c : ℕ) (t : Target) (call : ℕ → Way (Result 
 abbrev pub Tried : Frame → ℕ → (ℕ → Event) → ℕ → Way (Result Answer Refusal)
 Tried f c e i h₀ h₁ a = (went : Result Reply Refusal) × Tries f c (e i) h₀ h₁ went × (a ≡ decided_by went)
 
+-- nothing more comes
+abbrev pub Nothing : Way (Option Refusal)
+Nothing h₀ h₁ end = (h₁ ≡ h₀) × (end ≡ None)
+
+-- what comes behind the reply that decided an event
+abbrev pub Then : (Reply → Way (Option Refusal)) → Result Reply Refusal → Way (Option Refusal)
+Then follow (Ok r) = follow r
+Then follow (Err x) = Nothing
+
+-- a call with one event, and what follows from its reply, which changes the answer only where it ends the
+-- call
+pub record TriedThen (f : Frame) (c : ℕ) (e : ℕ → Event) (follow : ℕ → Reply → Way (Option Refusal)) (i : ℕ)
+    (h₀ h₂ : List Entry) (a : Result Answer Refusal) : Type 0 where
+  pub went : Result Reply Refusal
+  pub h₁ : List Entry
+  pub end : Option Refusal
+  pub tries : Tries f c (e i) h₀ h₁ went
+  pub follows : Then (follow i) went h₁ h₂ end
+  pub answer : a ≡ unless_ended end (decided_by went)
+
+-- a child that was created is started where it runs once
+abbrev pub OnceCreated : Frame → ℕ → ℕ → Reply → Way (Option Refusal)
+OnceCreated f c p (reply.Created i) = Onces f c i
+OnceCreated f c p _ = Nothing
+
+-- what goes with a row that has ended by itself is removed
+abbrev pub SweptLeft : Frame → ℕ → ℕ → Reply → Way (Option Refusal)
+SweptLeft f c i (reply.Left m) = Sweeps f c i
+SweptLeft f c i _ = Nothing
+
 -- a call with one action
 abbrev pub ActedOn : Frame → ℕ → ActKind → (Result Acted Refusal → Result Answer Refusal) → ℕ
     → Way (Result Answer Refusal)
@@ -69,7 +101,7 @@ Calls f c (command.Start t) = OnRow f c t (ActedOn f c kind.Start started_answer
 Calls f c (command.Stop t) = OnRow f c t (ActedOn f c kind.Stop stopped_answer)
 Calls f c (command.Shutdown t) = OnRow f c t (λ i. Reaches answer.Shut (Shuts f c false i))
 Calls f c (command.Create t coll name url gives) =
-    OnRow f c t (Tried f c (λ i. event.Create i coll name url gives))
+    OnRow f c t (TriedThen f c (λ p. event.Create p coll name url gives) (OnceCreated f c))
 Calls f c (command.Destroy t) = OnRow f c t (λ i. Reaches answer.Destroyed (Destroys f c i))
 Calls f c (command.ListChildren t coll) = OnRow f c t (Tried f c (λ i. event.Listing i coll))
 Calls f c (command.OpenUse t path) = OnRow f c t (Tried f c (λ i. event.OpenUse i path))
@@ -78,7 +110,7 @@ Calls f c (command.RouteOf t path) = OnRow f c t (Tried f c (λ i. event.Route i
 Calls f c (command.Doctor t) = OnRow f c t (Doctors f c)
 Calls f c (command.Show t) = OnRow f c t (Tried f c event.Show)
 Calls f c (command.Survey t) = OnRow f c t (Tried f c event.Survey)
-Calls f c (command.Exited t) = OnRow f c t (Tried f c event.Exited)
+Calls f c (command.Exited t) = OnRow f c t (TriedThen f c event.Exited (SweptLeft f c))
 
 -- a call, whose answer may be lost for want of memory
 abbrev pub Goes : Frame → ℕ → Command → Way (Result Answer Refusal)

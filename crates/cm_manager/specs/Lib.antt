@@ -1,4 +1,5 @@
 pub mod Turns
+pub mod Sweeps
 pub mod Runs
 pub mod Answers
 pub mod Shutdowns

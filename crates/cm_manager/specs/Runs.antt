@@ -1,7 +1,7 @@
 -- What a call does between its first turn and its last, as rules. Each fact tells from which history to which
 -- later one it goes, and how it ended.
-use Rattle.std.specs.Prelude.{◌≡◌, ℕ, List, [], ◌∷◌, Bool, true, false, Option, Some, None, Result, Ok, Err}
-use Rattle.std.specs.Prelude.{IsTrue, IsFalse}
+use Rattle.std.specs.Prelude.{◌≡◌, ℕ, List, [], ◌∷◌, Bool, true, false, ◌||◌, Option, Some, None, Result, Ok}
+use Rattle.std.specs.Prelude.{Err, IsTrue, IsFalse}
 use Rattle.cm_world.specs.declared.frame.Frame.{Frame}
 use Rattle.cm_world.specs.declared.action.ActKind.{ActKind}
 use Rattle.cm_world.specs.declared.action.ActKind.TheVariants as kind
@@ -18,7 +18,9 @@ use Rattle.cm_world.specs.declared.answer.Refusal.{Refusal}
 use Rattle.cm_world.specs.declared.answer.Refusal.TheVariants as refusal
 use Rattle.cm_manager.specs.declared.acted.Acted.{Acted}
 use Rattle.cm_manager.specs.declared.acted.Acted.TheVariants as acted
-use Rattle.cm_manager.specs.Turns.{Makes, Asks, IsCut}
+use Rattle.cm_world.specs.Expiring.{is_stopped, runs_once}
+use Rattle.cm_manager.specs.Turns.{Later, Makes, Asks, IsCut, world_after}
+use Rattle.cm_manager.specs.Sweeps.{Sweeps}
 
 -- the refusal that a failed action makes, and none where it went well
 abbrev pub failure : ActKind → ℕ → Outcome → Option Refusal
@@ -36,7 +38,7 @@ ends_call (Ok (acted.Ended k a o)) = failure k a o
 ends_call (Ok (acted.Quiet r)) = None
 ends_call (Err x) = Some x
 
--- what ends a call that only starts an eager child
+-- what ends a call that only starts a row beside its answer: an eager child, or a child that runs once
 abbrev pub ends_eager : Result Acted Refusal → Option Refusal
 ends_eager (Ok (acted.Ended k a outcome.NoMemory)) = Some refusal.Memory
 ends_eager (Ok _) = None
@@ -59,15 +61,20 @@ abbrev pub is_started : Outcome → Bool
 is_started outcome.Started = true
 is_started _ = false
 
+-- whether something follows such an end: a start's eager children, or the removal of what went with a
+-- stopped row
+abbrev pub is_followed : Outcome → Bool
+is_followed o = is_started o || is_stopped o
+
 mutual
   -- an action of this kind on a row
   pub data Acts (f : Frame) (c : ℕ)
       : ActKind → ℕ → List Entry → List Entry → Result Acted Refusal → Type 0 where
-    -- it is begun and ended
+    -- it is begun and ended, and nothing follows its end
     ended : {k : ActKind} {i : ℕ} {h₀ h₁ h₂ : List Entry} {w : Work} {finish : Finish} {o : Outcome}
         → Asks f c h₀ (event.Begin k i) (reply.Begun w) h₁
         → Makes c h₁ (event.End w.action finish) (reply.Ended o) h₂
-        → IsFalse (is_started o)
+        → IsFalse (is_followed o)
         → Acts f c k i h₀ h₂ (Ok (acted.Ended k w.action o))
     -- it is begun and ends in Started, and the eager children come after it
     started : {k : ActKind} {i : ℕ} {h₀ h₁ h₂ h₃ : List Entry} {w : Work} {finish : Finish}
@@ -80,6 +87,21 @@ mutual
         → Asks f c h₀ (event.Begin k i) (reply.Begun w) h₁
         → Makes c h₁ (event.End w.action finish) (reply.Ended outcome.Started) h₂
         → Eagers f c w.eager h₂ h₃ (Some x)
+        → Acts f c k i h₀ h₃ (Err x)
+    -- it is begun and has stopped the row, and what goes with the row is removed after it
+    stopped : {k : ActKind} {i : ℕ} {h₀ h₁ h₂ h₃ : List Entry} {w : Work} {finish : Finish} {o : Outcome}
+        → Asks f c h₀ (event.Begin k i) (reply.Begun w) h₁
+        → Makes c h₁ (event.End w.action finish) (reply.Ended o) h₂
+        → IsTrue (is_stopped o)
+        → Sweeps f c i h₂ h₃ None
+        → Acts f c k i h₀ h₃ (Ok (acted.Ended k w.action o))
+    -- and the call ends in that
+    stopped_cut : {k : ActKind} {i : ℕ} {h₀ h₁ h₂ h₃ : List Entry} {w : Work} {finish : Finish} {o : Outcome}
+        {x : Refusal}
+        → Asks f c h₀ (event.Begin k i) (reply.Begun w) h₁
+        → Makes c h₁ (event.End w.action finish) (reply.Ended o) h₂
+        → IsTrue (is_stopped o)
+        → Sweeps f c i h₂ h₃ (Some x)
         → Acts f c k i h₀ h₃ (Err x)
     -- another caller has begun it, and its end is awaited
     joined : {k : ActKind} {i a : ℕ} {h₀ h₁ h₂ : List Entry} {o : Outcome}
@@ -152,3 +174,16 @@ pub data Tries (f : Frame) (c : ℕ) : Event → List Entry → List Entry → R
   lost_try : {e : Event} {h₀ h₁ : List Entry} {r : Reply}
       → Tries f c e h₀ h₁ (Ok r)
       → Tries f c e h₀ h₁ (Err refusal.Memory)
+
+-- a child that was created is started where it runs once, in the tree of the moment in which the caller
+-- looks; whether the start fails doesn't matter
+pub data Onces (f : Frame) (c i : ℕ) : List Entry → List Entry → Option Refusal → Type 0 where
+  not_once : {h₀ h₁ : List Entry}
+      → Later c h₀ h₁
+      → IsFalse (runs_once (world_after f h₁).rows i)
+      → Onces f c i h₀ h₁ None
+  once : {h₀ h₁ h₂ : List Entry} {went : Result Acted Refusal}
+      → Later c h₀ h₁
+      → IsTrue (runs_once (world_after f h₁).rows i)
+      → Acts f c kind.Start i h₁ h₂ went
+      → Onces f c i h₀ h₂ (ends_eager went)

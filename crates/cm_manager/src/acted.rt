@@ -4,7 +4,7 @@ use cm_names::Plain;
 use cm_world::{ActKind, Outcome, Reply};
 
 /// What became of an action that a call asked for.
-#[derive(Debug, Drop, Clone, PartialEq, Eq)]
+#[derive(Debug, Drop, Clone)]
 pub enum Acted {
     /// An action of this kind and number was begun or joined, and has ended in this.
     Ended(ActKind, u64, Outcome),

@@ -1,6 +1,6 @@
 //! Actions: their begin, their work and their end.
 
-ghost use Rattle.std.specs.Prelude.{◌≡◌, ◌≢◌};
+ghost use Rattle.std.specs.Prelude.{◌≡◌};
 ghost use Rattle.cm_world.specs.declared.event.Event.TheVariants as event;
 ghost use Rattle.cm_manager.specs.Asking.{Asked, frame_of};
 ghost use Rattle.cm_manager.specs.Acting.{BeginsBy};
@@ -71,7 +71,7 @@ impl Manager {
         }
     }
 
-    /// Resolves or stops an instance, or finds that there is nothing to begin.
+    /// Resolves an instance, or finds that there is nothing to begin.
     pub(crate) fn act_once<R: Threads + Wait + Sync, G: Gates>(
         &self,
         rt: &R,
@@ -82,7 +82,7 @@ impl Manager {
         inc: u64,
     ) -> (Pass<Entry, Frame>, Result<Acted, Refusal>)
         requires lock { pass.lock ≡ self.now.turn.lock }
-        requires kind { kind ≢ ActKind.Start }
+        requires kind { kind ≡ ActKind.Resolve }
         ensures helps { HelpsWith G.log G.faults self.now.shelf
             (λ f c a b. Acts f c kind inc a b result.1)
             pass result.0 gates.old gates.new }
@@ -101,6 +101,7 @@ impl Manager {
 
     /// Acts on an instance: begins the action, or joins it, and sees it ended. A start has the
     /// eager children started behind it, and has the instance resolved before it where needed.
+    /// Behind a stop that this call itself made, what went with the instance is removed.
     ///
     /// `Err` with `Memory` where memory runs out, and with `HistoryFull` where the history has no
     /// room for what is needed. Then what was begun is ended.
@@ -120,7 +121,8 @@ impl Manager {
     {
         match kind {
             ActKind::Start => self.start_row(rt, alloc, pass, gates, inc),
-            _ => self.act_once(rt, alloc, pass, gates, kind, inc),
+            ActKind::Stop => self.stop_row(rt, alloc, pass, gates, inc),
+            ActKind::Resolve => self.act_once(rt, alloc, pass, gates, kind, inc),
         }
     }
 }

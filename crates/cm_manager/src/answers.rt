@@ -3,6 +3,7 @@
 ghost use Rattle.std.specs.Prelude.{◌≡◌};
 ghost use Rattle.cm_manager.specs.Runs.{ends_call, failure};
 ghost use Rattle.cm_manager.specs.Answers.{answer_unless, found_by, decided_by, decision, refusal_of};
+ghost use Rattle.cm_manager.specs.Answers as spec;
 
 use crate::Acted;
 use cm_world::{ActKind, Answer, Outcome, Refusal, Reply};
@@ -78,6 +79,36 @@ pub(crate) fn unless_ended(answer: Answer, end: Option<Refusal>) -> Result<Answe
         None => Ok(answer),
         Some(refusal) => Err(refusal),
     }
+}
+
+/// The answer of a call, or what ended the call behind it.
+pub(crate) fn behind(
+    end: Option<Refusal>,
+    answer: Result<Answer, Refusal>,
+) -> Result<Answer, Refusal>
+    ensures { result ≡ spec.unless_ended end answer }
+{
+    match end {
+        None => answer,
+        Some(refusal) => Err(refusal),
+    }
+}
+
+/// The child that a create made, if it made one.
+pub(crate) fn created_in(went: &Result<Reply, Refusal>) -> Option<u64>
+    ensures { result ≡ spec.created_in went.now }
+{
+    match went {
+        Ok(Reply::Created(inc)) => Some(*inc),
+        _ => None,
+    }
+}
+
+/// Whether an exit found its program on.
+pub(crate) fn has_left(went: &Result<Reply, Refusal>) -> bool
+    ensures { result ≡ spec.has_left went.now }
+{
+    matches!(went, Ok(Reply::Left(_)))
 }
 
 /// What ends a call that needed this.

@@ -97,7 +97,8 @@ impl Manager {
 
     /// Stops an instance, as `StopInstance` of `fuchsia.sys2.LifecycleController` does: `Stopped`
     /// with the number of the action, or none where it was off before, and whether it had to be
-    /// stopped by force.
+    /// stopped by force. What goes with the instance is removed before the answer, where this call
+    /// itself stopped it; a call that joined the stop of another caller doesn't wait for that.
     ///
     /// - `NotFound` with the part of the moniker that was found, where nothing stands there;
     /// - `Gone` or `Shut` where the instance doesn't live, or is being shut down;
@@ -168,7 +169,8 @@ impl Manager {
 
     /// Creates a child of an instance in one of its collections, as `CreateChild` of
     /// `fuchsia.component.Realm` does, and offers it alone what `gives` tells: `Created` with its
-    /// incarnation, which no instance had before.
+    /// incarnation, which no instance had before. A child of a collection that runs each child
+    /// once is started before the answer; that its start fails doesn't change the answer.
     ///
     /// - `NotFound` with the part of the moniker that was found, where no parent stands there;
     /// - `Gone` where the parent doesn't live, or it or one above it is being destroyed, and
@@ -432,7 +434,8 @@ impl Manager {
     }
 
     /// Tells that the program of an instance has ended by itself: `Left`, and whether it was on.
-    /// It waits while an action is pending at the instance.
+    /// It waits while an action is pending at the instance. What went with an instance that was on
+    /// is removed before the answer.
     ///
     /// - `NotFound` with the part of the moniker that was found, where nothing stands there;
     /// - `Gone` or `Shut` where an instance doesn't live, or can't be resolved any more;
@@ -454,10 +457,7 @@ impl Manager {
     {
         let (pass, row) = self.find_row(rt, alloc, pass, gates, target);
         match row {
-            Ok(inc) => {
-                let event = Event::Exited(inc);
-                self.settle(rt, alloc, pass, gates, &event)
-            }
+            Ok(inc) => self.exited_at(rt, alloc, pass, gates, inc),
             Err(refusal) => (pass, Err(refusal)),
         }
     }

@@ -17,6 +17,7 @@ pub mod manager;
 mod parts;
 mod shutting;
 mod starting;
+mod sweeping;
 mod trying;
 mod turns;
 mod work;

@@ -5,13 +5,13 @@ ghost use Rattle.cm_world.specs.declared.event.Event.TheVariants as event;
 ghost use Rattle.cm_world.specs.declared.event.Target.TheVariants as target;
 ghost use Rattle.cm_manager.specs.Turns.{Later};
 ghost use Rattle.cm_manager.specs.Asking.{frame_of, is_asked, is_plain};
-ghost use Rattle.cm_manager.specs.Calls.{Finding};
+ghost use Rattle.cm_manager.specs.Calls.{Finding, TriedThen, OnceCreated, SweptLeft};
 ghost use Rattle.cm_manager.specs.Contract.{IsSamePass};
 ghost use Rattle.cm_manager.specs.Parts.{Settles};
 ghost use Rattle.cm_manager.specs.Gated.{HelpsWith, FindsWith};
 
 use crate::Manager;
-use crate::answers::{decided, found};
+use crate::answers::{behind, created_in, decided, found, has_left};
 use crate::manager::check_history;
 use cm_decl::Give;
 use cm_gate::Gates;
@@ -189,7 +189,8 @@ impl Manager {
         }
     }
 
-    /// Creates a child of the instance of this incarnation, in the collection.
+    /// Creates a child of the instance of this incarnation, in the collection, and starts it where
+    /// that collection runs each child once.
     pub(crate) fn create_at<R: Threads + Wait + Sync, G: Gates>(
         &self,
         rt: &R,
@@ -204,13 +205,51 @@ impl Manager {
     ) -> (Pass<Entry, Frame>, Result<Answer, Refusal>)
         requires lock { pass.lock ≡ self.now.turn.lock }
         ensures helps { HelpsWith G.log G.faults self.now.shelf
-            (λ f c a b. Settles f c (event.Create parent coll.now name.now url.now gives.now) a b result.1)
+            (λ f c a b. TriedThen f c (λ p. event.Create p coll.now name.now url.now gives.now)
+            (OnceCreated f c) parent a b result.1)
             pass result.0 gates.old gates.new }
     {
         match creation(parent, coll, name, url, gives) {
-            Ok(event) => self.settle(rt, alloc, pass, gates, &event),
+            Ok(event) => {
+                let (pass, went) = self.try_event(rt, alloc, pass, gates, &event);
+                let child = created_in(&went);
+                let answer = decided(went);
+                match child {
+                    None => (pass, answer),
+                    Some(inc) => {
+                        let (pass, end) = self.start_once(rt, alloc, pass, gates, inc);
+                        (pass, behind(end, answer))
+                    }
+                }
+            }
             Err(_) => (self.catch_up(rt, pass), Err(Refusal::Memory)),
         }
+    }
+
+    /// Tells that the program of the instance of this incarnation has ended by itself, and removes
+    /// what went with it.
+    pub(crate) fn exited_at<R: Threads + Wait + Sync, G: Gates>(
+        &self,
+        rt: &R,
+        alloc: Global,
+        pass: Pass<Entry, Frame>,
+        gates: &mut G,
+        inc: u64,
+    ) -> (Pass<Entry, Frame>, Result<Answer, Refusal>)
+        requires lock { pass.lock ≡ self.now.turn.lock }
+        ensures helps { HelpsWith G.log G.faults self.now.shelf
+            (λ f c a b. TriedThen f c event.Exited (SweptLeft f c) inc a b result.1)
+            pass result.0 gates.old gates.new }
+    {
+        let event = Event::Exited(inc);
+        let (pass, went) = self.try_event(rt, alloc, pass, gates, &event);
+        let left = has_left(&went);
+        let answer = decided(went);
+        if !left {
+            return (pass, answer);
+        }
+        let (pass, end) = self.sweep(rt, alloc, pass, gates, inc);
+        (pass, behind(end, answer))
     }
 
     /// Lists the children that the instance of this incarnation has in the collection.

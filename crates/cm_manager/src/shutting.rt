@@ -13,7 +13,8 @@ ghost use Rattle.cm_manager.specs.Asking.{Asked, frame_of};
 ghost use Rattle.cm_manager.specs.Acting.{PicksBy};
 ghost use Rattle.cm_manager.specs.Contract.{IsSamePass};
 ghost use Rattle.cm_manager.specs.Shutdowns as spec;
-ghost use Rattle.cm_manager.specs.Shutdowns.{Stops, Shuts, Destroys};
+ghost use Rattle.cm_manager.specs.Shutdowns.{Shuts, Destroys};
+ghost use Rattle.cm_manager.specs.Sweeps.{Stops};
 ghost use Rattle.cm_manager.specs.Gated.{HelpsWith};
 
 use crate::Manager;
@@ -75,7 +76,7 @@ impl Manager {
     }
 
     /// Removes an instance that was marked to be destroyed, with all below it.
-    fn ask_purge<R: Wait>(
+    pub(crate) fn ask_purge<R: Wait>(
         &self,
         rt: &R,
         alloc: Global,
@@ -129,7 +130,7 @@ impl Manager {
 
     /// Stops an instance that was marked, and all below it, one by one. `Some` tells what ended
     /// the call among them: want of memory, or of room in the history.
-    fn stop_all<R: Threads + Wait + Sync, G: Gates>(
+    pub(crate) fn stop_all<R: Threads + Wait + Sync, G: Gates>(
         &self,
         rt: &R,
         alloc: Global,

@@ -48,7 +48,7 @@ fn if_failed(went: Result<Acted, Refusal>) -> Option<Result<Acted, Refusal>>
 }
 
 /// What ends the call where the start of an eager child came to this.
-fn ending_of_eager(went: Result<Acted, Refusal>) -> Option<Refusal>
+pub(crate) fn ending_of_eager(went: Result<Acted, Refusal>) -> Option<Refusal>
     ensures { result ≡ ends_eager went }
 {
     match went {

@@ -94,6 +94,7 @@ fn tell(realm: &mut Realm, alloc: Global, caller: u32, event: &Event) -> Result<
         Event::Show(inc) => realm.show(alloc, caller, *inc),
         Event::Survey(inc) => realm.survey(alloc, caller, *inc),
         Event::Exited(inc) => realm.exited(alloc, caller, *inc),
+        Event::Reap(inc) => realm.reap(alloc, caller, *inc),
         _ => unreachable!(),
     }
 }

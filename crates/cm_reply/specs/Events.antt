@@ -45,3 +45,4 @@ event_text (event.Show inc) = codes "show " ++ decimal inc
 event_text (event.Survey inc) = codes "survey " ++ decimal inc
 event_text (event.Exited inc) = codes "exited " ++ decimal inc
 event_text (event.Tail inc from) = codes "tail " ++ (decimal inc ++ (codes " " ++ decimal from))
+event_text (event.Reap inc) = codes "reap " ++ decimal inc

@@ -8,7 +8,8 @@ use Rattle.cm_reply.specs.Lists.{Text, each_behind, bracketed}
 use Rattle.cm_reply.specs.Routes.{route_text, failure_text, void_text}
 use Rattle.cm_reply.specs.States.{outcome_text, look_text, survey_text, kid_text}
 
--- a reply that tells of routes, of lists and looks, or of programs that have ended
+-- a reply that tells of routes, of lists and looks, of programs that have ended, or of what is left
+-- to be removed
 abbrev pub other_text : Reply → Text
 other_text reply.NoSuchUse = codes "no-such-use"
 other_text reply.ClientOff = codes "client-off"
@@ -23,6 +24,7 @@ other_text (reply.Shown look) = codes "shown " ++ look_text look
 other_text (reply.Surveyed rows) = codes "surveyed " ++ (decimal (length rows) ++ bracketed survey_text rows)
 other_text (reply.Left moniker) = codes "left"
 other_text (reply.Tailed count) = codes "tailed " ++ decimal count
+other_text (reply.Reaping incs) = codes "reaping" ++ each_behind (codes " ") decimal incs
 other_text _ = []
 
 -- a reply: one that finds instances or tells of actions, creations, marks and removals as

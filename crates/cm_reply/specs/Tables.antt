@@ -235,6 +235,7 @@ events =
     ∷ event.Survey 5
     ∷ event.Exited 5
     ∷ event.Tail 5 12
+    ∷ event.Reap 5
     ∷ []
 
 abbrev pub event_texts : List Text
@@ -259,6 +260,7 @@ event_texts =
     ∷ codes "survey 5"
     ∷ codes "exited 5"
     ∷ codes "tail 5 12"
+    ∷ codes "reap 5"
     ∷ []
 
 -- each event is written as the text at its place
@@ -304,6 +306,8 @@ replies =
     ∷ reply.Surveyed (survey_row ∷ [])
     ∷ reply.Left (child core)
     ∷ reply.Tailed 12
+    ∷ reply.Reaping (5 ∷ 7 ∷ [])
+    ∷ reply.Reaping []
     ∷ []
 
 abbrev pub reply_texts : List Text
@@ -346,6 +350,8 @@ reply_texts =
     ∷ codes "surveyed 1 [core/session/elements:e1 incarnation 5 resolved on]"
     ∷ codes "left"
     ∷ codes "tailed 12"
+    ∷ codes "reaping 5 7"
+    ∷ codes "reaping"
     ∷ []
 
 -- each reply is written as the text at its place

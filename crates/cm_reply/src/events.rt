@@ -49,6 +49,7 @@ pub fn event_text(alloc: Global, event: &Event) -> Result<Text, Memory>
         Event::Survey(inc) => written(alloc, format_args!("survey {inc}")),
         Event::Exited(inc) => written(alloc, format_args!("exited {inc}")),
         Event::Tail(inc, from) => written(alloc, format_args!("tail {inc} {from}")),
+        Event::Reap(inc) => written(alloc, format_args!("reap {inc}")),
     }
 }
 

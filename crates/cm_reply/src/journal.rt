@@ -44,7 +44,7 @@ pub fn header_text(alloc: Global, frame: &Frame) -> Result<Text, Memory>
 /// | `Pick`, `Purge` | `pick N`, `purge N` |
 /// | `Route`, `OpenUse`, `OpenExposed` | `route N PATH`, `open N PATH`, `open-exposed N NAME` |
 /// | `Listing`, `Show`, `Survey` | `list N COLLECTION`, `show N`, `survey N` |
-/// | `Exited`, `Tail` | `exited N`, `tail N FROM` |
+/// | `Exited`, `Tail`, `Reap` | `exited N`, `tail N FROM`, `reap N` |
 ///
 /// | reply | text |
 /// |---|---|
@@ -63,6 +63,7 @@ pub fn header_text(alloc: Global, frame: &Frame) -> Result<Text, Memory>
 /// | `Given`, `Opened` | `given` or `opened`, then `PATH at SOURCE` and so on, as in a route |
 /// | `Listed`, `Surveyed` | `listed COUNT`, `surveyed COUNT`, then ` [ITEM]` each |
 /// | `Shown`, `Left`, `Tailed` | `shown STATE`, `left`, `tailed COUNT` |
+/// | `Reaping` | `reaping`, then ` N` each |
 ///
 /// N is the incarnation of an instance. The declaration is written as [`cm_read::write_decl`]
 /// does; hops, states and items as in an answer ([`crate::reply_text`]). WHY is `no-offer`,

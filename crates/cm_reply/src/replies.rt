@@ -5,7 +5,7 @@ ghost use Rattle.cm_reply.specs.Lists.{bracketed};
 ghost use Rattle.cm_reply.specs.Replies as spec;
 ghost use Rattle.cm_reply.specs.Routes as routes;
 
-use crate::lists::{Item, push_bracketed, written};
+use crate::lists::{Item, push_bracketed, push_each, written};
 use crate::refusals::cycle_text;
 use crate::routes::{failure_text, route_text};
 use crate::states::{look_text, outcome_text};
@@ -54,8 +54,19 @@ pub fn replied_text(alloc: Global, reply: &Reply) -> Result<Text, Memory>
     }
 }
 
-/// The reply, where it is one that tells of routes, of lists and looks, or of programs that have
-/// ended.
+/// The number of an instance is written in decimal.
+impl Item for u64 {
+    ghost use Rattle.std.specs.Prelude.{decimal};
+
+    ghost written = { decimal };
+
+    fn text(&self, alloc: Global) -> Result<Text, Memory> {
+        written(alloc, *self)
+    }
+}
+
+/// The reply, where it is one that tells of routes, of lists and looks, of programs that have
+/// ended, or of what is left to be removed.
 fn other_text(alloc: Global, reply: &Reply) -> Result<Text, Memory>
     ensures { IfOk result (λ text. text ≡ spec.other_text reply.now) }
 {
@@ -82,6 +93,11 @@ fn other_text(alloc: Global, reply: &Reply) -> Result<Text, Memory>
         Reply::Surveyed(rows) => listed_text(alloc, "surveyed", rows.as_slice()),
         Reply::Left(_) => Text::from_str(alloc, "left"),
         Reply::Tailed(count) => numbered(alloc, "tailed", *count),
+        Reply::Reaping(incs) => {
+            let mut text = Text::from_str(alloc, "reaping")?;
+            push_each(alloc, &mut text, " ", incs.as_slice())?;
+            Ok(text)
+        }
         _ => Ok(Text::new(alloc)),
     }
 }

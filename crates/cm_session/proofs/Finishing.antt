@@ -25,7 +25,7 @@ use Rattle.cm_session.specs.Closing.{ClosesDoor, CountsLinks, backs_of, cause_of
 use Rattle.cm_session.specs.Doorway.{DoorPass, IsOver, failures_of, links_of, sessions_in, sessions_of}
 use Rattle.cm_session.specs.Links.{LinkView}
 use Rattle.cm_session.specs.Parts.{Links}
-use Rattle.cm_session.specs.Serving.{Serves, ServesAll, Visit, back_view, worker_by_worker}
+use Rattle.cm_session.specs.Serving.{IsOfLink, Serves, ServesAll, Visit, back_view, worker_by_worker}
 use Rattle.cm_session.specs.Session.{KeepsOrNot}
 use Rattle.cm_session.proofs.Accepts.{over_later}
 use Rattle.cm_session.proofs.Ending.{PlaceAt, Places, new_at}
@@ -187,6 +187,7 @@ module _ {G L : Type 0} (log_of : G → Option (List Asked)) (faults_of : G → 
         visits = visits;
         count = pl.count ∙ sixteen;
         links = ap (map (back_view view)) links_are ∙ woven view 0 parts.links.items visits (pl.links_long ∙ sym pl.count) now_links;
+        came = all_places (λ (vs : List Visit). All (λ v. IsOfLink view v.was) vs) visits (λ k vs there. (pl.each k vs there).served.came);
         each = kept_at;
         idle = λ k vs past there. (pl.each k vs there).idle (idle_at k vs past there);
         well = λ other. all_places (λ (vs : List Visit). All (λ v. v.ended ≢ ended.Memory) vs) visits (λ k vs there. (pl.each k vs there).well (well_means parts.lost is.failed why is.why_is (λ same. other (why_is ∙ same))));

@@ -14,7 +14,7 @@ use Rattle.cm_session.specs.declared.ended.Ended.TheVariants as ended
 use Rattle.cm_session.specs.Crew.{HasServed, ServesLink, ServesLinks}
 use Rattle.cm_session.specs.Doorway.{DoorPass, IsLater, OnGiven, TakesTurn, given_by, links_of, sessions_in, sessions_of}
 use Rattle.cm_session.specs.Links.{LinkView}
-use Rattle.cm_session.specs.Serving.{IsLost, IsNewLink, Visit, none_came}
+use Rattle.cm_session.specs.Serving.{IsLost, IsNewLink, IsOfLink, Visit, none_came}
 use Rattle.cm_session.specs.Session.{Session}
 use Rattle.cm_session.proofs.Visits.{same_lock, serves_more}
 
@@ -39,6 +39,7 @@ module _ {L : Type 0} (view : L → LinkView) (shelf : Shelf) where
     visits = [];
     served = record {
       serves = none_came;
+      came = All-nil (λ (v : Visit). IsOfLink view v.was);
       links_are = ap (map view) none;
       at_door = record { lock = refl; frame = refl; caller = refl };
       counts = ap links_of new;
@@ -55,6 +56,7 @@ module _ {L : Type 0} (view : L → LinkView) (shelf : Shelf) where
     visits = is.visits;
     served = record {
       serves = is.served.serves;
+      came = is.served.came;
       links_are = is.served.links_are;
       at_door = later_then d e f is.served.at_door turn.same;
       counts = no_more (links_of f.mine) (links_of e.mine) (given_by a) (length is.visits) turn.links none is.served.counts;
@@ -77,6 +79,7 @@ module _ {L : Type 0} (view : L → LinkView) (shelf : Shelf) where
   served_more visits p q r g h k d e f links links' l end is turn new s =
       let v : Visit = record { was = view l; now = view s.now; ended = end } in record {
         serves = serves_more shelf visits v p q r g h k is.serves (record { new = new; session = s.session });
+        came = All-push (λ (v : Visit). IsOfLink view v.was) visits v is.came (l, refl);
         links_are = ap (map view) s.links ∙ map-append view links (s.now ∷ []) ∙ ap (λ (x : List LinkView). x ++ view s.now ∷ []) is.links_are ∙ sym (map-append (λ (v : Visit). v.now) visits (v ∷ []));
         at_door = later_then d e f is.at_door turn.same;
         counts = grind (arith, turn.links, is.counts, length-append visits (v ∷ []));

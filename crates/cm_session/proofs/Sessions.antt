@@ -179,16 +179,18 @@ going-more shelf p q r g h k old now then before after n go s =
 with-line : (shelf : Shelf) (p q r : RealmPass) (g h k : GatesView) (old now then : LinkView) (before after : Reader) (n : ℕ) (e : Ended)
     → (go : Going shelf p q g h old now before n) → (s : Stepped shelf q r h k before after now then (Some e)) → (l : LineDone shelf q r h k (before.held ++ s.given) after now.sink then.sink (Some e))
     → ((bytes : Text) (lines_done : List Text) (left : Option Text) → Begins (lines bytes) lines_done → Served e bytes lines_done left)
-    → Wrote e old.sink then.sink (replies go.told ++ reply_line l.served.told) → (e ≢ ended.Memory → IsNoWant l.served.told) → (e ≡ ended.ReadFault → ⊥)
+    → Wrote e old.sink then.sink (replies go.told ++ reply_line l.served.told) → (e ≢ ended.Memory → IsNoWant l.served.told) → (e ≡ ended.ReadFault → ⊥) → n < most_lines
     → Session shelf p r g k old then e
-with-line shelf p q r g h k old now then before after n e go s l served wrote want none =
+with-line shelf p q r g h k old now then before after n e go s l served wrote want none lt =
     let v = l.served in
+    let count : length (go.lines_done ++ l.line ∷ []) ≡ n + 1 = length-append go.lines_done (l.line ∷ []) ∙ ap (λ (m : ℕ). m + 1) go.count in
     let next = cut-next go.bytes s.given before after go.lines_done l.line go.cut (λ over. (s.once.still over).0) l.first in
     record {
       keeps = kept_then shelf p q r g h k go.keeps v.keeps;
       bytes = go.bytes ++ s.given;
       gave = moves-trans old.source now.source then.source go.bytes s.given go.gave s.gave;
       lines_done = go.lines_done ++ l.line ∷ [];
+      few = omega (arith, lt, count);
       told = go.told ++ v.told ∷ [];
       reads = zip-push Reads go.lines_done go.told l.line v.told go.reads v.reads;
       no_quit = all-push (λ (t : Text). t ≢ quit) go.lines_done l.line go.no_quit l.other;
@@ -204,12 +206,13 @@ with-line shelf p q r g h k old now then before after n e go s l served wrote wa
 without-line : (shelf : Shelf) (p q r : RealmPass) (g h k : GatesView) (old now then : LinkView) (before after : Reader) (n : ℕ) (e : Ended)
     → (go : Going shelf p q g h old now before n) → (s : Stepped shelf q r h k before after now then (Some e)) → IsSilent q r h k now.sink then.sink
     → Served e (go.bytes ++ s.given) go.lines_done then.source.left → Wrote e old.sink then.sink (replies go.told)
-    → (e ≡ ended.ReadFault → Rose now.source.faults then.source.faults) → Session shelf p r g k old then e
-without-line shelf p q r g h k old now then before after n e go s silent served wrote fault = record {
+    → (e ≡ ended.ReadFault → Rose now.source.faults then.source.faults) → n < most_lines → Session shelf p r g k old then e
+without-line shelf p q r g h k old now then before after n e go s silent served wrote fault lt = record {
   keeps = kept_then shelf p q r g h k go.keeps (inl (silent.pass, silent.gates));
   bytes = go.bytes ++ s.given;
   gave = moves-trans old.source now.source then.source go.bytes s.given go.gave s.gave;
   lines_done = go.lines_done;
+  few = omega (arith, lt, go.count);
   told = go.told;
   reads = go.reads;
   no_quit = go.no_quit;
@@ -227,34 +230,34 @@ going-ends shelf p q r g h k old now then before after n ended.End go lt s =
     without-line shelf p q r g h k old now then before after n ended.End go s s.by.2
     (cut-end go.bytes s.given before go.lines_done go.cut s.by.0, few, end-more before after now.source then.source s.given go.end s.once s.by.1)
     (same-sink old.sink now.sink then.sink (replies go.told) go.wrote s.by.2.sink)
-    (λ is. absurd (end-is-no-fault is))
+    (λ is. absurd (end-is-no-fault is)) lt
 going-ends shelf p q r g h k old now then before after n ended.Quit go lt s =
     let few : length go.lines_done < most_lines = omega (arith, lt, go.count) in
     let next = cut-next go.bytes s.given before after go.lines_done quit go.cut (λ over. (s.once.still over).0) s.by.0 in
     without-line shelf p q r g h k old now then before after n ended.Quit go s s.by.1
     (next.0, next.1, few)
     (same-sink old.sink now.sink then.sink (replies go.told) go.wrote s.by.1.sink)
-    (λ is. absurd (quit-is-no-fault is))
+    (λ is. absurd (quit-is-no-fault is)) lt
 going-ends shelf p q r g h k old now then before after n ended.ReadFault go lt s =
     without-line shelf p q r g h k old now then before after n ended.ReadFault go s s.by.2
     (cut-begins go.bytes s.given before go.lines_done go.cut (λ over. (s.once.still over).0), cut-fault go.bytes s.given before go.lines_done go.cut (λ over. (s.once.still over).0) s.by.0)
     (same-sink old.sink now.sink then.sink (replies go.told) go.wrote s.by.2.sink)
-    (λ is. s.by.1)
+    (λ is. s.by.1) lt
 going-ends shelf p q r g h k old now then before after n ended.WriteFault go lt s =
     let l = s.by in
     with-line shelf p q r g h k old now then before after n ended.WriteFault go s l (λ bytes ls left begins. begins)
     (fronts old.sink.written now.sink.written then.sink.written (replies go.told) (reply_line l.served.told) go.wrote l.served.wrote.0, subst (λ (m : ℕ). Rose m then.sink.faults) go.unfailed l.served.wrote.1)
-    (λ other. l.served.wrote.2) write-is-no-fault
+    (λ other. l.served.wrote.2) write-is-no-fault lt
 going-ends shelf p q r g h k old now then before after n ended.LinesSpent go lt s = absurd s.by
 going-ends shelf p q r g h k old now then before after n ended.Memory go lt s =
     elim s.by [
       | inl silent ↦ without-line shelf p q r g h k old now then before after n ended.Memory go s silent
           (cut-begins go.bytes s.given before go.lines_done go.cut (λ over. (s.once.still over).0))
           (whole-front old.sink.written then.sink.written (replies go.told) (same-sink old.sink now.sink then.sink (replies go.told) go.wrote silent.sink))
-          (λ is. absurd (memory-is-no-fault is))
+          (λ is. absurd (memory-is-no-fault is)) lt
       | inr l ↦ with-line shelf p q r g h k old now then before after n ended.Memory go s l (λ bytes ls left begins. begins)
           (fronts old.sink.written now.sink.written then.sink.written (replies go.told) (reply_line l.served.told) go.wrote l.served.wrote)
-          (λ other. absurd (other refl)) memory-is-no-fault
+          (λ other. absurd (other refl)) memory-is-no-fault lt
     ]
 
 pub going-spent : (shelf : Shelf) (p q : RealmPass) (g h : GatesView) (old now : LinkView) (reader : Reader) (n : ℕ) → n ≡ most_lines → Going shelf p q g h old now reader n → Session shelf p q g h old now ended.LinesSpent
@@ -263,6 +266,7 @@ going-spent shelf p q g h old now reader n all go = record {
   bytes = go.bytes;
   gave = go.gave;
   lines_done = go.lines_done;
+  few = omega (arith, all, go.count);
   told = go.told;
   reads = go.reads;
   no_quit = go.no_quit;
@@ -280,6 +284,7 @@ session-none shelf p g link = record {
   bytes = [];
   gave = moves-none link.source;
   lines_done = [];
+  few = omega arith;
   told = [];
   reads = tt;
   no_quit = λ k d lt. absurd (omega arith);

@@ -11,7 +11,7 @@ use Rattle.cm_session.specs.declared.workers.Worker.{Worker}
 use Rattle.cm_session.specs.Crew.{DidWork, IsReady, ServesLinks}
 use Rattle.cm_session.specs.Doorway.{DoorPass, links_of, sessions_of}
 use Rattle.cm_session.specs.Links.{LinkView}
-use Rattle.cm_session.specs.Serving.{Serves, Visit, none_came}
+use Rattle.cm_session.specs.Serving.{IsOfLink, Serves, Visit, none_came}
 
 pub some_same : {A : Type 0} (x y : A) → Some x ≡ Some y → x ≡ y
 some_same x y e = cc e
@@ -52,6 +52,7 @@ module _ {G L : Type 0} (log_of : G → Option (List Asked)) (faults_of : G → 
       now_at_door = back;
       served = record {
         serves = subst (λ (g : G). Serves shelf [] is.pass is.pass (gates_view log_of faults_of old.gates) (gates_view log_of faults_of g)) (sym gates) none_came;
+        came = All-nil (λ (v : Visit). IsOfLink view v.was);
         links_are = ap (λ l. map view l.items) links ∙ ap (map view) is.none;
         at_door = record { lock = refl; frame = refl; caller = refl };
         counts = ap (λ (x : DoorPass). links_of x.mine) (ready_door realm door workers old is d there) ∙ ap links_of is.new;

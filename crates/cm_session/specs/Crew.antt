@@ -12,7 +12,7 @@ use Rattle.cm_session.specs.declared.ended.Ended.TheVariants as ended
 use Rattle.cm_session.specs.declared.workers.Worker.{Worker}
 use Rattle.cm_session.specs.Doorway.{DoorPass, IsLater, IsOver, links_of, sessions_of}
 use Rattle.cm_session.specs.Links.{LinkView}
-use Rattle.cm_session.specs.Serving.{IsLost, Serves, Visit}
+use Rattle.cm_session.specs.Serving.{IsLost, IsOfLink, Serves, Visit}
 use Rattle.cm_session.specs.Session.{Session}
 
 -- a link was put behind others and served there
@@ -26,6 +26,7 @@ pub record ServesLink {L : Type 0} (view : L → LinkView) (shelf : Shelf) (p q 
 pub record HasServed {L : Type 0} (view : L → LinkView) (shelf : Shelf) (visits : List Visit)
     (p q : RealmPass) (g h : GatesView) (d e : DoorPass) (links : List L) : Type 0 where
   pub serves : Serves shelf visits p q g h
+  pub came : All (λ v. IsOfLink view v.was) visits
   pub links_are : map view links ≡ map (λ v. v.now) visits
   pub at_door : IsLater d e
   pub counts : links_of e.mine ≡ length visits

@@ -28,6 +28,10 @@ IsLost v = v.ended ≡ ended.Memory
 abbrev pub IsNewLink : LinkView → Type 0
 IsNewLink l = IsNew l.source l.sink
 
+-- a link was seen as this
+abbrev pub IsOfLink : {L : Type 0} → (L → LinkView) → LinkView → Type 0
+IsOfLink view seen = (link : _) × (view link ≡ seen)
+
 -- a link that was new was served by one session
 pub record Visits (shelf : Shelf) (v : Visit) (p q : RealmPass) (g h : GatesView) : Type 0 where
   pub new : IsNewLink v.was
@@ -69,6 +73,7 @@ module _ {G L : Type 0} (log_of : G → Option (List Asked)) (faults_of : G → 
     pub visits : List (List Visit)
     pub count : length visits ≡ 16
     pub links : map (back_view view) back.links ≡ worker_by_worker 0 visits
+    pub came : All (All (λ v. IsOfLink view v.was)) visits
     pub each : (k : ℕ) (vs : List Visit) (p q : RealmPass) (g h : G) → slice_get visits k ≡ Some vs
         → slice_get passes k ≡ Some p → slice_get back.passes k ≡ Some q
         → slice_get gates k ≡ Some g → slice_get back.gates k ≡ Some h

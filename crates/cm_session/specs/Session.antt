@@ -1,5 +1,5 @@
 -- One session over a link, by its end.
-use Rattle.std.specs.Prelude.{◌≡◌, ◌≢◌, ◌⊎◌, ◌<◌, ℕ, List, ◌∷◌, ◌++◌, All, length, codes, Option}
+use Rattle.std.specs.Prelude.{◌≡◌, ◌≢◌, ◌⊎◌, ◌<◌, ◌≤◌, ℕ, List, ◌∷◌, ◌++◌, All, length, codes, Option}
 use Rattle.std.specs.List.{AllZip}
 use Rattle.std.specs.Io.KnownBytes.{Appends, IsAtEnd}
 use Rattle.cm_io.specs.Lines.{lines, Moves}
@@ -53,6 +53,7 @@ pub record Session (shelf : Shelf) (p q : RealmPass) (g h : GatesView) (old new 
   pub gave : Moves old.source new.source bytes
   -- the lines that were served, and what was made of each
   pub lines_done : List Text
+  pub few : length lines_done ≤ most_lines
   pub told : List Told
   pub reads : AllZip Reads lines_done told
   pub no_quit : All (λ t. t ≢ quit) lines_done

@@ -14,7 +14,7 @@ use Rattle.cm_world.proofs.Walks.{find-lives}
 abbrev pub behind : Option ℕ → List Row → List Row
 behind after rows = filter (λ r. is_behind after r.inc) rows
 
-lives_on : (x : Row) (xs : List Row) (s : ℕ) → IsSome (row_of xs s) → IsSome (row_of (x ∷ xs) s)
+pub lives_on : (x : Row) (xs : List Row) (s : ℕ) → IsSome (row_of xs s) → IsSome (row_of (x ∷ xs) s)
 lives_on x xs s h = on_by (x.inc == s) where
   on_by : (t : Bool) → IsSome (cond t (Some x) (row_of xs s))
   on_by true = refl
@@ -27,7 +27,7 @@ all_behind after (x ∷ xs) above =
     let own : IsSome (row_of (x ∷ xs) x.inc) = rw ((unsigned_Decides x.inc x.inc).1 refl) refl in
     rw (above x.inc own) (ap (λ l. x ∷ l) (all_behind after xs (λ s h. above s (lives_on x xs s h))))
 
-behind_more : (after : Option ℕ) (i s : ℕ) → is_behind after i ≡ true → i < s → is_behind after s ≡ true
+pub behind_more : (after : Option ℕ) (i s : ℕ) → is_behind after i ≡ true → i < s → is_behind after s ≡ true
 behind_more None i s h up = refl
 behind_more (Some j) i s h up = let low : j < i = ltb-true j i h in lt-ltb j s (omega arith)
 

@@ -1,5 +1,5 @@
 -- What the end of an action needs, and what it leaves.
-use Rattle.std.proofs.Common.{◌≡◌, ℕ, ◌+◌, ◌-◌, ◌≤◌, ◌==◌, List, [], ◌∷◌, ◌++◌, Bool, true, false, ◌&&◌, length, Some, None, is_some, option_and_then, refl, sym, ◌∙◌, ap, subst, arith}
+use Rattle.std.proofs.Common.{◌≡◌, ℕ, ◌+◌, ◌-◌, ◌≤◌, ◌==◌, List, [], ◌∷◌, ◌++◌, Bool, true, false, ◌&&◌, length, Some, is_some, option_and_then, refl, sym, ◌∙◌, ap, subst, arith}
 use Rattle.std.specs.Option.{option_map_or}
 use Rattle.std.specs.List.{count_by}
 use Rattle.cm_world.specs.declared.row.Row.{Row}
@@ -18,7 +18,8 @@ use Rattle.cm_world.specs.World.{World, act_of, is_open}
 use Rattle.cm_world.specs.Begin.{same_act}
 use Rattle.cm_world.specs.End.{rows_by, added_by, put_outcome, ended, outcome_by}
 use Rattle.cm_world.specs.Step.{MayEnd}
-use Rattle.cm_world.specs.After.{counted, after}
+use Rattle.cm_world.specs.Expiring.{expired_by}
+use Rattle.cm_world.specs.After.{with_end_of, counted, after}
 use Rattle.cm_table.specs.Tree.{Tree}
 use Rattle.cm_table.proofs.Edits.{length-edit_first}
 use Rattle.cm_steps.specs.declared.realm.Realm.TheInside.{Inside}
@@ -32,15 +33,16 @@ use Rattle.cm_steps.specs.Ends.{inc_of, finish_of, takes_of, CanTake}
 use Rattle.cm_steps.proofs.Counts.{open_less, resolve_less, count_le, count_one, count_same}
 use Rattle.cm_laws.proofs.actions.Tasks.{numbered_ended}
 use Rattle.cm_laws.proofs.actions.Ends.{kind_of_resolve, tasked_by}
+use Rattle.cm_laws.proofs.sound.Expiries.{tasked_expired_by}
 use Rattle.cm_steps.proofs.Going.{goes_on, one_longer}
 
 -- ---- what it leaves
 
 -- the tree behind it
-pub after-ended : (w : World) (caller a : ℕ) (f : Finish) (o : Outcome) (x : Act) → act_of w.acts a ≡ Some x → after w (entry_of caller (End a f) (Ended o)) ≡ record w { rows = rows_by x.inc w.next_inc f o w.rows; next_inc = w.next_inc + added_by f o; acts = ended a o w.acts; entries = w.entries + 1 }
+pub after-ended : (w : World) (caller a : ℕ) (f : Finish) (o : Outcome) (x : Act) → act_of w.acts a ≡ Some x → after w (entry_of caller (End a f) (Ended o)) ≡ record w { rows = expired_by o x.inc (rows_by x.inc w.next_inc f o w.rows); next_inc = w.next_inc + added_by f o; acts = ended a o w.acts; entries = w.entries + 1 }
 unfolding after
 after-ended w caller a f o x there =
-    ap (λ r. counted (elim r as (λ _. World) [ None ↦ w | Some y ↦ record w { rows = rows_by y.inc w.next_inc f o w.rows; next_inc = w.next_inc + added_by f o; acts = ended a o w.acts } ])) there
+    ap (λ r. counted (with_end_of w a f o r)) there
 
 -- the row of the action
 pub inc-ended : (acts : List Act) (caller a : ℕ) (f : Finish) → (may : MayEnd acts caller a f) → inc_of acts a ≡ may.act.inc
@@ -87,7 +89,7 @@ can_take t acts caller a i (ending.Resolved p) may here tasked spare =
 -- each field is changed as the end of an action at row i changes it
 pub record IsEnded (old new : Inside) (caller a i : ℕ) (f : Finish) (o : Outcome) : Type 0 where
   pub frame : new.frame ≡ old.frame
-  pub rows : new.table.rows ≡ rows_by i old.table.next_inc f o old.table.rows
+  pub rows : new.table.rows ≡ expired_by o i (rows_by i old.table.next_inc f o old.table.rows)
   pub next : new.table.next_inc ≡ old.table.next_inc + added_by f o
   pub spare : old.table.spare ≤ new.table.spare + takes_of f
   pub limit : new.table.limit ≡ old.table.limit
@@ -104,7 +106,7 @@ world_ended : (old new : Inside) (caller a : ℕ) (f : Finish) (o : Outcome) (x 
 world_ended old new caller a f o x there e =
     let w : World = world_in old in
     let acts : List Act = ended a o w.acts in
-    let rows : List Row = rows_by x.inc w.next_inc f o w.rows in
+    let rows : List Row = expired_by o x.inc (rows_by x.inc w.next_inc f o w.rows) in
     let made : List Row → ℕ → ℕ → List Act → List Join → ℕ → Frame → World =
     λ rs m k xs js n fr. record { frame = fr; rows = rs; next_inc = m; next_action = k + 1; acts = xs; joins = js; entries = n } in
     after-ended w caller a f o x there
@@ -145,5 +147,6 @@ kept_ended old new caller a f o may named kept e = record {
   tasks =
       subst (IsTasked new.table.rows) (sym e.acts)
       (subst (λ rs. IsTasked rs (ended a o old.acts.items)) (sym e.rows)
-      (tasked_by old.table.rows old.acts.items caller a old.table.next_inc f o may kept.tasks));
+      (tasked_expired_by o may.act.inc (rows_by may.act.inc old.table.next_inc f o old.table.rows) (ended a o old.acts.items)
+      (tasked_by old.table.rows old.acts.items caller a old.table.next_inc f o may kept.tasks)));
 }

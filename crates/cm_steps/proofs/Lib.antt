@@ -6,6 +6,7 @@ pub mod Counts
 pub mod Going
 pub mod Stepping
 pub mod Removing
+pub mod Dooming
 pub mod Creations
 pub mod Picks
 pub mod Starting

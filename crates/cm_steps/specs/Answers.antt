@@ -11,6 +11,7 @@ use Rattle.cm_world.specs.Begin.{begin_reply, begin_idle}
 use Rattle.cm_world.specs.Reports.{exit_reply}
 use Rattle.cm_world.specs.Create.{IsCreateReply}
 use Rattle.cm_world.specs.Marks.{lost_of, mark_reply}
+use Rattle.cm_world.specs.Expiring.{reaped}
 use Rattle.cm_world.specs.Step.{PicksOn, PicksOff}
 use Rattle.cm_world.specs.World.{World}
 use Rattle.cm_world.specs.After.{moves}
@@ -101,6 +102,10 @@ abbrev pub AnswersPurge : List Row → ℕ → PurgeAnswer → Type 0
 AnswersPurge rows i purge.Before = is_live rows i ≡ false
 AnswersPurge rows i (purge.Removes lost) =
     IsTrue (is_live rows i) × (lost ≡ map (lost_of rows) (subtree rows i))
+
+-- a list of what a reap names: that of the definition
+abbrev pub IsReaped : List Row → ℕ → List ℕ → Type 0
+IsReaped rows i incs = incs ≡ reaped rows i
 
 -- ---- picks
 

@@ -4,5 +4,6 @@ pub mod Rooms
 pub mod Steps
 pub mod Eager
 pub mod Reporting
+pub mod Expiring
 pub mod Answers
 pub mod Ends

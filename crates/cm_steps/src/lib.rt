@@ -10,6 +10,7 @@
 #![tactic(auto)]
 
 pub mod ending;
+mod expiring;
 pub mod nostep;
 mod pending;
 pub mod realm;

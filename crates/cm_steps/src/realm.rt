@@ -16,6 +16,7 @@ mod ends;
 mod marks;
 mod picking;
 
+use crate::expiring::expire;
 use crate::nostep::NoStep;
 use crate::replies::beginning::{BeginAnswer, begin_answer};
 use crate::replies::finding::found;
@@ -457,6 +458,7 @@ impl Realm {
     /// The program of an instance has ended by itself: `Left` with where the instance stands,
     /// and the program is off; `Already` where it was off, `Gone` where the instance doesn't
     /// live. This is the `on_stop` of a runner's `fuchsia.component.runner.ComponentController`.
+    /// What goes with an instance that is stopped goes with it too.
     ///
     /// - `Busy` with the number of the action that is pending at the instance;
     /// - `HistoryFull` where one entry more doesn't fit, which is tried first;
@@ -514,6 +516,7 @@ impl Realm {
     {
         self.book.reserve(1)?;
         self.table.set_on(inc, false);
+        expire(&mut self.table, inc);
         self.book.push_reserved(Entry {
             caller,
             event: Event::Exited(inc),

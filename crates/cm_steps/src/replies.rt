@@ -9,5 +9,6 @@ pub mod marking;
 pub mod opening;
 pub mod picking;
 pub mod purging;
+pub mod reaping;
 pub mod showing;
 pub mod surveying;

@@ -5,17 +5,18 @@ use Rattle.cm_names.specs.Availability.{fits}
 use Rattle.cm_names.specs.Rights.{RightSet, contains}
 use Rattle.cm_decl.specs.declared.rows.Give.{Give}
 use Rattle.cm_decl.specs.declared.rows.Usage.{Usage}
+use Rattle.cm_decl.specs.declared.rows.Offer.{Offer}
 use Rattle.cm_decl.specs.Clashes.{or_else}
 use Rattle.cm_world.specs.declared.row.Row.{Row}
 use Rattle.cm_world.specs.declared.frame.Builtin.{Builtin}
 use Rattle.cm_world.specs.declared.route.Hop.{Hop}
 use Rattle.cm_world.specs.declared.route.Why.{Why}
-use Rattle.cm_world.specs.declared.route.Start.TheVariants.{UseAt, ExposeAt}
+use Rattle.cm_world.specs.declared.route.Start.TheVariants.{UseAt, ExposeAt, OfferAt}
 use Rattle.cm_world.specs.declared.route.Walked.{Walked}
 use Rattle.cm_world.specs.declared.route.Walked.TheVariants.{Failed, NoSuchUse}
-use Rattle.cm_world.specs.Stations.{Station, use_station, expose_station}
+use Rattle.cm_world.specs.Stations.{Station, use_station, offer_station, expose_station}
 use Rattle.cm_world.specs.Next.{Next, To, Ends, Needs, FromVoid, NoChild, Misses, next_of}
-use Rattle.cm_world.specs.Route.{Named, First, NoUse, NoneExposed, IsDecided, IsWalkedFrom, trial_by, said_by, weak_availability, weak_rights, unless_fitting, unless_within, is_offer_or_expose, stated_before, asked_rights}
+use Rattle.cm_world.specs.Route.{Named, First, NoUse, NoneExposed, IsDecided, IsWalkedFrom, trial_by, said_by, weak_availability, weak_rights, unless_fitting, unless_within, is_offer_or_expose, standing, asked_rights}
 use Rattle.cm_world.proofs.Finding.{none_some}
 use Rattle.cm_walk.specs.Laws.{SaysNoUse}
 
@@ -49,7 +50,7 @@ within_other hop None b = refl
 -- nothing that is decided at a station says so
 weak_other : (front : List Station) (s : Station) (o : Option Walked) → says o ≡ false → says (or_else (weak_availability front s) (or_else (weak_rights front s) o)) ≡ false
 weak_other front s o x =
-    or_other (weak_availability front s) (or_else (weak_rights front s) o) (if_other (is_offer_or_expose s.hop.step) _ (fitting_other s.hop (stated_before front) s.hop.availability))
+    or_other (weak_availability front s) (or_else (weak_rights front s) o) (if_other (is_offer_or_expose s.hop.step) _ (fitting_other s.hop (standing front) (standing (front ++ s ∷ []))))
     (or_other (weak_rights front s) o (within_other s.hop (asked_rights (front ++ s ∷ [])) s.hop.rights) x)
 
 trial_other : (front : List Station) (s : Station) (n : Next) → says (trial_by front s n) ≡ false
@@ -75,6 +76,12 @@ expose_by rows builtins i missing v None walked = (λ e. true≢false (ap (λ z.
 expose_by rows builtins i missing v (Some g) walked =
     (λ e. never_decided rows builtins [] (expose_station rows i g) walked.rest (subst (λ z. IsDecided rows builtins [] (expose_station rows i g) walked.rest z) e walked.decided), λ e. absurd e)
 
+offer_by : (rows : List Row) (builtins : List Builtin) (i : ℕ) (v : Walked) (o : Option Offer) → IsWalkedFrom rows builtins (elim o as (λ _. Named) [ None ↦ NoUse | Some x ↦ First (offer_station rows i x.give) ]) v → (v ≡ NoSuchUse) ↔ (o ≡ None)
+offer_by rows builtins i v None walked = (λ e. refl, λ e. walked)
+offer_by rows builtins i v (Some x) walked =
+    (λ e. absurd (never_decided rows builtins [] (offer_station rows i x.give) walked.rest (subst (λ z. IsDecided rows builtins [] (offer_station rows i x.give) walked.rest z) e walked.decided)), λ e. absurd (none_some x (sym e)))
+
 pub says_no_use : SaysNoUse
 says_no_use rows builtins (UseAt i path) v walked = use_by rows builtins i v _ walked
 says_no_use rows builtins (ExposeAt i name) v walked = expose_by rows builtins i _ v _ walked
+says_no_use rows builtins (OfferAt i k) v walked = offer_by rows builtins i v _ walked

@@ -13,9 +13,10 @@ use Rattle.cm_world.specs.declared.route.Why.{Why}
 use Rattle.cm_world.specs.declared.route.Walked.{Walked}
 use Rattle.cm_world.specs.declared.route.Walked.TheVariants.{Failed}
 use Rattle.cm_world.specs.Stations.{Station}
-use Rattle.cm_world.specs.Route.{asked_rights, first_rights, stated_before, is_use, is_offer_or_expose, unless_fitting, unless_within, weak_availability, weak_rights, path_of, provider_of, route_of}
+use Rattle.cm_world.specs.Route.{asked_rights, first_rights, standing, is_use, is_offer_or_expose, unless_fitting, unless_within, weak_availability, weak_rights, path_of, provider_of, route_of}
 use Rattle.cm_walk.specs.declared.trail.Trail.{Trail}
-use Rattle.cm_walk.specs.Walking.{begins_with_use, IsBehind, path_at}
+use Rattle.cm_names.specs.Availability.{stated_itself}
+use Rattle.cm_walk.specs.Walking.{begins_with_use, standing_by, IsBehind, path_at}
 
 -- ---- lists of options
 
@@ -46,9 +47,15 @@ filter_map-reverse h (x ∷ xs) =
 
 -- ---- one station more
 
-stated-more : (front : List Station) (s : Station) → stated_before (front ++ s ∷ []) ≡ s.hop.availability
-stated-more front s =
-    ap (λ ss. option_and_then (λ t. t.hop.availability) (slice_get ss 0)) (reverse-append front (s ∷ []))
+-- what stands at the last station of a list, behind those before it
+last-more : {Y : Type 0} (xs : List Y) (o : Option Y) → slice_get (reverse (xs ++ cons_option o [])) 0 ≡ or_else o (slice_get (reverse xs) 0)
+last-more xs None = ap (λ ys. slice_get (reverse ys) 0) (append-nil xs)
+last-more xs (Some y) = ap (λ ys. slice_get ys 0) (reverse-append xs (y ∷ []))
+
+pub standing-more : (front : List Station) (s : Station) → standing (front ++ s ∷ []) ≡ standing_by (standing front) s.hop.availability
+standing-more front s =
+    ap (λ ys. slice_get (reverse ys) 0) (filter_map-append (λ t. option_and_then stated_itself t.hop.availability) front (s ∷ []))
+    ∙ last-more (filter_map (λ t. option_and_then stated_itself t.hop.availability) front) (option_and_then stated_itself s.hop.availability)
 
 begins-more : (front : List Station) (s t : Station) → begins_with_use ((front ++ s ∷ []) ++ t ∷ []) ≡ begins_with_use (front ++ s ∷ [])
 begins-more [] s t = refl
@@ -86,14 +93,14 @@ IsBehind-first s hop t same hops subdirs availability from_use asked = record {
 }
 
 -- the trail with one station more at its end
-pub IsBehind-more : (front : List Station) (s u : Station) (next : Hop) (t made : Trail) → IsBehind front s t → u.hop ≡ next → made.hops ≡ t.hops ++ s.hop ∷ [] → made.subdirs ≡ t.subdirs ++ option_to_list s.subdir → made.availability ≡ s.hop.availability → made.from_use ≡ t.from_use → made.asked ≡ (if t.from_use then t.asked else or_else t.asked next.rights) → IsBehind (front ++ s ∷ []) u made
+pub IsBehind-more : (front : List Station) (s u : Station) (next : Hop) (t made : Trail) → IsBehind front s t → u.hop ≡ next → made.hops ≡ t.hops ++ s.hop ∷ [] → made.subdirs ≡ t.subdirs ++ option_to_list s.subdir → made.availability ≡ standing_by t.availability s.hop.availability → made.from_use ≡ t.from_use → made.asked ≡ (if t.from_use then t.asked else or_else t.asked next.rights) → IsBehind (front ++ s ∷ []) u made
 IsBehind-more front s u next t made behind same hops subdirs availability from_use asked = record {
   hops = hops ∙ ap (λ xs. xs ++ s.hop ∷ []) behind.hops ∙ sym (map-append (λ x. x.hop) front (s ∷ []));
   subdirs =
       subdirs
       ∙ ap (λ xs. xs ++ option_to_list s.subdir) behind.subdirs
       ∙ sym (filter_map-append (λ x. x.subdir) front (s ∷ []) ∙ ap (λ ys. filter_map (λ x. x.subdir) front ++ ys) (one_option s.subdir));
-  availability = availability ∙ sym (stated-more front s);
+  availability = availability ∙ ap (λ a. standing_by a s.hop.availability) behind.availability ∙ sym (standing-more front s);
   from_use = from_use ∙ behind.from_use ∙ sym (begins-more front s u);
   asked =
       asked
@@ -105,11 +112,12 @@ IsBehind-more front s u next t made behind same hops subdirs availability from_u
 
 -- ---- what is judged
 
--- the availability that the last hop behind states
-pub unsure_is : (front : List Station) (s : Station) (hop : Hop) (t : Trail) → s.hop ≡ hop → IsBehind front s t → (if is_offer_or_expose hop.step then unless_fitting hop t.availability hop.availability else None) ≡ weak_availability front s
+-- the availability that stands at the last hop behind
+pub unsure_is : (front : List Station) (s : Station) (hop : Hop) (t : Trail) → s.hop ≡ hop → IsBehind front s t → (if is_offer_or_expose hop.step then unless_fitting hop t.availability (standing_by t.availability hop.availability) else None) ≡ weak_availability front s
 unsure_is front s hop t same behind =
-    ap (λ h. if is_offer_or_expose h.step then unless_fitting h t.availability h.availability else None) (sym same)
-    ∙ ap (λ a. if is_offer_or_expose s.hop.step then unless_fitting s.hop a s.hop.availability else None) behind.availability
+    ap (λ h. if is_offer_or_expose h.step then unless_fitting h t.availability (standing_by t.availability h.availability) else None) (sym same)
+    ∙ ap (λ a. if is_offer_or_expose s.hop.step then unless_fitting s.hop a (standing_by a s.hop.availability) else None) behind.availability
+    ∙ ap (λ a. if is_offer_or_expose s.hop.step then unless_fitting s.hop (standing front) a else None) (sym (standing-more front s))
 
 -- the rights that are asked
 pub narrow_is : (front : List Station) (s : Station) (hop : Hop) (t : Trail) → s.hop ≡ hop → IsBehind front s t → unless_within hop t.asked hop.rights ≡ weak_rights front s

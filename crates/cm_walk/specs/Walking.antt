@@ -1,7 +1,10 @@
 -- How far a walk has come.
 use Rattle.std.specs.Prelude.{◌≡◌, ℕ, List, [], ◌∷◌, ◌++◌, Bool, true, false, Option, Some, None, map}
-use Rattle.std.specs.Prelude.{filter_map}
+use Rattle.std.specs.Prelude.{filter_map, option_and_then}
+use Rattle.cm_names.specs.declared.availability.Availability.{Availability}
+use Rattle.cm_names.specs.Availability.{stated_itself}
 use Rattle.cm_names.specs.Path.{joined_text}
+use Rattle.cm_decl.specs.Clashes.{or_else}
 use Rattle.cm_decl.specs.declared.origin.Origin.{Origin}
 use Rattle.cm_world.specs.declared.row.Row.{Row}
 use Rattle.cm_world.specs.declared.frame.Builtin.{Builtin}
@@ -9,7 +12,7 @@ use Rattle.cm_world.specs.declared.route.StepKind.{StepKind}
 use Rattle.cm_world.specs.declared.route.StepKind.TheVariants.{FrameworkHop}
 use Rattle.cm_world.specs.Stations as world
 use Rattle.cm_world.specs.Next as spec
-use Rattle.cm_world.specs.Route.{Named, First, NoUse, NoneExposed, trial, said_by, stated_before}
+use Rattle.cm_world.specs.Route.{Named, First, NoUse, NoneExposed, trial, said_by, standing}
 use Rattle.cm_world.specs.Route.{asked_rights, is_use}
 use Rattle.cm_walk.specs.declared.station.Station.{Station}
 use Rattle.cm_walk.specs.declared.station.Source.{Source}
@@ -86,12 +89,16 @@ abbrev pub begins_with_use : List world.Station → Bool
 begins_with_use [] = false
 begins_with_use (s ∷ ss) = is_use s.hop.step
 
+-- what stands at a station that states this, behind one where that stands
+abbrev pub standing_by : Option Availability → Option Availability → Option Availability
+standing_by before stated = or_else (option_and_then stated_itself stated) before
+
 -- the trail keeps of the stations of the front what s, which is tried now, and those ahead of
 -- it are judged by
 pub record IsBehind (front : List world.Station) (s : world.Station) (t : Trail) : Type 0 where
   pub hops : t.hops ≡ map (λ x. x.hop) front
   pub subdirs : t.subdirs ≡ filter_map (λ x. x.subdir) front
-  pub availability : t.availability ≡ stated_before front
+  pub availability : t.availability ≡ standing front
   pub from_use : t.from_use ≡ begins_with_use (front ++ s ∷ [])
   pub asked : t.asked ≡ asked_rights (front ++ s ∷ [])
 

@@ -1,6 +1,6 @@
 //! Walks along the routes of a realm tree.
 //!
-//! A walk begins at a use or at an expose of an instance and goes from hop to hop to the
+//! A walk begins at a use, an expose or an offer of an instance and goes from hop to hop to the
 //! provider: up over the offers of parents, then down over the exposes of children. It judges
 //! each hop once, on the way.
 //!

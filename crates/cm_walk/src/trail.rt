@@ -7,7 +7,7 @@ ghost use Rattle.cm_world.specs.declared.route.Hop.{Hop as OneHop};
 ghost use Rattle.cm_world.specs.declared.route.Walked.TheVariants as walked;
 ghost use Rattle.cm_world.specs.Route as spec;
 ghost use Rattle.cm_world.specs.Stations.{Station as Place};
-ghost use Rattle.cm_walk.specs.Walking.{as_station, subdir_of, path_at as whole_path, IsBehind};
+ghost use Rattle.cm_walk.specs.Walking.{as_station, subdir_of, path_at as whole_path, standing_by, IsBehind};
 
 use crate::station::{Source, Station};
 use cm_names::{Availability, CapPath, List, Memory, Rights, SubDir, Text};
@@ -21,7 +21,7 @@ pub(crate) struct Trail {
     hops: List<Hop>,
     /// The subdirectories that they state, in the same order.
     subdirs: List<SubDir>,
-    /// The availability that the last of them states.
+    /// The availability that stands at the last of them.
     availability: Option<Availability>,
     /// Whether the route begins at a use: then only that use asks for rights.
     from_use: bool,
@@ -55,16 +55,17 @@ impl Trail {
         }
     }
 
-    /// Whether the hop before asks for more availability than this offer or expose states.
+    /// Whether more availability stands at the hop before than at this offer or expose.
     fn too_unsure(&self, hop: &Hop) -> Option<Why>
         ensures { option_map (walked.Failed hop.now) result ≡
             (if spec.is_offer_or_expose hop.now.step
-            then spec.unless_fitting hop.now self.now.availability hop.now.availability else None) }
+            then spec.unless_fitting hop.now self.now.availability
+            (standing_by self.now.availability hop.now.availability) else None) }
     {
         match hop.step {
             StepKind::OfferHop | StepKind::ExposeHop => unfitting(
                 self.availability,
-                hop.availability,
+                standing_then(self.availability, hop.availability),
             ),
             _ => None,
         }
@@ -95,7 +96,7 @@ impl Trail {
     {
         let mut trail = self;
         trail.asked = asked_then(trail.from_use, trail.asked, next.rights);
-        trail.availability = here.hop.availability;
+        trail.availability = standing_then(trail.availability, here.hop.availability);
         trail.hops.push(here.hop)?;
         push_subdir(&mut trail.subdirs, into_subdir(here.source))?;
         Ok(trail)
@@ -118,6 +119,19 @@ impl Trail {
             rights,
             provider,
         })
+    }
+}
+
+/// The availability that stands at a hop which states this one, behind a hop where that one stands.
+fn standing_then(before: Option<Availability>, stated: Option<Availability>) -> Option<Availability>
+    ensures { result ≡ standing_by before stated }
+{
+    let Some(availability) = stated else {
+        return before;
+    };
+    match availability.stated_itself() {
+        Some(own) => Some(own),
+        None => before,
     }
 }
 

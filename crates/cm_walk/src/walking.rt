@@ -11,7 +11,7 @@ ghost use Rattle.cm_walk.specs.Walking.{EndsAt, IsBehind, Leads, Steps};
 use crate::find;
 use crate::hop::bare_hop;
 use crate::next::{Next, next_of};
-use crate::station::{Station, expose_station, use_station};
+use crate::station::{Station, expose_station, offer_station, use_station};
 use crate::trail::Trail;
 use cm_decl::Kind;
 use cm_names::{CapPath, Memory, Name};
@@ -30,9 +30,9 @@ pub(crate) enum Step {
 /// What a start names.
 #[derive(Debug, Drop)]
 pub(crate) enum Begun {
-    /// A use or an expose.
+    /// A use, an expose or an offer.
     At(Station),
-    /// A use that isn't there.
+    /// A use or an offer that isn't there.
     NoUse,
     /// An expose that isn't there: the hop that is missing.
     NoneExposed(Hop),
@@ -42,15 +42,18 @@ pub(crate) enum Begun {
 /// decided.
 ///
 /// At each hop these are tried in order: the child that it names isn't there (`NoInstance`); it is
-/// an offer or an expose whose availability isn't enough for what the hop before states
+/// an offer or an expose at which less availability stands than at the hop before
 /// (`AvailabilityTooWeak`); it states rights that the asked ones aren't within (`RightsTooWeak`);
 /// then what comes next: a row without a declaration (`Need`), the void (`Void`), a hop that is
-/// missing (`NoOffer`, `NoExpose`, `NoBuiltin`, at the missing hop), or the provider (`Given`). The
-/// rights that are asked are those of the use, or, from an expose, the first that a hop states.
+/// missing (`NoOffer`, `NoExpose`, `NoBuiltin`, at the missing hop), or the provider (`Given`). A
+/// use alone asks for rights by itself; from another start the nearest rights that a hop states are
+/// those that are asked. The availability that stands at a hop is the one that it states, or, where
+/// it takes over that of its target, the one at the hop before.
 ///
-/// `NoSuchUse` comes exactly where no use of the instance has the path, and `Failed` with
-/// `NoExpose` where a start at an expose finds none. Of an instance that doesn't live or isn't
-/// resolved the answer is one of these two. `Err` comes where memory runs out, and there alone.
+/// `NoSuchUse` comes exactly where no use of the instance has the path, or no offer the index, and
+/// `Failed` with `NoExpose` where a start at an expose finds none. Of an instance that doesn't live
+/// or isn't resolved the answer is one of these two. `Err` comes where memory runs out, and there
+/// alone.
 ///
 /// The rules are those of "Capability routing" and "Capability availability" (fuchsia.dev); their
 /// order at one hop is this project's own choice.
@@ -74,6 +77,7 @@ fn begin<V: View>(alloc: Global, view: &V, start: &Start) -> Result<Begun, Memor
     match start {
         Start::UseAt(inc, path) => begin_use(alloc, view, *inc, path),
         Start::ExposeAt(inc, name) => begin_expose(alloc, view, *inc, name),
+        Start::OfferAt(inc, index) => begin_offer(alloc, view, *inc, *index),
     }
 }
 
@@ -89,6 +93,24 @@ fn begin_use<V: View>(alloc: Global, view: &V, inc: u64, path: &CapPath) -> Resu
     match find::usage(decl, path) {
         Some(usage) => {
             let station = use_station(alloc, view, inc, usage)?;
+            Ok(Begun::At(station))
+        }
+        None => Ok(Begun::NoUse),
+    }
+}
+
+/// The offer at that index.
+fn begin_offer<V: View>(alloc: Global, view: &V, inc: u64, index: u32) -> Result<Begun, Memory>
+    ensures named { IfOk result (λ begun. as_named begun
+        ≡ spec.named_by (V.rows view.now) (Start.OfferAt inc index)) }
+    ensures orderly { IsOrderly (V.rows view.now) (V.next_inc view.now) }
+{
+    let Some(decl) = view.decl(inc) else {
+        return Ok(Begun::NoUse);
+    };
+    match decl.offers.get(index as usize) {
+        Some(offer) => {
+            let station = offer_station(alloc, view, inc, &offer.give)?;
             Ok(Begun::At(station))
         }
         None => Ok(Begun::NoUse),

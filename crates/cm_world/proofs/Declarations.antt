@@ -37,7 +37,7 @@ silent_by : (d : Decl) → own_sources d ≡ [] → ((n : ChildName) → child_s
 silent_by d own children Own = own
 silent_by d own children (Child n) = children n
 
-valid_alone : (d : Decl) → IsTrue (is_well_formed d) → first_fault d ≡ None → own_sources d ≡ [] → ((n : ChildName) → child_sources d n [] ≡ []) → IsValid d
+pub valid_alone : (d : Decl) → IsTrue (is_well_formed d) → first_fault d ≡ None → own_sources d ≡ [] → ((n : ChildName) → child_sources d n [] ≡ []) → IsValid d
 valid_alone d formed faultless own children = record {
   well_formed = formed;
   faultless = computes_none d faultless;

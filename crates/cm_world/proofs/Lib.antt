@@ -11,3 +11,4 @@ pub mod Declarations
 pub mod Routes
 pub mod Actions
 pub mod Shutdowns
+pub mod Expiries

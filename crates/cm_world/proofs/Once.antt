@@ -11,7 +11,7 @@ use Rattle.cm_world.specs.declared.frame.Builtin.{Builtin}
 use Rattle.cm_world.specs.declared.route.Start.{Start}
 use Rattle.cm_world.specs.declared.route.Start.TheVariants.{UseAt, ExposeAt}
 use Rattle.cm_world.specs.declared.route.Walked.{Walked}
-use Rattle.cm_world.specs.declared.event.Event.TheVariants.{Find, Begin, End, Await, Create, Mark, Pick, Purge, Route, OpenUse, OpenExposed, Listing, Show, Survey, Exited, Tail}
+use Rattle.cm_world.specs.declared.event.Event.TheVariants.{Find, Begin, End, Await, Create, Mark, Pick, Purge, Route, OpenUse, OpenExposed, Listing, Show, Survey, Exited, Tail, Reap}
 use Rattle.cm_world.specs.declared.reply.Reply.{Reply}
 use Rattle.cm_world.specs.declared.reply.Reply.TheVariants.{Cycle, Full, Created}
 use Rattle.cm_world.specs.Rows.{decl_of}
@@ -71,3 +71,4 @@ replies_once w caller (Show i) r q other first second = first ∙ sym second
 replies_once w caller (Survey i) r q other first second = first ∙ sym second
 replies_once w caller (Exited i) r q other first second = some_same r q (sym first ∙ second)
 replies_once w caller (Tail i from) r q other first second = first ∙ sym second
+replies_once w caller (Reap i) r q other first second = first ∙ sym second

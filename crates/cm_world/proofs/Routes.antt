@@ -2,7 +2,7 @@
 use Rattle.std.proofs.Common.{ℕ, [], ◌∷◌, Some, None, take, refl, true≢false, sym, ap}
 use Rattle.std.specs.Cmp.{unsigned_Decides}
 use Rattle.cm_names.specs.Rights.{reading}
-use Rattle.cm_names.specs.declared.availability.Availability.TheVariants.{Required, Optional}
+use Rattle.cm_names.specs.declared.availability.Availability.TheVariants.{Required, Optional, Transitional, SameAsTarget}
 use Rattle.cm_decl.specs.declared.origin.Origin.TheVariants as origin
 use Rattle.cm_decl.specs.Examples.{from_child}
 use Rattle.cm_world.specs.declared.route.Start.TheVariants.{UseAt}
@@ -19,7 +19,8 @@ use Rattle.cm_world.specs.Step.{Allowed}
 use Rattle.cm_world.specs.After.{after}
 use Rattle.cm_world.specs.Legal.{Legal, replay}
 use Rattle.cm_world.specs.Examples.{frame, offer_hop, expose_hop, capability_hop, no_offer_hop, no_expose_hop, route_entries, unoffered_entries, unexposed_entries, whole_route, s, s_path, l, c, at_root, at_child}
-use Rattle.cm_world.specs.RouteExamples.{d, d_path, i_path, reading_writing, subdir_rows, subdir_route, weak_rows, weak_walk, directory_hop, void_rows, void_hop, small_frame, full_entries}
+use Rattle.cm_world.specs.RouteExamples.{d, d_path, i_path, reading_writing, subdir_rows, subdir_route, weak_rows, weak_walk, directory_hop, void_rows, voided_rows, void_hop, passing_rows, passed_walk, small_frame, full_entries}
+use Rattle.cm_world.specs.Worlds.{more_sure}
 use Rattle.cm_world.proofs.Declarations.{root_valid, logger_valid, client_valid, no_offer_valid, no_expose_valid, one_child_valid}
 
 -- ---- histories
@@ -191,3 +192,20 @@ optional_meets_void = record { rest = leaving_out ∷ []; chain = (refl, tt); de
 
 pub required_fails : IsWalked (void_rows Required) [] (UseAt 1 s_path) (walked.Failed void_hop (why.AvailabilityTooWeak Required Optional))
 required_fails = record { rest = leaving_out ∷ []; chain = (refl, tt); decided = (refl, refl) }
+
+pub transitional_meets_void : IsWalked (voided_rows Transitional Optional) [] (UseAt 1 s_path) (walked.Void void_hop)
+transitional_meets_void = record { rest = leaving_out ∷ []; chain = (refl, tt); decided = (refl, refl) }
+
+pub optional_fails : IsWalked (voided_rows Optional Transitional) [] (UseAt 1 s_path) more_sure
+optional_fails = record { rest = record leaving_out { hop = record void_hop { availability = Some Transitional } } ∷ []; chain = (refl, tt); decided = (refl, refl) }
+
+-- what the use asks stands at the offer, and the expose is too weak for it
+pub required_passes : IsWalked (passing_rows Required SameAsTarget) [] (UseAt 2 s_path) passed_walk
+required_passes = record {
+  rest =
+      record { hop = record offer_hop { availability = Some SameAsTarget }; source = Some (from_child l); source_name = s; subdir = None; path = [] }
+      ∷ record { hop = record offer_hop { step = ExposeHop; inc = 1; moniker = at_child l; availability = Some Optional }; source = Some origin.Own; source_name = s; subdir = None; path = [] }
+      ∷ [];
+  chain = (refl, (refl, tt));
+  decided = (refl, (refl, refl));
+}

@@ -8,17 +8,18 @@ use Rattle.cm_decl.specs.declared.kind.Kind.{Kind}
 use Rattle.cm_decl.specs.declared.decl.Decl.{Decl}
 use Rattle.cm_decl.specs.declared.rows.Give.{Give}
 use Rattle.cm_decl.specs.declared.rows.Usage.{Usage}
+use Rattle.cm_decl.specs.declared.rows.Offer.{Offer}
 use Rattle.cm_decl.specs.declared.rows.Capability.{Capability}
 use Rattle.cm_decl.specs.declared.origin.Origin.{Origin}
 use Rattle.cm_decl.specs.declared.origin.Origin.TheVariants.{Parent, Own, Framework, Child, Void}
 use Rattle.cm_decl.specs.Clashes.{or_else}
-use Rattle.cm_decl.specs.Valid.{IsValid, is_parent, is_void}
+use Rattle.cm_decl.specs.Valid.{IsValid, is_parent, is_void, is_further_formed}
 use Rattle.cm_decl.proofs.Sameness.{and_first, and_second}
 use Rattle.cm_world.specs.declared.row.Row.{Row}
 use Rattle.cm_world.specs.declared.frame.Builtin.{Builtin}
 use Rattle.cm_world.specs.declared.route.Hop.{Hop}
 use Rattle.cm_world.specs.declared.route.Start.{Start}
-use Rattle.cm_world.specs.declared.route.Start.TheVariants.{UseAt, ExposeAt}
+use Rattle.cm_world.specs.declared.route.Start.TheVariants.{UseAt, ExposeAt, OfferAt}
 use Rattle.cm_world.specs.declared.route.Walked.{Walked}
 use Rattle.cm_world.specs.declared.route.Walked.TheVariants.{Failed, NoSuchUse}
 use Rattle.cm_world.specs.declared.route.Why.TheVariants as why
@@ -106,7 +107,7 @@ decl_valid rows next j d orderly e = valid_by rows next j d (row_of rows j) orde
 -- an expose of a valid declaration leads down
 valid_down : (d : Decl) (q : Give → Bool) (g : Give) → IsValid d → find q d.exposes ≡ Some g → (is_from_parent (Some g.from) && true) ≡ false
 valid_down d q g valid e =
-    expose_down g.from (find-all q (λ x. not (is_parent x.from)) d.exposes g (and_second (list_all (λ u. not (is_void u.from)) d.uses) (list_all (λ x. not (is_parent x.from)) d.exposes) valid.well_formed) e)
+    expose_down g.from (find-all q (λ x. not (is_parent x.from)) d.exposes g (and_first (list_all (λ x. not (is_parent x.from)) d.exposes) (is_further_formed d) (and_second (list_all (λ u. not (is_void u.from)) d.uses) (list_all (λ x. not (is_parent x.from)) d.exposes && is_further_formed d) valid.well_formed)) e)
 
 -- ---- from station to station
 
@@ -230,8 +231,14 @@ given_down : (rows : List Row) (next i : ℕ) (q : Give → Bool) (g : Give) (o 
 given_down rows next i q g None orderly f e = absurd (none_some g e)
 given_down rows next i q g (Some d) orderly f e = valid_down d q g (decl_valid rows next i d orderly f) e
 
+offered_down : (rows : List Row) (i : ℕ) (s : Station) (o : Option Offer) → elim o as (λ _. Named) [ None ↦ NoUse | Some x ↦ First (offer_station rows i x.give) ] ≡ First s → KeepsDown s
+unfolding is_first
+offered_down rows i s None e = absurd (not_first _ s refl e)
+offered_down rows i s (Some x) e = subst KeepsDown (same_first (offer_station rows i x.give) s e) (and_false (is_from_parent (Some x.give.from)))
+
 pub begins_down : BeginsDown
 begins_down rows next (UseAt i path) s orderly e = used_down rows i s _ e
+begins_down rows next (OfferAt i k) s orderly e = offered_down rows i s _ e
 begins_down rows next (ExposeAt i name) s orderly e = exposed_down rows i _ s _ (λ g f. given_down rows next i _ g _ orderly refl f) e
 
 -- ---- the whole walk

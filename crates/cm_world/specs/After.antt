@@ -1,6 +1,6 @@
 -- The world that an entry leaves.
-use Rattle.std.specs.Prelude.{ℕ, ◌+◌, List, [], ◌∷◌, ◌++◌, Bool, true, false, not, Some, None, filter}
-use Rattle.std.specs.Prelude.{if◌then◌else◌}
+use Rattle.std.specs.Prelude.{ℕ, ◌+◌, List, [], ◌∷◌, ◌++◌, Bool, true, false, not, ◌&&◌, Option}
+use Rattle.std.specs.Prelude.{Some, None, filter, if◌then◌else◌}
 use Rattle.std.specs.List.{list_any}
 use Rattle.cm_world.specs.declared.row.Row.{Row}
 use Rattle.cm_world.specs.declared.action.Act.{Act}
@@ -16,11 +16,12 @@ use Rattle.cm_world.specs.declared.event.Event.{Event}
 use Rattle.cm_world.specs.declared.event.Event.TheVariants.{Begin, End, Await, Create, Mark, Pick, Purge}
 use Rattle.cm_world.specs.declared.event.Event.TheVariants.{Exited}
 use Rattle.cm_world.specs.Edits.{drop_first}
-use Rattle.cm_world.specs.Rows.{is_below}
+use Rattle.cm_world.specs.Rows.{is_below, has_doomed}
 use Rattle.cm_world.specs.World.{World, act_of}
 use Rattle.cm_world.specs.End.{changed, set_pending, set_on, set_closing, set_doomed, set_shut, rows_by}
 use Rattle.cm_world.specs.End.{added_by, ended}
 use Rattle.cm_world.specs.Create.{created_row}
+use Rattle.cm_world.specs.Expiring.{expired, expired_by}
 use Rattle.cm_world.specs.Step.{is_join}
 
 -- ---- actions
@@ -36,17 +37,18 @@ with_action w caller kind i = record w {
   acts = w.acts ++ new_act w.next_action kind i caller ∷ [];
 }
 
--- an action ends with an outcome; it names its row
+-- an action of this number ends with an outcome, if it was begun; it names its row, and where that is
+-- stopped so, what goes with it is doomed
+abbrev pub with_end_of : World → ℕ → Finish → Outcome → Option Act → World
+with_end_of w a finish o None = w
+with_end_of w a finish o (Some x) = record w {
+  rows = expired_by o x.inc (rows_by x.inc w.next_inc finish o w.rows);
+  next_inc = w.next_inc + added_by finish o;
+  acts = ended a o w.acts;
+}
+
 abbrev pub with_end : World → ℕ → Finish → Outcome → World
-with_end w a finish o =
-    elim (act_of w.acts a) as (λ _. World) [
-      | None ↦ w
-      | Some x ↦ record w {
-        rows = rows_by x.inc w.next_inc finish o w.rows;
-        next_inc = w.next_inc + added_by finish o;
-        acts = ended a o w.acts;
-      }
-    ]
+with_end w a finish o = with_end_of w a finish o (act_of w.acts a)
 
 -- ---- joins
 
@@ -90,7 +92,7 @@ moved w caller (Mark doom i) reply.Marked =
 moved w caller (Pick t) (reply.Stopping work) = with_action w caller Stop work.inc
 moved w caller (Pick t) (reply.ShutDown i) = with_rows w (changed i set_shut w.rows)
 moved w caller (Purge i) (reply.Purged lost) = with_rows w (others_than w.rows i)
-moved w caller (Exited i) (reply.Left m) = with_rows w (changed i (set_on false) w.rows)
+moved w caller (Exited i) (reply.Left m) = with_rows w (expired i (changed i (set_on false) w.rows))
 moved w caller event r = w
 
 -- whether an event with its reply may change more than that number
@@ -113,3 +115,7 @@ counted w = record w { entries = w.entries + 1 }
 -- the world that an entry leaves
 unfoldable pub after : World → Entry → World
 after w e = counted (moved w e.caller e.event e.reply)
+
+-- an entry dooms a row: it isn't doomed before, and is behind
+abbrev pub dooms : World → Entry → ℕ → Bool
+dooms w e i = not (has_doomed w.rows i) && has_doomed (after w e).rows i

@@ -15,6 +15,7 @@ pub mod Openings
 pub mod Marks
 pub mod Reports
 pub mod End
+pub mod Expiring
 pub mod Step
 pub mod After
 pub mod Legal
@@ -25,4 +26,5 @@ pub mod Examples
 pub mod RouteExamples
 pub mod ActionExamples
 pub mod ShutdownExamples
+pub mod ExpiringExamples
 pub mod Worlds

@@ -3,7 +3,7 @@ use Rattle.std.specs.Prelude.{◌≡◌, ℕ, List, [], ◌∷◌, ◌++◌, Boo
 use Rattle.std.specs.Prelude.{filter_map, reverse, slice_get, option_and_then, if◌then◌else◌}
 use Rattle.std.specs.Str.{bytes_eq}
 use Rattle.cm_names.specs.declared.availability.Availability.{Availability}
-use Rattle.cm_names.specs.Availability.{fits}
+use Rattle.cm_names.specs.Availability.{fits, stated_itself}
 use Rattle.cm_names.specs.Path.{joined_text}
 use Rattle.cm_names.specs.Rights.{RightSet, contains}
 use Rattle.cm_decl.specs.declared.kind.Kind.TheVariants.{Protocol}
@@ -19,11 +19,11 @@ use Rattle.cm_world.specs.declared.route.Provider.{Provider}
 use Rattle.cm_world.specs.declared.route.Provider.TheVariants as provider
 use Rattle.cm_world.specs.declared.route.Route.{Route}
 use Rattle.cm_world.specs.declared.route.Start.{Start}
-use Rattle.cm_world.specs.declared.route.Start.TheVariants.{UseAt, ExposeAt}
+use Rattle.cm_world.specs.declared.route.Start.TheVariants.{UseAt, ExposeAt, OfferAt}
 use Rattle.cm_world.specs.declared.route.Walked.{Walked}
 use Rattle.cm_world.specs.declared.route.Walked.TheVariants.{Given, Failed, Need, Void, NoSuchUse}
 use Rattle.cm_world.specs.Rows.{decl_of}
-use Rattle.cm_world.specs.Stations.{Station, use_station, expose_station, bare_hop}
+use Rattle.cm_world.specs.Stations.{Station, use_station, offer_station, expose_station, bare_hop}
 use Rattle.cm_world.specs.Next.{Next, To, Ends, Needs, FromVoid, NoChild, Misses, next_of}
 
 -- ---- routes
@@ -34,7 +34,7 @@ pub data Named : Type 0 where
   NoUse : Named
   NoneExposed : Hop → Named
 
--- the first use of a path, or the first expose of a name, whatever its kind
+-- the first use of a path, the first expose of a name, whatever its kind, or the offer at an index
 abbrev pub named_by : List Row → Start → Named
 named_by rows (UseAt i path) =
     elim (option_and_then (λ d. find (λ u. bytes_eq u.path path) d.uses) (decl_of rows i)) as (λ _. Named) [
@@ -46,6 +46,11 @@ named_by rows (ExposeAt i name) =
     as (λ _. Named) [
       | None ↦ NoneExposed (bare_hop rows ExposeHop i Protocol name)
       | Some g ↦ First (expose_station rows i g)
+    ]
+named_by rows (OfferAt i k) =
+    elim (option_and_then (λ d. slice_get d.offers k) (decl_of rows i)) as (λ _. Named) [
+      | None ↦ NoUse
+      | Some o ↦ First (offer_station rows i o.give)
     ]
 
 -- each station is the next of the one before it
@@ -82,7 +87,7 @@ is_use _ = false
 abbrev pub first_rights : List Station → Option RightSet
 first_rights stations = slice_get (filter_map (λ s. s.hop.rights) stations) 0
 
--- the rights that are asked: the use's, or, from an expose, the first that a hop states
+-- the rights that are asked: those of a use; from an expose or an offer on, the first that a hop states
 abbrev pub asked_rights : List Station → Option RightSet
 asked_rights [] = None
 asked_rights (s ∷ ss) = if is_use s.hop.step then s.hop.rights else first_rights (s ∷ ss)
@@ -111,19 +116,22 @@ is_offer_or_expose OfferHop = true
 is_offer_or_expose ExposeHop = true
 is_offer_or_expose _ = false
 
--- the availability that the last station of a list states
-abbrev pub stated_before : List Station → Option Availability
-stated_before front = option_and_then (λ t. t.hop.availability) (slice_get (reverse front) 0)
+-- the availability that stands at the last of these stations: the last that one of them states by itself;
+-- what takes it over from its target changes nothing
+abbrev pub standing : List Station → Option Availability
+standing stations =
+    slice_get (reverse (filter_map (λ t. option_and_then stated_itself t.hop.availability) stations)) 0
 
 abbrev pub unless_fitting : Hop → Option Availability → Option Availability → Option Walked
 unless_fitting hop (Some asked) (Some given) =
     if fits asked given then None else Some (Failed hop (why.AvailabilityTooWeak asked given))
 unless_fitting hop _ _ = None
 
--- an offer or expose hop whose availability doesn't fit that of the hop before it
+-- an offer or expose hop at which an availability stands that doesn't fit the one at the hop before
 abbrev pub weak_availability : List Station → Station → Option Walked
 weak_availability front s =
-    if is_offer_or_expose s.hop.step then unless_fitting s.hop (stated_before front) s.hop.availability
+    if is_offer_or_expose s.hop.step
+    then unless_fitting s.hop (standing front) (standing (front ++ s ∷ []))
     else None
 
 abbrev pub unless_within : Hop → Option RightSet → Option RightSet → Option Walked

@@ -8,7 +8,7 @@ use Rattle.cm_names.specs.declared.availability.Availability.TheVariants.{Requir
 use Rattle.cm_names.specs.Rights.{RightSet, reading, writing, union}
 use Rattle.cm_decl.specs.declared.decl.Decl.{Decl}
 use Rattle.cm_decl.specs.declared.rows.Give.{Give}
-use Rattle.cm_decl.specs.declared.kind.Kind.TheVariants.{Directory}
+use Rattle.cm_decl.specs.declared.kind.Kind.TheVariants.{Directory, Protocol}
 use Rattle.cm_decl.specs.declared.origin.Origin.{Origin}
 use Rattle.cm_decl.specs.declared.origin.Origin.TheVariants as origin
 use Rattle.cm_decl.specs.Graph.{static_name}
@@ -166,6 +166,37 @@ void_rows used =
 
 abbrev pub void_hop : Hop
 void_hop = record offer_hop { availability = Some Optional }
+
+-- the same with an offer that states this
+abbrev pub voided_rows : Availability → Availability → List Row
+voided_rows used given =
+    resolved_row 0 None None
+    (record void_decl { offers = record { to = c; give = give s origin.Void Strong given } ∷ [] })
+    ∷ resolved_row 1 (Some 0) (Some (static_name c)) (asking_decl used)
+    ∷ []
+
+-- ---- an offer from l to c, whose expose is optional
+
+-- a client that uses so what the root offers it so from l
+abbrev pub passing_rows : Availability → Availability → List Row
+passing_rows used given =
+    three_rows
+    (record no_decl {
+      children = child l ∷ child c ∷ [];
+      offers = record { to = c; give = give s (from_child l) Strong given } ∷ [];
+    })
+    (record no_decl {
+      capabilities = record { kind = Protocol; name = s; path = s_path; rights = None } ∷ [];
+      exposes = give s origin.Own Strong Optional ∷ [];
+    })
+    (asking_decl used)
+
+-- the expose is where it fails: what stands at the offer is what the use states
+abbrev pub passed_walk : Walked
+passed_walk =
+    walked.Failed
+    (record offer_hop { step = ExposeHop; inc = 1; moniker = at_child l; availability = Some Optional })
+    (why.AvailabilityTooWeak Required Optional)
 
 -- ---- room for one row: the root's one child doesn't fit
 

@@ -24,8 +24,10 @@ abbrev pub k : List ℕ
 k = 107 ∷ []
 
 abbrev pub k_decl : Decl
-k_decl =
-    record no_decl { collections = record { name = k; durability = Transient; dynamic_offers = false } ∷ [] }
+k_decl = record no_decl {
+  collections =
+      record { name = k; durability = Transient; dynamic_offers = false; environment = None } ∷ [];
+}
 
 abbrev pub x_name : ChildName
 x_name = record { coll = Some k; name = x }

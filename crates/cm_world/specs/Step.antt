@@ -14,7 +14,7 @@ use Rattle.cm_world.specs.declared.reply.Reply.TheVariants as reply
 use Rattle.cm_world.specs.declared.event.Event.{Event}
 use Rattle.cm_world.specs.declared.event.Event.TheVariants.{Find, Begin, End, Await, Create, Mark, Pick}
 use Rattle.cm_world.specs.declared.event.Event.TheVariants.{Purge, Route, OpenUse, OpenExposed, Listing, Show}
-use Rattle.cm_world.specs.declared.event.Event.TheVariants.{Survey, Exited, Tail}
+use Rattle.cm_world.specs.declared.event.Event.TheVariants.{Survey, Exited, Tail, Reap}
 use Rattle.cm_world.specs.Rows.{is_live, has_doomed, is_closing, is_subtree_shut}
 use Rattle.cm_world.specs.World.{World, act_of, outcome_of}
 use Rattle.cm_world.specs.Work.{work_of}
@@ -26,6 +26,7 @@ use Rattle.cm_world.specs.Stopping.{MayPick, CanPick}
 use Rattle.cm_world.specs.Openings.{unready, unopened, routed, opened, WalksUnless}
 use Rattle.cm_world.specs.Marks.{mark_reply, purge_reply}
 use Rattle.cm_world.specs.Reports.{list_reply, show_reply, survey_reply, exit_reply, tail_reply}
+use Rattle.cm_world.specs.Expiring.{reap_reply}
 
 -- ---- enabled
 
@@ -113,3 +114,4 @@ Allowed w caller (Show i) r = r ≡ show_reply w.rows i
 Allowed w caller (Survey i) r = r ≡ survey_reply w.rows i
 Allowed w caller (Exited i) r = exit_reply w.rows i ≡ Some r
 Allowed w caller (Tail i from) r = r ≡ tail_reply w.rows w.entries i
+Allowed w caller (Reap i) r = r ≡ reap_reply w.rows i

@@ -1,6 +1,6 @@
 -- The worlds that worked examples speak of.
-use Rattle.std.specs.Prelude.{[], ◌∷◌, false, take}
-use Rattle.cm_names.specs.declared.availability.Availability.TheVariants.{Required, Optional}
+use Rattle.std.specs.Prelude.{[], ◌∷◌, false, Some, take}
+use Rattle.cm_names.specs.declared.availability.Availability.TheVariants.{Required, Optional, Transitional}
 use Rattle.cm_world.specs.declared.event.Event.TheVariants.{Mark}
 use Rattle.cm_world.specs.declared.reply.Reply.TheVariants.{Marked}
 use Rattle.cm_world.specs.declared.route.Walked.{Walked}
@@ -12,6 +12,7 @@ use Rattle.cm_world.specs.Examples.{frame, entry, resolving_entries}
 use Rattle.cm_world.specs.RouteExamples.{small_frame, void_hop}
 use Rattle.cm_world.specs.ActionExamples.{joined_entries, failed_entries}
 use Rattle.cm_world.specs.ShutdownExamples.{doomed_entries}
+use Rattle.cm_world.specs.ExpiringExamples.{stopping_entries}
 
 abbrev pub fresh : World
 fresh = start frame
@@ -48,6 +49,10 @@ created = replay fresh (take 3 doomed_entries)
 abbrev pub doomed : World
 doomed = replay fresh doomed_entries
 
+-- a root with a child in its collection is running, and a stop of it is pending
+abbrev pub stopping : World
+stopping = replay fresh stopping_entries
+
 -- the root is closing
 abbrev pub closing : World
 closing = replay collecting (entry (Mark false 0) Marked ∷ [])
@@ -55,6 +60,13 @@ closing = replay collecting (entry (Mark false 0) Marked ∷ [])
 -- what an optional use comes to that is offered something from void
 abbrev pub left_out : Walked
 left_out = Void void_hop
+
+-- what an optional use comes to that is offered something transitional
+abbrev pub more_sure : Walked
+more_sure =
+    Failed
+    (record void_hop { availability = Some Transitional })
+    (AvailabilityTooWeak Optional Transitional)
 
 -- what a required use comes to that is offered something optional
 abbrev pub too_weak : Walked

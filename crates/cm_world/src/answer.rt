@@ -10,7 +10,7 @@ use cm_names::{CapPath, List, Moniker, Plain};
 /// Five of them stand for errors of `fuchsia.component.Error`: 60 for `COLLECTION_NOT_FOUND`,
 /// 61 for `INSTANCE_ALREADY_EXISTS`, 80 for `INSTANCE_NOT_FOUND`, 83 for
 /// `INSTANCE_CANNOT_RESOLVE` and 84 for `INSTANCE_CANNOT_START`.
-#[derive(Debug, Drop, Clone, PartialEq, Eq)]
+#[derive(Debug, Drop, Clone)]
 pub enum Refusal {
     /// 60: the instance has no such collection.
     CollectionNotFound,
@@ -63,7 +63,7 @@ impl Plain for Refusal {
 }
 
 /// What a check of all routes found out of one use, or of an instance that isn't resolved.
-#[derive(Debug, Drop, Clone, PartialEq, Eq)]
+#[derive(Debug, Drop, Clone)]
 pub struct Checked {
     /// Where the instance stands.
     pub moniker: Moniker,
@@ -81,7 +81,7 @@ impl Plain for Checked {
 }
 
 /// What a command is answered where it isn't refused.
-#[derive(Debug, Drop, Clone, PartialEq, Eq)]
+#[derive(Debug, Drop, Clone)]
 pub enum Answer {
     /// The instance is resolved: by the action of this number, or since before.
     Resolved(Option<u64>),

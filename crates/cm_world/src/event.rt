@@ -21,7 +21,7 @@ impl Plain for Target {
 
 /// One event of a realm tree, which is made as a whole or not at all. A number is the
 /// incarnation of an instance, unless the variant says otherwise.
-#[derive(Debug, Drop, Clone, PartialEq, Eq)]
+#[derive(Debug, Drop, Clone)]
 pub enum Event {
     /// Which instance stands there?
     Find(Moniker),
@@ -59,6 +59,8 @@ pub enum Event {
     /// How long is the history now? The second number is the place that the caller reads it
     /// from.
     Tail(u64, u64),
+    /// What is left to be removed of an instance that stopped: it itself, or children of it?
+    Reap(u64),
 }
 
 impl Plain for Event {

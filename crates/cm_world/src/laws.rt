@@ -5,6 +5,7 @@
 
 ghost use Rattle.std.specs.Prelude.{[], ◌∷◌, true, false};
 ghost use Rattle.cm_names.specs.declared.availability.Availability.TheVariants.{Required, Optional};
+ghost use Rattle.cm_names.specs.declared.availability.Availability.TheVariants.{Transitional, SameAsTarget};
 ghost use Rattle.cm_world.specs.declared.action.ActKind.TheVariants as kind;
 ghost use Rattle.cm_world.specs.declared.event.Event.TheVariants as event;
 ghost use Rattle.cm_world.specs.declared.reply.Reply.TheVariants as reply;
@@ -21,8 +22,10 @@ ghost use Rattle.cm_world.specs.Ending as ending;
 ghost use Rattle.cm_world.specs.Examples.{route_entries, unoffered_entries, unexposed_entries, logger_look};
 ghost use Rattle.cm_world.specs.Examples.{client_surveyed, x_unexposed, at_root, at_child, c, s, x, s_path};
 ghost use Rattle.cm_world.specs.RouteExamples.{subdir_rows, subdir_route, weak_rows, weak_walk, void_rows};
-ghost use Rattle.cm_world.specs.RouteExamples.{i_path, full_entries};
+ghost use Rattle.cm_world.specs.RouteExamples.{voided_rows, passing_rows, passed_walk, i_path, full_entries};
 ghost use Rattle.cm_world.specs.ShutdownExamples.{doomed_entries, purged_entries, chain_rows, k, at_x};
+ghost use Rattle.cm_world.specs.ExpiringExamples.{stopping_entries, expired_entries, closed_entries};
+ghost use Rattle.cm_world.specs.ExpiringExamples.{once_entries};
 ghost use Rattle.cm_world.specs.ActionExamples.{joined_entries, failed_entries, opened_entries, x_kid, given};
 
 /// Every event but a pick gets at most one reply.
@@ -81,6 +84,15 @@ pub fn judges_routes()
     ensures required { IsWalked (void_rows Required) [] (begin.UseAt 1 s_path) worlds.too_weak }
 {}
 
+/// A transitional use takes an optional offer from void, and an optional use asks for more than a
+/// transitional offer. What an offer takes over from its target stands at it: behind it a required
+/// use finds an optional expose too weak, and an optional one doesn't.
+pub fn judges_availability()
+    ensures less { IsWalked (voided_rows Transitional Optional) [] (begin.UseAt 1 s_path) worlds.left_out }
+    ensures more { IsWalked (voided_rows Optional Transitional) [] (begin.UseAt 1 s_path) worlds.more_sure }
+    ensures passed { IsWalked (passing_rows Required SameAsTarget) [] (begin.UseAt 2 s_path) passed_walk }
+{}
+
 /// A resolve whose children don't fit in the limit of instances ends with `Full`.
 pub fn fills()
     ensures { Legal worlds.small full_entries }
@@ -92,6 +104,15 @@ pub fn destroys()
     ensures doomed { Legal worlds.fresh doomed_entries }
     ensures waits { ¬ IsEnabled worlds.doomed 1 (event.Pick 1) }
     ensures purged { Legal worlds.doomed purged_entries }
+{}
+
+/// A parent that stops loses its children in collections, unless it is being shut down. A child
+/// that runs once goes when it exits. What goes is named by a reap, until it is removed.
+pub fn expires()
+    ensures stopping { Legal worlds.fresh stopping_entries }
+    ensures expired { Legal worlds.stopping expired_entries }
+    ensures closed { Legal worlds.stopping closed_entries }
+    ensures once { Legal worlds.fresh once_entries }
 {}
 
 /// A caller joins the start that another began. Neither a stop nor the outcome can be had while

@@ -7,7 +7,7 @@ use std::alloc::AllocError;
 
 /// The reply to an event. A number is the incarnation of an instance, unless the variant says
 /// otherwise.
-#[derive(Debug, Drop, Clone, PartialEq, Eq)]
+#[derive(Debug, Drop, Clone)]
 pub enum Reply {
     /// This instance stands there.
     Found(u64),
@@ -83,6 +83,8 @@ pub enum Reply {
     Left(Moniker),
     /// The number of entries before this one.
     Tailed(u64),
+    /// These instances are being destroyed and are to be removed, by their incarnations.
+    Reaping(List<u64>),
 }
 
 impl Plain for Reply {
@@ -92,7 +94,7 @@ impl Plain for Reply {
 }
 
 /// One entry of a history: who made which event, and what it was replied.
-#[derive(Debug, Drop, PartialEq, Eq)]
+#[derive(Debug, Drop)]
 pub struct Entry {
     /// The number of the caller.
     pub caller: u32,

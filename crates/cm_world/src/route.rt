@@ -76,7 +76,7 @@ impl Plain for Provider {
 /// A whole route, from the client to the provider.
 #[derive(Debug, Drop, Clone, PartialEq, Eq)]
 pub struct Route {
-    /// Its hops, from the use or the expose that it begins with to the provider's.
+    /// Its hops, from the use, the expose or the offer that it begins with to the provider's.
     pub hops: List<Hop>,
     /// Where the capability stands at its provider: the provider's path with the subdirectories
     /// of the hops behind it, in the order from the provider to the client.
@@ -104,7 +104,7 @@ pub enum Why {
     NoInstance,
     /// No such capability stands above the root.
     NoBuiltin,
-    /// The hop before asks for this availability, and this hop states less.
+    /// This availability stands at the hop before, and at this hop a weaker one.
     AvailabilityTooWeak(Availability, Availability),
     /// These rights are asked, and this hop states others only.
     RightsTooWeak(Rights, Rights),
@@ -123,6 +123,8 @@ pub enum Start {
     UseAt(u64, CapPath),
     /// At the expose of an instance that has this name at its target.
     ExposeAt(u64, Name),
+    /// At the offer of an instance that stands at this index in its declaration.
+    OfferAt(u64, u32),
 }
 
 impl Plain for Start {
@@ -132,7 +134,7 @@ impl Plain for Start {
 }
 
 /// What a walk along a route comes to.
-#[derive(Debug, Drop, Clone, PartialEq, Eq)]
+#[derive(Debug, Drop, Clone)]
 pub enum Walked {
     /// The capability is given by this route.
     Given(Route),
@@ -142,7 +144,7 @@ pub enum Walked {
     Need(u64),
     /// The capability is left out on purpose, by this hop.
     Void(Hop),
-    /// The instance has no use of that path.
+    /// The instance has no use of that path, or no offer at that index.
     NoSuchUse,
 }
 

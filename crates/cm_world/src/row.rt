@@ -2,14 +2,14 @@
 
 use crate::ActKind;
 use cm_decl::{Decl, Give};
-use cm_names::{ChildName, List, Plain, Text};
+use cm_names::{ChildName, List, Text};
 
 /// A component instance that lives.
 ///
 /// The life of an instance is that of Fuchsia's component framework ("Component lifecycle",
 /// fuchsia.dev): it is created, resolved, started, stopped and destroyed. Before it is destroyed
 /// it is shut down: from then on it never runs again.
-#[derive(Debug, Drop, Clone, PartialEq, Eq)]
+#[derive(Debug, Drop)]
 pub struct Row {
     /// Its incarnation, which no other instance of the history has, before or after.
     pub inc: u64,
@@ -35,10 +35,4 @@ pub struct Row {
     pub shut: bool,
     /// What it alone was offered when it was created in a collection.
     pub gives: List<Give>,
-}
-
-impl Plain for Row {
-    ghost use Rattle.std.proofs.Common.{rules};
-
-    ghost exact = { Prim.search rules };
 }

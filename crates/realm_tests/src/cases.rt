@@ -1,29 +1,5 @@
-//! What is shown of small realms: the steps of each case, and all that they tell. Most cases are
-//! of a root with a store and a client, to which it offers what the store exposes.
-
-use crate::player::Step;
-use crate::player::Verb::{
-    Begin, Close, Create, DestroyWhileStarting, Doom, Exited, Find, JoinAndDecline, List,
-    OpenExposed, OpenUse, Resolve, Route, Run, Show, ShutDown, Survey, Tail,
-};
-use cm_world::ActKind::{Start, Stop};
-use cm_world::{ActKind, Outcome};
-
-/// The steps of a new realm, and what they tell.
-#[derive(Clone, Copy)]
-pub struct Case {
-    /// What it shows.
-    pub name: &'static str,
-    /// How many instances the realm holds.
-    pub rows: u32,
-    /// How many entries its history holds.
-    pub entries: u64,
-    /// The steps before the others, of which nothing is compared.
-    pub before: &'static [Step],
-    pub steps: &'static [Step],
-    /// What the steps tell, line by line.
-    pub told: &'static str,
-}
+//! The tables: the steps of small realms, and all that they tell; texts of answers; gates. Most
+//! realms are of a root with a store and a client, to which it offers what the store exposes.
 
 /// The root: it offers the client a protocol and a directory of the store.
 const ROOT: &str = "{
@@ -50,34 +26,6 @@ const CLIENT: &str = "{
     ],
 }";
 
-/// All instances are resolved: the root 0, the store 1 and the client 2.
-pub const RESOLVED: [Step; 3] = [
-    (0, Resolve, 0, ROOT),
-    (0, Resolve, 1, STORE),
-    (0, Resolve, 2, CLIENT),
-];
-
-/// The store isn't resolved.
-const WITHOUT_STORE: [Step; 2] = [(0, Resolve, 0, ROOT), (0, Resolve, 2, CLIENT)];
-
-/// Routes that need a store, fail, and are given, of two callers: no two entries are the same.
-pub const ROUTES: [Step; 7] = [
-    (0, Resolve, 0, ROOT),
-    (0, Resolve, 2, CLIENT),
-    (3, Route, 2, "/in"),
-    (3, Route, 2, "/svc/secret"),
-    (0, Resolve, 1, STORE),
-    (3, Route, 2, "/in"),
-    (4, Route, 2, "/in"),
-];
-
-/// A root with a collection, in which a child 1 was created and resolved.
-const WITH_CHILD: [Step; 3] = [
-    (0, Resolve, 0, COLLECTION),
-    (0, Create, 0, "create . coll one #new"),
-    (0, Resolve, 1, "{}"),
-];
-
 const COLLECTION: &str = "{collections:[{name:'coll',durability:'transient'}]}";
 
 /// The root of a realm in which each child but the client has a client: the weak offer doesn't
@@ -101,479 +49,6 @@ const MID: &str = "{
     use: [ { protocol: 'part', from: '#leaf' } ],
 }";
 
-/// That realm, with all instances started.
-const CHAIN_ON: [Step; 10] = [
-    (0, Resolve, 0, CHAIN),
-    (0, Resolve, 1, "{}"),
-    (0, Resolve, 2, "{}"),
-    (0, Resolve, 3, MID),
-    (0, Resolve, 4, "{}"),
-    (0, Run(Start, Outcome::Started), 0, ""),
-    (0, Run(Start, Outcome::Started), 1, ""),
-    (0, Run(Start, Outcome::Started), 2, ""),
-    (0, Run(Start, Outcome::Started), 3, ""),
-    (0, Run(Start, Outcome::Started), 4, ""),
-];
-
-/// A root with four children, of which the second has a collection that takes offers.
-const WITH_OFFERS: [Step; 4] = [
-    (
-        0,
-        Resolve,
-        0,
-        "{children:[{name:'a',url:'#a'},{name:'b',url:'#b'},{name:'c',url:'#c'},\
-         {name:'d',url:'#d'}]}",
-    ),
-    (
-        0,
-        Resolve,
-        2,
-        "{collections:[{name:'k',durability:'transient',allowed_offers:'static_and_dynamic'}]}",
-    ),
-    (0, Show, 9, ""),
-    (0, Show, 9, ""),
-];
-
-/// A case without steps, of a realm with room.
-const ROOMY: Case = Case {
-    name: "",
-    rows: 9,
-    entries: 99,
-    before: &[],
-    steps: &[],
-    told: "",
-};
-
-/// Actions: how they begin and end, who joins them, and what the limits leave.
-pub const ACTIONS: [Case; 12] = [
-    Case {
-        name: "keeps room in the history",
-        entries: 2,
-        steps: &[(3, Find, 0, "store"), (3, Show, 9, ""), (3, Show, 9, "")],
-        told: "1 3 find store => need 0\n\
-               2 3 show 9 => gone 9\n\
-               history full\n",
-        ..ROOMY
-    },
-    Case {
-        name: "keeps room for the end of an action",
-        entries: 2,
-        steps: &[(0, Begin(ActKind::Resolve), 0, ""), (0, Show, 0, "")],
-        told: "1 0 begin resolve 0 => begun 1\n\
-               history full\n",
-        ..ROOMY
-    },
-    Case {
-        name: "is full of instances",
-        rows: 2,
-        entries: 9,
-        steps: &[
-            (
-                0,
-                Resolve,
-                0,
-                "{children:[{name:'a',url:'#a'},{name:'b',url:'#b'}]}",
-            ),
-            (0, Begin(Start), 0, ""),
-            (0, Find, 0, "a"),
-        ],
-        told: "1 0 begin resolve 0 => begun 1\n\
-               2 0 end 1 resolved fuchsia-pkg://t/a#x {\"capabilities\":[],\
-               \"children\":[{\"name\":\"a\",\"startup\":\"lazy\",\"url\":\"#a\"},\
-               {\"name\":\"b\",\"startup\":\"lazy\",\"url\":\"#b\"}],\
-               \"collections\":[],\"expose\":[],\"offer\":[],\"use\":[]} => ended full\n\
-               3 0 begin start 0 => need 0\n\
-               4 0 find a => need 0\n",
-        ..ROOMY
-    },
-    Case {
-        name: "finds instances",
-        before: &RESOLVED,
-        steps: &[
-            (3, Find, 0, "store"),
-            (3, Find, 0, "client"),
-            (3, Find, 0, "other"),
-            (4, Show, 1, ""),
-        ],
-        told: "7 3 find store => found 1\n\
-               8 3 find client => found 2\n\
-               9 3 find other => not-found .\n\
-               10 4 show 1 => shown resolved off\n",
-        ..ROOMY
-    },
-    Case {
-        name: "lists children",
-        steps: &[
-            (0, List, 0, "coll"),
-            (
-                0,
-                Resolve,
-                0,
-                "{children:[{name:'a',url:'#a'}],\
-                 collections:[{name:'coll',durability:'transient'}]}",
-            ),
-            (0, List, 0, "coll"),
-            (0, List, 0, "other"),
-            (0, List, 1, "coll"),
-            (0, List, 7, "coll"),
-        ],
-        told: "1 0 list 0 coll => need 0\n\
-               2 0 begin resolve 0 => begun 1\n\
-               3 0 end 1 resolved fuchsia-pkg://t/a#x {\"capabilities\":[],\
-               \"children\":[{\"name\":\"a\",\"startup\":\"lazy\",\"url\":\"#a\"}],\
-               \"collections\":[{\"allowed_offers\":\"static_only\",\"durability\":\"transient\",\
-               \"name\":\"coll\"}],\"expose\":[],\"offer\":[],\"use\":[]} => ended resolved\n\
-               4 0 list 0 coll => listed 0\n\
-               5 0 list 0 other => no-collection\n\
-               6 0 list 1 coll => need 1\n\
-               7 0 list 7 coll => gone 7\n",
-        ..ROOMY
-    },
-    Case {
-        name: "surveys a new realm",
-        steps: &[(3, Survey, 0, ""), (3, Survey, 7, "")],
-        told: "1 3 survey 0 => surveyed 1 [. incarnation 0 unresolved off]\n\
-               2 3 survey 7 => gone 7\n",
-        ..ROOMY
-    },
-    Case {
-        name: "surveys what is resolved",
-        before: &RESOLVED,
-        steps: &[
-            (0, Run(Start, Outcome::Started), 1, ""),
-            (3, Survey, 0, ""),
-            (3, Survey, 2, ""),
-        ],
-        told: "7 0 begin start 1 => begun 4\n\
-               8 0 end 4 started => ended started\n\
-               9 3 survey 0 => surveyed 3 [. incarnation 0 resolved off] \
-               [store incarnation 1 resolved on] [client incarnation 2 resolved off]\n\
-               10 3 survey 2 => surveyed 1 [client incarnation 2 resolved off]\n",
-        ..ROOMY
-    },
-    Case {
-        name: "tells the length of the history",
-        rows: 1,
-        entries: 4,
-        steps: &[
-            (2, Tail(0), 7, ""),
-            (0, Resolve, 0, "{}"),
-            (2, Tail(0), 0, ""),
-            (2, Tail(3), 0, ""),
-        ],
-        told: "1 2 tail 7 0 => gone 7\n\
-               2 0 begin resolve 0 => begun 1\n\
-               3 0 end 1 resolved fuchsia-pkg://t/a#x {\"capabilities\":[],\"children\":[],\
-               \"collections\":[],\"expose\":[],\"offer\":[],\"use\":[]} => ended resolved\n\
-               4 2 tail 0 0 => tailed 3\n\
-               history full\n",
-        ..ROOMY
-    },
-    Case {
-        name: "tells what is gone",
-        steps: &[
-            (0, Begin(Stop), 0, ""),
-            (0, Begin(ActKind::Resolve), 7, ""),
-            (0, Exited, 0, ""),
-            (0, Exited, 7, ""),
-            (0, Route, 7, "/in"),
-            (0, OpenUse, 7, "/in"),
-            (0, OpenExposed, 7, "data"),
-            (0, OpenExposed, 0, "data"),
-        ],
-        told: "1 0 begin stop 0 => already\n\
-               2 0 begin resolve 7 => gone 7\n\
-               3 0 exited 0 => already\n\
-               4 0 exited 7 => gone 7\n\
-               5 0 route 7 /in => gone 7\n\
-               6 0 open 7 /in => gone 7\n\
-               7 0 open-exposed 7 data => gone 7\n\
-               8 0 open-exposed 0 data => need 0\n",
-        ..ROOMY
-    },
-    Case {
-        name: "begins and ends actions",
-        before: &RESOLVED,
-        steps: &[
-            (0, Begin(ActKind::Resolve), 1, ""),
-            (0, Run(Start, Outcome::Declined), 1, ""),
-            (0, Begin(Stop), 1, ""),
-            (0, Run(Start, Outcome::Started), 1, ""),
-            (0, Begin(Start), 1, ""),
-            (0, Run(Stop, Outcome::Killed), 1, ""),
-            (0, Run(Start, Outcome::Started), 1, ""),
-            (0, Exited, 1, ""),
-            (0, Exited, 1, ""),
-        ],
-        told: "7 0 begin resolve 1 => already\n\
-               8 0 begin start 1 => begun 4\n\
-               9 0 end 4 declined => ended declined\n\
-               10 0 begin stop 1 => already\n\
-               11 0 begin start 1 => begun 5\n\
-               12 0 end 5 started => ended started\n\
-               13 0 begin start 1 => already\n\
-               14 0 begin stop 1 => begun 6\n\
-               15 0 end 6 killed => ended killed\n\
-               16 0 begin start 1 => begun 7\n\
-               17 0 end 7 started => ended started\n\
-               18 0 exited 1 => left\n\
-               19 0 exited 1 => already\n",
-        ..ROOMY
-    },
-    Case {
-        name: "waits for a pending action",
-        before: &RESOLVED,
-        steps: &[
-            (0, Begin(Start), 1, ""),
-            (1, Begin(Stop), 1, ""),
-            (1, Exited, 1, ""),
-            (1, Begin(Start), 1, ""),
-            (1, Show, 1, ""),
-        ],
-        told: "7 0 begin start 1 => begun 4\n\
-               busy 4\n\
-               busy 4\n\
-               8 1 begin start 1 => joined 4\n\
-               9 1 show 1 => shown resolved off pending start\n",
-        ..ROOMY
-    },
-    Case {
-        name: "tells joiners the outcome",
-        before: &RESOLVED,
-        steps: &[(0, JoinAndDecline, 1, "")],
-        told: "7 0 begin start 1 => begun 4\n\
-               8 1 begin start 1 => joined 4\n\
-               9 0 end 4 declined => ended declined\n\
-               10 1 await 4 => ended declined\n",
-        ..ROOMY
-    },
-];
-
-/// Routes and openings.
-pub const OPENINGS: [Case; 11] = [
-    Case {
-        name: "routes and opens",
-        before: &RESOLVED,
-        steps: &[
-            (0, Route, 2, "/svc/log"),
-            (0, OpenUse, 2, "/in"),
-            (0, Run(Start, Outcome::Started), 2, ""),
-            (0, OpenUse, 2, "/svc/log"),
-            (0, Run(Start, Outcome::Started), 1, ""),
-            (0, OpenUse, 2, "/svc/log"),
-            (0, OpenExposed, 1, "data"),
-            (0, Exited, 1, ""),
-            (0, OpenUse, 2, "/svc/log"),
-        ],
-        told: "7 0 route 2 /svc/log => given /svc/log at store incarnation 1 \
-               through use client, offer ., expose store, capability store\n\
-               8 0 open 2 /in => client-off\n\
-               9 0 begin start 2 => begun 4\n\
-               10 0 end 4 started => ended started\n\
-               11 0 open 2 /svc/log => need-start 1\n\
-               12 0 begin start 1 => begun 5\n\
-               13 0 end 5 started => ended started\n\
-               14 0 open 2 /svc/log => opened /svc/log at store incarnation 1 \
-               through use client, offer ., expose store, capability store\n\
-               15 0 open-exposed 1 data => opened /data at store incarnation 1 \
-               rights connect,enumerate,get_attributes,read_bytes,traverse \
-               through expose store, capability store\n\
-               16 0 exited 1 => left\n\
-               17 0 open 2 /svc/log => need-start 1\n",
-        ..ROOMY
-    },
-    Case {
-        name: "walks at the opening, in the tree as it is then",
-        before: &WITHOUT_STORE,
-        steps: &[
-            (0, Run(Start, Outcome::Started), 2, ""),
-            (0, Route, 2, "/svc/log"),
-            (0, OpenUse, 2, "/svc/log"),
-            (0, Resolve, 1, "{}"),
-            (0, OpenUse, 2, "/svc/log"),
-        ],
-        told: "5 0 begin start 2 => begun 3\n\
-               6 0 end 3 started => ended started\n\
-               7 0 route 2 /svc/log => need 1\n\
-               8 0 open 2 /svc/log => need 1\n\
-               9 0 begin resolve 1 => begun 4\n\
-               10 0 end 4 resolved fuchsia-pkg://t/a#x {\"capabilities\":[],\"children\":[],\
-               \"collections\":[],\"expose\":[],\"offer\":[],\"use\":[]} => ended resolved\n\
-               11 0 open 2 /svc/log => failed no-expose at expose store\n",
-        ..ROOMY
-    },
-    Case {
-        name: "names the hop that fails: the root has no offer of that name",
-        before: &RESOLVED,
-        steps: &[
-            (5, Route, 2, "/svc/secret"),
-            (5, Route, 2, "/none"),
-            (5, OpenExposed, 1, "none"),
-        ],
-        told: "7 5 route 2 /svc/secret => failed no-offer at offer .\n\
-               8 5 route 2 /none => no-such-use\n\
-               9 5 open-exposed 1 none => failed no-expose at expose store\n",
-        ..ROOMY
-    },
-    Case {
-        name: "narrows rights at the offer",
-        before: &[
-            (
-                0,
-                Resolve,
-                0,
-                "{children:[{name:'store',url:'#s'},{name:'client',url:'#c'}],\
-                 offer:[{to:'#client',directory:'data',from:'#store',rights:['r*']}]}",
-            ),
-            (0, Resolve, 1, STORE_OF_DATA),
-            (
-                0,
-                Resolve,
-                2,
-                "{use:[{path:'/in',directory:'data',rights:['r*']}]}",
-            ),
-        ],
-        steps: &[(0, Route, 2, "/in")],
-        told: "7 0 route 2 /in => given /data at store incarnation 1 \
-               rights connect,enumerate,get_attributes,read_bytes,traverse \
-               through use client, offer ., expose store, capability store\n",
-        ..ROOMY
-    },
-    Case {
-        name: "finds the rights too weak at the capability",
-        before: &[
-            (0, Resolve, 0, OFFER_OF_SUBDIRECTORY),
-            (0, Resolve, 1, STORE_OF_SUBDIRECTORY),
-            (
-                0,
-                Resolve,
-                2,
-                "{use:[{path:'/in',directory:'data',rights:['x*'],subdir:'d'}]}",
-            ),
-        ],
-        steps: &[(0, Route, 2, "/in")],
-        told: "7 0 route 2 /in => failed rights-too-weak at capability store\n",
-        ..ROOMY
-    },
-    Case {
-        name: "joins subdirectories",
-        before: &[
-            (0, Resolve, 0, OFFER_OF_SUBDIRECTORY),
-            (0, Resolve, 1, STORE_OF_SUBDIRECTORY),
-            (
-                0,
-                Resolve,
-                2,
-                "{use:[{path:'/in',directory:'data',rights:['connect'],subdir:'d'}]}",
-            ),
-        ],
-        steps: &[(0, Route, 2, "/in")],
-        told: "7 0 route 2 /in => given /data/a/b/c/d at store incarnation 1 rights connect \
-               through use client, offer ., expose store, capability store\n",
-        ..ROOMY
-    },
-    Case {
-        name: "finds the availability too weak at the expose",
-        before: &[
-            (0, Resolve, 0, OFFER_OF_DATA),
-            (
-                0,
-                Resolve,
-                1,
-                "{capabilities:[{directory:'data',path:'/data',rights:['rw*']}],\
-                 expose:[{from:'self',directory:'data',rights:['r*'],availability:'optional'}]}",
-            ),
-            (
-                0,
-                Resolve,
-                2,
-                "{use:[{path:'/in',directory:'data',rights:['rw*']}]}",
-            ),
-        ],
-        steps: &[(0, Route, 2, "/in")],
-        told: "7 0 route 2 /in => failed availability-too-weak at expose store\n",
-        ..ROOMY
-    },
-    Case {
-        name: "finds the rights too weak at the expose",
-        before: &[
-            (0, Resolve, 0, OFFER_OF_DATA),
-            (
-                0,
-                Resolve,
-                1,
-                "{capabilities:[{directory:'data',path:'/data',rights:['rw*']}],\
-                 expose:[{from:'self',directory:'data',rights:['r*']}]}",
-            ),
-            (
-                0,
-                Resolve,
-                2,
-                "{use:[{path:'/in',directory:'data',rights:['rw*']}]}",
-            ),
-        ],
-        steps: &[(0, Route, 2, "/in")],
-        told: "7 0 route 2 /in => failed rights-too-weak at expose store\n",
-        ..ROOMY
-    },
-    Case {
-        name: "is void by the offer",
-        before: &[
-            (
-                0,
-                Resolve,
-                0,
-                "{children:[{name:'store',url:'#s'},{name:'client',url:'#c'}],\
-                 offer:[{to:'#client',directory:'data',from:'void',availability:'optional'}]}",
-            ),
-            (0, Resolve, 1, STORE_OF_DATA),
-            (
-                0,
-                Resolve,
-                2,
-                "{use:[{path:'/in',directory:'data',rights:['r*'],availability:'optional'}]}",
-            ),
-        ],
-        steps: &[(0, Route, 2, "/in")],
-        told: "7 0 route 2 /in => void at offer .\n",
-        ..ROOMY
-    },
-    Case {
-        name: "finds no builtin above the root",
-        before: &[
-            (
-                0,
-                Resolve,
-                0,
-                "{children:[{name:'store',url:'#s'},{name:'client',url:'#c'}],\
-                 offer:[{to:'#client',protocol:'data',from:'parent'}]}",
-            ),
-            (0, Resolve, 1, STORE_OF_DATA),
-            (0, Resolve, 2, "{use:[{path:'/in',protocol:'data'}]}"),
-        ],
-        steps: &[(0, Route, 2, "/in")],
-        told: "7 0 route 2 /in => failed no-builtin at builtin .\n",
-        ..ROOMY
-    },
-    Case {
-        name: "finds no expose of that kind",
-        before: &[
-            (
-                0,
-                Resolve,
-                0,
-                "{children:[{name:'store',url:'#s'},{name:'client',url:'#c'}],\
-                 offer:[{to:'#client',protocol:'data',from:'#store'}]}",
-            ),
-            (0, Resolve, 1, STORE_OF_DATA),
-            (0, Resolve, 2, "{use:[{path:'/in',protocol:'data'}]}"),
-        ],
-        steps: &[(0, Route, 2, "/in")],
-        told: "7 0 route 2 /in => failed no-expose at expose store\n",
-        ..ROOMY
-    },
-];
-
 /// A root that offers the client the store's directory as it is.
 const OFFER_OF_DATA: &str = "{children:[{name:'store',url:'#s'},{name:'client',url:'#c'}],\
      offer:[{to:'#client',directory:'data',from:'#store'}]}";
@@ -591,133 +66,876 @@ const STORE_OF_SUBDIRECTORY: &str =
     "{capabilities:[{directory:'data',path:'/data',rights:['rw*']}],\
      expose:[{from:'self',directory:'data',subdir:'a'}]}";
 
+/// The manifest of that name, or else the word itself.
+pub fn manifest_of(word: &str) -> &str {
+    match word {
+        "@root" => ROOT,
+        "@store" => STORE,
+        "@client" => CLIENT,
+        "@collection" => COLLECTION,
+        "@chain" => CHAIN,
+        "@mid" => MID,
+        "@offer-of-data" => OFFER_OF_DATA,
+        "@offer-of-subdirectory" => OFFER_OF_SUBDIRECTORY,
+        "@store-of-data" => STORE_OF_DATA,
+        "@store-of-subdirectory" => STORE_OF_SUBDIRECTORY,
+        manifest => manifest,
+    }
+}
+
+/// All instances are resolved: the root 0, the store 1 and the client 2.
+pub const RESOLVED: &str = "\
+    0 resolve 0 @root\n\
+    0 resolve 1 @store\n\
+    0 resolve 2 @client";
+
+/// The root has a child in a collection that runs each child once, 1, and one in another, 2.
+pub const ONCE: &str = "\
+    0 resolve 0 {collections:[{name:'once',durability:'single_run'},{name:'coll',\
+    durability:'transient'}]}\n\
+    0 create 0 create . once one #new\n\
+    0 create 0 create . coll two #new";
+
+/// Actions: how they begin and end, who joins them, and what the limits leave.
+pub const ACTIONS: &str = "\
+    == realm 9 2 keeps room in the history\n\
+    3 find 0 store\n\
+    3 show 9\n\
+    3 show 9\n\
+    =>\n\
+    1 3 find store => need 0\n\
+    2 3 show 9 => gone 9\n\
+    history full\n\
+    == realm 9 2 keeps room for the end of an action\n\
+    0 begin 0 resolve\n\
+    0 show 0\n\
+    =>\n\
+    1 0 begin resolve 0 => begun 1\n\
+    history full\n\
+    == realm 2 9 is full of instances\n\
+    0 resolve 0 {children:[{name:'a',url:'#a'},{name:'b',url:'#b'}]}\n\
+    0 begin 0 start\n\
+    0 find 0 a\n\
+    =>\n\
+    1 0 begin resolve 0 => begun 1\n\
+    2 0 end 1 resolved fuchsia-pkg://t/a#x {\"capabilities\":[],\"children\":[{\"name\":\"a\",\
+    \"startup\":\"lazy\",\"url\":\"#a\"},{\"name\":\"b\",\"startup\":\"lazy\",\"url\":\"#b\"}],\
+    \"collections\":[],\"expose\":[],\"offer\":[],\"use\":[]} => ended full\n\
+    3 0 begin start 0 => need 0\n\
+    4 0 find a => need 0\n\
+    == realm 9 99 finds instances\n\
+    0 resolve 0 @root\n\
+    0 resolve 1 @store\n\
+    0 resolve 2 @client\n\
+    --\n\
+    3 find 0 store\n\
+    3 find 0 client\n\
+    3 find 0 other\n\
+    4 show 1\n\
+    =>\n\
+    7 3 find store => found 1\n\
+    8 3 find client => found 2\n\
+    9 3 find other => not-found .\n\
+    10 4 show 1 => shown resolved off\n\
+    == realm 9 99 lists children\n\
+    0 list 0 coll\n\
+    0 resolve 0 {children:[{name:'a',url:'#a'}],collections:[{name:'coll',\
+    durability:'transient'}]}\n\
+    0 list 0 coll\n\
+    0 list 0 other\n\
+    0 list 1 coll\n\
+    0 list 7 coll\n\
+    =>\n\
+    1 0 list 0 coll => need 0\n\
+    2 0 begin resolve 0 => begun 1\n\
+    3 0 end 1 resolved fuchsia-pkg://t/a#x {\"capabilities\":[],\"children\":[{\"name\":\"a\",\
+    \"startup\":\"lazy\",\"url\":\"#a\"}],\"collections\":[{\"allowed_offers\":\"static_only\",\
+    \"durability\":\"transient\",\"name\":\"coll\"}],\"expose\":[],\"offer\":[],\"use\":[]} => \
+    ended resolved\n\
+    4 0 list 0 coll => listed 0\n\
+    5 0 list 0 other => no-collection\n\
+    6 0 list 1 coll => need 1\n\
+    7 0 list 7 coll => gone 7\n\
+    == realm 9 99 surveys a new realm\n\
+    3 survey 0\n\
+    3 survey 7\n\
+    =>\n\
+    1 3 survey 0 => surveyed 1 [. incarnation 0 unresolved off]\n\
+    2 3 survey 7 => gone 7\n\
+    == realm 9 99 surveys what is resolved\n\
+    0 resolve 0 @root\n\
+    0 resolve 1 @store\n\
+    0 resolve 2 @client\n\
+    --\n\
+    0 started 1\n\
+    3 survey 0\n\
+    3 survey 2\n\
+    =>\n\
+    7 0 begin start 1 => begun 4\n\
+    8 0 end 4 started => ended started\n\
+    9 3 survey 0 => surveyed 3 [. incarnation 0 resolved off] [store incarnation 1 resolved on] \
+    [client incarnation 2 resolved off]\n\
+    10 3 survey 2 => surveyed 1 [client incarnation 2 resolved off]\n\
+    == realm 1 4 tells the length of the history\n\
+    2 tail 7 0\n\
+    0 resolve 0 {}\n\
+    2 tail 0 0\n\
+    2 tail 0 3\n\
+    =>\n\
+    1 2 tail 7 0 => gone 7\n\
+    2 0 begin resolve 0 => begun 1\n\
+    3 0 end 1 resolved fuchsia-pkg://t/a#x {\"capabilities\":[],\"children\":[],\"collections\":[],\
+    \"expose\":[],\"offer\":[],\"use\":[]} => ended resolved\n\
+    4 2 tail 0 0 => tailed 3\n\
+    history full\n\
+    == realm 9 99 tells what is gone\n\
+    0 begin 0 stop\n\
+    0 begin 7 resolve\n\
+    0 exited 0\n\
+    0 exited 7\n\
+    0 route 7 /in\n\
+    0 open 7 /in\n\
+    0 open-exposed 7 data\n\
+    0 open-exposed 0 data\n\
+    =>\n\
+    1 0 begin stop 0 => already\n\
+    2 0 begin resolve 7 => gone 7\n\
+    3 0 exited 0 => already\n\
+    4 0 exited 7 => gone 7\n\
+    5 0 route 7 /in => gone 7\n\
+    6 0 open 7 /in => gone 7\n\
+    7 0 open-exposed 7 data => gone 7\n\
+    8 0 open-exposed 0 data => need 0\n\
+    == realm 9 99 begins and ends actions\n\
+    0 resolve 0 @root\n\
+    0 resolve 1 @store\n\
+    0 resolve 2 @client\n\
+    --\n\
+    0 begin 1 resolve\n\
+    0 declined 1\n\
+    0 begin 1 stop\n\
+    0 started 1\n\
+    0 begin 1 start\n\
+    0 killed 1\n\
+    0 started 1\n\
+    0 exited 1\n\
+    0 exited 1\n\
+    =>\n\
+    7 0 begin resolve 1 => already\n\
+    8 0 begin start 1 => begun 4\n\
+    9 0 end 4 declined => ended declined\n\
+    10 0 begin stop 1 => already\n\
+    11 0 begin start 1 => begun 5\n\
+    12 0 end 5 started => ended started\n\
+    13 0 begin start 1 => already\n\
+    14 0 begin stop 1 => begun 6\n\
+    15 0 end 6 killed => ended killed\n\
+    16 0 begin start 1 => begun 7\n\
+    17 0 end 7 started => ended started\n\
+    18 0 exited 1 => left\n\
+    19 0 exited 1 => already\n\
+    == realm 9 99 waits for a pending action\n\
+    0 resolve 0 @root\n\
+    0 resolve 1 @store\n\
+    0 resolve 2 @client\n\
+    --\n\
+    0 begin 1 start\n\
+    1 begin 1 stop\n\
+    1 exited 1\n\
+    1 begin 1 start\n\
+    1 show 1\n\
+    =>\n\
+    7 0 begin start 1 => begun 4\n\
+    busy 4\n\
+    busy 4\n\
+    8 1 begin start 1 => joined 4\n\
+    9 1 show 1 => shown resolved off pending start\n\
+    == realm 9 99 tells joiners the outcome\n\
+    0 resolve 0 @root\n\
+    0 resolve 1 @store\n\
+    0 resolve 2 @client\n\
+    --\n\
+    0 join-and-decline 1\n\
+    =>\n\
+    7 0 begin start 1 => begun 4\n\
+    8 1 begin start 1 => joined 4\n\
+    9 0 end 4 declined => ended declined\n\
+    10 1 await 4 => ended declined\n";
+
+/// Routes and openings.
+pub const OPENINGS: &str = "\
+    == realm 9 99 routes and opens\n\
+    0 resolve 0 @root\n\
+    0 resolve 1 @store\n\
+    0 resolve 2 @client\n\
+    --\n\
+    0 route 2 /svc/log\n\
+    0 open 2 /in\n\
+    0 started 2\n\
+    0 open 2 /svc/log\n\
+    0 started 1\n\
+    0 open 2 /svc/log\n\
+    0 open-exposed 1 data\n\
+    0 exited 1\n\
+    0 open 2 /svc/log\n\
+    =>\n\
+    7 0 route 2 /svc/log => given /svc/log at store incarnation 1 through use client, offer ., \
+    expose store, capability store\n\
+    8 0 open 2 /in => client-off\n\
+    9 0 begin start 2 => begun 4\n\
+    10 0 end 4 started => ended started\n\
+    11 0 open 2 /svc/log => need-start 1\n\
+    12 0 begin start 1 => begun 5\n\
+    13 0 end 5 started => ended started\n\
+    14 0 open 2 /svc/log => opened /svc/log at store incarnation 1 through use client, offer ., \
+    expose store, capability store\n\
+    15 0 open-exposed 1 data => opened /data at store incarnation 1 rights connect,enumerate,\
+    get_attributes,read_bytes,traverse through expose store, capability store\n\
+    16 0 exited 1 => left\n\
+    17 0 open 2 /svc/log => need-start 1\n\
+    == realm 9 99 tells routes that need a store, fail, and are given, to two callers\n\
+    0 resolve 0 @root\n\
+    0 resolve 2 @client\n\
+    --\n\
+    3 route 2 /in\n\
+    3 route 2 /svc/secret\n\
+    0 begin 1 resolve\n\
+    3 route 2 /in\n\
+    =>\n\
+    5 3 route 2 /in => need 1\n\
+    6 3 route 2 /svc/secret => failed no-offer at offer .\n\
+    7 0 begin resolve 1 => begun 3\n\
+    8 3 route 2 /in => need 1\n\
+    == realm 9 99 gives a route to two callers\n\
+    0 resolve 0 @root\n\
+    0 resolve 1 @store\n\
+    0 resolve 2 @client\n\
+    --\n\
+    3 route 2 /in\n\
+    4 route 2 /in\n\
+    =>\n\
+    7 3 route 2 /in => given /data at store incarnation 1 rights connect,enumerate,get_attributes,\
+    read_bytes,traverse through use client, offer ., expose store, capability store\n\
+    8 4 route 2 /in => given /data at store incarnation 1 rights connect,enumerate,get_attributes,\
+    read_bytes,traverse through use client, offer ., expose store, capability store\n\
+    == realm 9 99 walks at the opening, in the tree as it is then\n\
+    0 resolve 0 @root\n\
+    0 resolve 2 @client\n\
+    --\n\
+    0 started 2\n\
+    0 route 2 /svc/log\n\
+    0 open 2 /svc/log\n\
+    0 resolve 1 {}\n\
+    0 open 2 /svc/log\n\
+    =>\n\
+    5 0 begin start 2 => begun 3\n\
+    6 0 end 3 started => ended started\n\
+    7 0 route 2 /svc/log => need 1\n\
+    8 0 open 2 /svc/log => need 1\n\
+    9 0 begin resolve 1 => begun 4\n\
+    10 0 end 4 resolved fuchsia-pkg://t/a#x {\"capabilities\":[],\"children\":[],\
+    \"collections\":[],\"expose\":[],\"offer\":[],\"use\":[]} => ended resolved\n\
+    11 0 open 2 /svc/log => failed no-expose at expose store\n\
+    == realm 9 99 names the hop that fails: the root has no offer of that name\n\
+    0 resolve 0 @root\n\
+    0 resolve 1 @store\n\
+    0 resolve 2 @client\n\
+    --\n\
+    5 route 2 /svc/secret\n\
+    5 route 2 /none\n\
+    5 open-exposed 1 none\n\
+    =>\n\
+    7 5 route 2 /svc/secret => failed no-offer at offer .\n\
+    8 5 route 2 /none => no-such-use\n\
+    9 5 open-exposed 1 none => failed no-expose at expose store\n\
+    == realm 9 99 narrows rights at the offer\n\
+    0 resolve 0 {children:[{name:'store',url:'#s'},{name:'client',url:'#c'}],offer:[{to:'#client',\
+    directory:'data',from:'#store',rights:['r*']}]}\n\
+    0 resolve 1 @store-of-data\n\
+    0 resolve 2 {use:[{path:'/in',directory:'data',rights:['r*']}]}\n\
+    --\n\
+    0 route 2 /in\n\
+    =>\n\
+    7 0 route 2 /in => given /data at store incarnation 1 rights connect,enumerate,get_attributes,\
+    read_bytes,traverse through use client, offer ., expose store, capability store\n\
+    == realm 9 99 finds the rights too weak at the capability\n\
+    0 resolve 0 @offer-of-subdirectory\n\
+    0 resolve 1 @store-of-subdirectory\n\
+    0 resolve 2 {use:[{path:'/in',directory:'data',rights:['x*'],subdir:'d'}]}\n\
+    --\n\
+    0 route 2 /in\n\
+    =>\n\
+    7 0 route 2 /in => failed rights-too-weak at capability store\n\
+    == realm 9 99 joins subdirectories\n\
+    0 resolve 0 @offer-of-subdirectory\n\
+    0 resolve 1 @store-of-subdirectory\n\
+    0 resolve 2 {use:[{path:'/in',directory:'data',rights:['connect'],subdir:'d'}]}\n\
+    --\n\
+    0 route 2 /in\n\
+    =>\n\
+    7 0 route 2 /in => given /data/a/b/c/d at store incarnation 1 rights connect through use \
+    client, offer ., expose store, capability store\n\
+    == realm 9 99 finds the availability too weak at the expose\n\
+    0 resolve 0 @offer-of-data\n\
+    0 resolve 1 {capabilities:[{directory:'data',path:'/data',rights:['rw*']}],\
+    expose:[{from:'self',directory:'data',rights:['r*'],availability:'optional'}]}\n\
+    0 resolve 2 {use:[{path:'/in',directory:'data',rights:['rw*']}]}\n\
+    --\n\
+    0 route 2 /in\n\
+    =>\n\
+    7 0 route 2 /in => failed availability-too-weak at expose store\n\
+    == realm 9 99 finds the rights too weak at the expose\n\
+    0 resolve 0 @offer-of-data\n\
+    0 resolve 1 {capabilities:[{directory:'data',path:'/data',rights:['rw*']}],\
+    expose:[{from:'self',directory:'data',rights:['r*']}]}\n\
+    0 resolve 2 {use:[{path:'/in',directory:'data',rights:['rw*']}]}\n\
+    --\n\
+    0 route 2 /in\n\
+    =>\n\
+    7 0 route 2 /in => failed rights-too-weak at expose store\n\
+    == realm 9 99 is void by the offer\n\
+    0 resolve 0 {children:[{name:'store',url:'#s'},{name:'client',url:'#c'}],offer:[{to:'#client',\
+    directory:'data',from:'void',availability:'optional'}]}\n\
+    0 resolve 1 @store-of-data\n\
+    0 resolve 2 {use:[{path:'/in',directory:'data',rights:['r*'],availability:'optional'}]}\n\
+    --\n\
+    0 route 2 /in\n\
+    =>\n\
+    7 0 route 2 /in => void at offer .\n\
+    == realm 9 99 finds no builtin above the root\n\
+    0 resolve 0 {children:[{name:'store',url:'#s'},{name:'client',url:'#c'}],offer:[{to:'#client',\
+    protocol:'data',from:'parent'}]}\n\
+    0 resolve 1 @store-of-data\n\
+    0 resolve 2 {use:[{path:'/in',protocol:'data'}]}\n\
+    --\n\
+    0 route 2 /in\n\
+    =>\n\
+    7 0 route 2 /in => failed no-builtin at builtin .\n\
+    == realm 9 99 finds no expose of that kind\n\
+    0 resolve 0 {children:[{name:'store',url:'#s'},{name:'client',url:'#c'}],offer:[{to:'#client',\
+    protocol:'data',from:'#store'}]}\n\
+    0 resolve 1 @store-of-data\n\
+    0 resolve 2 {use:[{path:'/in',protocol:'data'}]}\n\
+    --\n\
+    0 route 2 /in\n\
+    =>\n\
+    7 0 route 2 /in => failed no-expose at expose store\n";
+
 /// Shutdowns, and children that are created and destroyed.
-pub const SHUTDOWNS: [Case; 6] = [
-    Case {
-        name: "destroys what starts",
-        before: &WITH_CHILD,
-        steps: &[(1, DestroyWhileStarting, 1, ""), (0, Begin(Start), 1, "")],
-        told: "busy 3\n\
-               6 0 begin start 1 => begun 3\n\
-               7 1 mark doomed 1 => marked\n\
-               8 0 end 3 started => ended started\n\
-               9 1 pick 1 => stopping 1 4\n\
-               10 1 end 4 stopped => ended stopped\n\
-               11 1 pick 1 => shutdown 1\n\
-               12 1 pick 1 => done\n\
-               13 1 purge 1 => purged 1\n\
-               14 0 begin start 1 => gone 1\n",
-        ..ROOMY
-    },
-    Case {
-        name: "stops clients first",
-        before: &CHAIN_ON,
-        steps: &[(1, ShutDown, 0, "")],
-        told: "21 1 mark closing 0 => marked\n\
-               22 1 pick 0 => stopping 2 11\n\
-               23 1 end 11 stopped => ended stopped\n\
-               24 1 pick 0 => shutdown 2\n\
-               25 1 pick 0 => stopping 3 12\n\
-               26 1 end 12 stopped => ended stopped\n\
-               27 1 pick 0 => shutdown 3\n\
-               28 1 pick 0 => stopping 4 13\n\
-               29 1 end 13 stopped => ended stopped\n\
-               30 1 pick 0 => shutdown 4\n\
-               31 1 pick 0 => stopping 1 14\n\
-               32 1 end 14 stopped => ended stopped\n\
-               33 1 pick 0 => shutdown 1\n\
-               34 1 pick 0 => stopping 0 15\n\
-               35 1 end 15 stopped => ended stopped\n\
-               36 1 pick 0 => shutdown 0\n\
-               37 1 pick 0 => done\n",
-        ..ROOMY
-    },
-    Case {
-        name: "refuses what is closing",
-        before: &RESOLVED,
-        steps: &[
-            (0, Run(Start, Outcome::Started), 2, ""),
-            (0, Close, 1, ""),
-            (0, Close, 1, ""),
-            (0, Doom, 1, ""),
-            (0, Doom, 7, ""),
-            (0, OpenUse, 2, "/svc/log"),
-            (0, OpenExposed, 1, "data"),
-            (0, Begin(Start), 1, ""),
-        ],
-        told: "7 0 begin start 2 => begun 4\n\
-               8 0 end 4 started => ended started\n\
-               9 0 mark closing 1 => marked\n\
-               10 0 mark closing 1 => already\n\
-               11 0 mark doomed 1 => not-dynamic\n\
-               12 0 mark doomed 7 => gone 7\n\
-               13 0 open 2 /svc/log => source-shut 1\n\
-               14 0 open-exposed 1 data => source-shut 1\n\
-               15 0 begin start 1 => shut 1\n",
-        ..ROOMY
-    },
-    Case {
-        name: "refuses what is closing and isn't resolved",
-        before: &WITHOUT_STORE,
-        steps: &[
-            (0, Close, 1, ""),
-            (0, Find, 0, "store/log"),
-            (0, Route, 2, "/svc/log"),
-            (0, Begin(ActKind::Resolve), 1, ""),
-        ],
-        told: "5 0 mark closing 1 => marked\n\
-               6 0 find store/log => shut 1\n\
-               7 0 route 2 /svc/log => source-shut 1\n\
-               8 0 begin resolve 1 => shut 1\n",
-        ..ROOMY
-    },
-    Case {
-        name: "creates children",
-        before: &WITH_CHILD,
-        steps: &[
-            (2, Create, 0, "create . coll one #new"),
-            (2, Create, 0, "create . coll two #new"),
-            (2, Create, 0, "create . other one #new"),
-            (2, Create, 1, "create . coll one #new"),
-            (2, Create, 2, "create . coll one #new"),
-            (2, List, 0, "coll"),
-            (2, Doom, 1, ""),
-            (2, Doom, 1, ""),
-            (2, Show, 1, ""),
-            (2, Create, 0, "create . coll one #new"),
-            (2, Close, 0, ""),
-            (2, Create, 0, "create . coll six #new"),
-        ],
-        told: "6 2 create 0 coll one #new => exists 1\n\
-               7 2 create 0 coll two #new => created 2\n\
-               8 2 create 0 other one #new => no-collection\n\
-               9 2 create 1 coll one #new => no-collection\n\
-               10 2 create 2 coll one #new => need 2\n\
-               11 2 list 0 coll => listed 2 [one incarnation 1] [two incarnation 2]\n\
-               12 2 mark doomed 1 => marked\n\
-               13 2 mark doomed 1 => already\n\
-               14 2 show 1 => gone 1\n\
-               15 2 create 0 coll one #new => created 3\n\
-               16 2 mark closing 0 => marked\n\
-               17 2 create 0 coll six #new => closing 0\n",
-        ..ROOMY
-    },
-    Case {
-        name: "writes what is offered to a new child",
-        before: &WITH_OFFERS,
-        steps: &[
-            (
-                3,
-                Create,
-                2,
-                "create . k e1 #meta/e.cm + directory d parent as=logs rights=r* weak optional",
-            ),
-            (3, List, 2, "k"),
-        ],
-        told: "7 3 create 2 k e1 #meta/e.cm + directory d parent as=logs \
-               rights=connect,enumerate,get_attributes,read_bytes,traverse weak optional \
-               => created 5\n\
-               8 3 list 2 k => listed 1 [e1 incarnation 5]\n",
-        ..ROOMY
-    },
-];
+pub const SHUTDOWNS: &str = "\
+    == realm 9 99 destroys what starts\n\
+    0 resolve 0 @collection\n\
+    0 create 0 create . coll one #new\n\
+    0 resolve 1 {}\n\
+    --\n\
+    1 destroy-while-starting 1\n\
+    0 begin 1 start\n\
+    =>\n\
+    busy 3\n\
+    6 0 begin start 1 => begun 3\n\
+    7 1 mark doomed 1 => marked\n\
+    8 0 end 3 started => ended started\n\
+    9 1 pick 1 => stopping 1 4\n\
+    10 1 end 4 stopped => ended stopped\n\
+    11 1 pick 1 => shutdown 1\n\
+    12 1 pick 1 => done\n\
+    13 1 purge 1 => purged 1\n\
+    14 0 begin start 1 => gone 1\n\
+    == realm 9 99 stops clients first\n\
+    0 resolve 0 @chain\n\
+    0 resolve 1 {}\n\
+    0 resolve 2 {}\n\
+    0 resolve 3 @mid\n\
+    0 resolve 4 {}\n\
+    0 started 0\n\
+    0 started 1\n\
+    0 started 2\n\
+    0 started 3\n\
+    0 started 4\n\
+    --\n\
+    1 shut-down 0\n\
+    =>\n\
+    21 1 mark closing 0 => marked\n\
+    22 1 pick 0 => stopping 2 11\n\
+    23 1 end 11 stopped => ended stopped\n\
+    24 1 pick 0 => shutdown 2\n\
+    25 1 pick 0 => stopping 3 12\n\
+    26 1 end 12 stopped => ended stopped\n\
+    27 1 pick 0 => shutdown 3\n\
+    28 1 pick 0 => stopping 4 13\n\
+    29 1 end 13 stopped => ended stopped\n\
+    30 1 pick 0 => shutdown 4\n\
+    31 1 pick 0 => stopping 1 14\n\
+    32 1 end 14 stopped => ended stopped\n\
+    33 1 pick 0 => shutdown 1\n\
+    34 1 pick 0 => stopping 0 15\n\
+    35 1 end 15 stopped => ended stopped\n\
+    36 1 pick 0 => shutdown 0\n\
+    37 1 pick 0 => done\n\
+    == realm 9 99 refuses what is closing\n\
+    0 resolve 0 @root\n\
+    0 resolve 1 @store\n\
+    0 resolve 2 @client\n\
+    --\n\
+    0 started 2\n\
+    0 close 1\n\
+    0 close 1\n\
+    0 doom 1\n\
+    0 doom 7\n\
+    0 open 2 /svc/log\n\
+    0 open-exposed 1 data\n\
+    0 begin 1 start\n\
+    =>\n\
+    7 0 begin start 2 => begun 4\n\
+    8 0 end 4 started => ended started\n\
+    9 0 mark closing 1 => marked\n\
+    10 0 mark closing 1 => already\n\
+    11 0 mark doomed 1 => not-dynamic\n\
+    12 0 mark doomed 7 => gone 7\n\
+    13 0 open 2 /svc/log => source-shut 1\n\
+    14 0 open-exposed 1 data => source-shut 1\n\
+    15 0 begin start 1 => shut 1\n\
+    == realm 9 99 refuses what is closing and isn't resolved\n\
+    0 resolve 0 @root\n\
+    0 resolve 2 @client\n\
+    --\n\
+    0 close 1\n\
+    0 find 0 store/log\n\
+    0 route 2 /svc/log\n\
+    0 begin 1 resolve\n\
+    =>\n\
+    5 0 mark closing 1 => marked\n\
+    6 0 find store/log => shut 1\n\
+    7 0 route 2 /svc/log => source-shut 1\n\
+    8 0 begin resolve 1 => shut 1\n\
+    == realm 9 99 creates children\n\
+    0 resolve 0 @collection\n\
+    0 create 0 create . coll one #new\n\
+    0 resolve 1 {}\n\
+    --\n\
+    2 create 0 create . coll one #new\n\
+    2 create 0 create . coll two #new\n\
+    2 create 0 create . other one #new\n\
+    2 create 1 create . coll one #new\n\
+    2 create 2 create . coll one #new\n\
+    2 list 0 coll\n\
+    2 doom 1\n\
+    2 doom 1\n\
+    2 show 1\n\
+    2 create 0 create . coll one #new\n\
+    2 close 0\n\
+    2 create 0 create . coll six #new\n\
+    =>\n\
+    6 2 create 0 coll one #new => exists 1\n\
+    7 2 create 0 coll two #new => created 2\n\
+    8 2 create 0 other one #new => no-collection\n\
+    9 2 create 1 coll one #new => no-collection\n\
+    10 2 create 2 coll one #new => need 2\n\
+    11 2 list 0 coll => listed 2 [one incarnation 1] [two incarnation 2]\n\
+    12 2 mark doomed 1 => marked\n\
+    13 2 mark doomed 1 => already\n\
+    14 2 show 1 => gone 1\n\
+    15 2 create 0 coll one #new => created 3\n\
+    16 2 mark closing 0 => marked\n\
+    17 2 create 0 coll six #new => closing 0\n\
+    == realm 9 99 writes what is offered to a new child\n\
+    0 resolve 0 {children:[{name:'a',url:'#a'},{name:'b',url:'#b'},{name:'c',url:'#c'},{name:'d',\
+    url:'#d'}]}\n\
+    0 resolve 2 {collections:[{name:'k',durability:'transient',\
+    allowed_offers:'static_and_dynamic'}]}\n\
+    0 show 9\n\
+    0 show 9\n\
+    --\n\
+    3 create 2 create . k e1 #meta/e.cm + directory d parent as=logs rights=r* weak optional\n\
+    3 list 2 k\n\
+    =>\n\
+    7 3 create 2 k e1 #meta/e.cm + directory d parent as=logs rights=connect,enumerate,\
+    get_attributes,read_bytes,traverse weak optional => created 5\n\
+    8 3 list 2 k => listed 1 [e1 incarnation 5]\n";
+
+/// Instances that go with one that stops, and what is left to be removed of it.
+pub const EXPIRIES: &str = "\
+    == realm 9 99 loses its children in collections when it stops, and no others\n\
+    0 resolve 0 {children:[{name:'a',url:'#a'}],collections:[{name:'coll',\
+    durability:'transient'}]}\n\
+    0 create 0 create . coll one #new\n\
+    0 create 0 create . coll two #new\n\
+    0 started 0\n\
+    --\n\
+    0 reap 0\n\
+    0 killed 0\n\
+    0 show 1\n\
+    0 begin 2 start\n\
+    0 find 0 coll:two\n\
+    0 list 0 coll\n\
+    0 create 0 create . coll one #new\n\
+    3 reap 0\n\
+    3 reap 2\n\
+    3 reap 4\n\
+    3 reap 9\n\
+    =>\n\
+    7 0 reap 0 => reaping\n\
+    8 0 begin stop 0 => begun 3\n\
+    9 0 end 3 killed => ended killed\n\
+    10 0 show 1 => shown unresolved off\n\
+    11 0 begin start 2 => gone 2\n\
+    12 0 find coll:two => not-found .\n\
+    13 0 list 0 coll => listed 0\n\
+    14 0 create 0 coll one #new => created 4\n\
+    15 3 reap 0 => reaping 2 3\n\
+    16 3 reap 2 => reaping 2\n\
+    17 3 reap 4 => reaping\n\
+    18 3 reap 9 => reaping\n\
+    == realm 9 99 loses them when it exits, too\n\
+    0 resolve 0 @collection\n\
+    0 create 0 create . coll one #new\n\
+    0 started 0\n\
+    --\n\
+    0 exited 0\n\
+    0 exited 0\n\
+    0 show 1\n\
+    0 reap 0\n\
+    =>\n\
+    6 0 exited 0 => left\n\
+    7 0 exited 0 => already\n\
+    8 0 show 1 => gone 1\n\
+    9 0 reap 0 => reaping 1\n\
+    == realm 9 99 goes itself when it has run once, and its children with it\n\
+    0 resolve 0 {collections:[{name:'once',durability:'single_run'}]}\n\
+    0 create 0 create . once one #new\n\
+    0 resolve 1 @collection\n\
+    0 create 1 create . coll two #new\n\
+    0 started 1\n\
+    --\n\
+    0 exited 1\n\
+    0 find 0 once:one\n\
+    0 show 2\n\
+    0 reap 1\n\
+    0 reap 2\n\
+    0 reap 0\n\
+    =>\n\
+    9 0 exited 1 => left\n\
+    10 0 find once:one => not-found .\n\
+    11 0 show 2 => gone 2\n\
+    12 0 reap 1 => reaping 1\n\
+    13 0 reap 2 => reaping\n\
+    14 0 reap 0 => reaping 1\n\
+    == realm 9 99 loses children that run once as others\n\
+    0 resolve 0 {collections:[{name:'once',durability:'single_run'}]}\n\
+    0 create 0 create . once one #new\n\
+    0 started 0\n\
+    --\n\
+    0 killed 0\n\
+    0 reap 0\n\
+    =>\n\
+    6 0 begin stop 0 => begun 3\n\
+    7 0 end 3 killed => ended killed\n\
+    8 0 reap 0 => reaping 1\n\
+    == realm 9 99 loses a child whose start is pending\n\
+    0 resolve 0 @collection\n\
+    0 create 0 create . coll one #new\n\
+    0 resolve 1 {}\n\
+    0 started 0\n\
+    --\n\
+    2 begin 1 start\n\
+    0 killed 0\n\
+    2 exited 1\n\
+    3 begin 1 start\n\
+    3 reap 0\n\
+    =>\n\
+    8 2 begin start 1 => begun 4\n\
+    9 0 begin stop 0 => begun 5\n\
+    10 0 end 5 killed => ended killed\n\
+    busy 4\n\
+    11 3 begin start 1 => gone 1\n\
+    12 3 reap 0 => reaping 1\n\
+    == realm 9 99 keeps its children in a shutdown\n\
+    0 resolve 0 @collection\n\
+    0 create 0 create . coll one #new\n\
+    0 resolve 1 {}\n\
+    0 started 0\n\
+    0 started 1\n\
+    --\n\
+    1 shut-down 0\n\
+    0 show 1\n\
+    0 reap 0\n\
+    =>\n\
+    10 1 mark closing 0 => marked\n\
+    11 1 pick 0 => stopping 1 5\n\
+    12 1 end 5 stopped => ended stopped\n\
+    13 1 pick 0 => shutdown 1\n\
+    14 1 pick 0 => stopping 0 6\n\
+    15 1 end 6 stopped => ended stopped\n\
+    16 1 pick 0 => shutdown 0\n\
+    17 1 pick 0 => done\n\
+    18 0 show 1 => shown resolved off shut\n\
+    19 0 reap 0 => reaping\n\
+    == realm 9 99 names what an earlier stop has left, too\n\
+    0 resolve 0 @collection\n\
+    0 create 0 create . coll one #new\n\
+    0 started 0\n\
+    0 killed 0\n\
+    0 started 0\n\
+    0 create 0 create . coll two #new\n\
+    --\n\
+    0 reap 0\n\
+    0 killed 0\n\
+    0 reap 0\n\
+    =>\n\
+    11 0 reap 0 => reaping 1\n\
+    12 0 begin stop 0 => begun 5\n\
+    13 0 end 5 killed => ended killed\n\
+    14 0 reap 0 => reaping 1 2\n\
+    == realm 9 99 removes by a later destroy what a stop has left\n\
+    0 resolve 0 @collection\n\
+    0 create 0 create . coll one #new\n\
+    0 resolve 1 {}\n\
+    0 started 0\n\
+    0 started 1\n\
+    --\n\
+    0 killed 0\n\
+    0 reap 0\n\
+    1 destroy 1\n\
+    0 reap 0\n\
+    0 reap 1\n\
+    0 begin 1 start\n\
+    =>\n\
+    10 0 begin stop 0 => begun 5\n\
+    11 0 end 5 killed => ended killed\n\
+    12 0 reap 0 => reaping 1\n\
+    13 1 mark doomed 1 => already\n\
+    14 1 pick 1 => stopping 1 6\n\
+    15 1 end 6 stopped => ended stopped\n\
+    16 1 pick 1 => shutdown 1\n\
+    17 1 pick 1 => done\n\
+    18 1 purge 1 => purged 1\n\
+    19 0 reap 0 => reaping\n\
+    20 0 reap 1 => reaping\n\
+    21 0 begin start 1 => gone 1\n";
+
+/// What stands at each hop of a route of which all know how sure they are.
+pub const AVAILABILITY: &str = "\
+    == realm 9 99 takes less than is given at each hop\n\
+    0 resolve 0 {children:[{name:'store',url:'#s'},{name:'mid',url:'#m'}],offer:[{protocol:'log',\
+    from:'#store',to:'#mid'}]}\n\
+    0 resolve 1 {capabilities:[{protocol:'log'}],expose:[{protocol:'log',from:'self'\
+    }]}\n\
+    0 resolve 2 {children:[{name:'client',url:'#c'}],offer:[{protocol:'log',from:'parent',\
+    to:'#client',availability:'optional'}]}\n\
+    0 resolve 3 {use:[{protocol:'log',availability:'transitional'}]}\n\
+    --\n\
+    0 route 3 /svc/log\n\
+    =>\n\
+    9 0 route 3 /svc/log => given /svc/log at store incarnation 1 through use mid/client, \
+    offer mid, offer ., expose store, capability store\n\
+    == realm 9 99 takes over what is asked at two hops\n\
+    0 resolve 0 {children:[{name:'store',url:'#s'},{name:'mid',url:'#m'}],offer:[{protocol:'log',\
+    from:'#store',to:'#mid',availability:'same_as_target'}]}\n\
+    0 resolve 1 {capabilities:[{protocol:'log'}],expose:[{protocol:'log',from:'self'\
+    ,availability:'optional'}]}\n\
+    0 resolve 2 {children:[{name:'client',url:'#c'}],offer:[{protocol:'log',from:'parent',\
+    to:'#client',availability:'same_as_target'}]}\n\
+    0 resolve 3 {use:[{protocol:'log',availability:'optional'}]}\n\
+    --\n\
+    0 route 3 /svc/log\n\
+    =>\n\
+    9 0 route 3 /svc/log => given /svc/log at store incarnation 1 through use mid/client, \
+    offer mid, offer ., expose store, capability store\n\
+    == realm 9 99 asks for more than the nearest offer gives\n\
+    0 resolve 0 {children:[{name:'store',url:'#s'},{name:'mid',url:'#m'}],offer:[{protocol:'log',\
+    from:'#store',to:'#mid'}]}\n\
+    0 resolve 1 {capabilities:[{protocol:'log'}],expose:[{protocol:'log',from:'self'\
+    }]}\n\
+    0 resolve 2 {children:[{name:'client',url:'#c'}],offer:[{protocol:'log',from:'parent',\
+    to:'#client',availability:'transitional'}]}\n\
+    0 resolve 3 {use:[{protocol:'log',availability:'optional'}]}\n\
+    --\n\
+    0 route 3 /svc/log\n\
+    =>\n\
+    9 0 route 3 /svc/log => failed availability-too-weak at offer mid\n\
+    == realm 9 99 asks for more than the far offer gives, through one that takes it over\n\
+    0 resolve 0 {children:[{name:'store',url:'#s'},{name:'mid',url:'#m'}],offer:[{protocol:'log',\
+    from:'#store',to:'#mid',availability:'optional'}]}\n\
+    0 resolve 1 {capabilities:[{protocol:'log'}],expose:[{protocol:'log',from:'self'\
+    }]}\n\
+    0 resolve 2 {children:[{name:'client',url:'#c'}],offer:[{protocol:'log',from:'parent',\
+    to:'#client',availability:'same_as_target'}]}\n\
+    0 resolve 3 {use:[{protocol:'log'}]}\n\
+    --\n\
+    0 route 3 /svc/log\n\
+    =>\n\
+    9 0 route 3 /svc/log => failed availability-too-weak at offer .\n\
+    == realm 9 99 asks for more than the expose gives, through two that take it over\n\
+    0 resolve 0 {children:[{name:'store',url:'#s'},{name:'mid',url:'#m'}],offer:[{protocol:'log',\
+    from:'#store',to:'#mid',availability:'same_as_target'}]}\n\
+    0 resolve 1 {capabilities:[{protocol:'log'}],expose:[{protocol:'log',from:'self'\
+    ,availability:'transitional'}]}\n\
+    0 resolve 2 {children:[{name:'client',url:'#c'}],offer:[{protocol:'log',from:'parent',\
+    to:'#client',availability:'same_as_target'}]}\n\
+    0 resolve 3 {use:[{protocol:'log',availability:'optional'}]}\n\
+    --\n\
+    0 route 3 /svc/log\n\
+    =>\n\
+    9 0 route 3 /svc/log => failed availability-too-weak at expose store\n\
+    == realm 9 99 compares with the offer before, and not with the use\n\
+    0 resolve 0 {children:[{name:'store',url:'#s'},{name:'mid',url:'#m'}],offer:[{protocol:'log',\
+    from:'#store',to:'#mid'}]}\n\
+    0 resolve 1 {capabilities:[{protocol:'log'}],expose:[{protocol:'log',from:'self'\
+    ,availability:'optional'}]}\n\
+    0 resolve 2 {children:[{name:'client',url:'#c'}],offer:[{protocol:'log',from:'parent',\
+    to:'#client',availability:'same_as_target'}]}\n\
+    0 resolve 3 {use:[{protocol:'log',availability:'optional'}]}\n\
+    --\n\
+    0 route 3 /svc/log\n\
+    =>\n\
+    9 0 route 3 /svc/log => failed availability-too-weak at expose store\n\
+    == realm 9 99 has nothing to compare with where a route begins by taking over\n\
+    0 resolve 0 {children:[{name:'a',url:'#a'}]}\n\
+    0 resolve 1 {children:[{name:'b',url:'#b'}],expose:[{protocol:'log',from:'#b',\
+    availability:'same_as_target'}]}\n\
+    0 resolve 2 {capabilities:[{protocol:'log'}],expose:[{protocol:'log',from:'self',\
+    availability:'transitional'}]}\n\
+    --\n\
+    0 open-exposed 1 log\n\
+    =>\n\
+    7 0 open-exposed 1 log => need-start 2\n\
+    == realm 9 99 compares with the expose that a route begins with\n\
+    0 resolve 0 {children:[{name:'a',url:'#a'}]}\n\
+    0 resolve 1 {children:[{name:'b',url:'#b'}],expose:[{protocol:'log',from:'#b'}]}\n\
+    0 resolve 2 {capabilities:[{protocol:'log'}],expose:[{protocol:'log',from:'self',\
+    availability:'transitional'}]}\n\
+    --\n\
+    0 open-exposed 1 log\n\
+    =>\n\
+    7 0 open-exposed 1 log => failed availability-too-weak at expose a/b\n";
+
+/// Walks from the offer at an index of a root with that manifest, whose children aren't resolved.
+pub const OFFERS: &str = "\
+    == offer 0 {children:[{name:'a',url:'#a'}],capabilities:[{protocol:'log'}],offer:[{\
+    protocol:'log',from:'self',to:'#a'}]}\n\
+    =>\n\
+    route /svc/log at . incarnation 0 through offer ., capability .\n\
+    == offer 1 {children:[{name:'a',url:'#a'}],capabilities:[{protocol:'log'}],offer:[{\
+    protocol:'log',from:'self',to:'#a'}]}\n\
+    =>\n\
+    refused 86 no-such-use\n\
+    == offer 1 {children:[{name:'a',url:'#a'}],capabilities:[{directory:'d',path:'/d',\
+    rights:['rw*']}],offer:[{protocol:'log',from:'parent',to:'#a'},{directory:'d',from:'self',\
+    to:'#a',rights:['r*'],subdir:'s'}]}\n\
+    =>\n\
+    route /d/s at . incarnation 0 rights connect,enumerate,get_attributes,read_bytes,traverse \
+    through offer ., capability .\n\
+    == offer 0 {children:[{name:'a',url:'#a'}],capabilities:[{directory:'d',path:'/d',\
+    rights:['connect']}],offer:[{directory:'d',from:'self',to:'#a'}]}\n\
+    =>\n\
+    route /d at . incarnation 0 rights connect through offer ., capability .\n\
+    == offer 0 {children:[{name:'a',url:'#a'}],capabilities:[{directory:'d',path:'/d',\
+    rights:['connect']}],offer:[{directory:'d',from:'self',to:'#a',rights:['r*']}]}\n\
+    =>\n\
+    refused 87 rights-too-weak at capability .\n\
+    == offer 0 {children:[{name:'a',url:'#a'}],offer:[{protocol:'log',from:'void',to:'#a',\
+    availability:'optional'}]}\n\
+    =>\n\
+    refused 88 void at offer .\n\
+    == offer 0 {children:[{name:'a',url:'#a'},{name:'b',url:'#b'}],offer:[{protocol:'log',\
+    from:'#b',to:'#a'}]}\n\
+    =>\n\
+    needs 2\n";
+
+/// What is answered to the command of a line, or why nothing is, and its text.
+pub const ANSWERS: &str = "\
+    == said created create core k e1 #meta/e.cm\n\
+    =>\n\
+    created core k:e1 incarnation 5\n\
+    == said children list core k\n\
+    =>\n\
+    children core k 1\n\
+    \x20 e1 incarnation 5\n\
+    == said opened open-exposed core p\n\
+    =>\n\
+    opened /svc/p at core incarnation 2 rights connect,enumerate,get_attributes,read_bytes,\
+    traverse\n\
+    == said routed route core /svc/p\n\
+    =>\n\
+    route /svc/p at builtin through use core, capability core\n\
+    == said offer-cycle start @3\n\
+    =>\n\
+    refused 64 offer-cycle self k:a self\n\
+    == said no-route start @3\n\
+    =>\n\
+    refused 87 no-expose at expose core\n\
+    == said invalid start @3\n\
+    =>\n\
+    refused 83 cannot-resolve action 3 invalid 51 offer 2\n\
+    == said memory start @3\n\
+    =>\n\
+    refused want-of-memory\n";
+
+/// Planned gates: the room for notes and the calls that fail, and what comes of all questions.
+pub const PLANS: &str = "\
+    == planned 5\n\
+    =>\n\
+    first absent Running Declined Stopped, 5 noted, 0 faults\n\
+    == planned 9 0 3\n\
+    =>\n\
+    failed absent Running Failed Stopped, 5 noted, 2 faults\n\
+    == planned 5 4 9\n\
+    =>\n\
+    first absent Running Declined Failed, 5 noted, 1 faults\n\
+    == planned 2\n\
+    =>\n\
+    first absent Failed Failed Failed, not all noted, 3 faults\n\
+    == planned 0 1\n\
+    =>\n\
+    failed failed Failed Failed Failed, not all noted, 5 faults\n";
+
+/// A URL, what gates to a folder read under it, and how often they failed.
+pub const FOLDER: &str = "\
+    == folder fuchsia-pkg://t/a/b#meta/root.cm\n\
+    =>\n\
+    {}, 0 faults\n\
+    == folder fuchsia-pkg://t/a/b?hash=1#meta/root.cm\n\
+    =>\n\
+    {}, 0 faults\n\
+    == folder fuchsia-pkg://t:80/a/./c/../b#meta/root.cm\n\
+    =>\n\
+    {}, 0 faults\n\
+    == folder fuchsia-pkg://t/a/b#meta/none.cm\n\
+    =>\n\
+    absent, 0 faults\n\
+    == folder fuchsia-pkg://t/file/x#meta/root.cm\n\
+    =>\n\
+    absent, 0 faults\n\
+    == folder fuchsia-pkg://t/a/b#meta/../meta/root.cm\n\
+    =>\n\
+    absent, 0 faults\n\
+    == folder fuchsia-pkg://t/a/b#meta/./root.cm\n\
+    =>\n\
+    absent, 0 faults\n\
+    == folder fuchsia-pkg://t/a/b#meta//root.cm\n\
+    =>\n\
+    absent, 0 faults\n\
+    == folder fuchsia-pkg://t/a/b/#meta/root.cm\n\
+    =>\n\
+    absent, 0 faults\n\
+    == folder fuchsia-pkg://../a/b#meta/root.cm\n\
+    =>\n\
+    absent, 0 faults\n\
+    == folder fuchsia-pkg://t/a/b#%6Deta/root.cm\n\
+    =>\n\
+    absent, 0 faults\n\
+    == folder fuchsia-pkg://t/a/b\n\
+    =>\n\
+    absent, 0 faults\n\
+    == folder fuchsia-boot:///#meta/root.cm\n\
+    =>\n\
+    absent, 0 faults\n\
+    == folder fuchsia-pkg:a#meta/root.cm\n\
+    =>\n\
+    absent, 0 faults\n\
+    == folder meta/root.cm\n\
+    =>\n\
+    absent, 0 faults\n\
+    == folder fuchsia-pkg://t/a/b#meta/folder.cm\n\
+    =>\n\
+    failed, 1 faults\n";

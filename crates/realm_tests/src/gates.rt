@@ -3,8 +3,10 @@
 ghost use Rattle.std.specs.Prelude.{◌≡◌, ◌≢◌, [], ◌∷◌};
 ghost use Rattle.cm_gate.specs.Logs.{Grew, RoseBy};
 
+use crate::cases::{FOLDER, PLANS};
+use crate::player::odd_cases;
 use cm_gate::*;
-use cm_names::{Bytes, List, Moniker, Name, Text};
+use cm_names::{Bytes, List, Memory, Moniker, Name, Text};
 use cm_turn::{Pass, Storied, Turn};
 use cm_world::{Entry, Frame, Limits};
 use std::alloc::{AllocError, Global};
@@ -35,7 +37,7 @@ impl Storied for Still {
 }
 
 /// The idle passes of two callers.
-fn passes(alloc: Global) -> Result<(Pass<Entry, Frame>, Pass<Entry, Frame>), Fail> {
+fn passes(alloc: Global) -> Option<(Pass<Entry, Frame>, Pass<Entry, Frame>)> {
     let limits = Limits {
         rows: 1,
         entries: 0,
@@ -46,136 +48,134 @@ fn passes(alloc: Global) -> Result<(Pass<Entry, Frame>, Pass<Entry, Frame>), Fai
         limits,
     };
     let Ok((_, passes)) = Turn::new(alloc, Still { frame }, 2) else {
-        return Err(Fail::from(AllocError));
+        return None;
     };
     let mut passes = passes.into_vec();
     match (passes.pop(), passes.pop()) {
-        (Some(second), Some(first)) => Ok((first, second)),
-        _ => Err(Fail::from(AllocError)),
+        (Some(second), Some(first)) => Some((first, second)),
+        _ => None,
     }
 }
 
-fn manifest(alloc: Global, url: &str, bytes: &str) -> Result<Manifest, AllocError> {
-    Ok(Manifest {
+fn manifest(alloc: Global, url: &str, bytes: &str) -> Option<Manifest> {
+    Some(Manifest {
         url: text(alloc, url)?,
-        bytes: Bytes::from_vec(bytes.as_bytes().to_vec(alloc)?),
+        bytes: Bytes::from_vec(bytes.as_bytes().to_vec(alloc).ok()?),
     })
 }
 
-fn text(alloc: Global, text: &str) -> Result<Text, AllocError> {
-    Ok(Text::from_string(String::from_str(alloc, text)?))
+fn text(alloc: Global, text: &str) -> Option<Text> {
+    Some(Text::from_string(String::from_str(alloc, text).ok()?))
 }
 
 /// Manifests of `a`, twice, and of `b`.
-fn manifests(alloc: Global) -> Result<List<Manifest>, AllocError> {
+fn manifests(alloc: Global) -> Option<List<Manifest>> {
     let mut manifests = Vec::new(alloc);
-    manifests.push(manifest(alloc, "a", "first")?)?;
-    manifests.push(manifest(alloc, "a", "second")?)?;
-    manifests.push(manifest(alloc, "b", "other")?)?;
-    Ok(List::from_vec(manifests))
+    manifests.push(manifest(alloc, "a", "first")?).ok()?;
+    manifests.push(manifest(alloc, "a", "second")?).ok()?;
+    manifests.push(manifest(alloc, "b", "other")?).ok()?;
+    Some(List::from_vec(manifests))
 }
 
-fn fetch_of(alloc: Global, repo: Option<&str>, url: &str) -> Result<Fetch, AllocError> {
-    let repo = match repo {
-        Some(repo) => Some(text(alloc, repo)?),
-        None => None,
+fn fetch_of(alloc: Global, repo: &str, url: &str) -> Option<Fetch> {
+    let repo = if repo.is_empty() {
+        None
+    } else {
+        Some(text(alloc, repo)?)
     };
-    Ok(Fetch {
+    Some(Fetch {
         repo,
         url: text(alloc, url)?,
     })
 }
 
-fn job_of(alloc: Global, url: &str) -> Result<Job, Fail> {
-    Ok(Job {
+fn job_of(alloc: Global, url: &str) -> Option<Job> {
+    Some(Job {
         action: 3,
         inc: 1,
         moniker: Moniker::root(alloc),
         url: text(alloc, url)?,
-        runner: Name::read(alloc, "elf")?,
+        runner: Name::read(alloc, "elf").ok()?,
     })
 }
 
-/// What is asked of gates: to fetch from a repository, to launch, or to halt.
-#[derive(Clone, Copy)]
-enum Question {
-    Fetch(Option<&'static str>),
-    Launch,
-    Halt,
-}
-
-/// A question, and the URL that it is asked of.
-type Ask = (Question, &'static str);
-
-/// Five questions, of which each answer is one word.
-const ALL: [Ask; 5] = [
-    (Question::Fetch(None), "a"),
-    (Question::Fetch(None), "c"),
-    (Question::Launch, "a"),
-    (Question::Launch, "b"),
-    (Question::Halt, "b"),
-];
+/// Five questions, of which each answer is one word. A question is a line: to fetch, to launch or
+/// to halt, and the URL that is asked of.
+const ALL: &str = "\
+    fetch a\n\
+    fetch c\n\
+    launch a\n\
+    launch b\n\
+    halt b";
 
 /// What gates answer to these questions, a word each.
 fn asked<R: Threads + Wait + Sync, G: Gates>(
     rt: &R,
     alloc: Global,
     gates: &mut G,
-    asks: &[Ask],
-) -> Result<String, Fail> {
-    let (idle, _) = passes(alloc)?;
+    asks: &str,
+) -> Option<String> {
     let mut words = String::new(alloc);
-    ask_each(rt, alloc, gates, &idle, asks, &mut words)?;
-    Ok(words)
+    match passes(alloc) {
+        Some((idle, _)) => answer_all(rt, alloc, gates, &idle, asks, &mut words)?,
+        None => return None,
+    }
+    Some(words)
 }
 
 /// Puts down what gates answer to these questions.
-fn ask_each<R: Threads + Wait + Sync, G: Gates>(
+fn answer_all<R: Threads + Wait + Sync, G: Gates>(
     rt: &R,
     alloc: Global,
     gates: &mut G,
     idle: &Pass<Entry, Frame>,
-    asks: &[Ask],
+    asks: &str,
     words: &mut String,
-) -> Result<(), Fail> {
-    for (question, url) in asks {
+) -> Option<()> {
+    for ask in asks.split('\n') {
         if !words.is_empty() {
-            words.push_str(" ")?;
+            words.push_str(" ").ok()?;
         }
-        ask(rt, alloc, gates, idle, *question, url, words)?;
+        answer(rt, alloc, gates, idle, ask, words)?;
     }
-    Ok(())
+    Some(())
 }
 
 /// Puts down what gates answer to a question.
-fn ask<R: Threads + Wait + Sync, G: Gates>(
+fn answer<R: Threads + Wait + Sync, G: Gates>(
     rt: &R,
     alloc: Global,
     gates: &mut G,
     idle: &Pass<Entry, Frame>,
-    question: Question,
-    url: &str,
+    ask: &str,
     words: &mut String,
-) -> Result<(), Fail> {
-    match question {
-        Question::Fetch(repo) => Ok(fetch(rt, alloc, gates, idle, repo, url, words)?),
-        Question::Launch => launch(rt, alloc, gates, idle, url, words),
-        Question::Halt => halt(rt, alloc, gates, idle, url, words),
+) -> Option<()> {
+    let (verb, url) = ask.split_once(' ')?;
+    match verb {
+        "fetch" => fetch(rt, alloc, gates, idle, "", url, words),
+        "fetch-from" => {
+            let (repo, url) = url.split_once(' ')?;
+            fetch(rt, alloc, gates, idle, repo, url, words)
+        }
+        "launch" => launch(rt, alloc, gates, idle, url, words),
+        "halt" => halt(rt, alloc, gates, idle, url, words),
+        _ => None,
     }
 }
 
+/// Puts down what is fetched from a repository, or from the one that none names.
 fn fetch<R: Threads + Wait + Sync, G: Gates>(
     rt: &R,
     alloc: Global,
     gates: &mut G,
     idle: &Pass<Entry, Frame>,
-    repo: Option<&str>,
+    repo: &str,
     url: &str,
     words: &mut String,
-) -> Result<(), AllocError> {
+) -> Option<()> {
     let what = fetch_of(alloc, repo, url)?;
     let found = gates.fetch(rt, alloc, idle, &what);
-    push_found(found, words)
+    push_found(found, words).ok()
 }
 
 /// Puts down what was fetched, or one word.
@@ -203,14 +203,14 @@ fn launch<R: Threads + Wait + Sync, G: Gates>(
     idle: &Pass<Entry, Frame>,
     url: &str,
     words: &mut String,
-) -> Result<(), Fail> {
+) -> Option<()> {
     let job = job_of(alloc, url)?;
     let word = match gates.launch(rt, idle, &job) {
         Launched::Running => "Running",
         Launched::Declined => "Declined",
         Launched::Failed => "Failed",
     };
-    Ok(words.push_str(word)?)
+    words.push_str(word).ok()
 }
 
 fn halt<R: Threads + Wait + Sync, G: Gates>(
@@ -220,13 +220,13 @@ fn halt<R: Threads + Wait + Sync, G: Gates>(
     idle: &Pass<Entry, Frame>,
     url: &str,
     words: &mut String,
-) -> Result<(), Fail> {
+) -> Option<()> {
     let job = job_of(alloc, url)?;
     let word = match gates.halt(rt, idle, &job) {
         Halted::Stopped => "Stopped",
         Halted::Failed => "Failed",
     };
-    Ok(words.push_str(word)?)
+    words.push_str(word).ok()
 }
 
 /// Fetches twice: what any gates tell of two calls.
@@ -249,76 +249,79 @@ fn fetch_twice<R: Threads + Wait + Sync, G: Gates>(
     (first, second)
 }
 
-/// Planned gates that decline `b`.
-fn planned(alloc: Global, failing: &[u64], room: u64) -> Result<PlannedGates, Fail> {
+/// Planned gates that decline `b`, of which the calls of these numbers fail.
+fn planned(alloc: Global, failing: &str, room: u64) -> Option<PlannedGates> {
     let mut declined = Vec::new(alloc);
-    declined.push(text(alloc, "b")?)?;
-    let failing = List::from_vec(failing.to_vec(alloc)?);
+    declined.push(text(alloc, "b")?).ok()?;
     let plan = GatePlan {
         manifests: manifests(alloc)?,
         declined: List::from_vec(declined),
-        failing,
+        failing: List::from_vec(numbers_of(alloc, failing)?),
         room,
     };
-    Ok(PlannedGates::new(alloc, plan))
+    Some(PlannedGates::new(alloc, plan))
+}
+
+/// Numbers with spaces between them.
+fn numbers_of(alloc: Global, words: &str) -> Option<Vec<u64>> {
+    let mut numbers = Vec::new(alloc);
+    if words.is_empty() {
+        return Some(numbers);
+    }
+    for word in words.split(' ') {
+        numbers.push(word.parse().ok()?).ok()?;
+    }
+    Some(numbers)
 }
 
 /// What planned gates answer to all questions, how many they have noted, and how often they failed.
-fn ask_planned<R: Threads + Wait + Sync>(
-    rt: &R,
-    alloc: Global,
-    failing: &[u64],
-    room: u64,
-) -> Result<(String, Option<usize>, u64), Fail> {
-    let mut gates = planned(alloc, failing, room)?;
-    let words = asked(rt, alloc, &mut gates, ALL.as_slice())?;
-    Ok((words, gates.log().map(|log| log.len()), gates.faults()))
+/// First comes the room for notes, then the calls that fail.
+pub fn told_by_plan<R: Threads + Wait + Sync>(rt: &R, alloc: Global, input: &str) -> Option<Text> {
+    let (room, failing) = input.split_once(' ').unwrap_or((input, ""));
+    match planned(alloc, failing, room.parse().ok()?) {
+        Some(mut gates) => told_by_planned(rt, alloc, &mut gates),
+        None => None,
+    }
 }
 
-/// The calls that fail, the room for notes, and what comes of all questions.
-type Plan = (&'static [u64], u64, &'static str, Option<usize>, u64);
+fn told_by_planned<R: Threads + Wait + Sync>(
+    rt: &R,
+    alloc: Global,
+    gates: &mut PlannedGates,
+) -> Option<Text> {
+    let mut told = Text::from_string(asked(rt, alloc, gates, ALL)?);
+    push_noted(&mut told, gates.log().map(|log| log.len())).ok()?;
+    push_faults(&mut told, gates.faults()).ok()?;
+    Some(told)
+}
 
-const PLANS: [Plan; 5] = [
-    (&[], 5, "first absent Running Declined Stopped", Some(5), 0),
-    (
-        &[0, 3],
-        9,
-        "failed absent Running Failed Stopped",
-        Some(5),
-        2,
-    ),
-    (
-        &[4, 9],
-        5,
-        "first absent Running Declined Failed",
-        Some(5),
-        1,
-    ),
-    (&[], 2, "first absent Failed Failed Failed", None, 3),
-    (&[1], 0, "failed failed Failed Failed Failed", None, 5),
-];
+fn push_noted(told: &mut Text, noted: Option<usize>) -> Result<(), Memory> {
+    match noted {
+        Some(count) => told.push(format_args!(", {count} noted")),
+        None => told.push_str(", not all noted"),
+    }
+}
+
+fn push_faults(told: &mut Text, faults: u64) -> Result<(), Memory> {
+    told.push(format_args!(", {faults} faults\n"))
+}
 
 #[test]
 fn answers_by_the_plan(rt: HostRuntime) -> Result<(), Fail> {
-    for (failing, room, words, noted, faults) in PLANS {
-        let asked = ask_planned(&rt, rt.alloc(), failing, room)?;
-        assert_eq!(rt; asked.0.as_str(), words, "room {room}");
-        assert_eq!(rt; asked.1, noted, "room {room}");
-        assert_eq!(rt; asked.2, faults, "room {room}");
-    }
+    let odd = odd_cases(&rt, rt.alloc(), PLANS)?;
+    assert!(rt; odd.is_empty(), "{odd}");
     Ok(())
 }
 
 /// Whether planned gates that are asked three questions note these, and in which order.
-fn notes_three<R: Threads + Wait + Sync>(rt: &R, alloc: Global) -> Result<bool, Fail> {
-    let mut gates = planned(alloc, &[2], 3)?;
-    let asks = [
-        (Question::Fetch(Some("repo")), "c"),
-        (Question::Launch, "a"),
-        (Question::Halt, "a"),
-    ];
-    asked(rt, alloc, &mut gates, asks.as_slice())?;
-    Ok(gates.log().is_some_and(|log| are_three(log)))
+fn notes_three<R: Threads + Wait + Sync>(rt: &R, alloc: Global) -> Option<bool> {
+    match planned(alloc, "2", 3) {
+        Some(mut gates) => {
+            asked(rt, alloc, &mut gates, "fetch-from repo c\nlaunch a\nhalt a")?;
+            Some(gates.log().is_some_and(|log| are_three(log)))
+        }
+        None => None,
+    }
 }
 
 /// Whether these are the questions, and in which order.
@@ -334,26 +337,31 @@ fn are_three(log: &[Asked]) -> bool {
 }
 
 #[test]
-fn notes_questions(rt: HostRuntime) -> Result<(), Fail> {
-    assert!(rt; notes_three(&rt, rt.alloc())?);
-    Ok(())
+fn notes_questions(rt: HostRuntime) {
+    assert_eq!(rt; notes_three(&rt, rt.alloc()), Some(true));
 }
 
 /// Whether two fetches of quiet gates fail.
-fn fails_twice<R: Threads + Wait + Sync>(rt: &R, alloc: Global) -> Result<(bool, bool), Fail> {
-    let what = fetch_of(alloc, None, "a")?;
-    let (idle, _) = passes(alloc)?;
-    let (first, second) = fetch_twice(rt, alloc, &mut QuietGates, &idle, &what);
-    Ok((first.is_failed(), second.is_failed()))
+fn fails_twice<R: Threads + Wait + Sync>(rt: &R, alloc: Global) -> Option<(bool, bool)> {
+    let what = fetch_of(alloc, "", "a")?;
+    match passes(alloc) {
+        Some((idle, _)) => {
+            let (first, second) = fetch_twice(rt, alloc, &mut QuietGates, &idle, &what);
+            Some((first.is_failed(), second.is_failed()))
+        }
+        None => None,
+    }
 }
 
 #[test]
-fn is_quiet(rt: HostRuntime) -> Result<(), Fail> {
-    let words = asked(&rt, rt.alloc(), &mut QuietGates, ALL.as_slice())?;
-    assert_eq!(rt; words.as_str(), "absent absent Running Running Stopped");
-    assert_eq!(rt; fails_twice(&rt, rt.alloc())?, (false, false));
-    Ok(())
+fn is_quiet(rt: HostRuntime) {
+    let words = asked(&rt, rt.alloc(), &mut QuietGates, ALL);
+    assert!(rt; words.is_some_and(|words| words.as_str() == QUIET));
+    assert_eq!(rt; fails_twice(&rt, rt.alloc()), Some((false, false)));
 }
+
+/// What gates without manifests answer to all questions.
+const QUIET: &str = "absent absent Running Running Stopped";
 
 /// One of two callers, with what it asks for, and what it found.
 #[derive(Drop)]
@@ -365,9 +373,9 @@ struct Caller {
 }
 
 /// Two callers, of which one asks for `a` and the other for `b`.
-fn two_callers(alloc: Global) -> Result<Vec<Caller>, Fail> {
+fn two_callers(alloc: Global) -> Option<Vec<Caller>> {
     let (pass, other_pass) = passes(alloc)?;
-    let (gates, other_gates) = MeetingGates::pair(alloc, manifests(alloc)?)?;
+    let (gates, other_gates) = MeetingGates::pair(alloc, manifests(alloc)?).ok()?;
     let first = Caller {
         pass,
         gates,
@@ -380,7 +388,7 @@ fn two_callers(alloc: Global) -> Result<Vec<Caller>, Fail> {
         url: "b",
         found: String::new(alloc),
     };
-    Ok(vec![in alloc; first, second]?)
+    vec![in alloc; first, second].ok()
 }
 
 fn fetch_for<R: Threads + Wait + Sync>(rt: &R, alloc: Global, caller: &mut Caller) {
@@ -390,11 +398,11 @@ fn fetch_for<R: Threads + Wait + Sync>(rt: &R, alloc: Global, caller: &mut Calle
         url,
         found,
     } = caller;
-    let _ = fetch(rt, alloc, gates, pass, None, url, found);
+    let _ = fetch(rt, alloc, gates, pass, "", url, found);
 }
 
 /// Two callers that have fetched side by side.
-fn meet<R: Threads + Wait + Sync>(rt: &R, alloc: Global) -> Result<Vec<Caller>, Fail> {
+fn meet<R: Threads + Wait + Sync>(rt: &R, alloc: Global) -> Option<Vec<Caller>> {
     let mut callers = two_callers(alloc)?;
     thread::for_each_mut(
         rt,
@@ -402,27 +410,31 @@ fn meet<R: Threads + Wait + Sync>(rt: &R, alloc: Global) -> Result<Vec<Caller>, 
         2,
         &|_, caller| { fetch_for(rt, alloc, caller) },
     );
-    Ok(callers)
+    Some(callers)
 }
 
-/// What a caller fetches that the other doesn't meet, and how often its gates failed.
-fn wait_alone<R: Threads + Wait + Sync>(rt: &R, alloc: Global) -> Result<(String, u64), Fail> {
-    let (mut alone, _other) = MeetingGates::pair(alloc, manifests(alloc)?)?;
-    let found = asked(rt, alloc, &mut alone, &[(Question::Fetch(None), "a")])?;
-    Ok((found, alone.faults()))
+/// Whether each of two callers that fetch side by side finds what it asks for, and no gates fail.
+fn have_met<R: Threads + Wait + Sync>(rt: &R, alloc: Global) -> Option<bool> {
+    let callers = meet(rt, alloc)?;
+    for (caller, found) in callers.iter().zip(["first", "other"].as_slice()) {
+        if caller.found.as_str() != *found || caller.gates.faults() != 0 {
+            return Some(false);
+        }
+    }
+    Some(callers.len() == 2)
+}
+
+/// Whether a caller that the other doesn't meet finds nothing, and its gates fail once.
+fn waits_alone<R: Threads + Wait + Sync>(rt: &R, alloc: Global) -> Option<bool> {
+    let (mut alone, _other) = MeetingGates::pair(alloc, manifests(alloc)?).ok()?;
+    let found = asked(rt, alloc, &mut alone, "fetch a")?;
+    Some(found.as_str() == "failed" && alone.faults() == 1)
 }
 
 #[test]
-fn callers_meet(rt: HostRuntime) -> Result<(), Fail> {
-    let callers = meet(&rt, rt.alloc())?;
-    for (caller, found) in callers.iter().zip(["first", "other"].as_slice()) {
-        assert_eq!(rt; caller.found.as_str(), *found);
-        assert_eq!(rt; caller.gates.faults(), 0);
-    }
-    let alone = wait_alone(&rt, rt.alloc())?;
-    assert_eq!(rt; alone.0.as_str(), "failed");
-    assert_eq!(rt; alone.1, 1);
-    Ok(())
+fn callers_meet(rt: HostRuntime) {
+    assert_eq!(rt; have_met(&rt, rt.alloc()), Some(true));
+    assert_eq!(rt; waits_alone(&rt, rt.alloc()), Some(true));
 }
 
 /// A folder of manifests, in which one is too long, one is a folder, and a package is a file.
@@ -440,52 +452,49 @@ fn make_folder<R: Files + Alloc<A = Global>>(rt: &R) -> Result<(), Fail> {
 fn read_folder<R: Threads + Wait + Sync + Files>(
     rt: &R,
     alloc: Global,
-    url: &'static str,
-) -> Result<(String, u64), Fail> {
+    url: &str,
+) -> Option<(String, u64)> {
     let mut gates = FolderGates::new(rt);
-    let ask = (Question::Fetch(Some("gate_folder")), url);
-    let found = asked(rt, alloc, &mut gates, &[ask])?;
-    Ok((found, gates.faults()))
+    let mut found = String::new(alloc);
+    match passes(alloc) {
+        Some((idle, _)) => fetch(rt, alloc, &mut gates, &idle, "gate_folder", url, &mut found)?,
+        None => return None,
+    }
+    Some((found, gates.faults()))
+}
+
+/// What gates to a folder read under a URL, as a text.
+pub fn told_by_folder<R: Threads + Wait + Sync + Files>(
+    rt: &R,
+    alloc: Global,
+    url: &str,
+) -> Option<Text> {
+    let (found, faults) = read_folder(rt, alloc, url)?;
+    let mut told = Text::from_string(found);
+    push_faults(&mut told, faults).ok()?;
+    Some(told)
+}
+
+/// How many bytes are read of a manifest that is too long.
+fn long_read<R: Threads + Wait + Sync + Files>(rt: &R, alloc: Global) -> Option<usize> {
+    let (found, _) = read_folder(rt, alloc, "fuchsia-pkg://t/a/b#meta/long.cm")?;
+    Some(found.len())
 }
 
 /// What gates to a folder answer to all questions, of which none names a folder.
-fn ask_folder<R: Threads + Wait + Sync + Files>(rt: &R, alloc: Global) -> Result<String, Fail> {
+fn ask_folder<R: Threads + Wait + Sync + Files>(rt: &R, alloc: Global) -> Option<String> {
     let mut gates = FolderGates::new(rt);
-    asked(rt, alloc, &mut gates, ALL.as_slice())
+    asked(rt, alloc, &mut gates, ALL)
 }
-
-/// A URL, what is read under it, and how often the gates failed.
-const READS: [(&str, &str, u64); 16] = [
-    ("fuchsia-pkg://t/a/b#meta/root.cm", "{}", 0),
-    ("fuchsia-pkg://t/a/b?hash=1#meta/root.cm", "{}", 0),
-    ("fuchsia-pkg://t:80/a/./c/../b#meta/root.cm", "{}", 0),
-    ("fuchsia-pkg://t/a/b#meta/none.cm", "absent", 0),
-    ("fuchsia-pkg://t/file/x#meta/root.cm", "absent", 0),
-    ("fuchsia-pkg://t/a/b#meta/../meta/root.cm", "absent", 0),
-    ("fuchsia-pkg://t/a/b#meta/./root.cm", "absent", 0),
-    ("fuchsia-pkg://t/a/b#meta//root.cm", "absent", 0),
-    ("fuchsia-pkg://t/a/b/#meta/root.cm", "absent", 0),
-    ("fuchsia-pkg://../a/b#meta/root.cm", "absent", 0),
-    ("fuchsia-pkg://t/a/b#%6Deta/root.cm", "absent", 0),
-    ("fuchsia-pkg://t/a/b", "absent", 0),
-    ("fuchsia-boot:///#meta/root.cm", "absent", 0),
-    ("fuchsia-pkg:a#meta/root.cm", "absent", 0),
-    ("meta/root.cm", "absent", 0),
-    ("fuchsia-pkg://t/a/b#meta/folder.cm", "failed", 1),
-];
 
 #[test]
 fn reads_a_folder(rt: HostRuntime) -> Result<(), Fail> {
     make_folder(&rt)?;
-    for (url, words, faults) in READS {
-        let read = read_folder(&rt, rt.alloc(), url)?;
-        assert_eq!(rt; read.0.as_str(), words, "{url}");
-        assert_eq!(rt; read.1, faults, "{url}");
-    }
-    let long = read_folder(&rt, rt.alloc(), "fuchsia-pkg://t/a/b#meta/long.cm")?;
-    assert_eq!(rt; long.0.len(), 1_048_577);
-    let words = ask_folder(&rt, rt.alloc())?;
-    assert_eq!(rt; words.as_str(), "absent absent Running Running Stopped");
+    let odd = odd_cases(&rt, rt.alloc(), FOLDER)?;
+    assert!(rt; odd.is_empty(), "{odd}");
+    assert_eq!(rt; long_read(&rt, rt.alloc()), Some(1_048_577));
+    let words = ask_folder(&rt, rt.alloc());
+    assert!(rt; words.is_some_and(|words| words.as_str() == QUIET));
     fs::remove_dir_all(&rt, "gate_folder")?;
     Ok(())
 }

@@ -1,8 +1,8 @@
 //! Tests of the crates that keep the realm tree and speak of it: its types, history, rows, walks,
 //! steps, gates and texts. They stand here, above those crates, so that each crate is proved once.
 //!
-//! Realms are played: a case is a row of `cases`, with the steps and the lines that they tell, so
-//! that one more costs no proof.
+//! Most cases stand in the texts of `cases`: the steps of a realm and the lines that they tell.
+//! `player` takes them apart when they run, so that one more costs no proof.
 #![tactic(auto)]
 
 #[cfg(test)]
@@ -19,6 +19,8 @@ mod player;
 mod realms;
 #[cfg(test)]
 mod shutdowns;
+#[cfg(test)]
+mod steps;
 #[cfg(test)]
 mod table;
 #[cfg(test)]

@@ -72,6 +72,19 @@ pub fn shut_down(realm: &mut Realm, alloc: Global, inc: u64) -> Result<(), NoSte
     }
 }
 
+/// Marks an instance to be destroyed for caller 1, or finds it marked so, picks for it until all is
+/// done, and removes it.
+pub fn destroy(realm: &mut Realm, alloc: Global, inc: u64) -> Result<(), NoStep> {
+    marks_stay();
+    let _entries = realm.entries();
+    let reply = realm.mark(1, true, inc)?;
+    match reply {
+        Reply::Marked => destroyed(realm, alloc, inc),
+        Reply::Already => destroyed(realm, alloc, inc),
+        _ => Ok(()),
+    }
+}
+
 /// Begins to start an instance for caller 0, and lets caller 1 destroy it meanwhile: the action
 /// that its first pick has to wait for, or 0 where that doesn't come about.
 pub fn destroy_while_starting(realm: &mut Realm, alloc: Global, inc: u64) -> Result<u64, NoStep> {

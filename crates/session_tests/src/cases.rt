@@ -1,6 +1,7 @@
 //! Sessions over a link in memory, each with a new manager.
 
 /// A session: what the link gives, how its two sides behave, and what is told of it.
+#[derive(Drop)]
 pub struct Case {
     /// So many bytes `a` come first.
     pub filler: usize,
@@ -19,7 +20,7 @@ pub struct Case {
 }
 
 /// A link that never fails, and whose bytes come all at once.
-const LINK: Case = Case {
+pub const LINK: Case = Case {
     filler: 0,
     input: "",
     read_piece: 65_536,

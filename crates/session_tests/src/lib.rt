@@ -7,3 +7,5 @@ mod cases;
 mod player;
 #[cfg(test)]
 mod serving;
+#[cfg(test)]
+mod sweeping;

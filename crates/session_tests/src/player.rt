@@ -51,14 +51,14 @@ fn link_of(alloc: Global, case: &Case) -> Result<MemoryLink, AllocError> {
     })
 }
 
-/// A new realm.
-fn new_realm(alloc: Global) -> Result<Realm, Memory>
+/// A new realm, whose history takes so many entries.
+pub fn new_realm(alloc: Global, entries: u64) -> Result<Realm, Memory>
     ensures { IfOk result (λ realm. realm.entries ≡ []) }
 {
     let root = Text::from_str(alloc, "fuchsia-pkg://t/a#meta/root.cm")?;
     let limits = Limits {
         rows: 65_536,
-        entries: 4_194_304,
+        entries,
     };
     Realm::new(alloc, root, List::new(alloc), limits)
 }
@@ -72,14 +72,17 @@ fn last(passes: List<Pass<Entry, Frame>>) -> Option<Pass<Entry, Frame>>
     passes.pop()
 }
 
-/// The end of a session with a new manager over this link.
+/// The end of a session over this link, with a new manager of a realm and its manifests.
 fn end_of<R: Threads + Wait + Sync>(
     rt: &R,
     alloc: Global,
+    realm: Realm,
+    manifests: Repository,
     link: &mut MemoryLink,
-) -> Result<Ended, Memory> {
-    let realm = new_realm(alloc)?;
-    let Ok((manager, passes)) = Manager::new(alloc, realm, Repository::new(alloc), None, 1) else {
+) -> Result<Ended, Memory>
+    requires empty { realm.entries ≡ [] }
+{
+    let Ok((manager, passes)) = Manager::new(alloc, realm, manifests, None, 1) else {
         return Err(Memory);
     };
     let Some(pass) = last(passes) else {
@@ -89,10 +92,18 @@ fn end_of<R: Threads + Wait + Sync>(
     Ok(ended)
 }
 
-/// What is told of a session.
-fn told_of<R: Threads + Wait + Sync>(rt: &R, alloc: Global, case: &Case) -> Result<Text, Fail> {
+/// What is told of a session with a realm and its manifests.
+pub fn told_of<R: Threads + Wait + Sync>(
+    rt: &R,
+    alloc: Global,
+    realm: Realm,
+    manifests: Repository,
+    case: &Case,
+) -> Result<Text, Fail>
+    requires empty { realm.entries ≡ [] }
+{
     let mut link = link_of(alloc, case)?;
-    let ended = end_of(rt, alloc, &mut link)?;
+    let ended = end_of(rt, alloc, realm, manifests, &mut link)?;
     let mut told = Text::new(alloc);
     told.push(format_args!("{ended:?}\n"))?;
     if let Ok(written) = str::from_utf8(link.sink.bytes()) {
@@ -104,7 +115,8 @@ fn told_of<R: Threads + Wait + Sync>(rt: &R, alloc: Global, case: &Case) -> Resu
 /// What is told of the first session that comes to something else.
 fn first_odd<R: Threads + Wait + Sync>(rt: &R, alloc: Global) -> Result<Option<Text>, Fail> {
     for case in &CASES {
-        let told = told_of(rt, alloc, case)?;
+        let realm = new_realm(alloc, 4_194_304)?;
+        let told = told_of(rt, alloc, realm, Repository::new(alloc), case)?;
         if told.as_str() != case.told {
             return Ok(Some(told));
         }

@@ -1,5 +1,5 @@
 -- What is pending at a row is an action that was begun.
-use Rattle.std.proofs.Common.{◌≡◌, ℕ, ◌+◌, ◌==◌, List, [], ◌∷◌, ◌++◌, Bool, true, false, cond, not, filter, Option, Some, None, refl, sym, ◌∙◌, ap, subst}
+use Rattle.std.proofs.Common.{◌≡◌, ℕ, ◌+◌, ◌==◌, List, [], ◌∷◌, ◌++◌, Bool, true, false, cond, not, ◌&&◌, filter, map, Option, Some, None, refl, sym, ◌∙◌, ap, subst}
 use Rattle.cm_decl.specs.declared.rows.Child.{Child}
 use Rattle.cm_world.specs.declared.row.Row.{Row}
 use Rattle.cm_world.specs.declared.action.Act.{Act}
@@ -17,9 +17,10 @@ use Rattle.cm_world.specs.declared.reply.Reply.TheVariants as reply
 use Rattle.cm_world.specs.Rows.{row_of, is_below, is_gone, is_closed}
 use Rattle.cm_world.specs.World.{World, root_row, act_of}
 use Rattle.cm_world.specs.Begin.{same_act, is_so, needs_decl, begin_idle, begin_at, begin_reply}
-use Rattle.cm_world.specs.End.{changed, set_pending, set_on, set_closing, set_doomed, set_shut, set_decl, end_row, child_row, child_rows, rows_by, added_by, ended}
+use Rattle.cm_world.specs.End.{changed, set_pending, set_on, set_closing, set_doomed, set_shut, set_decl, end_row, child_row, child_rows, rows_by}
 use Rattle.cm_world.specs.Create.{created_row}
-use Rattle.cm_world.specs.After.{moved}
+use Rattle.cm_world.specs.Expiring.{goes_with, expired, is_stopped}
+use Rattle.cm_world.specs.After.{with_end_of, moved}
 use Rattle.cm_world.proofs.Finding.{none_some, some_same}
 use Rattle.cm_laws.specs.Lasting.{begun_by}
 use Rattle.cm_laws.proofs.actions.Ends.{end_idle}
@@ -131,9 +132,28 @@ module _ (acts : List Act) where
       (idle_changed i (λ r. set_decl url d (set_pending None r)) rows (λ r. refl) all) (kids_known i next d.children)
   known_ended i next (Resolved url d) o rows all = idle_changed i (end_row o) rows (end_idle o) all
 
-  ended_rows : (w : World) (a : ℕ) (f : Finish) (o : Outcome) (x : Option Act) → AreKnown acts w.rows → AreKnown acts (elim x as (λ _. World) [ None ↦ w | Some y ↦ record w { rows = rows_by y.inc w.next_inc f o w.rows; next_inc = w.next_inc + added_by f o; acts = ended a o w.acts } ]).rows
+  doom_keeps : (b : Bool) (r : Row) → (cond b (set_doomed r) r).pending ≡ r.pending
+  doom_keeps true r = refl
+  doom_keeps false r = refl
+
+  known_map : (g : Row → Row) → ((r : Row) → (g r).pending ≡ r.pending) → (rows : List Row) → AreKnown acts rows → AreKnown acts (map g rows)
+  unfolding AreKnown
+  known_map g same [] all = tt
+  known_map g same (r ∷ rs) all = (same_known acts r (g r) (same r) all.0, known_map g same rs all.1)
+
+  known_expired : (i : ℕ) (rows : List Row) → AreKnown acts rows → AreKnown acts (expired i rows)
+  known_expired i rows all =
+      known_map (λ r. cond (goes_with rows i r && not r.doomed) (set_doomed r) r)
+      (λ r. doom_keeps (goes_with rows i r && not r.doomed) r) rows all
+
+  expired_if : (b : Bool) (i : ℕ) (rows : List Row) → AreKnown acts rows → AreKnown acts (cond b (expired i rows) rows)
+  expired_if true i rows all = known_expired i rows all
+  expired_if false i rows all = all
+
+  ended_rows : (w : World) (a : ℕ) (f : Finish) (o : Outcome) (x : Option Act) → AreKnown acts w.rows → AreKnown acts (with_end_of w a f o x).rows
   ended_rows w a f o None all = all
-  ended_rows w a f o (Some y) all = known_ended y.inc w.next_inc f o w.rows all
+  ended_rows w a f o (Some y) all =
+      expired_if (is_stopped o) y.inc (rows_by y.inc w.next_inc f o w.rows) (known_ended y.inc w.next_inc f o w.rows all)
 
   pub rows_known : (w : World) (caller : ℕ) (e : Event) (r : Reply) → ((a : ℕ) → begun_by r ≡ Some a → IsKnown acts w.next_action) → AreKnown acts w.rows → AreKnown acts (moved w caller e r).rows
   unfolding AreKnown
@@ -148,7 +168,8 @@ module _ (acts : List Act) where
       new_changed work.inc w.next_action Stop w.rows (new work.action refl) all
   rows_known w caller (Pick t) (reply.ShutDown i) new all = kept_changed i set_shut w.rows (λ r. refl) all
   rows_known w caller (Purge i) (reply.Purged lost) new all = known_filter (λ r. not (is_below w.rows i r.inc)) w.rows all
-  rows_known w caller (Exited i) (reply.Left m) new all = kept_changed i (set_on false) w.rows (λ r. refl) all
+  rows_known w caller (Exited i) (reply.Left m) new all =
+      known_expired i (changed i (set_on false) w.rows) (kept_changed i (set_on false) w.rows (λ r. refl) all)
   rows_known w caller e r new all = all
 
 -- ---- what a begin joins

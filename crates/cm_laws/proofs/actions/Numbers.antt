@@ -12,8 +12,8 @@ use Rattle.cm_world.specs.declared.reply.Reply.{Reply}
 use Rattle.cm_world.specs.declared.reply.Reply.TheVariants as reply
 use Rattle.cm_world.specs.declared.reply.Entry.{Entry}
 use Rattle.cm_world.specs.World.{World, start, act_of}
-use Rattle.cm_world.specs.End.{rows_by, added_by, put_outcome, ended}
-use Rattle.cm_world.specs.After.{new_act, with_action, moved, after}
+use Rattle.cm_world.specs.End.{put_outcome}
+use Rattle.cm_world.specs.After.{new_act, with_action, with_end_of, moved, after}
 use Rattle.cm_world.specs.Legal.{replay}
 use Rattle.cm_table.proofs.Edits.{length-edit_first}
 use Rattle.cm_laws.specs.Tasks.{IsNumbered}
@@ -30,7 +30,7 @@ begun w caller i kind it =
     let long = length-append w.acts (new_act w.next_action kind i caller ∷ []) in
     record { numbers = numbered_more 1 w.acts (new_act w.next_action kind i caller) it.numbers (omega arith); next = omega arith }
 
-ended_by : (w : World) (a : ℕ) (finish : Finish) (o : Outcome) (x : Option Act) → IsCounted w → IsCounted (elim x as (λ _. World) [ None ↦ w | Some y ↦ record w { rows = rows_by y.inc w.next_inc finish o w.rows; next_inc = w.next_inc + added_by finish o; acts = ended a o w.acts } ])
+ended_by : (w : World) (a : ℕ) (finish : Finish) (o : Outcome) (x : Option Act) → IsCounted w → IsCounted (with_end_of w a finish o x)
 ended_by w a finish o None it = it
 ended_by w a finish o (Some y) it = record {
   numbers = numbered_ended 1 a o w.acts it.numbers;

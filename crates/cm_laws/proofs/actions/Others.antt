@@ -15,9 +15,9 @@ use Rattle.cm_world.specs.declared.reply.Reply.TheVariants as reply
 use Rattle.cm_world.specs.declared.reply.Entry.{Entry}
 use Rattle.cm_world.specs.Edits.{drop_first}
 use Rattle.cm_world.specs.World.{World, act_of}
-use Rattle.cm_world.specs.End.{rows_by, added_by, put_outcome, ended}
+use Rattle.cm_world.specs.End.{put_outcome, ended}
 use Rattle.cm_world.specs.Step.{MayEnd, IsEnabled, is_join}
-use Rattle.cm_world.specs.After.{new_act, moved, after}
+use Rattle.cm_world.specs.After.{new_act, with_end_of, moved, after}
 use Rattle.cm_world.specs.Legal.{IsStep}
 use Rattle.cm_world.proofs.Finding.{some_same}
 use Rattle.cm_laws.proofs.actions.Tasks.{find_left, edit_other}
@@ -51,7 +51,7 @@ another_ended acts b o caller a f differ may = record {
 }
 
 module _ (caller a : ℕ) (f : Finish) where
-  ended_by : (w : World) (b : ℕ) (g : Finish) (o : Outcome) (x : Option Act) → (a ≡ b → ⊥) → MayEnd w.acts caller a f → MayEnd (elim x as (λ _. World) [ None ↦ w | Some y ↦ record w { rows = rows_by y.inc w.next_inc g o w.rows; next_inc = w.next_inc + added_by g o; acts = ended b o w.acts } ]).acts caller a f
+  ended_by : (w : World) (b : ℕ) (g : Finish) (o : Outcome) (x : Option Act) → (a ≡ b → ⊥) → MayEnd w.acts caller a f → MayEnd (with_end_of w b g o x).acts caller a f
   ended_by w b g o None differ may = may
   ended_by w b g o (Some y) differ may = another_ended w.acts b o caller a f differ may
 
@@ -116,7 +116,7 @@ not_theirs other caller b a j differ mine =
     off_by (j.caller == other) (j.action == b) (callers_differ j.caller other caller (j.caller == other) differ same refl)
 
 module _ (caller a : ℕ) where
-  unended_by : (w : World) (b : ℕ) (g : Finish) (o : Outcome) (x : Option Act) → IsTrue (list_any (is_join caller a) w.joins) → IsTrue (list_any (is_join caller a) (elim x as (λ _. World) [ None ↦ w | Some y ↦ record w { rows = rows_by y.inc w.next_inc g o w.rows; next_inc = w.next_inc + added_by g o; acts = ended b o w.acts } ]).joins)
+  unended_by : (w : World) (b : ℕ) (g : Finish) (o : Outcome) (x : Option Act) → IsTrue (list_any (is_join caller a) w.joins) → IsTrue (list_any (is_join caller a) (with_end_of w b g o x).joins)
   unended_by w b g o None e = e
   unended_by w b g o (Some y) e = e
 

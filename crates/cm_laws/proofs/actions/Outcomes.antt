@@ -16,9 +16,9 @@ use Rattle.cm_world.specs.declared.reply.Reply.TheVariants as reply
 use Rattle.cm_world.specs.declared.reply.Entry.{Entry}
 use Rattle.cm_world.specs.World.{World, start, act_of, outcome_of}
 use Rattle.cm_world.specs.Begin.{begin_reply}
-use Rattle.cm_world.specs.End.{rows_by, added_by, put_outcome, ended}
+use Rattle.cm_world.specs.End.{put_outcome, ended}
 use Rattle.cm_world.specs.Step.{MayEnd, IsEnabled, Allowed}
-use Rattle.cm_world.specs.After.{new_act, moved, moves, after}
+use Rattle.cm_world.specs.After.{new_act, with_end_of, moved, moves, after}
 use Rattle.cm_world.specs.Legal.{IsStep, Legal, replay}
 use Rattle.cm_world.proofs.Finding.{none_some, some_same, find-passes}
 use Rattle.cm_laws.specs.Lasting.{begun_by, joined_by, ended_by, awaited_by, IsBegun, IsEnded, IsAwaited, KeepsOutcomes, OutcomesAreOne}
@@ -100,7 +100,7 @@ data ActsOn (w : World) (bs : List Act) (caller : ℕ) (e : Event) (r : Reply) :
   stops : (a : ℕ) (f : Finish) (o : Outcome) → begun_by r ≡ None → ended_by e ≡ Some a → r ≡ reply.Ended o → MayEnd w.acts caller a f → bs ≡ ended a o w.acts → ActsOn w bs caller e r
   leaves : begun_by r ≡ None → ended_by e ≡ None → bs ≡ w.acts → ActsOn w bs caller e r
 
-acts_ended : (w : World) (a : ℕ) (f : Finish) (o : Outcome) (y : Act) (x : Option Act) → x ≡ Some y → (elim x as (λ _. World) [ None ↦ w | Some z ↦ record w { rows = rows_by z.inc w.next_inc f o w.rows; next_inc = w.next_inc + added_by f o; acts = ended a o w.acts } ]).acts ≡ ended a o w.acts
+acts_ended : (w : World) (a : ℕ) (f : Finish) (o : Outcome) (y : Act) (x : Option Act) → x ≡ Some y → (with_end_of w a f o x).acts ≡ ended a o w.acts
 acts_ended w a f o y None there = absurd (none_some y there)
 acts_ended w a f o y (Some z) there = refl
 

@@ -5,42 +5,41 @@ use Rattle.std.specs.Prelude.{Contains}
 use Rattle.std.specs.List.{list_all}
 use Rattle.std.specs.Option.{IfSome}
 use Rattle.std.specs.Cmp.{unsigned_Decides}
-use Rattle.std.proofs.lemmas.List.Elements.{All-contains, Contains-push, Contains-push_cases, Contains-append_cases}
+use Rattle.std.proofs.lemmas.List.Elements.{All-contains, Contains-push_cases, Contains-append_cases}
 use Rattle.std.proofs.lemmas.List.Sums.{AllPass-from_list_all}
 use Rattle.std.proofs.lemmas.List.Folds.{list_all-map}
 use Rattle.cm_names.specs.declared.moniker.Moniker.{Moniker}
-use Rattle.cm_decl.proofs.Sameness.{and_first}
+use Rattle.cm_decl.proofs.Sameness.{and_first, and_second}
 use Rattle.cm_world.specs.declared.row.Row.{Row}
 use Rattle.cm_world.specs.declared.frame.Frame.{Frame}
 use Rattle.cm_world.specs.declared.report.Lost.{Lost}
 use Rattle.cm_world.specs.declared.route.Route.{Route}
 use Rattle.cm_world.specs.declared.route.Start.TheVariants.{UseAt, ExposeAt}
 use Rattle.cm_world.specs.declared.event.Event.{Event}
-use Rattle.cm_world.specs.declared.event.Event.TheVariants.{Begin, Create, Find, Mark, Purge, Route as RouteOf, OpenUse, OpenExposed, Listing, Show, Survey, Exited, Tail}
+use Rattle.cm_world.specs.declared.event.Event.TheVariants.{Begin, Create, Find, Purge, Route as RouteOf, OpenUse, OpenExposed, Listing, Show, Survey, Exited, Tail}
 use Rattle.cm_world.specs.declared.reply.Reply.{Reply}
 use Rattle.cm_world.specs.declared.reply.Reply.TheVariants as reply
 use Rattle.cm_world.specs.declared.reply.Entry.{Entry}
-use Rattle.cm_world.specs.Rows.{row_of, is_live, is_gone, is_below, subtree}
+use Rattle.cm_world.specs.Rows.{row_of, is_live, is_gone, has_doomed, is_below, subtree}
 use Rattle.cm_world.specs.World.{World, start}
 use Rattle.cm_world.specs.Find.{found_from}
-use Rattle.cm_world.specs.End.{changed, set_doomed}
 use Rattle.cm_world.specs.Create.{CreatesUnless, dynamic_name}
-use Rattle.cm_world.specs.Marks.{is_dynamic, mark_reply, purge_reply, lost_of}
+use Rattle.cm_world.specs.Marks.{purge_reply, lost_of}
 use Rattle.cm_world.specs.Openings.{routed, opened, WalksUnless}
 use Rattle.cm_world.specs.Reports.{list_by}
 use Rattle.cm_world.specs.Step.{Allowed}
-use Rattle.cm_world.specs.After.{others_than, moved, after}
+use Rattle.cm_world.specs.After.{others_than, moved, after, dooms}
 use Rattle.cm_world.specs.Legal.{IsStep, Legal, replay}
 use Rattle.cm_world.specs.Sound.{IsOrderly, IsParent}
 use Rattle.cm_world.proofs.Finding.{some_same}
 use Rattle.cm_world.proofs.Histories.{replay-append, replay-push, Legal-split}
-use Rattle.cm_table.proofs.Rows.{row_of-changed, lives_below}
+use Rattle.cm_table.proofs.Rows.{lives_below}
 use Rattle.cm_order.proofs.Trees.{climb, or_left, or_right, true_not_false, flip_not, below_cases, below_lives, below_self}
-use Rattle.cm_laws.specs.Destroying.{named_in, asked_of, is_removing, IsDestroyed, IsPurged, IsShunned, IsForgotten, KeepsGone, LeavesGone, MarkedAreDestroyed, DestroyedStayGone}
+use Rattle.cm_laws.specs.Destroying.{named_in, asked_of, is_removing, IsDoomed, IsDestroyed, IsPurged, IsShunned, IsForgotten, KeepsGone, LeavesGone, DoomedAreDestroyed, DestroyedStayGone}
 use Rattle.cm_laws.proofs.Entries.{of_each_entry}
 use Rattle.cm_laws.proofs.sound.Above.{above_here, above_up, above_lasts}
 use Rattle.cm_laws.proofs.sound.Purges.{stood}
-use Rattle.cm_laws.proofs.sound.Replies.{marked_dynamic}
+use Rattle.cm_laws.proofs.sound.Reaps.{doomed_row}
 use Rattle.cm_laws.proofs.sound.Healthy.{IsHealthy, healthy_after, healthy_history}
 use Rattle.cm_laws.proofs.MarksLast.{Goes, goes_after}
 use Rattle.cm_laws.proofs.destroyed.Standing.{stands, is_doomed}
@@ -141,56 +140,47 @@ module _ (P : World → Type 0) (keeps : (w : World) (e : Entry) → IsHealthy w
       (subst (λ z. IsStep w z → P (after w z)) (sym same) (makes w healthy) legal.0))
       (λ later. since x makes (after w e) es behind legal.1 later) (in_cases e x es there)
 
--- ---- marks
+-- ---- what an entry dooms
 
-marked_rows : (w : World) (e : Entry) (i : ℕ) → e.event ≡ Mark true i → e.reply ≡ reply.Marked → (after w e).rows ≡ changed i set_doomed w.rows
-unfolding after
-marked_rows w e i marks marked =
-    ap (λ x. (moved w e.caller x e.reply).rows) marks ∙ ap (λ r. (moved w e.caller (Mark true i) r).rows) marked
+-- the row of an entry that dooms it, behind it
+row_behind : (w : World) (e : Entry) (i : ℕ) → IsTrue (dooms w e i) → (r : Row) × (row_of (after w e).rows i ≡ Some r) × (r.doomed ≡ true)
+row_behind w e i it =
+    doomed_row (after w e).rows i (and_second (not (has_doomed w.rows i)) (has_doomed (after w e).rows i) it)
 
--- the row of a mark, behind it
-marked_row : (i : ℕ) (e : Entry) → e.event ≡ Mark true i → e.reply ≡ reply.Marked → (w : World) → IsStep w e → (r : Row) × (row_of (after w e).rows i ≡ Some (set_doomed r))
-marked_row i e marks marked w step =
-    let allowed : reply.Marked ≡ mark_reply w.rows true i = subst (λ r. r ≡ mark_reply w.rows true i) marked (subst (λ x. Allowed w e.caller x e.reply) marks step.allowed) in
-    let found : (r : Row) × (row_of w.rows i ≡ Some r) × (is_dynamic r ≡ true) = marked_dynamic w.rows i (row_of w.rows i) (sym allowed) in (
-      found.0,
-      ap (λ rows. row_of rows i) (marked_rows w e i marks marked) ∙ row_of-changed i set_doomed (λ r. refl) w.rows found.0 found.1,
-    )
-
-marked_gone : (i : ℕ) (e : Entry) → e.event ≡ Mark true i → e.reply ≡ reply.Marked → (w : World) → IsHealthy w → IsStep w e → IsGone (after w e) i
-marked_gone i e marks marked w healthy step =
-    let orderly : IsOrderly (after w e).rows (after w e).next_inc = (healthy_after w e healthy step).sound.orderly in
-    let found : (r : Row) × (row_of (after w e).rows i ≡ Some (set_doomed r)) = marked_row i e marks marked w step in
+dooms_gone : (w : World) (e : Entry) (i : ℕ) → IsHealthy (after w e) → IsTrue (dooms w e i) → IsGone (after w e) i
+dooms_gone w e i healthy it =
+    let orderly : IsOrderly (after w e).rows (after w e).next_inc = healthy.sound.orderly in
+    let found : (r : Row) × (row_of (after w e).rows i ≡ Some r) × (r.doomed ≡ true) = row_behind w e i it in
     record {
-      known = lives_below (after w e).rows (after w e).next_inc i (set_doomed found.0) orderly.rising found.1;
-      gone = doomed_gone (after w e).rows i (above_here (λ r. r.doomed) (after w e).rows (after w e).next_inc orderly i (set_doomed found.0) found.1 refl);
+      known = lives_below (after w e).rows (after w e).next_inc i found.0 orderly.rising found.1;
+      gone = doomed_gone (after w e).rows i (above_here (λ r. r.doomed) (after w e).rows (after w e).next_inc orderly i found.0 found.1 found.2);
     }
 
--- the entries before one of them, and those behind it
-split_at : (es : List Entry) (x : Entry) → Contains es x → (front : List Entry) × (rest : List Entry) × (es ≡ front ++ (x ∷ rest))
-split_at [] x there = absurd (in_none x there)
-split_at (e ∷ es) x there =
-    ⊎_elim (λ same. ([], es, ap (λ z. z ∷ es) same)) (λ later. further (split_at es x later)) (in_cases e x es there)
-  where
-    further : (front : List Entry) × (rest : List Entry) × (es ≡ front ++ (x ∷ rest)) → (front : List Entry) × (rest : List Entry) × ((e ∷ es) ≡ front ++ (x ∷ rest))
-    further it = (e ∷ it.0, it.1, ap (λ l. e ∷ l) it.2)
-
-pub marked_are_destroyed : MarkedAreDestroyed
-marked_are_destroyed f es i legal it =
-    let at : (front : List Entry) × (rest : List Entry) × (es ≡ front ++ (it.entry ∷ rest)) = split_at es it.entry it.there in
-    let both : Legal (start f) at.0 × Legal (replay (start f) at.0) (it.entry ∷ at.1) = Legal-split (start f) at.0 (it.entry ∷ at.1) (subst (Legal (start f)) at.2 legal) in
-    let healthy : IsHealthy (after (replay (start f) at.0) it.entry) = healthy_after (replay (start f) at.0) it.entry (healthy_history f at.0 both.0) both.1.0 in
-    let found : (r : Row) × (row_of (after (replay (start f) at.0) it.entry).rows i ≡ Some (set_doomed r)) = marked_row i it.entry it.marks it.marked (replay (start f) at.0) both.1.0 in
+pub doomed_are_destroyed : DoomedAreDestroyed
+doomed_are_destroyed f es i legal it =
+    let w : World = replay (start f) it.front in
+    let both : Legal (start f) it.front × Legal w (it.entry ∷ it.rest) = Legal-split (start f) it.front (it.entry ∷ it.rest) (subst (Legal (start f)) it.whole legal) in
+    let healthy : IsHealthy (after w it.entry) = healthy_after w it.entry (healthy_history f it.front both.0) both.1.0 in
+    let found : (r : Row) × (row_of (after w it.entry).rows i ≡ Some r) × (r.doomed ≡ true) = row_behind w it.entry i it.dooms in
     record {
-      first = at.0 ++ it.entry ∷ [];
-      rest = at.1;
-      whole = at.2 ∙ sym (append_assoc at.0 (it.entry ∷ []) at.1);
+      first = it.front ++ it.entry ∷ [];
+      rest = it.rest;
+      whole = it.whole ∙ sym (append_assoc it.front (it.entry ∷ []) it.rest);
       top = i;
-      doomed = record { entry = it.entry; there = Contains-push at.0 it.entry; marks = it.marks; marked = it.marked };
+      doomed = record { front = it.front; entry = it.entry; rest = []; whole = refl; dooms = it.dooms };
       below =
-          subst (λ w. IsTrue (is_below w.rows i i)) (sym (replay-push (start f) at.0 it.entry))
-          (below_self (after (replay (start f) at.0) it.entry).rows (after (replay (start f) at.0) it.entry).next_inc healthy.sound.orderly i (set_doomed found.0) found.1);
+          subst (λ v. IsTrue (is_below v.rows i i)) (sym (replay-push (start f) it.front it.entry))
+          (below_self (after w it.entry).rows (after w it.entry).next_inc healthy.sound.orderly i found.0 found.1);
     }
+
+-- what was doomed is gone in the tree that is left
+doomed_stays : (f : Frame) (es : List Entry) (i : ℕ) → Legal (start f) es → IsDoomed f es i → IsGone (replay (start f) es) i
+doomed_stays f es i legal it =
+    let w : World = replay (start f) it.front in
+    let both : Legal (start f) it.front × Legal w (it.entry ∷ it.rest) = Legal-split (start f) it.front (it.entry ∷ it.rest) (subst (Legal (start f)) it.whole legal) in
+    let healthy : IsHealthy (after w it.entry) = healthy_after w it.entry (healthy_history f it.front both.0) both.1.0 in
+    subst (λ v. IsGone v i) (sym (ap (replay (start f)) it.whole ∙ replay-append (start f) it.front (it.entry ∷ it.rest)))
+    (stays (λ v. IsGone v i) (gone_after i) (after w it.entry) it.rest healthy both.1.1 (dooms_gone w it.entry i healthy it.dooms))
 
 -- what is at or below a row that is gone is gone
 gone_below : (rows : List Row) (next top i : ℕ) → IsOrderly rows next → IsTrue (is_gone rows top) → IsTrue (is_below rows top i) → IsTrue (is_gone rows i)
@@ -210,7 +200,7 @@ destroyed_gone : (f : Frame) (es : List Entry) (i : ℕ) → Legal (start f) es 
 destroyed_gone f es i legal it =
     let both : Legal (start f) it.first × Legal (replay (start f) it.first) it.rest = Legal-split (start f) it.first it.rest (subst (Legal (start f)) it.whole legal) in
     let healthy : IsHealthy (replay (start f) it.first) = healthy_history f it.first both.0 in
-    let top : IsGone (replay (start f) it.first) it.top = since (λ v. IsGone v it.top) (gone_after it.top) it.doomed.entry (marked_gone it.top it.doomed.entry it.doomed.marks it.doomed.marked) (start f) it.first (healthy_history f [] tt) both.0 it.doomed.there in
+    let top : IsGone (replay (start f) it.first) it.top = doomed_stays f it.first it.top both.0 it.doomed in
     let row : (r : Row) × (row_of (replay (start f) it.first).rows i ≡ Some r) = below_lives (replay (start f) it.first).rows (replay (start f) it.first).next_inc healthy.sound.orderly it.top i it.below in
     subst (λ v. IsGone v i) (sym (ap (replay (start f)) it.whole ∙ replay-append (start f) it.first it.rest))
     (stays (λ v. IsGone v i) (gone_after i) (replay (start f) it.first) it.rest healthy both.1
@@ -340,6 +330,7 @@ gone_named rows next i (reply.Created j) low gone there fit =
 gone_named rows next i (reply.Stopping work) low gone there fit = inr refl
 gone_named rows next i (reply.ShutDown j) low gone there fit = inr refl
 gone_named rows next i (reply.Purged lost) low gone there fit = inr refl
+gone_named rows next i (reply.Reaping incs) low gone there fit = inr refl
 gone_named rows next i r low gone there fit = true_not_false (is_gone rows i) gone (flip_not (is_gone rows i) fit)
 
 -- while it goes, it lives
@@ -347,6 +338,7 @@ live_named : (rows : List Row) (next i : ℕ) (r : Reply) → IsTrue (is_removin
 live_named rows next i (reply.Stopping work) goes fit = fit
 live_named rows next i (reply.ShutDown j) goes fit = fit
 live_named rows next i (reply.Purged lost) goes fit = fit
+live_named rows next i (reply.Reaping incs) goes fit = fit
 live_named rows next i r goes fit = absurd (true≢false (sym goes))
 
 -- ---- the law

@@ -30,10 +30,10 @@ use Rattle.cm_world.specs.declared.route.Walked.{Walked}
 use Rattle.cm_world.specs.declared.route.Walked.TheVariants as walked
 use Rattle.cm_world.specs.declared.frame.Builtin.{Builtin}
 use Rattle.cm_world.specs.declared.event.Event.{Event}
-use Rattle.cm_world.specs.declared.event.Event.TheVariants.{Find, Begin, End, Await, Create, Mark, Pick, Purge, Route as RouteOf, OpenUse, OpenExposed, Listing, Show, Survey, Exited, Tail}
+use Rattle.cm_world.specs.declared.event.Event.TheVariants.{Find, Begin, End, Await, Create, Mark, Pick, Purge, Route as RouteOf, OpenUse, OpenExposed, Listing, Show, Survey, Exited, Tail, Reap}
 use Rattle.cm_world.specs.declared.reply.Reply.{Reply}
 use Rattle.cm_world.specs.declared.reply.Reply.TheVariants as reply
-use Rattle.cm_world.specs.Rows.{row_of, decl_of, child_of, has_parent, is_live, is_gone, is_closed, is_resolved, is_on, is_shut, is_below, has_closing, subtree}
+use Rattle.cm_world.specs.Rows.{row_of, decl_of, child_of, has_parent, is_live, is_gone, is_closed, is_resolved, is_on, is_shut, is_below, has_closing, has_doomed, subtree}
 use Rattle.cm_world.specs.World.{World, outcome_of}
 use Rattle.cm_world.specs.Sound.{IsOrderly}
 use Rattle.cm_world.specs.Work.{work_of, eager_of}
@@ -44,10 +44,12 @@ use Rattle.cm_world.specs.Marks.{is_dynamic, mark_reply, lost_of}
 use Rattle.cm_world.specs.Reports.{look_at, kid_by, kid_of, has_collection, list_by, survey_row, exit_reply}
 use Rattle.cm_world.specs.Openings.{unready, unopened, routed, opened, opened_at, WalksUnless}
 use Rattle.cm_world.specs.Step.{PicksOn, Allowed}
+use Rattle.cm_world.specs.Expiring.{reaped}
 use Rattle.cm_world.proofs.Finding.{none_some, some_same, row_of-inc}
 use Rattle.cm_order.proofs.Trees.{all_rows, some_eq, and_pair, not_flip}
 use Rattle.cm_laws.specs.Destroying.{incs_of_provider, incs_of_route, named_in}
 use Rattle.cm_laws.proofs.Answered.{passes_or}
+use Rattle.cm_laws.proofs.sound.Reaps.{reaped_doomed, doomed_live, all_more}
 use Rattle.cm_laws.proofs.destroyed.Standing.{stands, one, stands_down, child_stands, walked_stands, inc_of_start, walk_stands}
 
 -- ---- lists
@@ -110,6 +112,7 @@ fits rows next (reply.Created i) j = j == next
 fits rows next (reply.Stopping work) j = is_live rows j
 fits rows next (reply.ShutDown i) j = is_live rows j
 fits rows next (reply.Purged lost) j = is_live rows j
+fits rows next (reply.Reaping incs) j = is_live rows j
 fits rows next _ j = stands rows j
 
 abbrev pub names_well : List Row → ℕ → Reply → Bool
@@ -246,6 +249,9 @@ module _ (rows : List Row) (next : ℕ) (orderly : IsOrderly rows next) where
       list_all-map (is_live rows) (λ l. l.inc) (map (lost_of rows) (subtree rows i))
       ∙ list_all-map (λ l. is_live rows l.inc) (lost_of rows) (subtree rows i)
       ∙ all_left (λ r. is_live rows r.inc) (λ r. is_below rows i r.inc) rows each_lives
+
+  reap_well : (i : ℕ) → IsTrue (well (reply.Reaping (reaped rows i)))
+  reap_well i = all_more (has_doomed rows) (is_live rows) (doomed_live rows) (reaped rows i) (reaped_doomed rows next orderly i)
 
   stopping_well : (n t : ℕ) (work : Work) → PicksOn rows n t work → IsTrue (well (reply.Stopping work))
   stopping_well n t work it =
@@ -388,3 +394,5 @@ reply_well w caller (Exited i) r orderly root it =
     said (names_well w.rows w.next_inc) (exit_reply w.rows i) r (exit_well w.rows w.next_inc orderly i _ (row_of w.rows i)) it
 reply_well w caller (Tail i from) r orderly root it =
     ap (names_well w.rows w.next_inc) it ∙ either (names_well w.rows w.next_inc) (is_gone w.rows i) _ _ refl refl
+reply_well w caller (Reap i) r orderly root it =
+    ap (names_well w.rows w.next_inc) it ∙ reap_well w.rows w.next_inc orderly i

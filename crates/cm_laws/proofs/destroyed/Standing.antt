@@ -1,6 +1,6 @@
 -- Rows that stand: they live, aren't doomed, and aren't below a doomed row. Each next station of a route is at such a row, and
 -- so is what a walk along it names.
-use Rattle.std.proofs.Common.{◌≡◌, ℕ, List, [], ◌∷◌, ◌++◌, map, Bool, true, false, cond, not, ◌&&◌, ◌||◌, Option, Some, None, find, is_some, option_map, option_and_then, IsTrue, refl, sym, ◌∙◌, ap, subst, inl, inr}
+use Rattle.std.proofs.Common.{◌≡◌, ℕ, List, [], ◌∷◌, ◌++◌, map, Bool, true, false, cond, not, ◌&&◌, ◌||◌, Option, Some, None, find, slice_get, is_some, option_map, option_and_then, IsTrue, refl, sym, ◌∙◌, ap, subst, inl, inr}
 use Rattle.std.specs.List.{list_all}
 use Rattle.std.specs.Str.{bytes_eq}
 use Rattle.std.proofs.lemmas.List.Folds.{list_all-map, list_all-append}
@@ -15,6 +15,7 @@ use Rattle.cm_decl.specs.declared.kind.Kind.TheVariants.{Protocol}
 use Rattle.cm_decl.specs.declared.origin.Origin.{Origin}
 use Rattle.cm_decl.specs.declared.origin.Origin.TheVariants.{Parent, Own, Framework, Child, Void}
 use Rattle.cm_decl.specs.declared.rows.Usage.{Usage}
+use Rattle.cm_decl.specs.declared.rows.Offer.{Offer}
 use Rattle.cm_decl.specs.declared.rows.Give.{Give}
 use Rattle.cm_decl.specs.declared.rows.Capability.{Capability}
 use Rattle.cm_decl.proofs.Sameness.{and_first, and_second}
@@ -25,14 +26,14 @@ use Rattle.cm_world.specs.declared.route.StepKind.{StepKind}
 use Rattle.cm_world.specs.declared.route.StepKind.TheVariants as step
 use Rattle.cm_world.specs.declared.route.Why.{Why}
 use Rattle.cm_world.specs.declared.route.Start.{Start}
-use Rattle.cm_world.specs.declared.route.Start.TheVariants.{UseAt, ExposeAt}
+use Rattle.cm_world.specs.declared.route.Start.TheVariants.{UseAt, ExposeAt, OfferAt}
 use Rattle.cm_world.specs.declared.route.Walked.{Walked}
 use Rattle.cm_world.specs.declared.route.Walked.TheVariants as walked
 use Rattle.cm_world.specs.Rows.{row_of, decl_of, child_of, has_parent, has_name, some_above, is_gone}
 use Rattle.cm_world.specs.Sound.{IsOrderly, IsParent}
-use Rattle.cm_world.specs.Stations.{Station, use_station, expose_station, bare_hop}
+use Rattle.cm_world.specs.Stations.{Station, use_station, offer_station, expose_station, bare_hop}
 use Rattle.cm_world.specs.Next.{Next, To, Ends, Needs, FromVoid, NoChild, Misses, by_builtin, builtin_of, by_offer, offered, offered_by, next_above, from_above, by_expose, give_of, exposed_by, from_child, by_capability, capability_of, next_from, next_by, next_of}
-use Rattle.cm_world.specs.Route.{Named, First, NoUse, NoneExposed, named_by, IsChain, provider_of, route_of, weak_availability, weak_rights, unless_fitting, unless_within, is_offer_or_expose, stated_before, asked_rights, said_by, trial_by, IsDecided, IsWalkedFrom, IsWalked}
+use Rattle.cm_world.specs.Route.{Named, First, NoUse, NoneExposed, named_by, IsChain, provider_of, route_of, weak_availability, weak_rights, unless_fitting, unless_within, is_offer_or_expose, standing as available, asked_rights, said_by, trial_by, IsDecided, IsWalkedFrom, IsWalked}
 use Rattle.cm_world.proofs.Finding.{none_some, some_same, row_of-inc, find-passes}
 use Rattle.cm_world.proofs.Walks.{find-lives}
 use Rattle.cm_order.proofs.Trees.{some_eq, and_pair, not_true, flip_not, true_not_false}
@@ -230,7 +231,7 @@ module _ (rows : List Row) (next : ℕ) (orderly : IsOrderly rows next) where
   checked_stands : (front : List Station) (s : Station) (o : Option Walked) → IsTrue (stands rows s.hop.inc) → IsTrue (decided_stands o) → IsTrue (decided_stands (or_else (weak_availability front s) (or_else (weak_rights front s) o)))
   checked_stands front s o here said =
       either_stands (weak_availability front s) (or_else (weak_rights front s) o)
-      (if_stands (is_offer_or_expose s.hop.step) _ (fitting_stands s.hop (stated_before front) s.hop.availability here))
+      (if_stands (is_offer_or_expose s.hop.step) _ (fitting_stands s.hop (available front) (available (front ++ s ∷ [])) here))
       (either_stands (weak_rights front s) o (within_stands s.hop (asked_rights (front ++ s ∷ [])) s.hop.rights here) said)
 
   trial_stands : (front : List Station) (s : Station) (n : Next) → IsTrue (front_stands front) → IsTrue (stands rows s.hop.inc) → IsTrue (next_stands n) → IsTrue (decided_stands (trial_by front s n))
@@ -264,6 +265,7 @@ module _ (rows : List Row) (next : ℕ) (orderly : IsOrderly rows next) where
   abbrev pub inc_of_start : Start → ℕ
   inc_of_start (UseAt i path) = i
   inc_of_start (ExposeAt i name) = i
+  inc_of_start (OfferAt i k) = i
 
   use_stands : (i : ℕ) (path : List ℕ) (o : Option Usage) → IsTrue (stands rows i) → IsTrue (named_stands (elim o as (λ _. Named) [ None ↦ NoUse | Some u ↦ First (use_station rows i u) ]))
   use_stands i path None here = refl
@@ -273,11 +275,17 @@ module _ (rows : List Row) (next : ℕ) (orderly : IsOrderly rows next) where
   exposing_stands i name None here = here
   exposing_stands i name (Some g) here = here
 
+  offering_stands : (i : ℕ) (o : Option Offer) → IsTrue (stands rows i) → IsTrue (named_stands (elim o as (λ _. Named) [ None ↦ NoUse | Some x ↦ First (offer_station rows i x.give) ]))
+  offering_stands i None here = refl
+  offering_stands i (Some x) here = here
+
   start_stands : (begin : Start) → IsTrue (stands rows (inc_of_start begin)) → IsTrue (named_stands (named_by rows begin))
   start_stands (UseAt i path) here =
       use_stands i path (option_and_then (λ d. find (λ u. bytes_eq u.path path) d.uses) (decl_of rows i)) here
   start_stands (ExposeAt i name) here =
       exposing_stands i name (option_and_then (λ d. find (λ g. bytes_eq g.target_name name) d.exposes) (decl_of rows i)) here
+  start_stands (OfferAt i k) here =
+      offering_stands i (option_and_then (λ d. slice_get d.offers k) (decl_of rows i)) here
 
   -- a walk from a row that stands names such rows alone
   pub walk_stands : (builtins : List Builtin) (begin : Start) (v : Walked) → IsTrue (stands rows (inc_of_start begin)) → IsWalked rows builtins begin v → IsTrue (walked_stands v)

@@ -23,7 +23,8 @@ use Rattle.cm_world.specs.Create.{created_row}
 use Rattle.cm_world.specs.Marks.{is_dynamic, mark_reply}
 use Rattle.cm_world.specs.Begin.{begin_reply}
 use Rattle.cm_world.specs.Step.{MayEnd, PicksOn, PicksOff, IsEnabled, Allowed}
-use Rattle.cm_world.specs.After.{new_act, with_action, with_end, with_rows, with_row, others_than, moved, after}
+use Rattle.cm_world.specs.Expiring.{expired, is_stopped}
+use Rattle.cm_world.specs.After.{new_act, with_action, with_end_of, with_end, with_rows, with_row, others_than, moved, after}
 use Rattle.cm_world.specs.Legal.{IsStep, Legal, replay}
 use Rattle.cm_world.specs.Sound.{IsSound}
 use Rattle.cm_world.proofs.Finding.{some_same, row_of-inc}
@@ -40,6 +41,7 @@ use Rattle.cm_laws.proofs.sound.Purges.{stood, sound_purged}
 use Rattle.cm_laws.proofs.sound.Replies.{IsCreating, creating, open_unshut, found_row, marked_dynamic, picked_closing, IsPurging, purging}
 use Rattle.cm_laws.proofs.sound.Marks.{light_pending, light_on, light_end, sound_light, sound_closing, sound_doomed, sound_shut}
 use Rattle.cm_laws.proofs.sound.Tasks.{pending_unshut, tasked_more, tasked_purged}
+use Rattle.cm_laws.proofs.sound.Expiries.{Went, went, went_lasts, tasked_expired, sound_expired}
 
 -- the tree is sound, what is pending at it was begun, and the actions are numbered from 1 on
 pub record IsHealthy (w : World) : Type 0 where
@@ -73,7 +75,33 @@ grows_changed rows i f inc = record {
   known = λ j s is. let k : Kept rows i f j s = kept rows i f inc j s is in inl (k.row, k.was);
 }
 
+-- a row that takes the place of another below the same parent
+under_same : (old : List Row) (j : ℕ) (t s : Row) → s.parent ≡ t.parent → ((r : Row) × (row_of old j ≡ Some r)) ⊎ IsUnder old t → ((r : Row) × (row_of old j ≡ Some r)) ⊎ IsUnder old s
+under_same old j t s same (inl was) = inl was
+under_same old j t s same (inr u) =
+    inr (record { parent = u.parent; under = same ∙ u.under; row = u.row; lives = u.lives; unshut = u.unshut })
+
+grows_expired : (old rows : List Row) (i : ℕ) → Grows old rows → Grows old (expired i rows)
+grows_expired old rows i grows = record {
+  known = λ j s is.
+      let w : Went rows j s = went rows i j s is in
+      under_same old j w.row s (went_lasts rows i j s w).parent (grows.known j w.row w.was);
+}
+
 module _ (w : World) (healthy : IsHealthy w) where
+  -- ---- rows that expire
+
+  expired_leads : (v : World) (i : ℕ) → Leads w v → Leads w (with_rows v (expired i v.rows))
+  expired_leads v i l = record {
+    sound = sound_expired v.rows v.next_inc i l.sound;
+    tasks = tasked_expired v.rows i v.acts l.tasks;
+    grows = grows_expired w.rows v.rows i l.grows;
+  }
+
+  expired_if : (b : Bool) (v : World) (i : ℕ) → Leads w v → Leads w (with_rows v (cond b (expired i v.rows) v.rows))
+  expired_if true v i l = expired_leads v i l
+  expired_if false v i l = record { sound = l.sound; tasks = l.tasks; grows = l.grows }
+
   -- ---- one row
 
   -- a change that leaves what is pending
@@ -84,10 +112,13 @@ module _ (w : World) (healthy : IsHealthy w) where
     grows = grows_changed w.rows i f inc;
   }
 
-  exited_leads : (i : ℕ) → Leads w (with_rows w (changed i (set_on false) w.rows))
-  exited_leads i =
+  off_leads : (i : ℕ) → Leads w (with_rows w (changed i (set_on false) w.rows))
+  off_leads i =
       changed_leads i (set_on false) (λ r. refl) (λ r. refl) (λ r. refl)
       (sound_light w.rows w.next_inc i (set_on false) healthy.sound (light_on false) (λ r here shut. (refl, (healthy.sound.shut i r here shut).idle)))
+
+  exited_leads : (i : ℕ) → Leads w (with_rows w (expired i (changed i (set_on false) w.rows)))
+  exited_leads i = expired_leads (with_rows w (changed i (set_on false) w.rows)) i (off_leads i)
 
   marked_leads : (doom : Bool) (i : ℕ) → reply.Marked ≡ mark_reply w.rows doom i → Leads w (with_rows w (changed i (cond doom set_doomed set_closing) w.rows))
   marked_leads false i it =
@@ -179,8 +210,10 @@ module _ (w : World) (healthy : IsHealthy w) where
 
   end_leads : (caller a : ℕ) (f : Finish) (o : Outcome) → MayEnd w.acts caller a f → Leads w (with_end w a f o)
   end_leads caller a f o may =
-      subst (λ x. Leads w (elim x as (λ _. World) [ None ↦ w | Some y ↦ record w { rows = rows_by y.inc w.next_inc f o w.rows; next_inc = w.next_inc + added_by f o; acts = ended a o w.acts } ])) (sym may.there)
-      (ends_leads caller a f o may)
+      subst (λ x. Leads w (with_end_of w a f o x)) (sym may.there)
+      (expired_if (is_stopped o)
+      (record w { rows = rows_by may.act.inc w.next_inc f o w.rows; next_inc = w.next_inc + added_by f o; acts = ended a o w.acts })
+      may.act.inc (ends_leads caller a f o may))
 
   -- ---- rows that come and go
 

@@ -13,6 +13,7 @@ ghost use Rattle.cm_steps.specs.Ends.{finish_of};
 
 use super::Realm;
 use crate::ending::{Ending, end_at};
+use crate::expiring::expire_by;
 use crate::pending::{inc_at, outcome_at, settle, take_join};
 use crate::rooms::resolves_left;
 use cm_table::Settled;
@@ -22,12 +23,16 @@ impl Realm {
     /// Ends an action that this caller began and that hasn't ended: `Ended` with what became of
     /// it. That is the outcome that was reported; for a declaration it is `Resolved`, or `Full`
     /// where the children don't fit in the limit of instances. It takes no memory and can't fail.
+    ///
+    /// Where the instance is stopped so and isn't being shut down, its children in collections are
+    /// marked to be destroyed, or, where its collection runs each child once, it itself.
     pub fn end(&mut self, caller: u32, action: u64, ending: Ending) -> Reply
         requires may { MayEnd (world_of self.old).acts caller action (finish_of ending) }
         ensures step { Tells self.old self.new caller (Event.End action (finish_of ending)) result }
     {
         let inc = inc_at(self.acts.as_slice(), action);
         let Settled { finish, outcome } = end_at(&mut self.table, inc, ending);
+        expire_by(&mut self.table, inc, outcome);
         self.resolves = resolves_left(self.acts.as_slice(), self.resolves, action);
         settle(&mut self.acts, action, outcome);
         self.book.push_reserved(Entry {

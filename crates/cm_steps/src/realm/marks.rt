@@ -7,6 +7,7 @@
 ghost use Rattle.std.specs.Prelude.{◌≡◌, IsTrue, IfOk, IfErr, OnOk, OnErr, map, if◌then◌else◌};
 ghost use Rattle.cm_world.specs.Rows.{is_live, subtree};
 ghost use Rattle.cm_world.specs.End.{set_closing, set_doomed};
+ghost use Rattle.cm_world.specs.Expiring.{runs_once as once};
 ghost use Rattle.cm_world.specs.Marks.{lost_of, mark_reply};
 ghost use Rattle.cm_world.specs.Step.{may_purge};
 ghost use Rattle.cm_table.specs.Change.{with_changed};
@@ -15,9 +16,11 @@ ghost use Rattle.cm_steps.specs.Steps.{HasRoom, RefusesQuiet};
 ghost use Rattle.cm_steps.specs.Answers.{AnswersMark, AnswersPurge};
 
 use super::{Realm, copied};
+use crate::expiring;
 use crate::nostep::NoStep;
 use crate::replies::marking::{MarkAnswer, mark_answer};
 use crate::replies::purging::{PurgeAnswer, purge_answer};
+use crate::replies::reaping::reap_reply;
 use cm_laws::trees_stay_sound;
 use cm_names::{List, Memory};
 use cm_table::Table;
@@ -97,6 +100,32 @@ impl Realm {
             reply: Reply::Marked,
         });
         Ok(())
+    }
+
+    /// What is left to be removed of an instance that stopped: `Reaping` with the instance alone
+    /// where it itself is being destroyed, and else with its children that are, by their
+    /// incarnations; with none where it doesn't live.
+    ///
+    /// - `HistoryFull` where one entry more doesn't fit;
+    /// - `Memory` where memory runs out.
+    pub fn reap(&mut self, alloc: Global, caller: u32, inc: u64) -> Result<Reply, NoStep>
+        ensures step { IfOk result (λ reply.
+            Tells self.old self.new caller (Event.Reap inc) reply) }
+        ensures room { OnOk result (HasRoom self.old 1) }
+        ensures refused { IfErr result (RefusesQuiet self.old) }
+        ensures err { OnErr result (self.new ≡ self.old) }
+    {
+        let reply = reap_reply(alloc, &self.table, inc)?;
+        self.tell(caller, Event::Reap(inc), reply)
+    }
+
+    /// Whether an instance lives in a collection that runs each child once (`durability`:
+    /// `single_run`).
+    pub fn runs_once(&self, inc: u64) -> bool
+        ensures { result ≡ once (world_of self.now).rows inc }
+    {
+        let _acts = &self.acts;
+        expiring::runs_once(&self.table, inc)
     }
 
     /// Removes an instance that is marked to be destroyed and shut with all below it, and all

@@ -1,6 +1,6 @@
 use Rattle.std.proofs.Common.{subst}
 use Rattle.cm_command.specs.Additions.{IsAddition}
-use Rattle.cm_command.proofs.StepLemmas.{target_adds, rights_add, subdir_adds, weak_adds, optional_adds}
+use Rattle.cm_command.proofs.StepLemmas.{target_adds, rights_add, subdir_adds, weak_adds, optional_adds, transitional_adds, same_adds}
 use Rattle.cm_command.proofs.step.add.Goals as goal
 
 pub returns-in-Target : goal.returns-in-Target
@@ -22,3 +22,11 @@ returns-in-Weak c n t h =
 pub returns-in-Optional : goal.returns-in-Optional
 returns-in-Optional c n t h =
     optional_adds c.args.creation c.args.give n t (subst (IsAddition n c.args.give.kind t) c.in-Optional.is h)
+
+pub returns-in-Transitional : goal.returns-in-Transitional
+returns-in-Transitional c n t h =
+    transitional_adds c.args.creation c.args.give n t (subst (IsAddition n c.args.give.kind t) c.in-Transitional.is h)
+
+pub returns-in-SameAsTarget : goal.returns-in-SameAsTarget
+returns-in-SameAsTarget c n t h =
+    same_adds c.args.creation c.args.give n t (subst (IsAddition n c.args.give.kind t) c.in-SameAsTarget.is h)

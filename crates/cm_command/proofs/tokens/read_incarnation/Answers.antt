@@ -1,6 +1,6 @@
 use Rattle.std.proofs.Common.{codes}
 use Rattle.cm_command.proofs.KindLemmas.{fault_of_rest, fault_no_front}
-use Rattle.cm_command.proofs.MonikerCounts.{incarnation_behind}
+use Rattle.cm_command.proofs.MonikerCounts.{incarnation_behind, sure_fault}
 use Rattle.cm_command.proofs.tokens.read_incarnation.Goals as goal
 
 pub returns-in_default : goal.returns-in_default
@@ -9,4 +9,4 @@ returns-in_default c =
 
 pub returns-in-Err : goal.returns-in-Err
 returns-in-Err c =
-    fault_of_rest (codes "@") c.args.word.now c.in-Some.digits.now c.in-Err.fault c.behind.result incarnation_behind c.in-Some.ensures c.behind.ensures c.in-Err.ensures
+    fault_of_rest (codes "@") c.args.word.now c.in-Some.digits.now c.in-Err.fault c.behind.result incarnation_behind c.in-Some.ensures c.behind.ensures (sure_fault c.in-Some.digits.now c.in-Err.fault c.in-Err.ensures)

@@ -1,6 +1,7 @@
+use Rattle.std.proofs.Common.{◌≡◌}
 use Rattle.cm_world.specs.declared.action.ActKind.TheVariants as kind
 use Rattle.cm_manager.specs.Runs.{Acts}
-use Rattle.cm_manager.proofs.Launches.{children_start, ended_acts, joined_acts, not_started}
+use Rattle.cm_manager.proofs.Launches.{children_start, ended_acts, joined_acts, not_started, unfollowed}
 use Rattle.cm_manager.proofs.starting.launch_of.Goals as goal
 
 pub returns-in-Started : goal.returns-in-Started
@@ -9,7 +10,9 @@ returns-in-Started c = λ f d i a b by.
 
 pub returns-in_default : goal.returns-in_default
 returns-in_default c = λ f d i a b by.
-    ended_acts f d kind.Start i _ _ _ a b (rw (c.in-Ok-Ended.is, c.in-Ok-Ended.field-0-is) at by) (not_started _ c.in_default.not-Started)
+    let ends = rw (c.in-Ok-Ended.is, c.in-Ok-Ended.field-0-is) at by in
+    ended_acts f d kind.Start i _ _ _ a b ends
+    (unfollowed _ (not_started _ c.in_default.not-Started) (ends.unstopped (λ (e : kind.Start ≡ kind.Stop). absurd (cc e))))
 
 pub returns-in-Ok-Joined : goal.returns-in-Ok-Joined
 returns-in-Ok-Joined c = λ f d i a b by.

@@ -1,5 +1,5 @@
 use Rattle.cm_manager.specs.Runs.{Acts}
-use Rattle.cm_manager.proofs.Launches.{begun_as, ended_acts, joined_acts}
+use Rattle.cm_manager.proofs.Launches.{begun_as, ended_acts, joined_acts, unfollowed, not_a_start, not_a_stop}
 use Rattle.cm_manager.proofs.manager.Manager.act_once.Goals as goal
 
 pub returns-in-Ok-Ended : goal.returns-in-Ok-Ended
@@ -8,7 +8,8 @@ returns-in-Ok-Ended g c = record {
       begun_as _ _ _ _ _ _ _ _ _
       (λ f d a b by.
       let ends = rw (c.in-Ok-Ended.is, c.in-Ok-Ended.field-0-is) at by in
-      ended_acts f d c.args.kind c.args.inc _ _ _ a b ends (ends.apart c.requires.kind))
+      ended_acts f d c.args.kind c.args.inc _ _ _ a b ends
+      (unfollowed _ (ends.apart (not_a_start _ c.requires.kind)) (ends.unstopped (not_a_stop _ c.requires.kind))))
       c.begin-pass.ensures.helps;
 }
 

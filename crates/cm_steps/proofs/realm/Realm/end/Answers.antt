@@ -1,4 +1,4 @@
-use Rattle.std.proofs.Common.{◌≡◌, ◌++◌, ◌∷◌, [], refl, ap, sym, ◌∙◌, subst, arith}
+use Rattle.std.proofs.Common.{◌≡◌, ◌+◌, ◌≤◌, ◌++◌, ◌∷◌, [], refl, ap, sym, ◌∙◌, subst, arith}
 use Rattle.std.specs.List.{count_by}
 use Rattle.cm_book.specs.History.{History}
 use Rattle.cm_world.specs.declared.event.Event.TheVariants.{End}
@@ -6,7 +6,9 @@ use Rattle.cm_world.specs.declared.reply.Reply.TheVariants.{Ended}
 use Rattle.cm_world.specs.World.{World}
 use Rattle.cm_world.specs.End.{rows_by, outcome_by, ended}
 use Rattle.cm_world.specs.Step.{MayEnd}
-use Rattle.cm_steps.specs.Ends.{inc_of, finish_of}
+use Rattle.cm_world.specs.Expiring.{expired_by}
+use Rattle.cm_table.specs.Tree.{Tree}
+use Rattle.cm_steps.specs.Ends.{inc_of, finish_of, takes_of}
 use Rattle.cm_steps.specs.Tasks.{is_open_resolve}
 use Rattle.cm_laws.specs.Story.{world_of, entry_of}
 use Rattle.cm_laws.specs.Tasks.{IsNumbered}
@@ -50,11 +52,16 @@ invariant_of-self c =
     kept_ended c.self.inside _ c.args.caller c.args.action f o may (c.end_at-finish.ensures.outcome ∙ ap (λ n. outcome_by n t.rows t.next_inc f) c.self.invariant.rows) c.self.invariant
     (record {
       frame = refl;
-      rows = c.end_at-finish.ensures.rows ∙ ap (λ i. rows_by i t.next_inc f o t.rows) here;
-      next = c.end_at-finish.ensures.next;
-      spare = c.end_at-finish.ensures.spare;
-      limit = c.end_at-finish.ensures.limit;
-      builtins = c.end_at-finish.ensures.builtins;
+      rows =
+          ap (λ (t : Tree). t.rows) c.expire_by.ensures
+          ∙ ap (expired_by o c.inc_at-inc.result) c.end_at-finish.ensures.rows
+          ∙ ap (λ i. expired_by o i (rows_by i t.next_inc f o t.rows)) here;
+      next = ap (λ (t : Tree). t.next_inc) c.expire_by.ensures ∙ c.end_at-finish.ensures.next;
+      spare =
+          subst (λ n. t.spare ≤ n + takes_of f) (sym (ap (λ (t : Tree). t.spare) c.expire_by.ensures))
+          c.end_at-finish.ensures.spare;
+      limit = ap (λ (t : Tree). t.limit) c.expire_by.ensures ∙ c.end_at-finish.ensures.limit;
+      builtins = ap (λ (t : Tree). t.builtins) c.expire_by.ensures ∙ c.end_at-finish.ensures.builtins;
       acts = c.settle.ensures;
       resolves = c.resolves_left-self-inside.ensures o ∙ ap (λ xs. count_by is_open_resolve (ended c.args.action o xs)) c.as_slice-2.ensures.value;
       joins = refl;

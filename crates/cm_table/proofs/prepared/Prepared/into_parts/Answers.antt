@@ -1,7 +1,8 @@
-use Rattle.std.proofs.Common.{◌+◌, ◌∙◌, ap, map, subst, sym}
+use Rattle.std.proofs.Common.{◌≡◌, ◌∙◌, ◌+◌, ◌<◌, ◌^◌, ℕ, length, ap, map, subst, sym}
 use Rattle.std.specs.Prelude.{option_map}
+use Rattle.std.proofs.lemmas.List.{length-map}
 use Rattle.cm_world.specs.Rows.{child_of}
-use Rattle.cm_world.specs.End.{child_rows}
+use Rattle.cm_world.specs.End.{child_row, child_rows}
 use Rattle.cm_table.specs.Ready.{Ready}
 use Rattle.cm_table.specs.Keys.{Each}
 use Rattle.cm_table.specs.Slots.{rows_in}
@@ -31,3 +32,12 @@ returns-clause-names c = λ name.
     ap (option_map (λ k. c.args.first + k)) (c.self.invariant.names name)
     ∙ names_first c.args.parent c.args.first name c.self.inside.decl.children
     ∙ ap (λ (s : Ready). child_of (child_rows c.args.parent c.args.first s.decl.children) c.args.parent name) c.self.view_is
+
+pub number_all-requires : goal.number_all-requires
+number_all-requires c =
+    let children : length c.self.inside.children.items ≡ length c.args.self.decl.children =
+    sym (length-map c.self.inside.children.items (λ s. s.row))
+    ∙ ap length c.self.invariant.children
+    ∙ length-map c.self.inside.decl.children (child_row 0 0)
+    ∙ ap (λ (s : Ready). length s.decl.children) c.self.view_is in
+    subst (λ (n : ℕ). c.args.first + n < 2 ^ 64) (sym children) c.requires

@@ -1,4 +1,4 @@
-use Rattle.std.proofs.Common.{◌≡◌, ℕ, ◌+◌, ◌-◌, ◌<◌, ◌^◌, List, None, ◌∙◌, ap, ap₂, sym, subst, arith, length, IsTrue}
+use Rattle.std.proofs.Common.{◌≡◌, ℕ, ◌+◌, ◌-◌, ◌<◌, ◌≤◌, ◌^◌, List, None, ◌∙◌, ap, ap₂, sym, subst, arith, length, IsTrue}
 use Rattle.cm_decl.specs.declared.decl.Decl.{Decl}
 use Rattle.cm_decl.specs.Valid.{IsValid}
 use Rattle.cm_world.specs.declared.row.Row.{Row}
@@ -14,7 +14,7 @@ use Rattle.cm_table.proofs.Editing.{edited}
 use Rattle.cm_table.proofs.Taking.{orderly_taken, length-taken}
 use Rattle.cm_table.proofs.Rowed.{rows_length, slots_rise}
 use Rattle.cm_table.proofs.Resolving.{IsTaken, taken_rows, rows_taken, mid_rises, all_taken}
-use Rattle.cm_table.proofs.Fitting.{fit_below}
+use Rattle.cm_table.proofs.Fitting.{fit_below, fit_within}
 use Rattle.cm_table.proofs.table.Table.take.Goals as goal
 
 pub change_in-requires-clause-rising : goal.change_in-requires-clause-rising
@@ -81,3 +81,10 @@ returns-clause-rows c =
     rows_taken ss _ _ _ _ c.args.inc c.self.inside.next_inc a d c.into_parts-parts.result.index t c.into_parts-parts.ensures.rows in
     let made : List Row → ℕ → Tree = λ rs n. record { rows = rs; next_inc = c.self.inside.next_inc + n; builtins = c.self.inside.builtins; limit = c.self.inside.limit; spare = c.self.inside.spare - 1 } in
     ap₂ made rows c.count-count.ensures ∙ ap (resolved c.args.inc c.args.prepared) c.self.view_is
+
+pub overflow_add-self : goal.overflow_add-self
+overflow_add-self c =
+    let more : ℕ = length c.args.prepared.decl.children in
+    let within : length (rows_in (flat c.self.inside.blocks.items)) + more ≤ c.self.inside.limit =
+    subst (λ (s : Tree). length s.rows + more ≤ s.limit) (sym c.self.view_is) (fit_within c.args.self.now more c.requires.fits) in
+    omega (arith, within, c.count-count.ensures, c.self.invariant.count, rows_length (flat c.self.inside.blocks.items), c.self.ranges)

@@ -1,0 +1,186 @@
+-- What a line asks for is a command in the grammar, and so can be written.
+use Rattle.std.proofs.Common.{◌≡◌, ◌≢◌, ◌⊎◌, inl, inr, ℕ, ◌≤◌, List, [], ◌∷◌, ◌++◌, length, codes, Bool, true, false, true≢false, ◌||◌, ◌==◌, if◌then◌else◌, Option, Some, None, option_map, Result, Ok, Err, All, IsTrue, refl, sym, ap, subst, ◌∙◌, arith}
+use Rattle.std.specs.Str.{bytes_eq}
+use Rattle.std.specs.List.{slice_split, list_any}
+use Rattle.std.proofs.lemmas.Option.{none-some}
+use Rattle.std.proofs.lemmas.List.Elements.{All-cons, All-nil}
+use Rattle.cm_names.specs.declared.child.ChildName.{ChildName}
+use Rattle.cm_names.specs.declared.moniker.Moniker.{Moniker}
+use Rattle.cm_names.specs.declared.rights.Right.{Right}
+use Rattle.cm_names.specs.declared.rights.Right.TheVariants.{Connect, Enumerate, Execute, GetAttributes, ModifyDirectory, ReadBytes, Traverse, UpdateAttributes, WriteBytes}
+use Rattle.cm_names.specs.declared.rights.RightsFault.{RightsFault}
+use Rattle.cm_names.specs.Name.{IsName}
+use Rattle.cm_names.specs.Path.{is_subdir}
+use Rattle.cm_names.specs.Moniker.{moniker_text, text_of_parts, text_from_root}
+use Rattle.cm_names.specs.Rights.{RightSet, has, only, union, reading, writing, executing, no_rights, right_named, rights_of_word, with_rights, with_word, rights_behind, rights_of}
+use Rattle.cm_decl.specs.declared.kind.Kind.{Kind}
+use Rattle.cm_decl.specs.declared.kind.Kind.TheVariants as kind
+use Rattle.cm_decl.specs.declared.origin.Origin.{Origin}
+use Rattle.cm_decl.specs.declared.origin.Origin.TheVariants.{Parent, Own, Framework, Child, Void}
+use Rattle.cm_decl.specs.declared.rows.Give.{Give}
+use Rattle.cm_world.specs.declared.event.Target.{Target}
+use Rattle.cm_world.specs.declared.event.Target.TheVariants.{Named, Inc}
+use Rattle.cm_command.specs.declared.command.Command.{Command}
+use Rattle.cm_command.specs.Words.{IsTargetText, IsOriginText, IsRightsText}
+use Rattle.cm_command.specs.Grammar.{Text, CommandWords, Groups, Behind, Adds, plain_give}
+use Rattle.cm_command.specs.Written.{IsTarget, IsOrigin, HasParts, IsGive, IsWritable, WhatIsReadIsWritable}
+
+-- ---- rights
+
+-- some right is in the set
+abbrev HasSome : RightSet → Type 0
+HasSome r = (x : Right) × (has r x ≡ true)
+
+only_has : (x : Right) → has (only x) x ≡ true
+only_has Connect = refl
+only_has Enumerate = refl
+only_has Execute = refl
+only_has GetAttributes = refl
+only_has ModifyDirectory = refl
+only_has ReadBytes = refl
+only_has Traverse = refl
+only_has UpdateAttributes = refl
+only_has WriteBytes = refl
+
+none_has : (x : Right) → has no_rights x ≡ false
+none_has Connect = refl
+none_has Enumerate = refl
+none_has Execute = refl
+none_has GetAttributes = refl
+none_has ModifyDirectory = refl
+none_has ReadBytes = refl
+none_has Traverse = refl
+none_has UpdateAttributes = refl
+none_has WriteBytes = refl
+
+union_keeps : (x : Right) (r s : RightSet) → has r x ≡ true → has (union r s) x ≡ true
+union_keeps Connect r s h = ap (λ b. b || s.connect) h
+union_keeps Enumerate r s h = ap (λ b. b || s.enumerate) h
+union_keeps Execute r s h = ap (λ b. b || s.execute) h
+union_keeps GetAttributes r s h = ap (λ b. b || s.get_attributes) h
+union_keeps ModifyDirectory r s h = ap (λ b. b || s.modify_directory) h
+union_keeps ReadBytes r s h = ap (λ b. b || s.read_bytes) h
+union_keeps Traverse r s h = ap (λ b. b || s.traverse) h
+union_keeps UpdateAttributes r s h = ap (λ b. b || s.update_attributes) h
+union_keeps WriteBytes r s h = ap (λ b. b || s.write_bytes) h
+
+one_of : (b : Bool) (r s : RightSet) (o : Option RightSet) → HasSome r → (o ≡ Some s → HasSome s) → (if b then Some r else o) ≡ Some s → HasSome s
+one_of true r s o h f e = let same : r ≡ s = cc e in subst HasSome same h
+one_of false r s o h f e = f e
+
+named : (o : Option Right) (s : RightSet) → option_map only o ≡ Some s → HasSome s
+named None s e = absurd (none-some s e)
+named (Some x) s e = let same : only x ≡ s = cc e in subst HasSome same (x, only_has x)
+
+-- a word of the table stands for some right
+word_some : (w : List ℕ) (s : RightSet) → rights_of_word w ≡ Some s → HasSome s
+unfolding rights_of_word
+word_some w s e =
+    one_of (bytes_eq w (codes "r*")) reading s _ (Connect, refl) (one_of (bytes_eq w (codes "w*")) writing s _ (Connect, refl) (one_of (bytes_eq w (codes "x*")) executing s _ (Connect, refl) (one_of (bytes_eq w (codes "rw*")) (union reading writing) s _ (Connect, refl) (one_of (bytes_eq w (codes "rx*")) (union reading executing) s _ (Connect, refl) (named (right_named w) s))))) e
+
+joined_some : (b : Bool) (n : RightsFault) (s : RightSet) (others : Result RightSet RightsFault) (r : RightSet) → HasSome s → (if b then Err n else with_rights s others) ≡ Ok r → HasSome r
+joined_some true n s others r h e = absurd (cc e)
+joined_some false n s (Ok q) r h e =
+    let same : union s q ≡ r = cc e in subst HasSome same (h.0, union_keeps h.0 s q h.1)
+joined_some false n s (Err f) r h e = absurd (cc e)
+
+behind_some : (o : Option RightSet) (earlier : List (List ℕ)) (w : List ℕ) (others : Result RightSet RightsFault) (r : RightSet) → ((s : RightSet) → o ≡ Some s → HasSome s) → with_word earlier w o others ≡ Ok r → HasSome r
+behind_some None earlier w others r f e = absurd (cc e)
+behind_some (Some s) earlier w others r f e = joined_some (list_any (bytes_eq w) earlier) _ s others r (f s refl) e
+
+words_some : (ws : List (List ℕ)) (r : RightSet) → rights_of ws ≡ Ok r → HasSome r
+unfolding rights_of
+words_some [] r e = absurd (cc e)
+words_some (w ∷ ws) r e = behind_some (rights_of_word w) [] w (rights_behind ([] ++ w ∷ []) ws) r (word_some w) e
+
+-- rights that are read are not none
+rights_are : (t : Text) (r : RightSet) → IsRightsText t r → r ≢ no_rights
+rights_are t r h =
+    let some = words_some (slice_split (λ b. b == 44) t) r h in
+    λ e. true≢false (sym some.1 ∙ ap (λ s. has s some.0) e ∙ none_has some.0)
+
+-- ---- targets and origins
+
+one_more : (t : Text) (b : ℕ) → length t ≤ length (b ∷ t)
+one_more t b = omega arith
+
+-- without its slash a moniker is no longer
+from_root : (cs : List ChildName) → length (text_of_parts cs) ≤ length (text_from_root cs)
+from_root [] = let same : 1 ≤ 1 = omega arith in same
+from_root (c ∷ cs) = one_more (text_of_parts (c ∷ cs)) 47
+
+no_longer : (t : Text) (m : Moniker) → (t ≡ moniker_text m) ⊎ (t ≡ text_from_root m.parts) → length (moniker_text m) ≤ length t
+no_longer t m (inl e) = omega (arith, ap length e)
+no_longer t m (inr e) = subst (λ u. length (moniker_text m) ≤ length u) (sym e) (from_root m.parts)
+
+target_is : (t : Text) (a : Target) → IsTargetText t a → IsTarget a
+target_is t (Named m) h = (h.0.names, omega (arith, no_longer t m h.0.written, h.1))
+target_is t (Inc n) h = h.3
+
+origin_is : (t : Text) (o : Origin) → IsOriginText t o → IsOrigin o
+origin_is t Parent h = tt
+origin_is t Own h = tt
+origin_is t Framework h = tt
+origin_is t Void h = tt
+origin_is t (Child c) h = h.0
+
+-- ---- groups
+
+plain_parts : (k : Kind) → HasParts k None None
+plain_parts kind.Protocol = (refl, refl)
+plain_parts kind.Directory = (tt, tt)
+
+plain_is : (k : Kind) (name : Text) (o : Origin) → IsName name → IsOrigin o → IsGive (plain_give k name o)
+plain_is k name o is from = record { source_name = is; target_name = is; from = from; parts = plain_parts k }
+
+rights_stated : (k : Kind) (o : Option RightSet) (s : Option Text) (r : RightSet) → k ≡ kind.Directory → r ≢ no_rights → HasParts k o s → HasParts k (Some r) s
+rights_stated kind.Protocol o s r e some h = absurd (cc e)
+rights_stated kind.Directory o s r e some h = (some, h.1)
+
+subdir_stated : (k : Kind) (o : Option RightSet) (s : Option Text) (t : Text) → k ≡ kind.Directory → IsTrue (is_subdir t) → HasParts k o s → HasParts k o (Some t)
+subdir_stated kind.Protocol o s t e is h = absurd (cc e)
+subdir_stated kind.Directory o s t e is h = (h.0, is)
+
+-- a group that can be said can be said with one addition more
+added_is : {m : ℕ} {w : Text} {g h : Give} → Adds m w g h → IsGive g → IsGive h
+added_is (Adds.target is) p = record { source_name = p.source_name; target_name = is; from = p.from; parts = p.parts }
+added_is (Adds.rights {w = w} {r = r} {g = g} dir is) p =
+    record { source_name = p.source_name; target_name = p.target_name; from = p.from; parts = rights_stated g.kind g.rights g.subdir r dir (rights_are w r is) p.parts }
+added_is (Adds.subdir {w = w} {g = g} dir is) p =
+    record { source_name = p.source_name; target_name = p.target_name; from = p.from; parts = subdir_stated g.kind g.rights g.subdir w dir is p.parts }
+added_is Adds.weak p = record { source_name = p.source_name; target_name = p.target_name; from = p.from; parts = p.parts }
+added_is Adds.optional p = record { source_name = p.source_name; target_name = p.target_name; from = p.from; parts = p.parts }
+added_is Adds.transitional p = record { source_name = p.source_name; target_name = p.target_name; from = p.from; parts = p.parts }
+added_is Adds.same_as_target p = record { source_name = p.source_name; target_name = p.target_name; from = p.from; parts = p.parts }
+
+mutual
+  groups_are : {ws : List Text} {gs : List Give} → Groups ws gs → All IsGive gs
+  groups_are Groups.no_group = All-nil IsGive
+  groups_are (Groups.group {k = k} {name = name} {from = from} {origin = origin} is said rest) =
+      behind_are rest (plain_is k name origin is (origin_is from origin said))
+
+  behind_are : {n : ℕ} {g : Give} {ws : List Text} {gs : List Give} → Behind n g ws gs → IsGive g → All IsGive gs
+  behind_are (Behind.whole {g = g} {gs = gs} rest) is = All-cons IsGive g gs is (groups_are rest)
+  behind_are (Behind.addition le adds rest) is = behind_are rest (added_is adds is)
+
+-- ---- commands
+
+command_is : {ws : List Text} {c : Command} → CommandWords ws c → IsWritable c
+command_is (CommandWords.resolve {t = t} {a = a} h) = target_is t a h
+command_is (CommandWords.start {t = t} {a = a} h) = target_is t a h
+command_is (CommandWords.stop {t = t} {a = a} h) = target_is t a h
+command_is (CommandWords.shutdown {t = t} {a = a} h) = target_is t a h
+command_is (CommandWords.create {t = t} {a = a} h is_coll is_name is_url groups) =
+    (target_is t a h, is_coll, is_name, is_url, groups_are groups)
+command_is (CommandWords.destroy {t = t} {a = a} h) = target_is t a h
+command_is (CommandWords.list {t = t} {a = a} h is) = (target_is t a h, is)
+command_is (CommandWords.open_use {t = t} {a = a} h is) = (target_is t a h, is)
+command_is (CommandWords.open_exposed {t = t} {a = a} h is) = (target_is t a h, is)
+command_is (CommandWords.route_of {t = t} {a = a} h is) = (target_is t a h, is)
+command_is (CommandWords.doctor {t = t} {a = a} h) = target_is t a h
+command_is (CommandWords.show {t = t} {a = a} h) = target_is t a h
+command_is (CommandWords.survey {t = t} {a = a} h) = target_is t a h
+command_is (CommandWords.exited {t = t} {a = a} h) = target_is t a h
+
+pub what_is_read_lem : WhatIsReadIsWritable
+what_is_read_lem t c h = command_is h

@@ -1,0 +1,5 @@
+use Rattle.cm_laws.proofs.MarksLast.{reaps_marked}
+use Rattle.cm_laws.proofs.reaps_marked.Goals as goal
+
+pub returns : goal.returns
+returns c = reaps_marked
