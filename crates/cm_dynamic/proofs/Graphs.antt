@@ -4,6 +4,8 @@ use Rattle.std.proofs.lemmas.Bool.{le-leb, lt-leb, and_from, and_left}
 use Rattle.cm_decl.specs.declared.decl.Decl.{Decl}
 use Rattle.cm_decl.specs.declared.node.DynChild.{DynChild}
 use Rattle.cm_decl.specs.declared.node.Node.{Node}
+use Rattle.cm_decl.specs.Graph.{StrongOn}
+use Rattle.cm_decl.specs.Reach.{NoCycle}
 use Rattle.cm_deps.specs.Outcome.{IsOutcome}
 use Rattle.cm_deps.specs.declared.outcome.Order.TheVariants.{Ordered}
 use Rattle.cm_deps.proofs.Outcomes.{ordered_acyclic}
@@ -17,15 +19,22 @@ no_room : (b : Bool) (free : ℕ) → (IsTrue b → 1 ≤ free) → free ≡ 0 �
 no_room false free tells none = refl
 no_room true free tells none = let some : 1 ≤ free = tells refl in absurd (omega arith)
 
+-- no ring, and no row is free
+pub full_without : (d : Decl) (dynamic : List DynChild) (free : ℕ) → NoCycle (StrongOn d dynamic) → free ≡ 0 → AnswersGraph d dynamic free Full
+full_without d dynamic free acyclic none = λ limit next rows tells.
+    (acyclic, no_room (rows_fit limit rows next 1) free tells.0 none)
+
+-- no ring, and some rows are free
+pub be_without : (d : Decl) (dynamic : List DynChild) (free : ℕ) → NoCycle (StrongOn d dynamic) → 1 ≤ free → AnswersGraph d dynamic free Yes
+be_without d dynamic free acyclic some = λ limit next rows tells. (acyclic, tells.1 some, refl)
+
 -- an order, and no row is free
 pub is_full : (d : Decl) (dynamic : List DynChild) (order : List Node) (free : ℕ) → IsOutcome d dynamic (Ordered order) → free ≡ 0 → AnswersGraph d dynamic free Full
-is_full d dynamic order free outcome none = λ limit next rows tells.
-    (ordered_acyclic d dynamic order outcome, no_room (rows_fit limit rows next 1) free tells.0 none)
+is_full d dynamic order free outcome none = full_without d dynamic free (ordered_acyclic d dynamic order outcome) none
 
 -- an order, and some rows are free
 pub may_be : (d : Decl) (dynamic : List DynChild) (order : List Node) (free : ℕ) → IsOutcome d dynamic (Ordered order) → 1 ≤ free → AnswersGraph d dynamic free Yes
-may_be d dynamic order free outcome some = λ limit next rows tells.
-    (ordered_acyclic d dynamic order outcome, tells.1 some, refl)
+may_be d dynamic order free outcome some = be_without d dynamic free (ordered_acyclic d dynamic order outcome) some
 
 -- ---- a limit for each room
 

@@ -3,3 +3,4 @@ pub mod Bad
 pub mod Graphs
 pub mod Refusing
 pub mod Taking
+pub mod Rings

@@ -1,10 +1,15 @@
 //! Whether a child may be created.
 
-ghost use Rattle.std.specs.Prelude.{◌≡◌, IfOk};
+ghost use Rattle.std.specs.Prelude.{◌≡◌, IfOk, List as Seq};
 ghost use Rattle.std.specs.Option.{option_copied};
+ghost use Rattle.cm_decl.specs.declared.decl.Decl.{Decl as Declaration};
+ghost use Rattle.cm_decl.specs.declared.node.DynChild.{DynChild as Dynamic};
+ghost use Rattle.cm_decl.specs.Graph.{StrongOn};
+ghost use Rattle.cm_decl.specs.Reach.{NoCycle};
 ghost use Rattle.cm_world.specs.Create as spec;
 ghost use Rattle.cm_dynamic.specs.Replies.{AnswersCreate, AnswersGraph, Refuses};
 
+use crate::apart::are_apart;
 use crate::offers::bad_give;
 use crate::siblings::siblings_with;
 use cm_decl::{Collection, Decl, DynChild, Give, Node};
@@ -60,6 +65,10 @@ pub enum MayCreate {
 /// and nothing else refuses the child. `Err` comes where memory runs out, and where the first bad
 /// offer has an index that doesn't fit into 32 bits.
 ///
+/// The children of the parent are gone through once. The realm graph is made only where one of
+/// them, or the new one, is given something of a child of a collection strongly: else there is no
+/// ring.
+///
 /// This is what `CreateChild` of `fuchsia.component.Realm` (fuchsia.dev) is refused for:
 /// `NoCollection` stands for `COLLECTION_NOT_FOUND` and `Exists` for `INSTANCE_ALREADY_EXISTS`
 /// there, and dynamic offers are allowed or not by "Collections" of the component manifest
@@ -83,6 +92,9 @@ pub fn may_create<V: View>(
     let Some(decl) = view.decl(parent) else {
         return Ok(MayCreate::Need(parent));
     };
+    if are_apart(view, decl, parent, gives) {
+        return Ok(by_room(free));
+    }
     let name = name_in(coll, child)?;
     let children = siblings_with(alloc, view, parent, name, gives)?;
     by_graph(alloc, decl, children.as_slice(), free)
@@ -196,6 +208,18 @@ fn refused_gives<V: View>(
         Ok(index) => Ok(Some(MayCreate::BadOffer(index, number))),
         Err(_) => Err(Memory),
     }
+}
+
+/// Whether a child may be created by the room alone, where the realm graph that has it has no
+/// cycle.
+fn by_room(free: u32) -> MayCreate
+    ensures { (d : Declaration) (dynamic : Seq Dynamic) → NoCycle (StrongOn d dynamic) →
+        AnswersGraph d dynamic free result }
+{
+    if free == 0 {
+        return MayCreate::Full;
+    }
+    MayCreate::Yes
 }
 
 /// Whether a child may be created by the realm graph that has it, and by the room.

@@ -10,6 +10,7 @@
 //! (fuchsia.dev). What these leave open, as the order of the refusals, is this project's own choice.
 #![tactic(auto)]
 
+pub(crate) mod apart;
 pub mod create;
 pub mod destroy;
 pub mod laws;

@@ -15,3 +15,6 @@ pub mod Searching
 pub mod Graphs
 pub mod Ending
 pub mod Answering
+pub mod Sources
+pub mod Glancing
+pub mod Going

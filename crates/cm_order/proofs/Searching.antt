@@ -45,7 +45,7 @@ pub record IsSearching (rows : List Row) (top : ℕ) (wanted : Wanted) (left : L
   pub rest : Each (IsClear rows wanted) left → Clear rows wanted top
 
 module _ (rows : List Row) (next : ℕ) (orderly : IsOrderly rows next) (wanted : Wanted) where
-  row_unshut : (p : ℕ) (r : Row) → row_of rows p ≡ Some r → is_wholly_shut rows p p ≡ r.shut
+  pub row_unshut : (p : ℕ) (r : Row) → row_of rows p ≡ Some r → is_wholly_shut rows p p ≡ r.shut
   row_unshut p r lives = own_shut rows p ∙ ap (λ o. option_map_or (λ s. s.shut) o false) lives
 
   own_free : (p y : ℕ) (r : Row) → y ≡ p → row_of rows y ≡ Some r → AllFree rows y (line_up_to rows p y) → IsFree rows p p
@@ -90,7 +90,7 @@ module _ (rows : List Row) (next : ℕ) (orderly : IsOrderly rows next) (wanted 
         | inr more ↦ later i kid more leads
       ])
 
-  open_kid : (top : ℕ) (s : Spot) (c : ℕ) → IsKid rows s.inc c → IsFree rows s.inc c → IsOpen rows top s → IsOpen rows top (under c)
+  pub open_kid : (top : ℕ) (s : Spot) (c : ℕ) → IsKid rows s.inc c → IsFree rows s.inc c → IsOpen rows top s → IsOpen rows top (under c)
   open_kid top s c kid free is = record {
     below = below_trans rows next orderly top s.inc c is.below (kid_below rows next orderly s.inc c kid);
     free = λ y below all. is.free y (below_trans rows next orderly s.inc c y (kid_below rows next orderly s.inc c kid) below) ((path rows next orderly s.inc c y kid below).more y all free);

@@ -11,6 +11,9 @@
 //! | `members` | the instances of one level, and their nodes in its graph |
 //! | `level` | which of them nothing binds any more |
 //! | `search` | an instance that may stop, below another |
+//! | `named` | the children that something at their level strongly comes from |
+//! | `glance` | a node of a level that nothing binds, by tests that cost little |
+//! | `quick` | the way down to an instance that may be picked, by such tests alone |
 //! | `picking` | what a pick comes to |
 //! | `laws` | that a shutdown never comes to a dead end |
 //!
@@ -20,10 +23,13 @@
 
 pub(crate) mod above;
 pub(crate) mod below;
+pub(crate) mod glance;
 pub mod laws;
 pub(crate) mod level;
 pub(crate) mod members;
+pub(crate) mod named;
 pub mod picking;
+pub(crate) mod quick;
 pub(crate) mod search;
 
 pub use picking::{Picked, pick};

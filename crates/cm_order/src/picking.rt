@@ -12,6 +12,7 @@ ghost use Rattle.cm_order.specs.Picking.{IsPicked, WaitsFor};
 
 use crate::above::outermost;
 use crate::below::all_shut;
+use crate::quick::quick;
 use crate::search::{Wanted, search};
 use cm_names::Memory;
 use cm_walk::above::on;
@@ -46,12 +47,16 @@ pub enum Picked {
 /// shut and may stop: a shutdown is never at a dead end. `Err` comes where memory runs out, and
 /// there alone.
 ///
-/// It goes down from the outermost one, at each level into the first child that may be next. So
-/// the graph of each level on the way is made once, and once more for each child on the way below
-/// which all instances that may stop have a pending action; and of each child of these levels what
-/// stands below it is looked at, up to the first instance that isn't shut. The memory is that of
-/// one level and its graph at a time, and of a place for each level of the way. Where no instance
-/// may be picked, the search is made twice.
+/// It goes down from the outermost one, at each level into the first child that isn't all shut, as
+/// long as nothing there comes strongly from that child. That looks once at the declaration and the
+/// children of each level on the way, and at all below the instance that it comes to.
+///
+/// Where that leads to no instance that may be picked, it searches, at each level into the first
+/// child that may be next. Then the graph of each level on the way is made once, and once more for
+/// each child on the way below which all instances that may stop have a pending action; and of each
+/// child of these levels what stands below it is looked at, up to the first instance that isn't
+/// shut. The memory is that of one level and its graph at a time, and of a place for each level of
+/// the way. Where no instance may be picked, the search is made twice.
 ///
 /// That clients stop before what they depend on is the rule of Fuchsia's component lifecycle
 /// documentation (fuchsia.dev); how it reaches over several levels is this project's own.
@@ -65,6 +70,9 @@ pub fn pick<V: View>(alloc: Global, view: &V, target: u64) -> Result<Picked, Mem
     };
     if all_shut(alloc, view, target)? {
         return Ok(Picked::Done);
+    }
+    if let Some(inc) = quick(alloc, view, top)? {
+        return Ok(stop_or_shut(view, inc));
     }
     match search(alloc, view, top, Wanted::Idle)? {
         Some(inc) => Ok(stop_or_shut(view, inc)),

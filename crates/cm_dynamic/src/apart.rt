@@ -1,0 +1,128 @@
+//! Children of collections that nothing strongly comes from.
+//!
+//! A ring of siblings that isn't one of the declaration alone passes through a child of a
+//! collection, from which something strongly comes. A declaration has no such source, so only an
+//! offer that was made to a child alone can close a ring: where there is none of that kind, no
+//! realm graph has to be made.
+
+ghost use Rattle.std.specs.Prelude.{◌≡◌, not, IsTrue, option_and_then, option_to_list};
+ghost use Rattle.std.specs.List.{list_all};
+ghost use Rattle.cm_decl.specs.Graph.{is_strong as passes_strong};
+ghost use Rattle.cm_world.specs.Create as spec;
+ghost use Rattle.cm_world.specs.Rows.{row_of};
+ghost use Rattle.cm_world.specs.Sound.{IsOrderly};
+ghost use Rattle.cm_dynamic.specs.Apart as apart;
+ghost use Rattle.cm_dynamic.specs.Siblings.{sibling_of};
+
+use cm_decl::{Decl, Give, Offer, Origin, Usage};
+use cm_names::Dependency;
+use cm_world::View;
+
+/// Whether nothing that the instance declares, nothing of these offers and nothing that one of its
+/// children was given alone comes strongly from a child of a collection. Each of them is looked at
+/// once, up to the first that does.
+pub(crate) fn are_apart<V: View>(view: &V, decl: &Decl, parent: u64, gives: &[Give]) -> bool
+    requires { IsOrderly (V.rows view.now) (V.next_inc view.now) }
+    ensures given { IsTrue result → IsTrue (list_all apart.is_plain_give gives.now) }
+    ensures apart { IsTrue result →
+        apart.AreApart decl.now (spec.dynamic_children (V.rows view.now) parent) }
+{
+    is_plain(gives)
+        && are_offers_plain(decl.offers.as_slice())
+        && are_uses_plain(decl.uses.as_slice())
+        && are_children_plain(view, parent)
+}
+
+/// Whether no child of the instance was given anything of a child of a collection strongly.
+fn are_children_plain<V: View>(view: &V, parent: u64) -> bool
+    requires { IsOrderly (V.rows view.now) (V.next_inc view.now) }
+    ensures { IsTrue result → IsTrue (list_all apart.is_plain_child
+        (spec.dynamic_children (V.rows view.now) parent)) }
+{
+    let mut after = None;
+    'children: while let Some(inc) = view.next_child(parent, after) {
+        if !is_child_plain(view, inc) {
+            return false;
+        }
+        after = Some(inc);
+    }
+    true
+}
+
+/// Whether the instance, if it was created in a collection, was given nothing of a child of a
+/// collection strongly.
+fn is_child_plain<V: View>(view: &V, inc: u64) -> bool
+    ensures { IsTrue result → IsTrue (list_all apart.is_plain_child
+        (option_to_list (option_and_then sibling_of (row_of (V.rows view.now) inc)))) }
+{
+    match view.gives(inc) {
+        None => true,
+        Some(gives) => is_plain(gives.as_slice()),
+    }
+}
+
+/// Whether none of these offers comes strongly from a child of a collection.
+fn is_plain(gives: &[Give]) -> bool
+    ensures { result ≡ list_all apart.is_plain_give gives.now }
+{
+    gives.iter().all(|give| is_plain_give(give))
+}
+
+/// Whether the offer doesn't come strongly from a child of a collection.
+fn is_plain_give(give: &Give) -> bool
+    ensures { result ≡ apart.is_plain_give give.now }
+{
+    !binds_created(give.dependency, &give.from)
+}
+
+/// Whether none of these declared offers comes strongly from a child of a collection.
+fn are_offers_plain(offers: &[Offer]) -> bool
+    ensures { result ≡ list_all apart.is_plain_offer offers.now }
+{
+    offers.iter().all(|offer| is_plain_offer(offer))
+}
+
+/// Whether the declared offer doesn't come strongly from a child of a collection.
+fn is_plain_offer(offer: &Offer) -> bool
+    ensures { result ≡ apart.is_plain_offer offer.now }
+{
+    !binds_created(offer.give.dependency, &offer.give.from)
+}
+
+/// Whether nothing of these is used strongly from a child of a collection.
+fn are_uses_plain(uses: &[Usage]) -> bool
+    ensures { result ≡ list_all apart.is_plain_use uses.now }
+{
+    uses.iter().all(|usage| is_plain_use(usage))
+}
+
+/// Whether it isn't used strongly from a child of a collection.
+fn is_plain_use(usage: &Usage) -> bool
+    ensures { result ≡ apart.is_plain_use usage.now }
+{
+    !binds_created(usage.dependency, &usage.from)
+}
+
+/// Whether something comes strongly from a child of a collection.
+fn binds_created(dependency: Dependency, from: &Origin) -> bool
+    ensures { result ≡ apart.binds_created dependency from.now }
+{
+    is_strong(dependency) && is_from_created(from)
+}
+
+/// Whether the dependency is strong.
+fn is_strong(dependency: Dependency) -> bool
+    ensures { result ≡ passes_strong dependency }
+{
+    dependency == Dependency::Strong
+}
+
+/// Whether the source is a child of a collection.
+fn is_from_created(from: &Origin) -> bool
+    ensures { result ≡ apart.is_from_created from.now }
+{
+    match from {
+        Origin::Child(child) => child.coll.is_some(),
+        _ => false,
+    }
+}

@@ -1,0 +1,152 @@
+//! A quick look at a level: a node of it that nothing binds, found by tests that cost little.
+//!
+//! What no strong edge leads to depends on nothing that has to be asked for, so it is free. An
+//! instance itself is free where all below it is shut. Where neither test finds a node, nothing
+//! is said.
+
+ghost use Rattle.std.specs.Prelude.{◌≡◌, ◌&&◌, not, false, is_none, IsTrue, IfOk, IfSome};
+ghost use Rattle.std.specs.Option.{option_map_or};
+ghost use Rattle.std.specs.List.{list_any};
+ghost use Rattle.cm_decl.specs.Graph.{is_strong, is_from_child};
+ghost use Rattle.cm_world.specs.Rows.{row_of, decl_of, is_subtree_shut};
+ghost use Rattle.cm_world.specs.Sound.{IsSound};
+ghost use Rattle.cm_order.specs.Glances.{in_set, HasNamed, IsChosen, AreKidsShut, IsGlance};
+ghost use Rattle.cm_order.specs.Search.{IsHere};
+ghost use Rattle.cm_order.specs.declared.search.Wanted.TheVariants as wanted;
+
+use crate::above::unshut;
+use crate::below::all_shut;
+use crate::named::named_at;
+use crate::search::Visit;
+use cm_decl::{Origin, Usage};
+use cm_names::{Dependency, Memory};
+use cm_world::View;
+use std::alloc::Global;
+use std::collections::BTreeSet;
+
+/// The first child that isn't all shut, if nothing comes strongly from it; or the instance itself,
+/// where all its children are all shut, it isn't shut and has no pending action. `Below(None)`
+/// says nothing.
+pub(crate) fn glance<V: View>(alloc: Global, view: &V, inc: u64) -> Result<Visit, Memory>
+    requires { IsSound (V.rows view.now) (V.next_inc view.now) }
+    ensures { IfOk result (IsGlance (V.rows view.now) inc) }
+{
+    let named = named_at(alloc, view, inc)?;
+    let child = next_free(alloc, view, inc, &named)?;
+    if child.is_some() {
+        return Ok(Visit::Below(child));
+    }
+    if is_last(alloc, view, inc)? {
+        return Ok(Visit::Here);
+    }
+    Ok(Visit::Below(None))
+}
+
+/// The first child that isn't all shut, if it isn't named.
+fn next_free<V: View>(
+    alloc: Global,
+    view: &V,
+    parent: u64,
+    named: &BTreeSet<u64>,
+) -> Result<Option<u64>, Memory>
+    requires sound { IsSound (V.rows view.now) (V.next_inc view.now) }
+    requires named { HasNamed (V.rows view.now) parent named.now }
+    ensures { IfOk result (IsChosen (V.rows view.now) parent) }
+{
+    let mut behind = None;
+    while let Some(child) = view.next_child(parent, behind) {
+        let left = is_left(alloc, view, child)?;
+        if left {
+            return Ok(unless_named(child, named));
+        }
+        behind = Some(child);
+    }
+    Ok(None)
+}
+
+/// The child, if it isn't named.
+fn unless_named(child: u64, named: &BTreeSet<u64>) -> Option<u64>
+    ensures { IfSome result (λ found. (found ≡ child) × (in_set named.now child ≡ false)) }
+{
+    if named.contains(&child) {
+        return None;
+    }
+    Some(child)
+}
+
+/// Whether there is something to be shut at or below an instance. Where it is shut itself, what
+/// is below it is looked at only if it uses a child: all other children stopped before it.
+fn is_left<V: View>(alloc: Global, view: &V, inc: u64) -> Result<bool, Memory>
+    ensures { IfOk result (λ left. IsTrue left → is_subtree_shut (V.rows view.now) inc ≡ false) }
+{
+    if unshut(view, inc) {
+        return Ok(true);
+    }
+    if uses_child(view, inc) {
+        return Ok(!all_shut(alloc, view, inc)?);
+    }
+    Ok(false)
+}
+
+/// Whether an instance strongly uses something of a child.
+fn uses_child<V: View>(view: &V, inc: u64) -> bool
+    ensures { result ≡ option_map_or (λ d. list_any (λ u. is_strong u.dependency &&
+        is_from_child u.from) d.uses) (decl_of (V.rows view.now) inc) false }
+{
+    match view.decl(inc) {
+        None => false,
+        Some(decl) => are_of_child(decl.uses.as_slice()),
+    }
+}
+
+/// Whether something of these is strongly used of a child.
+fn are_of_child(uses: &[Usage]) -> bool
+    ensures { result ≡ list_any (λ u. is_strong u.dependency && is_from_child u.from) uses.now }
+{
+    uses.iter().any(|usage| is_of_child(usage))
+}
+
+/// Whether something is strongly used of a child.
+fn is_of_child(usage: &Usage) -> bool
+    ensures { result ≡ (is_strong usage.now.dependency && is_from_child usage.now.from) }
+{
+    usage.dependency == Dependency::Strong && matches!(usage.from, Origin::Child(_))
+}
+
+/// Whether an instance isn't shut and has no pending action, and all below it is shut.
+fn is_last<V: View>(alloc: Global, view: &V, inc: u64) -> Result<bool, Memory>
+    requires { IsSound (V.rows view.now) (V.next_inc view.now) }
+    ensures { IfOk result (λ last. IsTrue last →
+        IsHere (V.rows view.now) wanted.Idle (record { inc = inc; behind = None })) }
+{
+    if !is_idle(view, inc) {
+        return Ok(false);
+    }
+    kids_shut(alloc, view, inc)
+}
+
+/// Whether an instance lives, isn't shut and has no pending action.
+fn is_idle<V: View>(view: &V, inc: u64) -> bool
+    ensures { result ≡ option_map_or (λ r. not r.shut && is_none r.pending)
+        (row_of (V.rows view.now) inc) false }
+{
+    match view.facts(inc) {
+        None => false,
+        Some(facts) => !facts.shut && facts.pending.is_none(),
+    }
+}
+
+/// Whether all at and below each child is shut.
+fn kids_shut<V: View>(alloc: Global, view: &V, inc: u64) -> Result<bool, Memory>
+    requires { IsSound (V.rows view.now) (V.next_inc view.now) }
+    ensures { IfOk result (λ shut. IsTrue shut → AreKidsShut (V.rows view.now) inc) }
+{
+    let mut behind = None;
+    while let Some(child) = view.next_child(inc, behind) {
+        if !all_shut(alloc, view, child)? {
+            return Ok(false);
+        }
+        behind = Some(child);
+    }
+    Ok(true)
+}
