@@ -1,29 +1,18 @@
-//! A component manager: it runs the commands of a script of component manifests, and says whether
-//! a manifest is valid.
+//! A component manager: it runs the commands of a script of component manifests or of a workload
+//! that it generates, and says whether a manifest is valid.
 //!
-//! [`run::run`] is the top call; `main` makes the standard streams and the gates for it.
+//! [`cm_program::run::run`] is the top call; `main` makes the standard streams and the gates for it.
 #![tactic(auto)]
 
-mod answers;
-mod call;
-mod check;
-mod fault;
-mod laws;
-mod performing;
-mod ran;
-mod run;
-mod running;
-mod scripts;
-mod stock;
 #[cfg(test)]
 mod tests;
 
 ghost use Rattle.std.specs.Prelude.{◌≡◌, IfOk, length};
 
-use crate::ran::want_of_memory;
 use cm_gate::FolderGates;
 use cm_io::{Reading, Writing};
 use cm_names::{List, Memory, Text};
+use cm_program::{run, want_of_memory};
 use std::alloc::Global;
 use std::io::ErrorKind;
 use std::process::ExitCode;

@@ -1,162 +1,75 @@
 //! Manifests that are checked, and words.
 
-use super::rows::{ANSWERED, CHECK, End, Filler, INVALID, MISUSED, RUN, Row};
-
 /// Words that ask for nothing, and manifests for `check`.
-pub const CHECKS: [Row; 17] = [
-    Row {
-        words: &[],
-        ends: &[MISUSED],
-        ..RUN
-    },
-    Row {
-        words: &["serve"],
-        ends: &[MISUSED],
-        ..RUN
-    },
-    Row {
-        words: &["run", "x"],
-        ends: &[MISUSED],
-        ..RUN
-    },
-    Row {
-        words: &["run", "--help"],
-        ends: &[MISUSED],
-        ..RUN
-    },
-    Row {
-        words: &["check", "--repo", "d"],
-        ends: &[MISUSED],
-        ..RUN
-    },
-    Row {
-        input: &["{children:[{name:'a',url:'#meta/a.cm'},],/* one */}"],
-        ends: &[End {
-            out: "valid\n",
-            ..ANSWERED
-        }],
-        ..CHECK
-    },
-    Row {
-        input: &["{children:["],
-        ends: &[End {
-            out: "invalid 31 manifest 0\n",
-            ..INVALID
-        }],
-        ..CHECK
-    },
-    Row {
-        input: &["{children:[{name:'a',url:'#meta/a.cm',colour:'red'}]}"],
-        ends: &[End {
-            out: "invalid 33 children 0 colour\n",
-            ..INVALID
-        }],
-        ..CHECK
-    },
-    Row {
-        input: &["{children:[{name:'a',url:'#a'}],offer:[{protocol:'p',from:'#a',to:'#a'}]}"],
-        ends: &[End {
-            out: "invalid 53 offer 0\n",
-            ..INVALID
-        }],
-        ..CHECK
-    },
-    Row {
-        input: &[
-            "\
-                {children:[{name:'a',url:'#a'},{name:'b',url:'#b'}],\
-                offer:[{protocol:'p',from:'#a',to:'#b'},{protocol:'q',from:'#b',\
-                to:'#a'}]}",
-        ],
-        ends: &[End {
-            out: "invalid 58 graph 0 a b a\n",
-            ..INVALID
-        }],
-        ..CHECK
-    },
-    Row {
-        input: &[
-            "\
-                {children:[{name:'a',url:'#a'},{name:'b',url:'#b'}],\
-                offer:[{protocol:'p',from:'#a',to:'#b'},{protocol:'q',from:'#b',to:'#a',\
-                dependency:'weak'}]}",
-        ],
-        ends: &[End {
-            out: "valid\n",
-            ..ANSWERED
-        }],
-        ..CHECK
-    },
-    Row {
-        input: &["{children:[{name:'"],
-        filler: Filler {
-            byte: b'n',
-            count: 255,
-        },
-        back: &["',url:'#a'}]}"],
-        ends: &[End {
-            out: "valid\n",
-            ..ANSWERED
-        }],
-        ..CHECK
-    },
-    Row {
-        input: &["{children:[{name:'"],
-        filler: Filler {
-            byte: b'n',
-            count: 256,
-        },
-        back: &["',url:'#a'}]}"],
-        ends: &[End {
-            out: "invalid 36 children 0 name\n",
-            ..INVALID
-        }],
-        ..CHECK
-    },
-    Row {
-        input: &["{facets:"],
-        filler: Filler {
-            byte: b'[',
-            count: 200,
-        },
-        ends: &[End {
-            out: "invalid 31 manifest 0\n",
-            ..INVALID
-        }],
-        ..CHECK
-    },
-    Row {
-        filler: Filler {
-            byte: b'[',
-            count: 1_048_576,
-        },
-        ends: &[End {
-            out: "invalid 31 manifest 0\n",
-            ..INVALID
-        }],
-        ..CHECK
-    },
-    Row {
-        input: &["{}"],
-        filler: Filler {
-            byte: b' ',
-            count: 1_048_575,
-        },
-        ends: &[End {
-            out: "invalid 41 manifest 0\n",
-            ..INVALID
-        }],
-        ..CHECK
-    },
-    Row {
-        filler: Filler {
-            byte: 255,
-            count: 1,
-        },
-        ends: &[End {
-            out: "invalid 30 manifest 0\n",
-            ..INVALID
-        }],
-        ..CHECK
-    },
-];
+pub const CHECKS: &str = "\
+    == \n\
+    => 2\n\
+    err usage: run, check, serve, audit, generate\n\
+    == serve\n\
+    => 2\n\
+    err usage: run, check, serve, audit, generate\n\
+    == run x\n\
+    => 2\n\
+    err usage: run, check, serve, audit, generate\n\
+    == run --help\n\
+    => 2\n\
+    err usage: run, check, serve, audit, generate\n\
+    == check --repo d\n\
+    => 2\n\
+    err usage: run, check, serve, audit, generate\n\
+    == check\n\
+    + {children:[{name:'a',url:'#meta/a.cm'},],/* one */}\n\
+    => 0\n\
+    out valid\n\
+    == check\n\
+    + {children:[\n\
+    => 1\n\
+    out invalid 31 manifest 0\n\
+    == check\n\
+    + {children:[{name:'a',url:'#meta/a.cm',colour:'red'}]}\n\
+    => 1\n\
+    out invalid 33 children 0 colour\n\
+    == check\n\
+    + {children:[{name:'a',url:'#a'}],offer:[{protocol:'p',from:'#a',to:'#a'}]}\n\
+    => 1\n\
+    out invalid 53 offer 0\n\
+    == check\n\
+    + {children:[{name:'a',url:'#a'},{name:'b',url:'#b'}],offer:[{protocol:'p',from:'#a',to:'#b'},\
+    {protocol:'q',from:'#b',to:'#a'}]}\n\
+    => 1\n\
+    out invalid 58 graph 0 a b a\n\
+    == check\n\
+    + {children:[{name:'a',url:'#a'},{name:'b',url:'#b'}],offer:[{protocol:'p',from:'#a',to:'#b'},\
+    {protocol:'q',from:'#b',to:'#a',dependency:'weak'}]}\n\
+    => 0\n\
+    out valid\n\
+    == check\n\
+    + {children:[{name:'\n\
+    fill 110 255\n\
+    + ',url:'#a'}]}\n\
+    => 0\n\
+    out valid\n\
+    == check\n\
+    + {children:[{name:'\n\
+    fill 110 256\n\
+    + ',url:'#a'}]}\n\
+    => 1\n\
+    out invalid 36 children 0 name\n\
+    == check\n\
+    + {facets:\n\
+    fill 91 200\n\
+    => 1\n\
+    out invalid 31 manifest 0\n\
+    == check\n\
+    fill 91 1048576\n\
+    => 1\n\
+    out invalid 31 manifest 0\n\
+    == check\n\
+    + {}\n\
+    fill 32 1048575\n\
+    => 1\n\
+    out invalid 41 manifest 0\n\
+    == check\n\
+    fill 255 1\n\
+    => 1\n\
+    out invalid 30 manifest 0\n";

@@ -1,6 +1,32 @@
-//! Manifests and lines of scripts.
+//! Manifests and lines of scripts, by their names in the tables.
 
-pub const ROOT: &str = "\
+/// The text of a name.
+pub fn named(name: &str) -> Option<&'static str> {
+    match name {
+        "@root" => Some(ROOT),
+        "@root-without-offer" => Some(ROOT_WITHOUT_OFFER),
+        "@root-with-collection" => Some(ROOT_WITH_COLLECTION),
+        "@root-with-offers" => Some(ROOT_WITH_OFFERS),
+        "@logger" => Some(LOGGER),
+        "@logger-without-expose" => Some(LOGGER_WITHOUT_EXPOSE),
+        "@client" => Some(CLIENT),
+        "@running" => Some(RUNNING),
+        "@builtin-client" => Some(BUILTIN_CLIENT),
+        "@root-line" => Some(ROOT_LINE),
+        "@ask" => Some(ASK),
+        "@ask-builtin" => Some(ASK_BUILTIN),
+        "@eager-root" => Some(EAGER_ROOT),
+        "@eager-child" => Some(EAGER_CHILD),
+        "@logger-empty" => Some(LOGGER_EMPTY),
+        "@void-offer" => Some(VOID_OFFER),
+        "@p-client" => Some(P_CLIENT),
+        "@ask-p" => Some(ASK_P),
+        "@root-once" => Some(ROOT_ONCE),
+        _ => None,
+    }
+}
+
+const ROOT: &str = "\
     manifest fuchsia-pkg://t/a#meta/root.cm\n\
     {\"children\":[{\"name\":\"logger\",\"url\":\"#meta/logger.cm\"},\
     {\"name\":\"client\",\"url\":\"#meta/client.cm\"}],\
@@ -8,46 +34,46 @@ pub const ROOT: &str = "\
     \"to\":\"#client\"}]}\n\
     %%\n";
 
-pub const ROOT_WITHOUT_OFFER: &str = "\
+const ROOT_WITHOUT_OFFER: &str = "\
     manifest fuchsia-pkg://t/a#meta/root.cm\n\
     {\"children\":[{\"name\":\"logger\",\"url\":\"#meta/logger.cm\"},\
     {\"name\":\"client\",\"url\":\"#meta/client.cm\"}]}\n\
     %%\n";
 
-pub const ROOT_WITH_COLLECTION: &str = "\
+const ROOT_WITH_COLLECTION: &str = "\
     manifest fuchsia-pkg://t/a#meta/root.cm\n\
     {\"collections\":[{\"name\":\"coll\",\"durability\":\"transient\"}]}\n\
     %%\n";
 
-pub const ROOT_WITH_OFFERS: &str = "\
+const ROOT_WITH_OFFERS: &str = "\
     manifest fuchsia-pkg://t/a#meta/root.cm\n\
     {\"collections\":[{\"name\":\"dyn\",\"durability\":\"transient\",\
     \"allowed_offers\":\"static_and_dynamic\"}]}\n\
     %%\n";
 
-pub const LOGGER: &str = "\
+const LOGGER: &str = "\
     manifest fuchsia-pkg://t/a#meta/logger.cm\n\
     {\"program\":{\"runner\":\"elf\"},\
     \"capabilities\":[{\"protocol\":\"fuchsia.logger.LogSink\"}],\
     \"expose\":[{\"protocol\":\"fuchsia.logger.LogSink\",\"from\":\"self\"}]}\n\
     %%\n";
 
-pub const LOGGER_WITHOUT_EXPOSE: &str = "\
+const LOGGER_WITHOUT_EXPOSE: &str = "\
     manifest fuchsia-pkg://t/a#meta/logger.cm\n\
     {\"program\":{\"runner\":\"elf\"},\
     \"capabilities\":[{\"protocol\":\"fuchsia.logger.LogSink\"}]}\n\
     %%\n";
 
-pub const CLIENT: &str = "\
+const CLIENT: &str = "\
     manifest fuchsia-pkg://t/a#meta/client.cm\n\
     {\"program\":{\"runner\":\"elf\"},\
     \"use\":[{\"protocol\":\"fuchsia.logger.LogSink\"}]}\n\
     %%\n";
 
-pub const RUNNING: &str =
+const RUNNING: &str =
     "manifest fuchsia-pkg://t/a#meta/x.cm\n{\"program\":{\"runner\":\"elf\"}}\n%%\n";
 
-pub const BUILTIN_CLIENT: &str = "\
+const BUILTIN_CLIENT: &str = "\
     manifest fuchsia-pkg://t/a#meta/root.cm\n\
     {\"children\":[{\"name\":\"c\",\"url\":\"#meta/c.cm\"}],\
     \"offer\":[{\"protocol\":\"p\",\"from\":\"parent\",\"to\":\"#c\"}]}\n\
@@ -56,24 +82,38 @@ pub const BUILTIN_CLIENT: &str = "\
     {\"use\":[{\"protocol\":\"p\"}]}\n\
     %%\n";
 
-pub const ROOT_LINE: &str = "root fuchsia-pkg://t/a#meta/root.cm\n";
+const ROOT_LINE: &str = "root fuchsia-pkg://t/a#meta/root.cm\n";
 
-pub const ASK: &str =
+const ASK: &str =
     "root fuchsia-pkg://t/a#meta/root.cm\n0 route client /svc/fuchsia.logger.LogSink\n";
 
-pub const ASK_BUILTIN: &str = "root fuchsia-pkg://t/a#meta/root.cm\n0 route c /svc/p\n";
+const ASK_BUILTIN: &str = "root fuchsia-pkg://t/a#meta/root.cm\n0 route c /svc/p\n";
 
-pub const EAGER_ROOT: &str = "\
+const EAGER_ROOT: &str = "\
     manifest fuchsia-pkg://t/a#meta/root.cm\n\
     {\"children\":[{\"name\":\"e\",\"url\":\"#meta/e.cm\",\"startup\":\"eager\"}]}\n\
     %%\n";
 
-pub const EAGER_CHILD: &str =
+const EAGER_CHILD: &str =
     "manifest fuchsia-pkg://t/a#meta/e.cm\n{\"program\":{\"runner\":\"elf\"}}\n%%\n";
 
-pub const LOGGER_URL: &str = "fuchsia-pkg://t/a#meta/logger.cm";
+/// A block without a manifest.
+const LOGGER_EMPTY: &str = "manifest fuchsia-pkg://t/a#meta/logger.cm\n\n%%\n";
 
-/// The reply to [`ASK`] where client and logger are offered and exposed as they should be.
-pub const REPLY: &str = "\
-    0 route /svc/fuchsia.logger.LogSink at logger incarnation 1 through use client, \
-    offer ., expose logger, capability logger\n";
+/// A root with an offer of nothing, up to its availability.
+const VOID_OFFER: &str = "\
+    manifest fuchsia-pkg://t/a#meta/root.cm\n\
+    {\"children\":[{\"name\":\"client\",\"url\":\"#meta/client.cm\"}],\
+    \"offer\":[{\"protocol\":\"p\",\"from\":\"void\",\"to\":\"#client\",\"availability\":";
+
+/// A client, up to the availability of its use.
+const P_CLIENT: &str = "\
+    manifest fuchsia-pkg://t/a#meta/client.cm\n\
+    {\"program\":{\"runner\":\"elf\"},\"use\":[{\"protocol\":\"p\",\"availability\":";
+
+const ASK_P: &str = "root fuchsia-pkg://t/a#meta/root.cm\n0 route client /svc/p\n";
+
+const ROOT_ONCE: &str = "\
+    manifest fuchsia-pkg://t/a#meta/root.cm\n\
+    {\"collections\":[{\"name\":\"once\",\"durability\":\"single_run\"}]}\n\
+    %%\n";

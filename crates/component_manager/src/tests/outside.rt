@@ -1,85 +1,73 @@
 //! Sources and sinks that fail, or that move few bytes at once.
 
-use super::manifests::{ASK, CLIENT, LOGGER, REPLY, ROOT};
-use super::rows::{ANSWERED, End, REFUSED, RUN, Row, UNREAD, UNWRITTEN};
-
-/// A script that is answered, with failing sources and sinks.
-pub const OUTSIDE: [Row; 8] = [
-    Row {
-        input: &[ROOT, LOGGER, CLIENT, ASK],
-        piece: 1,
-        ends: &[End {
-            out: REPLY,
-            ..ANSWERED
-        }],
-        ..RUN
-    },
-    Row {
-        input: &[ROOT, LOGGER, CLIENT, ASK],
-        piece: 100,
-        read: Some(0),
-        ends: &[End {
-            entries: Some(0),
-            ..UNREAD
-        }],
-        ..RUN
-    },
-    Row {
-        input: &[ROOT, LOGGER, CLIENT, ASK],
-        piece: 100,
-        read: Some(3),
-        ends: &[End {
-            entries: Some(0),
-            ..UNREAD
-        }],
-        ..RUN
-    },
-    // All 613 bytes are read, and then a read fails.
-    Row {
-        input: &[ROOT, LOGGER, CLIENT, ASK],
-        piece: 100,
-        read: Some(7),
-        ends: &[End {
-            entries: Some(0),
-            ..UNREAD
-        }],
-        ..RUN
-    },
-    Row {
-        input: &[ROOT, LOGGER, CLIENT, ASK],
-        piece: 7,
-        write: Some(0),
-        ends: &[End {
-            entries: Some(11),
-            ..UNWRITTEN
-        }],
-        ..RUN
-    },
-    Row {
-        input: &[ROOT, LOGGER, CLIENT, ASK],
-        piece: 7,
-        write: Some(1),
-        ends: &[End {
-            out: "0 route",
-            entries: Some(11),
-            ..UNWRITTEN
-        }],
-        ..RUN
-    },
-    // The line on the error stream is lost, and the status still tells of the script.
-    Row {
-        piece: 100,
-        say: Some(0),
-        ends: &[REFUSED],
-        ..RUN
-    },
-    Row {
-        piece: 4,
-        say: Some(1),
-        ends: &[End {
-            err: "line",
-            ..REFUSED
-        }],
-        ..RUN
-    },
-];
+/// A script that is answered, with sources and sinks that fail or move few bytes at once: of its 613
+/// bytes 100 are read at once, so that the eighth read comes behind all. Then no script: where the
+/// line on the error stream is lost, the status still tells of it.
+pub const OUTSIDE: &str = "\
+    == run\n\
+    piece 1\n\
+    @root\n\
+    @logger\n\
+    @client\n\
+    @ask\n\
+    => 0\n\
+    out 0 route /svc/fuchsia.logger.LogSink at logger incarnation 1 through use client, offer ., \
+    expose logger, capability logger\n\
+    == run\n\
+    piece 100\n\
+    read 0\n\
+    @root\n\
+    @logger\n\
+    @client\n\
+    @ask\n\
+    => 3\n\
+    entries 0\n\
+    err read fault\n\
+    == run\n\
+    piece 100\n\
+    read 3\n\
+    @root\n\
+    @logger\n\
+    @client\n\
+    @ask\n\
+    => 3\n\
+    entries 0\n\
+    err read fault\n\
+    == run\n\
+    piece 100\n\
+    read 7\n\
+    @root\n\
+    @logger\n\
+    @client\n\
+    @ask\n\
+    => 3\n\
+    entries 0\n\
+    err read fault\n\
+    == run\n\
+    piece 7\n\
+    write 0\n\
+    @root\n\
+    @logger\n\
+    @client\n\
+    @ask\n\
+    => 4\n\
+    entries 11\n\
+    == run\n\
+    piece 7\n\
+    write 1\n\
+    @root\n\
+    @logger\n\
+    @client\n\
+    @ask\n\
+    => 4\n\
+    entries 11\n\
+    out+ 0 route\n\
+    == run\n\
+    piece 100\n\
+    say 0\n\
+    => 7\n\
+    == run\n\
+    piece 4\n\
+    say 1\n\
+    => 7\n\
+    err+ line\n";

@@ -1,13 +1,22 @@
-//! Runs the rows of a table.
+//! Plays tables. A table is one text, which is taken apart when it runs: the prover doesn't look
+//! into it, so that one more run costs no proof.
+//!
+//! A run begins with `== ` and its words. Each further line says one thing of the run, by its first
+//! word; `input` and `ends` tell of these. Each end that the run may come to begins with `=> ` and
+//! the status.
 
-ghost use Rattle.std.specs.Prelude.{◌≡◌, IfOk, length};
+ghost use Rattle.std.specs.Prelude.{◌≡◌, IfSome, length};
 
-use super::rows::{End, Held, Row};
-use crate::run::run;
-use cm_gate::{Asked, Fetched, GatePlan, Gates, Manifest, PlannedGates};
-use cm_io::{MemorySink, MemorySource, Plan};
-use cm_names::{Bytes, List, Text};
-use std::alloc::{AllocError, Global};
+use super::ends::{are_known_ends, is_an_end, told_by};
+use super::input::{
+    are_known, calls_of, manifests_of, number_of, plan_of, source_of, values_of, words_of,
+};
+use cm_gate::{GatePlan, Gates, PlannedGates};
+use cm_io::{MemorySink, MemorySource};
+use cm_names::{List, Memory, Text};
+use cm_program::Ran;
+use cm_program::run::run;
+use std::alloc::Global;
 use std::sync::Wait;
 use std::thread::Threads;
 
@@ -30,264 +39,177 @@ pub struct Came<G> {
     pub gates: List<G>,
 }
 
-fn joined(alloc: Global, parts: &[&str]) -> Result<Vec<u8>, AllocError> {
-    let mut bytes = Vec::new(alloc);
-    for part in parts {
-        bytes.extend_from_slice(part.as_bytes())?;
-    }
-    Ok(bytes)
+fn sink_of(alloc: Global, case: &str, word: &str) -> Option<MemorySink> {
+    Some(MemorySink::new(alloc, plan_of(alloc, case, word)?))
 }
 
-fn texts(alloc: Global, words: &[&str]) -> Result<Vec<Text>, AllocError> {
-    let mut texts = Vec::new(alloc);
-    for word in words {
-        texts.push(Text::from_string(String::from_str(alloc, word)?))?;
-    }
-    Ok(texts)
-}
-
-/// Puts a byte behind these, so many times.
-fn fill(bytes: &mut Vec<u8>, byte: u8, count: usize) -> Result<(), AllocError> {
-    for _ in 0..count {
-        bytes.push(byte)?;
-    }
-    Ok(())
-}
-
-/// The input of a row.
-fn input_of(alloc: Global, row: &Row) -> Result<Vec<u8>, AllocError> {
-    let mut bytes = joined(alloc, row.input)?;
-    fill(&mut bytes, row.filler.byte, row.filler.count)?;
-    bytes.extend_from_slice(joined(alloc, row.back)?.as_slice())?;
-    Ok(bytes)
-}
-
-/// A plan that moves so many bytes at once and fails at this call, if at any.
-fn plan(alloc: Global, piece: usize, failing: Option<u64>) -> Result<Plan, AllocError> {
-    let mut calls = Vec::new(alloc);
-    if let Some(call) = failing {
-        calls.push(call)?;
-    }
-    Ok(Plan {
-        piece,
-        failing: List::from_vec(calls),
+fn arguments_of(alloc: Global, case: &str) -> Option<Arguments> {
+    Some(Arguments {
+        words: words_of(alloc, case)?,
+        input: source_of(alloc, case)?,
+        out: sink_of(alloc, case, "write")?,
+        err: sink_of(alloc, case, "say")?,
     })
 }
 
-fn source_of(alloc: Global, row: &Row) -> Result<MemorySource, AllocError> {
-    let bytes = input_of(alloc, row)?;
-    let plan = plan(alloc, row.piece, row.read)?;
-    Ok(MemorySource::new(List::from_vec(bytes), plan))
-}
-
-fn sink_of(alloc: Global, piece: usize, failing: Option<u64>) -> Result<MemorySink, AllocError> {
-    Ok(MemorySink::new(alloc, plan(alloc, piece, failing)?))
-}
-
-fn arguments_of(alloc: Global, row: &Row) -> Result<Arguments, AllocError> {
-    Ok(Arguments {
-        words: texts(alloc, row.words)?,
-        input: source_of(alloc, row)?,
-        out: sink_of(alloc, row.piece, row.write)?,
-        err: sink_of(alloc, row.piece, row.say)?,
-    })
-}
-
-/// What comes of a row over these gates.
-pub fn come<R: Threads + Wait + Sync, G: Gates + Send + Drop>(
+/// A run, of which no caller has to read what it promises.
+fn ran<R: Threads + Wait + Sync, G: Gates + Send + Drop>(
     rt: &R,
     alloc: Global,
-    row: &Row,
+    given: &mut Arguments,
     gates: List<G>,
-) -> Result<Came<G>, AllocError>
+) -> Ran<G>
     requires { length gates ≡ 16 }
 {
     let Arguments {
         words,
-        mut input,
-        mut out,
-        mut err,
-    } = arguments_of(alloc, row)?;
-    let ran = run(
-        rt,
-        alloc,
-        words.as_slice(),
-        &mut input,
-        &mut out,
-        &mut err,
-        gates,
-    );
-    Ok(Came {
-        status: ran.status,
-        entries: ran.book.entries().len(),
+        input,
         out,
         err,
+    } = given;
+    run(rt, alloc, words.as_slice(), input, out, err, gates)
+}
+
+/// What comes of a run over these gates.
+pub fn come<R: Threads + Wait + Sync, G: Gates + Send + Drop>(
+    rt: &R,
+    alloc: Global,
+    case: &str,
+    gates: List<G>,
+) -> Option<Came<G>>
+    requires { length gates ≡ 16 }
+{
+    match arguments_of(alloc, case) {
+        Some(mut given) => {
+            let ran = ran(rt, alloc, &mut given, gates);
+            Some(came_of(given, ran))
+        }
+        None => None,
+    }
+}
+
+fn came_of<G>(given: Arguments, ran: Ran<G>) -> Came<G> {
+    Came {
+        status: ran.status,
+        entries: ran.book.entries().len(),
+        out: given.out,
+        err: given.err,
         gates: ran.gates,
-    })
-}
-
-/// The URL and the manifest of a block, each empty where there is none.
-fn parts_of(block: &str) -> (&str, &str) {
-    let Some((head, rest)) = block.split_once('\n') else {
-        return ("", "");
-    };
-    let url = head.strip_prefix("manifest ").unwrap_or("");
-    match rest.split_once('\n') {
-        Some((text, _end)) => (url, text),
-        None => (url, ""),
     }
-}
-
-fn manifest_of(alloc: Global, held: Held) -> Result<Manifest, AllocError> {
-    let (url, text) = parts_of(held.block);
-    let mut bytes = joined(alloc, &[text])?;
-    fill(&mut bytes, b' ', held.spaces)?;
-    let url = Text::from_string(String::from_str(alloc, url)?);
-    Ok(Manifest {
-        url,
-        bytes: Bytes::from_vec(bytes),
-    })
-}
-
-pub fn manifests_of(alloc: Global, held: &[Held]) -> Result<List<Manifest>, AllocError> {
-    let mut manifests = Vec::new(alloc);
-    for one in held {
-        manifests.push(manifest_of(alloc, *one)?)?;
-    }
-    Ok(List::from_vec(manifests))
 }
 
 /// The plan of the gates of a lane.
-fn plan_of(alloc: Global, row: &Row, lane: usize) -> Result<GatePlan, AllocError> {
-    let failing = match row.failing.get(lane) {
-        Some(calls) => calls.to_vec(alloc)?,
-        None => Vec::new(alloc),
-    };
-    let declined = List::from_vec(texts(alloc, row.declined)?);
-    Ok(GatePlan {
-        manifests: manifests_of(alloc, row.held)?,
-        declined,
-        failing: List::from_vec(failing),
-        room: row.room,
+fn gate_plan_of(alloc: Global, case: &str, lane: usize) -> Option<GatePlan> {
+    Some(GatePlan {
+        manifests: manifests_of(alloc, case)?,
+        declined: List::from_vec(values_of(alloc, case, "declined")?),
+        failing: List::from_vec(calls_of(alloc, case, lane)?),
+        room: number_of(case, "room", 99)?,
     })
 }
 
-fn planned_gates(alloc: Global, row: &Row) -> Result<List<PlannedGates>, AllocError>
-    ensures { IfOk result (λ gates. length gates ≡ 16) }
+fn planned_gates(alloc: Global, case: &str) -> Option<List<PlannedGates>>
+    ensures { IfSome result (λ gates. length gates ≡ 16) }
 {
     let mut gates = Vec::new(alloc);
     for lane in 0..16_usize {
-        gates.push(PlannedGates::new(alloc, plan_of(alloc, row, lane)?))?;
+        let plan = gate_plan_of(alloc, case, lane)?;
+        gates.push(PlannedGates::new(alloc, plan)).ok()?;
     }
-    Ok(List::from_vec(gates))
+    Some(List::from_vec(gates))
 }
 
-fn word_of(answer: &Fetched) -> &'static str {
-    match answer {
-        Fetched::Found(_) => "found",
-        Fetched::Absent => "absent",
-        Fetched::Failed => "failed",
-        Fetched::Memory => "memory",
-    }
+/// A run, and the ends that it may come to.
+fn parts_of(case: &str) -> (&str, &str) {
+    case.split_once("\n=> ").unwrap_or((case, ""))
 }
 
-/// A question that the gates of a lane noted, with its answer.
-fn line_of(alloc: Global, lane: usize, asked: &Asked) -> Result<String, AllocError> {
-    match asked {
-        Asked::Fetch(what, answer) => {
-            let url = what.url.as_str();
-            let word = word_of(answer);
-            format!(in alloc; "{lane} fetch {url} {word}\n")
-        }
-        Asked::Launch(job, answer) => {
-            let url = job.url.as_str();
-            let action = job.action;
-            format!(in alloc; "{lane} launch {url} action {action} {answer:?}\n")
-        }
-        Asked::Halt(job, answer) => {
-            let url = job.url.as_str();
-            let action = job.action;
-            format!(in alloc; "{lane} halt {url} action {action} {answer:?}\n")
-        }
-    }
-}
-
-fn push_log(
+/// What came of a run that came to none of its ends, as a text; or no text where it came to one.
+/// Nothing where the run or its ends can't be read.
+fn odd_run<R: Threads + Wait + Sync>(
+    rt: &R,
     alloc: Global,
-    told: &mut String,
-    lane: usize,
-    log: Option<&[Asked]>,
-) -> Result<(), AllocError> {
-    let Some(log) = log else {
-        return told.push_str(format!(in alloc; "{lane} untold\n")?.as_str());
-    };
-    for asked in log {
-        told.push_str(line_of(alloc, lane, asked)?.as_str())?;
+    given: &str,
+    ends: &str,
+) -> Option<Option<Text>> {
+    match planned_gates(alloc, given) {
+        Some(gates) => match come(rt, alloc, given, gates) {
+            Some(came) => compared(alloc, &came, ends),
+            None => None,
+        },
+        None => None,
     }
-    Ok(())
 }
 
-/// What gates tell, lane by lane.
-fn told_by(alloc: Global, gates: &[PlannedGates]) -> Result<String, AllocError> {
-    let mut told = String::new(alloc);
-    for lane in 0..gates.len() {
-        push_log(alloc, &mut told, lane, gates[lane].log())?;
-        let faults = gates[lane].faults();
-        if faults > 0 {
-            told.push_str(format!(in alloc; "{lane} faults {faults}\n")?.as_str())?;
+fn compared(alloc: Global, came: &Came<PlannedGates>, ends: &str) -> Option<Option<Text>> {
+    let told = told_by(alloc, came.gates.as_slice())?;
+    if is_an_end(alloc, came, told.as_str(), ends)? {
+        return Some(None);
+    }
+    Some(Some(shown(alloc, came, told.as_str())?))
+}
+
+/// The first of a case's runs that comes to none of its ends.
+fn first_odd<R: Threads + Wait + Sync>(rt: &R, alloc: Global, case: &str) -> Option<Option<Text>> {
+    let (given, ends) = parts_of(case);
+    if !are_known(given) || !are_known_ends(ends) {
+        return None;
+    }
+    for _ in 0..number_of(given, "runs", 1)? {
+        let odd = odd_run(rt, alloc, given, ends)?;
+        if odd.is_some() {
+            return Some(odd);
         }
     }
-    Ok(told)
-}
-
-/// Whether a run came to this end.
-pub fn is_end<G>(came: &Came<G>, told: &str, end: &End) -> bool {
-    let is_written = came.out.bytes() == end.out.as_bytes()
-        && came.err.bytes() == end.err.as_bytes();
-    let is_long = end.entries.unwrap_or(came.entries) == came.entries;
-    came.status == end.status && is_written && is_long && end.told.unwrap_or(told) == told
+    Some(None)
 }
 
 /// What was written, as a text.
-fn written(alloc: Global, out: &MemorySink) -> Result<String, AllocError> {
-    String::from_utf8(out.bytes().to_vec(alloc)?).map_err(|_| AllocError)
+fn written(alloc: Global, out: &MemorySink) -> Option<String> {
+    String::from_utf8(out.bytes().to_vec(alloc).ok()?).ok()
 }
 
-/// A run that came to no end of its row, as a message.
-pub fn shown<G>(alloc: Global, came: &Came<G>, told: &str) -> Result<String, AllocError> {
+/// What came of a run, as a text.
+pub fn shown<G>(alloc: Global, came: &Came<G>, told: &str) -> Option<Text> {
     let status = came.status;
     let entries = came.entries;
     let out = written(alloc, &came.out)?;
     let err = written(alloc, &came.err)?;
-    format!(in alloc; "status {status}, {entries} entries\n{out}{err}{told}")
+    let mut text = Text::new(alloc);
+    text.push(format_args!("status {status}, {entries} entries\n{out}{err}{told}"))
+        .ok()?;
+    Some(text)
 }
 
-/// The first run of a row that comes to none of its ends.
-fn odd_run<R: Threads + Wait + Sync>(
+/// Puts a case down that begins at this line, where it comes to none of its ends or can't be read.
+fn push_if_odd<R: Threads + Wait + Sync>(
     rt: &R,
     alloc: Global,
-    row: &Row,
-) -> Result<Option<String>, AllocError> {
-    for _ in 0..row.runs {
-        let came = come(rt, alloc, row, planned_gates(alloc, row)?)?;
-        let told = told_by(alloc, came.gates.as_slice())?;
-        if !row.ends.iter().any(|end| is_end(&came, told.as_str(), end)) {
-            return Ok(Some(shown(alloc, &came, told.as_str())?));
-        }
+    odd: &mut Text,
+    line: usize,
+    case: &str,
+) -> Result<(), Memory> {
+    match first_odd(rt, alloc, case) {
+        Some(None) => Ok(()),
+        Some(Some(came)) => odd.push(format_args!("line {line}: {case}{came}")),
+        None => odd.push(format_args!("line {line}: {case}can't be read\n")),
     }
-    Ok(None)
 }
 
-/// The first run of a table's rows that comes to none of the ends of its row.
-pub fn first_odd<R: Threads + Wait + Sync>(
+/// The cases of a table that come to none of their ends, or that can't be read: the line at which
+/// each begins, the case, and what comes of it.
+pub fn odd_cases<R: Threads + Wait + Sync>(
     rt: &R,
     alloc: Global,
-    rows: &[Row],
-) -> Result<Option<String>, AllocError> {
-    for row in rows {
-        if let Some(odd) = odd_run(rt, alloc, row)? {
-            return Ok(Some(odd));
+    table: &str,
+) -> Result<Text, Memory> {
+    let mut odd = Text::new(alloc);
+    let mut line: usize = 1;
+    for case in table.split("== ") {
+        if !case.is_empty() {
+            push_if_odd(rt, alloc, &mut odd, line, case)?;
         }
+        line = line.saturating_add(case.matches('\n').count());
     }
-    Ok(None)
+    Ok(odd)
 }

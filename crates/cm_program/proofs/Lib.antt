@@ -1,0 +1,13 @@
+mod CheckLemmas
+mod FrontLemmas
+mod GeneratorLemmas
+mod Histories
+mod OwnScript
+mod Printing
+mod RunLemmas
+mod Saying
+mod ScriptLaws
+mod Sixteen
+mod StockLemmas
+mod Wanting
+mod WordLemmas

@@ -1,0 +1,11 @@
+use Rattle.std.proofs.Common.{rules}
+use Rattle.cm_program.proofs.FrontLemmas.{served_known, fault_known}
+use Rattle.cm_program.proofs.StockLemmas.{stops_for}
+use Rattle.cm_program.proofs.scripts.read_served.Goals as goal
+
+pub returns-in-Ok-serve-clause-good : goal.returns-in-Ok-serve-clause-good
+returns-in-Ok-serve-clause-good g c = served_known _ _ c.in-Ok.bytes _ c.in-Ok.ensures.front c.in-Ok.ensures.all (search rules)
+
+pub returns-in-Err-clause-bad : goal.returns-in-Err-clause-bad
+returns-in-Err-clause-bad g c =
+    rw c.stop_of.ensures (stops_for _ c.in-Err.fault (λ lasts. fault_known _ _ c.in-Ok.bytes c.in-Err.fault c.in-Ok.ensures.front c.in-Ok.ensures.all (c.in-Err.ensures.bad lasts)))

@@ -1,0 +1,13 @@
+pub mod Reading
+pub mod Stock
+pub mod Texts
+pub mod Calls
+pub mod Generated
+pub mod GeneratedExamples
+pub mod Written
+pub mod Checks
+pub mod Printed
+pub mod Headline
+pub mod Performing
+pub mod Run
+pub mod Laws

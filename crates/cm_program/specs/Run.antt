@@ -1,0 +1,80 @@
+-- What a run promises.
+use Rattle.std.specs.Prelude.{◌≡◌, ◌⊎◌, ℕ, List, Option, Ok}
+use Rattle.cm_command.specs.declared.script.Script.{Script}
+use Rattle.cm_program.specs.Calls.{words_of}
+use Rattle.cm_program.specs.Stock.{IsFault, Serves, served_script}
+use Rattle.cm_program.specs.Texts.{fault_line}
+use Rattle.cm_program.specs.Written.{IsSaid, OfSome}
+use Rattle.cm_program.specs.declared.call.Call.TheVariants.{Run, Check, Generate}
+use Rattle.cm_program.specs.declared.call.RunOptions.{RunOptions}
+use Rattle.cm_program.specs.declared.call.Workload.{Workload}
+use Rattle.cm_program.specs.declared.fault.Fault.{Fault}
+use Rattle.cm_program.specs.declared.fault.Fault.TheVariants as fault
+use Rattle.cm_program.specs.declared.scripts.Stop.{Stop}
+use Rattle.cm_program.specs.declared.scripts.Stop.TheVariants.{ReadFault, Refused, Memory}
+use Rattle.cm_program.specs.declared.stock.Served.{Served}
+
+-- the words are those of `run`
+abbrev pub AsksRun : List (List ℕ) → Type 0
+AsksRun words = (options : RunOptions) × (words_of words ≡ Ok (Run options))
+
+-- the words are those of `check`
+abbrev pub AsksCheck : List (List ℕ) → Type 0
+AsksCheck words = words_of words ≡ Ok Check
+
+-- the words are those of `generate`
+abbrev pub AsksGenerate : List (List ℕ) → Type 0
+AsksGenerate words = (workload : Workload) × (words_of words ≡ Ok (Generate workload))
+
+-- the words ask for the run of a script, whoever wrote it
+abbrev pub AsksScript : List (List ℕ) → Type 0
+AsksScript words = AsksRun words ⊎ AsksGenerate words
+
+-- the bytes that a source had left are refused, or bytes that it gave are where it tells none; and the line
+-- that says why is said on the error stream
+module _ {E : Type 0} (written_of : E → Option (List ℕ)) (faults_of : E → ℕ) where
+  pub record IsRefused (left : Option (List ℕ)) (err_old err_new : E) : Type 0 where
+    pub fault : Fault
+    pub faulty : OfSome (λ bytes. IsFault bytes fault) left
+    pub said : IsSaid written_of faults_of err_old err_new (fault_line fault)
+
+-- whichever script that is served the bytes are, this holds of it; they are one at most
+abbrev pub RunsAsServed : (Served → Type 0) → List ℕ → Type 0
+RunsAsServed P bytes = (served : Served) → Serves bytes served → P served
+
+-- where this script is served, this holds of what it asks for; and it is served where the run came to its end
+pub record RunsOwn (P : Served → Type 0) (script : Script) (status : ℕ) : Type 0 where
+  pub runs : (served : Served) → served_script script ≡ Ok served → P served
+  pub is_served : (status ≡ 0) ⊎ (status ≡ 4) → (served : Served) × (served_script script ≡ Ok served)
+
+-- the bytes are refused, or they are no script that is served
+pub data IsFaulty (bytes : List ℕ) : Type 0 where
+  refused : (fault : Fault) → IsFault bytes fault → IsFaulty bytes
+  unserved : ((served : Served) → Serves bytes served → ⊥) → IsFaulty bytes
+
+-- how a fault stops a run
+abbrev pub stop_of : Fault → Stop
+stop_of (fault.Unread line number at) = Refused (fault.Unread line number at)
+stop_of (fault.Unserved line problem) = Refused (fault.Unserved line problem)
+stop_of fault.Memory = Memory
+
+-- why a script stopped a run
+abbrev pub Stops : Stop → Option (List ℕ) → Type 0
+Stops ReadFault left = Unit {0}
+Stops Memory left = Unit {0}
+Stops (Refused fault) left = OfSome (λ bytes. IsFault bytes fault) left
+
+-- a faulty script's statuses: refused, or the source failed or memory ran out before that was known
+abbrev pub IsRefusal : ℕ → Type 0
+IsRefusal status = (status ≡ 7) ⊎ ((status ≡ 3) ⊎ (status ≡ 6))
+
+-- the status of a script's run: all was written, the output failed, or memory ran out
+abbrev pub IsScriptRun : ℕ → Type 0
+IsScriptRun status = (status ≡ 0) ⊎ ((status ≡ 4) ⊎ (status ≡ 6))
+
+abbrev pub IsScriptStatus : ℕ → Type 0
+IsScriptStatus status = IsScriptRun status ⊎ ((status ≡ 3) ⊎ (status ≡ 7))
+
+abbrev pub IsCheckStatus : ℕ → Type 0
+IsCheckStatus status =
+    (status ≡ 0) ⊎ ((status ≡ 1) ⊎ ((status ≡ 3) ⊎ ((status ≡ 4) ⊎ (status ≡ 6))))

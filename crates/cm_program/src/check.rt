@@ -1,0 +1,177 @@
+//! The command `check`: whether a manifest is valid.
+
+ghost use Rattle.std.specs.Prelude.{◌≡◌, ◌⊎◌, ◌++◌, codes, Result, Ok, IfOk, IfErr};
+ghost use Rattle.std.specs.Io.KnownBytes.{Appends, Keeps};
+ghost use Rattle.cm_io.specs.Outside.{Rose};
+ghost use Rattle.cm_decl.specs.declared.decl.Decl.{Decl};
+ghost use Rattle.cm_read.specs.Reading.{Fails};
+ghost use Rattle.cm_read.specs.Texts as read_text;
+ghost use Rattle.cm_read.specs.declared.fault.ReadFault.{ReadFault};
+ghost use Rattle.cm_valid.specs.Reports.{Reports};
+ghost use Rattle.cm_valid.specs.Texts as valid_text;
+ghost use Rattle.cm_program.specs.Checks.{IsChecked, IsJudged, IsTold, IsVerdict};
+ghost use Rattle.cm_program.specs.Run.{IsCheckStatus};
+ghost use Rattle.cm_program.specs.Written.{AppendsFront, OfKnown, Says};
+
+use crate::ran::{read_fault, want_of_memory};
+use cm_io::{Put, Sink, Source, SourceFault, put_all, read_up_to};
+use cm_names::{Memory, Text};
+use cm_read::{ReadFault, read_decl};
+use cm_valid::{ValidFault, validate};
+use std::alloc::Global;
+use std::sync::Wait;
+use std::thread::Threads;
+
+/// The most bytes that a manifest has. The source is read a piece further at most.
+const MANIFEST_LIMIT: usize = 1_048_576;
+
+/// What `check` says of a manifest.
+#[derive(Drop)]
+struct Verdict {
+    /// 0 for a valid manifest, and else 1.
+    status: u8,
+    line: Text,
+}
+
+/// Why there is no verdict.
+#[derive(Drop)]
+enum NoVerdict {
+    ReadFault,
+    Memory,
+}
+
+fn unread_line(alloc: Global, fault: &ReadFault) -> Result<Text, Memory>
+    ensures { IfOk result (λ text. text ≡ read_text.fault_text fault.now ++ codes "\n") }
+{
+    let mut text = Text::new(alloc);
+    text.push(format_args!("{fault}\n"))?;
+    Ok(text)
+}
+
+fn invalid_line(alloc: Global, fault: &ValidFault) -> Result<Text, Memory>
+    ensures { IfOk result (λ text. text ≡ valid_text.fault_text fault.now ++ codes "\n") }
+{
+    let mut text = Text::new(alloc);
+    text.push(format_args!("{fault}\n"))?;
+    Ok(text)
+}
+
+/// The verdict on a manifest with a fault.
+fn refused(line: Text) -> Verdict
+    ensures status { result.status ≡ 1 }
+    ensures line { result.line ≡ line }
+{
+    Verdict { status: 1, line }
+}
+
+/// The verdict on a manifest that isn't read.
+fn unread(alloc: Global, fault: &ReadFault) -> Result<Verdict, Memory>
+    ensures verdict { (read : Result Decl ReadFault) → Fails fault.now read →
+        IfOk result (λ verdict. IsJudged read verdict.status verdict.line) }
+    ensures status { IfOk result (λ verdict. verdict.status ≡ 1) }
+{
+    match fault {
+        ReadFault::Bad { .. } => {
+            let line = unread_line(alloc, fault)?;
+            Ok(refused(line))
+        }
+        ReadFault::Memory => Err(Memory),
+    }
+}
+
+/// The verdict on a manifest that is read and isn't valid.
+fn invalid(alloc: Global, fault: &ValidFault) -> Result<Verdict, Memory>
+    ensures verdict { (read : Result Decl ReadFault) (d : Decl) → read ≡ Ok d →
+        Reports d fault.now → IfOk result (λ verdict. IsJudged read verdict.status verdict.line) }
+    ensures status { IfOk result (λ verdict. verdict.status ≡ 1) }
+{
+    match fault {
+        ValidFault::Bad { .. } => {
+            let line = invalid_line(alloc, fault)?;
+            Ok(refused(line))
+        }
+        ValidFault::Memory => Err(Memory),
+    }
+}
+
+/// The verdict on a manifest that is valid.
+fn valid(alloc: Global) -> Result<Verdict, Memory>
+    ensures { IfOk result (λ verdict. (verdict.status ≡ 0) × (verdict.line ≡ codes "valid\n")) }
+{
+    let line = Text::from_str(alloc, "valid\n")?;
+    Ok(Verdict { status: 0, line })
+}
+
+/// The verdict on the manifest that the bytes are.
+fn verdict_of(alloc: Global, bytes: &[u8]) -> Result<Verdict, Memory>
+    ensures verdict { IfOk result (λ verdict. IsVerdict bytes.now verdict.status verdict.line) }
+    ensures status { IfOk result (λ verdict. (verdict.status ≡ 0) ⊎ (verdict.status ≡ 1)) }
+{
+    match read_decl(alloc, bytes) {
+        Err(fault) => unread(alloc, &fault),
+        Ok(decl) => match validate(alloc, decl) {
+            Err(fault) => invalid(alloc, &fault),
+            Ok(_) => valid(alloc),
+        },
+    }
+}
+
+/// The verdict on the manifest that the source has left.
+fn read_verdict<R: Threads + Wait + Sync, S: Source>(
+    rt: &R,
+    alloc: Global,
+    source: &mut S,
+) -> Result<Verdict, NoVerdict>
+    ensures verdict { IfOk result
+        (λ verdict. OfKnown (λ bytes. IsVerdict bytes verdict.status verdict.line)
+        (S.left source.old)) }
+    ensures status { IfOk result (λ verdict. (verdict.status ≡ 0) ⊎ (verdict.status ≡ 1)) }
+    ensures fault { IfErr result (λ e. e ≡ NoVerdict.ReadFault →
+        Rose (S.faults source.old) (S.faults source.new)) }
+{
+    let bytes = match read_up_to(rt, alloc, source, MANIFEST_LIMIT) {
+        Ok(bytes) => bytes,
+        Err(SourceFault::Failed) => return Err(NoVerdict::ReadFault),
+        Err(SourceFault::Memory) => return Err(NoVerdict::Memory),
+    };
+    match verdict_of(alloc, bytes.as_slice()) {
+        Ok(verdict) => Ok(verdict),
+        Err(Memory) => Err(NoVerdict::Memory),
+    }
+}
+
+/// Says whether the manifest that the source has left is valid, or else its first fault.
+/// The result is the status.
+#[tactic(auto, using(crate::proofs::Saying::says))]
+pub fn run_check<R: Threads + Wait + Sync, S: Source, K: Sink, E: Sink>(
+    rt: &R,
+    alloc: Global,
+    source: &mut S,
+    out: &mut K,
+    err: &mut E,
+) -> u8
+    ensures read { result ≡ 3 → Rose (S.faults source.old) (S.faults source.new) }
+    ensures write { result ≡ 4 → Rose (K.faults out.old) (K.faults out.new) }
+    ensures valid { result ≡ 0 →
+        OfKnown (IsChecked (Appends (K.written out.old) (K.written out.new)) 0)
+        (S.left source.old) }
+    ensures invalid { result ≡ 1 →
+        OfKnown (IsChecked (Appends (K.written out.old) (K.written out.new)) 1)
+        (S.left source.old) }
+    ensures front { result ≡ 4 →
+        OfKnown (IsTold (AppendsFront (K.written out.old) (K.written out.new)))
+        (S.left source.old) }
+    ensures silent { (result ≡ 3) ⊎ (result ≡ 6) →
+        Keeps (K.written out.old) (K.written out.new) }
+    ensures err { Says E.written E.faults err.old err.new result }
+    ensures others { IsCheckStatus result }
+{
+    match read_verdict(rt, alloc, source) {
+        Ok(Verdict { status, line }) => match put_all(rt, out, line.as_str().as_bytes()) {
+            Put::Done => status,
+            Put::WriteFault(_) => 4,
+        },
+        Err(NoVerdict::ReadFault) => read_fault(rt, err),
+        Err(NoVerdict::Memory) => want_of_memory(rt, err),
+    }
+}

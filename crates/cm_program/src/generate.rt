@@ -1,0 +1,68 @@
+//! The command `generate`: a workload is made and run.
+
+ghost use Rattle.std.specs.Prelude.{◌≡◌, All, IfOk, None, Ok, length};
+ghost use Rattle.cm_io.specs.Outside.{Rose};
+ghost use Rattle.cm_lanes.specs.Script.{IsFit};
+ghost use Rattle.cm_program.specs.Calls.{IsWorkload};
+ghost use Rattle.cm_program.specs.Generated.{script_of};
+ghost use Rattle.cm_program.specs.Headline.{IsHistory, RunsScript};
+ghost use Rattle.cm_program.specs.Run.{IsScriptRun, RunsOwn};
+ghost use Rattle.cm_program.specs.Stock.{served_script};
+ghost use Rattle.cm_program.specs.Written.{Says};
+
+use crate::call::Workload;
+use crate::ran::{Ran, ended, want_of_memory};
+use crate::running::run_served;
+use crate::stock::{Served, serve_script};
+use crate::wanted::Wanted;
+use crate::workload::generated;
+use cm_gate::Gates;
+use cm_io::Sink;
+use cm_names::{List, Memory};
+use std::alloc::Global;
+use std::sync::Wait;
+use std::thread::Threads;
+
+/// What the script of a workload asks for. Its manifests are never refused, so that a refusal is
+/// want of memory.
+fn serve_generated(alloc: Global, workload: Workload) -> Result<Served, Memory>
+    requires { IsWorkload workload }
+    ensures good { IfOk result (λ served.
+        served_script (script_of workload.seed workload.size) ≡ Ok served) }
+    ensures fit { IfOk result (λ served. All (λ lines. All IsFit lines) served.phases) }
+{
+    let script = generated(alloc, workload)?;
+    match serve_script(alloc, script) {
+        Ok(served) => Ok(served),
+        Err(_) => Err(Memory),
+    }
+}
+
+/// Runs the script of a workload, and writes the line that counts its answers.
+#[tactic(auto, using(crate::proofs::Saying::says, crate::proofs::RunLemmas::idle))]
+pub fn run_generated<R: Threads + Wait + Sync, K: Sink, E: Sink, G: Gates + Send + Drop>(
+    rt: &R,
+    alloc: Global,
+    workload: Workload,
+    out: &mut K,
+    err: &mut E,
+    gates: List<G>,
+) -> Ran<G>
+    requires gates { length gates ≡ 16 }
+    requires workload { IsWorkload workload }
+    ensures gates { length result.gates ≡ 16 }
+    ensures runs { RunsOwn (λ served. RunsScript G.log G.faults (Wanted.Summary workload.size) None
+        served gates result.gates result.book.entries result.status (K.written out.old)
+        (K.written out.new)) (script_of workload.seed workload.size) result.status }
+    ensures history { IsHistory result.book.entries }
+    ensures cause { result.status ≡ 4 → Rose (K.faults out.old) (K.faults out.new) }
+    ensures err { Says E.written E.faults err.old err.new result.status }
+    ensures others { IsScriptRun result.status }
+{
+    let instances = workload.size;
+    let Ok(served) = serve_generated(alloc, workload) else {
+        return ended(alloc, want_of_memory(rt, err), gates);
+    };
+    let wanted = Wanted::Summary { instances };
+    run_served(rt, alloc, wanted, None, served, out, err, gates)
+}

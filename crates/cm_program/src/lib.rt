@@ -1,0 +1,35 @@
+//! The program, as one call: it runs the commands of a script of component manifests or of a workload
+//! that it generates, and says whether a manifest is valid.
+//!
+//! [`run::run`] is the top call. What it sees of the outside are a source, two sinks and sixteen gates;
+//! the crate above this one makes the real ones, or for tests those in memory.
+//!
+//! | file of `specs/` | says |
+//! |---|---|
+//! | `Calls` | what the words ask for |
+//! | `Headline`, `Run` | what is promised of the run of a script, and of each status |
+//! | `Stock`, `Reading` | what a script asks for, and why it is refused |
+//! | `Printed`, `Texts`, `Written` | what is printed, and what is known of bytes written |
+//! | `Checks` | what `check` says of a manifest |
+//! | `Generated` | the script that a workload is; `GeneratedExamples` has small ones |
+//! | `Performing` | what the lanes made of a script |
+//! | `Laws` | what follows for scripts that are served |
+#![tactic(auto)]
+
+mod answers;
+mod call;
+mod check;
+mod fault;
+mod generate;
+mod generator;
+pub mod laws;
+mod performing;
+pub mod ran;
+pub mod run;
+mod running;
+mod scripts;
+mod stock;
+mod wanted;
+mod workload;
+
+pub use ran::{Ran, want_of_memory};

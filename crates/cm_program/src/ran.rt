@@ -1,0 +1,75 @@
+//! What a run comes to, and the lines of the error stream.
+
+ghost use Rattle.std.specs.Prelude.{◌≡◌, []};
+ghost use Rattle.cm_program.specs.Written.{IsSaid, read_fault_line, want_line};
+
+use cm_book::Book;
+use cm_io::{Put, Sink, put_all};
+use cm_names::List;
+use std::alloc::Global;
+use std::sync::Wait;
+use std::thread::Threads;
+
+/// What a run came to.
+#[derive(Drop)]
+pub struct Ran<G> {
+    /// The status that the program ends with.
+    ///
+    /// - 0: what the source had left, or each line of the workload, was answered, and everything was
+    ///   written.
+    /// - 1: the manifest that was checked has a fault, which was written on `out`.
+    /// - 2: the words ask for nothing, and `err` tells what they may be; nothing was written on
+    ///   `out`.
+    /// - 3: the source failed, which `err` tells; nothing was written on `out`.
+    /// - 4: `out` failed; a front of the text was written.
+    /// - 6: memory ran out, or a line was answered so, which `err` tells; a front of the text was
+    ///   written.
+    /// - 7: the script is refused, and the line on `err` says where and why; nothing was written
+    ///   on `out`.
+    pub status: u8,
+    /// The history of the realm that a script was run over. It is empty where none was.
+    pub book: Book,
+    /// The gates, in the order in which they were given.
+    pub gates: List<G>,
+}
+
+/// A run that came to this without a realm.
+pub fn ended<G>(alloc: Global, status: u8, gates: List<G>) -> Ran<G>
+    ensures status { result.status ≡ status }
+    ensures empty { result.book.entries ≡ [] }
+    ensures gates { result.gates ≡ gates }
+{
+    Ran {
+        status,
+        book: Book::new(alloc, 0),
+        gates,
+    }
+}
+
+/// Writes a line on the error stream: the whole of it, or a front where the stream fails.
+pub fn tell<R: Threads + Wait + Sync, E: Sink>(rt: &R, err: &mut E, line: &[u8])
+    ensures { IsSaid E.written E.faults err.old err.new line.now }
+{
+    match put_all(rt, err, line) {
+        Put::Done => {}
+        Put::WriteFault(_) => {}
+    }
+}
+
+/// Says that memory ran out. The result is the status.
+pub fn want_of_memory<R: Threads + Wait + Sync, E: Sink>(rt: &R, err: &mut E) -> u8
+    ensures status { result ≡ 6 }
+    ensures said { IsSaid E.written E.faults err.old err.new want_line }
+{
+    tell(rt, err, b"want of memory\n");
+    6
+}
+
+/// Says that the source failed. The result is the status.
+pub fn read_fault<R: Threads + Wait + Sync, E: Sink>(rt: &R, err: &mut E) -> u8
+    ensures status { result ≡ 3 }
+    ensures said { IsSaid E.written E.faults err.old err.new read_fault_line }
+{
+    tell(rt, err, b"read fault\n");
+    3
+}

@@ -1,0 +1,217 @@
+//! The run of a script that is served, and what is written of it.
+
+ghost use Rattle.std.specs.Prelude.{◌≡◌, ◌≢◌, [], All, List as Seq, Err, IfOk, None, Some, length, false};
+ghost use Rattle.cm_io.specs.Outside.{Rose};
+ghost use Rattle.cm_reply.specs.Journal as journal;
+ghost use Rattle.cm_lanes.specs.declared.said.Said.{Said as TheSaid};
+ghost use Rattle.cm_lanes.specs.Script.{IsFit};
+ghost use Rattle.cm_program.specs.Headline.{RunsScript};
+ghost use Rattle.cm_program.specs.Printed.{IsPrinted, printed_text};
+ghost use Rattle.cm_program.specs.Run.{IsScriptRun};
+ghost use Rattle.cm_program.specs.Written.{AppendsFront, Says};
+
+use crate::answers::{push_answers, push_entries};
+use crate::performing::{Performed, perform};
+use crate::ran::{Ran, ended, want_of_memory};
+use crate::stock::Served;
+use crate::wanted::{Wanted, summary_text};
+use cm_command::Line;
+use cm_gate::Gates;
+use cm_io::{Put, Sink, put_all};
+use cm_lanes::Said;
+use cm_names::{List, Memory, Text};
+use cm_reply::header_text;
+use cm_steps::Realm;
+use cm_world::{Entry, Frame, Refusal};
+use std::alloc::Global;
+use std::sync::Wait;
+use std::thread::Threads;
+
+/// What is printed, and of what besides the answers.
+#[derive(Clone, Copy)]
+struct Sheet<'a> {
+    /// What is wanted.
+    wanted: Wanted,
+    /// The first lines of the journal.
+    head: &'a Text,
+    /// The history.
+    entries: &'a [Entry],
+}
+
+/// The head of the journal of a realm, and the realm.
+fn new_realm(alloc: Global, frame: Frame) -> Result<(Text, Realm), Memory>
+    ensures { IfOk result (λ made. (made.0 ≡ journal.header_text frame)
+        × (made.1 ≡ record { frame = frame; entries = [] })) }
+{
+    let head = header_text(alloc, &frame)?;
+    let Frame {
+        root,
+        builtins,
+        limits,
+    } = frame;
+    let realm = Realm::new(alloc, root, builtins, limits)?;
+    Ok((head, realm))
+}
+
+/// Whether memory ran out for one of the answers.
+fn is_wanting(said: &[Said]) -> bool
+    ensures { result ≡ false → All (λ s. s.result ≢ Err Refusal.Memory) said.now }
+{
+    said.iter()
+        .any(|s| matches!(s.result, Err(Refusal::Memory)))
+}
+
+/// The answers, and behind them the journal where it is wanted.
+fn answers_text(
+    alloc: Global,
+    phases: &[List<Line>],
+    said: &[Said],
+    journal: bool,
+    sheet: &Sheet<'_>,
+) -> Result<Text, Memory>
+    ensures { IfOk result (λ text. text ≡ printed_text phases.now said.now
+        (Wanted.Answers journal) sheet.now.head.now sheet.now.entries.now) }
+{
+    let mut text = Text::new(alloc);
+    push_answers(alloc, &mut text, phases, said)?;
+    if !journal {
+        return Ok(text);
+    }
+    text.push_str(sheet.head.as_str())?;
+    push_entries(alloc, &mut text, sheet.entries)?;
+    Ok(text)
+}
+
+/// All that is printed.
+fn text_of(
+    alloc: Global,
+    phases: &[List<Line>],
+    said: &[Said],
+    sheet: &Sheet<'_>,
+) -> Result<Text, Memory>
+    ensures { IfOk result (λ text. text ≡ printed_text phases.now said.now
+        sheet.now.wanted sheet.now.head.now sheet.now.entries.now) }
+{
+    match sheet.wanted {
+        Wanted::Answers { journal } => answers_text(alloc, phases, said, journal, sheet),
+        Wanted::Summary { instances } => summary_text(alloc, instances, said),
+    }
+}
+
+/// Writes all that is printed. The result is the status: 0; 4 where `out` failed; or 6 where memory
+/// ran out, for the text or for an answer.
+fn print<R: Threads + Wait + Sync, K: Sink>(
+    rt: &R,
+    alloc: Global,
+    out: &mut K,
+    phases: &[List<Line>],
+    said: &[Said],
+    sheet: &Sheet<'_>,
+) -> u8
+    ensures printed { IsPrinted (printed_text phases.now said.now sheet.now.wanted
+        sheet.now.head.now sheet.now.entries.now) said.now result (K.written out.old)
+        (K.written out.new) }
+    ensures cause { result ≡ 4 → Rose (K.faults out.old) (K.faults out.new) }
+    ensures others { IsScriptRun result }
+{
+    let Ok(text) = text_of(alloc, phases, said, sheet) else {
+        return 6;
+    };
+    let put = put_all(rt, out, text.as_str().as_bytes());
+    if is_wanting(said) {
+        return 6;
+    }
+    match put {
+        Put::Done => 0,
+        Put::WriteFault(_) => 4,
+    }
+}
+
+/// Says on the error stream what the status is for, where it is want of memory.
+#[tactic(auto, using(crate::proofs::Saying::says))]
+fn report<R: Threads + Wait + Sync, E: Sink>(rt: &R, err: &mut E, status: u8)
+    ensures { IsScriptRun status → Says E.written E.faults err.old err.new status }
+{
+    if status == 6 {
+        want_of_memory(rt, err);
+    }
+}
+
+/// Writes what was made of a script.
+#[tactic(auto, using(crate::proofs::Saying::says))]
+fn print_performed<R: Threads + Wait + Sync, K: Sink, E: Sink, G>(
+    rt: &R,
+    alloc: Global,
+    out: &mut K,
+    err: &mut E,
+    phases: &[List<Line>],
+    head: &Text,
+    wanted: Wanted,
+    done: Performed<G>,
+) -> Ran<G>
+    ensures said { (said : Seq TheSaid) → done.said ≡ Some said
+        → IsPrinted (printed_text phases.now said wanted head.now done.book.entries) said
+        result.status (K.written out.old) (K.written out.new) }
+    ensures unsaid { done.said ≡ None
+        → (result.status ≡ 6) × AppendsFront (K.written out.old) (K.written out.new) [] }
+    ensures book { result.book ≡ done.book }
+    ensures gates { result.gates ≡ done.gates }
+    ensures cause { result.status ≡ 4 → Rose (K.faults out.old) (K.faults out.new) }
+    ensures err { Says E.written E.faults err.old err.new result.status }
+    ensures others { IsScriptRun result.status }
+{
+    let Performed { book, gates, said } = done;
+    let Some(said) = said else {
+        return Ran {
+            status: want_of_memory(rt, err),
+            book,
+            gates,
+        };
+    };
+    let sheet = Sheet {
+        wanted,
+        head,
+        entries: book.entries(),
+    };
+    let status = print(rt, alloc, out, phases, said.as_slice(), &sheet);
+    report(rt, err, status);
+    Ran {
+        status,
+        book,
+        gates,
+    }
+}
+
+/// Runs a script that is served, and writes what is wanted of it. Manifests that it doesn't bring
+/// along are asked of the gates, by their URL and `repo`.
+#[tactic(auto, using(crate::proofs::Saying::says))]
+pub fn run_served<R: Threads + Wait + Sync, K: Sink, E: Sink, G: Gates + Send + Drop>(
+    rt: &R,
+    alloc: Global,
+    wanted: Wanted,
+    repo: Option<Text>,
+    served: Served,
+    out: &mut K,
+    err: &mut E,
+    gates: List<G>,
+) -> Ran<G>
+    requires gates { length gates ≡ 16 }
+    requires fit { All (λ lines. All IsFit lines) served.phases }
+    ensures gates { length result.gates ≡ 16 }
+    ensures runs { RunsScript G.log G.faults wanted repo served gates result.gates
+        result.book.entries result.status (K.written out.old) (K.written out.new) }
+    ensures cause { result.status ≡ 4 → Rose (K.faults out.old) (K.faults out.new) }
+    ensures err { Says E.written E.faults err.old err.new result.status }
+    ensures others { IsScriptRun result.status }
+{
+    let Served {
+        repository,
+        frame,
+        phases,
+    } = served;
+    let Ok((head, realm)) = new_realm(alloc, frame) else {
+        return ended(alloc, want_of_memory(rt, err), gates);
+    };
+    let done = perform(rt, alloc, realm, repository, repo, phases.as_slice(), gates);
+    print_performed(rt, alloc, out, err, phases.as_slice(), &head, wanted, done)
+}

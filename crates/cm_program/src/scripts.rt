@@ -1,0 +1,141 @@
+//! The run of a script that a source gives.
+
+ghost use Rattle.std.specs.Prelude.{◌≡◌, ◌⊎◌, All, IfOk, IfErr, length};
+ghost use Rattle.std.specs.Io.KnownBytes.{Keeps};
+ghost use Rattle.cm_io.specs.Outside.{Rose};
+ghost use Rattle.cm_lanes.specs.Script.{IsFit};
+ghost use Rattle.cm_program.specs.Headline.{IsHistory, RunsNothing, RunsScript};
+ghost use Rattle.cm_program.specs.Run.{IsFaulty, IsRefusal, IsRefused, IsScriptRun};
+ghost use Rattle.cm_program.specs.Run.{IsScriptStatus, RunsAsServed, Stops};
+ghost use Rattle.cm_program.specs.Run as run;
+ghost use Rattle.cm_program.specs.Stock.{Serves};
+ghost use Rattle.cm_program.specs.Texts as spec;
+ghost use Rattle.cm_program.specs.Written.{IsSaid, OfKnown, Says};
+
+use crate::fault::Fault;
+use crate::ran::{Ran, ended, read_fault, tell, want_of_memory};
+use crate::running::run_served;
+use crate::stock::{Served, serve};
+use crate::wanted::Wanted;
+use cm_gate::Gates;
+use cm_io::{Sink, Source, SourceFault, read_up_to};
+use cm_names::{List, Memory, Text};
+use std::alloc::Global;
+use std::sync::Wait;
+use std::thread::Threads;
+
+/// So many bytes are read of a source at least, if it has them: those of the largest script, and
+/// one more than the longest line with its line feed has, so that the fault of the line that
+/// passes the script's limit is known.
+const READ_LIMIT: usize = 67_108_864 + 65_537;
+
+/// Why a script isn't served.
+#[derive(Drop)]
+pub enum Stop {
+    ReadFault,
+    Refused(Fault),
+    Memory,
+}
+
+/// How a fault stops a run.
+fn stop_of(fault: Fault) -> Stop
+    ensures { result ≡ run.stop_of fault }
+{
+    match fault {
+        Fault::Memory => Stop::Memory,
+        Fault::Unread { line, number, at } => Stop::Refused(Fault::Unread { line, number, at }),
+        Fault::Unserved { line, problem } => Stop::Refused(Fault::Unserved { line, problem }),
+    }
+}
+
+/// Reads the script that the source has left.
+fn read_served<R: Threads + Wait + Sync, S: Source>(
+    rt: &R,
+    alloc: Global,
+    source: &mut S,
+) -> Result<Served, Stop>
+    ensures good { IfOk result
+        (λ served. OfKnown (λ bytes. Serves bytes served) (S.left source.old)) }
+    ensures fit { IfOk result (λ served. All (λ lines. All IsFit lines) served.phases) }
+    ensures bad { IfErr result (λ stop. Stops stop (S.left source.old)) }
+    ensures fault { IfErr result (λ stop. stop ≡ Stop.ReadFault →
+        Rose (S.faults source.old) (S.faults source.new)) }
+{
+    let bytes = match read_up_to(rt, alloc, source, READ_LIMIT) {
+        Ok(bytes) => bytes,
+        Err(SourceFault::Failed) => return Err(Stop::ReadFault),
+        Err(SourceFault::Memory) => return Err(Stop::Memory),
+    };
+    match serve(alloc, bytes) {
+        Ok(served) => Ok(served),
+        Err(fault) => Err(stop_of(fault)),
+    }
+}
+
+fn fault_line(alloc: Global, fault: Fault) -> Result<Text, Memory>
+    ensures { IfOk result (λ text. text ≡ spec.fault_line fault) }
+{
+    let mut text = Text::new(alloc);
+    text.push(format_args!("{fault}\n"))?;
+    Ok(text)
+}
+
+/// Says why the script is refused. The result is the status.
+#[tactic(auto, using(crate::proofs::Saying::says))]
+fn refuse<R: Threads + Wait + Sync, E: Sink>(rt: &R, alloc: Global, err: &mut E, fault: Fault) -> u8
+    ensures refused { result ≡ 7 →
+        IsSaid E.written E.faults err.old err.new (spec.fault_line fault) }
+    ensures err { Says E.written E.faults err.old err.new result }
+    ensures others { (result ≡ 7) ⊎ (result ≡ 6) }
+{
+    match fault_line(alloc, fault) {
+        Ok(text) => {
+            tell(rt, err, text.as_str().as_bytes());
+            7
+        }
+        Err(Memory) => want_of_memory(rt, err),
+    }
+}
+
+/// Runs the script that the source has left, with the manifests of that folder besides its own, and
+/// writes what is wanted of it.
+#[tactic(auto, using(crate::proofs::Saying::says, crate::proofs::RunLemmas::idle))]
+pub fn run_script<R: Threads + Wait + Sync, S: Source, K: Sink, E: Sink, G: Gates + Send + Drop>(
+    rt: &R,
+    alloc: Global,
+    wanted: Wanted,
+    repo: Option<Text>,
+    script: &mut S,
+    out: &mut K,
+    err: &mut E,
+    gates: List<G>,
+) -> Ran<G>
+    requires gates { length gates ≡ 16 }
+    ensures gates { length result.gates ≡ 16 }
+    ensures read { result.status ≡ 3 → Rose (S.faults script.old) (S.faults script.new) }
+    ensures write { result.status ≡ 4 → Rose (K.faults out.old) (K.faults out.new) }
+    ensures refused { result.status ≡ 7 →
+        IsRefused E.written E.faults (S.left script.old) err.old err.new }
+    ensures faulty { OfKnown (λ bytes. IsFaulty bytes →
+        IsRefusal result.status) (S.left script.old) }
+    ensures headline { IsScriptRun result.status →
+        OfKnown (RunsAsServed (λ served. RunsScript G.log G.faults wanted repo served gates
+        result.gates result.book.entries result.status (K.written out.old)
+        (K.written out.new))) (S.left script.old) }
+    ensures history { IsHistory result.book.entries }
+    ensures empty { (result.status ≡ 3) ⊎ (result.status ≡ 7) →
+        RunsNothing result.book.entries gates result.gates }
+    ensures unserved { OfKnown (λ bytes. IsFaulty bytes →
+        RunsNothing result.book.entries gates result.gates) (S.left script.old) }
+    ensures silent { (result.status ≡ 3) ⊎ (result.status ≡ 7) →
+        Keeps (K.written out.old) (K.written out.new) }
+    ensures err { Says E.written E.faults err.old err.new result.status }
+    ensures others { IsScriptStatus result.status }
+{
+    match read_served(rt, alloc, script) {
+        Ok(served) => run_served(rt, alloc, wanted, repo, served, out, err, gates),
+        Err(Stop::ReadFault) => ended(alloc, read_fault(rt, err), gates),
+        Err(Stop::Refused(fault)) => ended(alloc, refuse(rt, alloc, err, fault), gates),
+        Err(Stop::Memory) => ended(alloc, want_of_memory(rt, err), gates),
+    }
+}

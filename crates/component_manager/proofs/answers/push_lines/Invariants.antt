@@ -1,8 +1,0 @@
-use Rattle.std.proofs.Common.{◌≡◌, List, ◌++◌, drop}
-use Rattle.cm_command.specs.declared.script.Line.{Line}
-use Rattle.component_manager.specs.Printed.{texts_of}
-use Rattle.component_manager.proofs.answers.push_lines.Given as goal
-
--- what is still to be put behind the text makes the whole
-abbrev pub invariant-loop-line : goal.invariant-loop-line
-invariant-loop-line l = (more : List Line) → l.text ++ texts_of (drop l.line-index l.lines ++ more) (drop l.at l.said) ≡ l.fn.text ++ texts_of (l.lines ++ more) (drop l.from l.said)

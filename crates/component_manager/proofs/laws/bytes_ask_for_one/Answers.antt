@@ -1,5 +1,0 @@
-use Rattle.component_manager.proofs.ScriptLaws.{bytes_ask_for_one_lem}
-use Rattle.component_manager.proofs.laws.bytes_ask_for_one.Goals as goal
-
-pub returns : goal.returns
-returns c = bytes_ask_for_one_lem

@@ -1,5 +1,0 @@
-use Rattle.std.proofs.Common.{inl}
-use Rattle.component_manager.proofs.ran.tell.Goals as goal
-
-pub returns-in-Done : goal.returns-in-Done
-returns-in-Done g c = inl c.in-Done.ensures.bytes

@@ -1,8 +1,0 @@
-use Rattle.component_manager.proofs.StockLemmas.{fault_of_script, fit_of_script}
-use Rattle.component_manager.proofs.stock.serve.Goals as goal
-
-pub returns-clause-bad : goal.returns-clause-bad
-returns-clause-bad c = fault_of_script c.args.bytes c.in_ok-script.script _ c.in_ok-script.ensures.ok c.serve_script.ensures
-
-pub returns-clause-fit : goal.returns-clause-fit
-returns-clause-fit c = fit_of_script c.args.bytes c.in_ok-script.script _ c.in_ok-script.ensures.ok c.serve_script.ensures

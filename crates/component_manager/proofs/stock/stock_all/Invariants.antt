@@ -1,6 +1,0 @@
-use Rattle.std.proofs.Common.{◌≡◌, []}
-use Rattle.component_manager.specs.Stock.{stock_of}
-use Rattle.component_manager.proofs.stock.stock_all.Given as goal
-
-abbrev pub invariant-loop-block : goal.invariant-loop-block
-invariant-loop-block l = stock_of l.repository l.block-iterator.rest.items ≡ stock_of [] l.fn.blocks

@@ -1,0 +1,145 @@
+//! The ends that a run may come to.
+//!
+//! An end is the status, and then lines by their first word: `out`, `err` and `told` tell a line of
+//! the output, of the error stream, and of what the gates tell afterwards; `out+` and `err+` a text
+//! that no line feed ends; `entries` the length of the history. The gates and the history are only
+//! looked at where a line speaks of them.
+
+use super::input::{number_of, push_line};
+use super::player::Came;
+use cm_gate::{Asked, Fetched, Gates, PlannedGates};
+use cm_names::{Memory, Text};
+use std::alloc::Global;
+
+/// Whether each line of these ends begins with a word that is known, or is a status.
+pub fn are_known_ends(ends: &str) -> bool {
+    for line in ends.split('\n') {
+        if !is_known(line) {
+            return false;
+        }
+    }
+    true
+}
+
+fn is_known(line: &str) -> bool {
+    match line.split_once(' ') {
+        Some((word, _)) => is_word(word),
+        None => line.is_empty() || line.parse::<u8>().is_ok(),
+    }
+}
+
+fn is_word(word: &str) -> bool {
+    match word {
+        "=>" | "out" | "out+" | "err" | "err+" | "told" | "entries" => true,
+        _ => false,
+    }
+}
+
+/// Whether a run came to one of these ends.
+pub fn is_an_end<G>(alloc: Global, came: &Came<G>, told: &str, ends: &str) -> Option<bool> {
+    for end in ends.split("\n=> ") {
+        if is_end(alloc, came, told, end)? {
+            return Some(true);
+        }
+    }
+    Some(false)
+}
+
+/// Whether a run came to this end.
+fn is_end<G>(alloc: Global, came: &Came<G>, told: &str, end: &str) -> Option<bool> {
+    let (status, lines) = end.split_once('\n').unwrap_or((end, ""));
+    let status: u8 = status.parse().ok()?;
+    let entries = usize::try_from(number_of(lines, "entries", came.entries as u64)?).ok()?;
+    let is_so = came.status == status
+        && came.entries == entries
+        && is_written(alloc, came, lines)?
+        && is_told(alloc, told, lines)?;
+    Some(is_so)
+}
+
+/// Whether a run wrote these lines.
+fn is_written<G>(alloc: Global, came: &Came<G>, lines: &str) -> Option<bool> {
+    let out = lines_of(alloc, lines, "out", "out+")?;
+    let err = lines_of(alloc, lines, "err", "err+")?;
+    Some(came.out.bytes() == out.as_slice() && came.err.bytes() == err.as_slice())
+}
+
+/// Whether gates told these lines, where there are any.
+fn is_told(alloc: Global, told: &str, lines: &str) -> Option<bool> {
+    let wanted = lines_of(alloc, lines, "told", "told+")?;
+    Some(wanted.is_empty() || told.as_bytes() == wanted.as_slice())
+}
+
+/// What the lines say that begin with one of two words: the first tells a line, and the second a
+/// text.
+fn lines_of(alloc: Global, lines: &str, line: &str, text: &str) -> Option<Vec<u8>> {
+    let mut bytes = Vec::new(alloc);
+    for each in lines.split('\n') {
+        if let Some((word, rest)) = each.split_once(' ') {
+            if word == line {
+                push_line(&mut bytes, rest)?;
+            } else if word == text {
+                bytes.extend_from_slice(rest.as_bytes()).ok()?;
+            }
+        }
+    }
+    Some(bytes)
+}
+
+fn word_of(answer: &Fetched) -> &'static str {
+    match answer {
+        Fetched::Found(_) => "found",
+        Fetched::Absent => "absent",
+        Fetched::Failed => "failed",
+        Fetched::Memory => "memory",
+    }
+}
+
+/// Puts down a question that the gates of a lane noted, with its answer.
+fn push_asked(told: &mut Text, lane: usize, asked: &Asked) -> Result<(), Memory> {
+    match asked {
+        Asked::Fetch(what, answer) => {
+            let url = what.url.as_str();
+            let word = word_of(answer);
+            told.push(format_args!("{lane} fetch {url} {word}\n"))
+        }
+        Asked::Launch(job, answer) => {
+            let url = job.url.as_str();
+            let action = job.action;
+            told.push(format_args!("{lane} launch {url} action {action} {answer:?}\n"))
+        }
+        Asked::Halt(job, answer) => {
+            let url = job.url.as_str();
+            let action = job.action;
+            told.push(format_args!("{lane} halt {url} action {action} {answer:?}\n"))
+        }
+    }
+}
+
+fn push_log(told: &mut Text, lane: usize, log: Option<&[Asked]>) -> Result<(), Memory> {
+    let Some(log) = log else {
+        return told.push(format_args!("{lane} untold\n"));
+    };
+    for asked in log {
+        push_asked(told, lane, asked)?;
+    }
+    Ok(())
+}
+
+fn push_faults(told: &mut Text, lane: usize, faults: u64) -> Result<(), Memory> {
+    if faults == 0 {
+        return Ok(());
+    }
+    told.push(format_args!("{lane} faults {faults}\n"))
+}
+
+/// What gates tell, lane by lane: each question that they noted, with the answer, and how often they
+/// failed, if they ever did.
+pub fn told_by(alloc: Global, gates: &[PlannedGates]) -> Option<Text> {
+    let mut told = Text::new(alloc);
+    for lane in 0..gates.len() {
+        push_log(&mut told, lane, gates[lane].log()).ok()?;
+        push_faults(&mut told, lane, gates[lane].faults()).ok()?;
+    }
+    Some(told)
+}

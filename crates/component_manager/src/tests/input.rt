@@ -1,0 +1,217 @@
+//! What the lines of a case say of its run.
+//!
+//! The input is made of lines in their order: `| ` and a line, `+ ` and a text that no line feed
+//! ends, `@` and the name of a text of `manifests`, or `fill`, a byte and how often it stands there.
+//! The other words, each of which may be left out:
+//!
+//! - `piece`: how many bytes one read or write moves at most;
+//! - `read`, `write` and `say`: the read that fails, the write on the output, and the one on the
+//!   error stream;
+//! - `held`: the name of a block whose manifest the gates of each lane have, and how many spaces
+//!   stand behind it;
+//! - `declined`: the URL of a component whose program is declined;
+//! - `failing`: a lane, and a call of its gates that fails;
+//! - `room`: how many questions the gates of a lane have room to note;
+//! - `runs`: how often the case is run, each time over new gates.
+
+use super::manifests::named;
+use cm_gate::Manifest;
+use cm_io::{MemorySource, Plan};
+use cm_names::{Bytes, List, Text};
+use std::alloc::Global;
+
+/// Whether each line behind the first begins with a word that is known.
+pub fn are_known(case: &str) -> bool {
+    let Some((_, lines)) = case.split_once('\n') else {
+        return true;
+    };
+    for line in lines.split('\n') {
+        if !is_known(line) {
+            return false;
+        }
+    }
+    true
+}
+
+fn is_known(line: &str) -> bool {
+    match line.split_once(' ') {
+        Some((word, _)) => is_word(word),
+        None => line.starts_with('@'),
+    }
+}
+
+fn is_word(word: &str) -> bool {
+    match word {
+        "|" | "+" | "fill" | "piece" | "read" | "write" => true,
+        "say" | "held" | "declined" | "failing" | "room" | "runs" => true,
+        _ => false,
+    }
+}
+
+/// What stands behind the first line that begins with this word.
+fn value_of<'a>(case: &'a str, word: &str) -> Option<&'a str> {
+    for line in case.split('\n') {
+        if let Some((first, value)) = line.split_once(' ') {
+            if first == word {
+                return Some(value);
+            }
+        }
+    }
+    None
+}
+
+/// The number behind the first line that begins with this word, or else this one.
+pub fn number_of(case: &str, word: &str, other: u64) -> Option<u64> {
+    match value_of(case, word) {
+        Some(value) => value.parse().ok(),
+        None => Some(other),
+    }
+}
+
+/// What stands behind each line that begins with this word.
+pub fn values_of(alloc: Global, case: &str, word: &str) -> Option<Vec<Text>> {
+    let mut values = Vec::new(alloc);
+    for line in case.split('\n') {
+        if let Some((first, value)) = line.split_once(' ') {
+            if first == word {
+                values.push(text_of(alloc, value)?).ok()?;
+            }
+        }
+    }
+    Some(values)
+}
+
+fn text_of(alloc: Global, text: &str) -> Option<Text> {
+    Some(Text::from_string(String::from_str(alloc, text).ok()?))
+}
+
+/// The words of a run, which stand in the first line of its case.
+pub fn words_of(alloc: Global, case: &str) -> Option<Vec<Text>> {
+    let (head, _) = case.split_once('\n').unwrap_or((case, ""));
+    let mut words = Vec::new(alloc);
+    if head.is_empty() {
+        return Some(words);
+    }
+    for word in head.split(' ') {
+        words.push(text_of(alloc, word)?).ok()?;
+    }
+    Some(words)
+}
+
+/// Puts a byte behind these, so many times.
+fn fill(bytes: &mut Vec<u8>, byte: u8, count: u64) -> Option<()> {
+    for _ in 0..count {
+        bytes.push(byte).ok()?;
+    }
+    Some(())
+}
+
+/// Puts down what a line says of the input.
+fn push_input(bytes: &mut Vec<u8>, line: &str) -> Option<()> {
+    if line.starts_with('@') {
+        return bytes.extend_from_slice(named(line)?.as_bytes()).ok();
+    }
+    let (word, text) = line.split_once(' ')?;
+    match word {
+        "|" => push_line(bytes, text),
+        "+" => bytes.extend_from_slice(text.as_bytes()).ok(),
+        "fill" => {
+            let (byte, count) = text.split_once(' ')?;
+            fill(bytes, byte.parse().ok()?, count.parse().ok()?)
+        }
+        _ => Some(()),
+    }
+}
+
+/// Puts down a line, with its line feed.
+pub fn push_line(bytes: &mut Vec<u8>, line: &str) -> Option<()> {
+    bytes.extend_from_slice(line.as_bytes()).ok()?;
+    bytes.push(b'\n').ok()
+}
+
+/// The input of a run.
+fn input_of(alloc: Global, case: &str) -> Option<Vec<u8>> {
+    let mut bytes = Vec::new(alloc);
+    if let Some((_, lines)) = case.split_once('\n') {
+        for line in lines.split('\n') {
+            push_input(&mut bytes, line)?;
+        }
+    }
+    Some(bytes)
+}
+
+/// How much one read or write moves, and the one that fails: that behind this word, if at all.
+pub fn plan_of(alloc: Global, case: &str, word: &str) -> Option<Plan> {
+    let piece = number_of(case, "piece", u64::MAX)?;
+    let mut failing = Vec::new(alloc);
+    if let Some(call) = value_of(case, word) {
+        failing.push(call.parse().ok()?).ok()?;
+    }
+    Some(Plan {
+        piece: usize::try_from(piece).ok()?,
+        failing: List::from_vec(failing),
+    })
+}
+
+pub fn source_of(alloc: Global, case: &str) -> Option<MemorySource> {
+    let bytes = input_of(alloc, case)?;
+    let plan = plan_of(alloc, case, "read")?;
+    Some(MemorySource::new(List::from_vec(bytes), plan))
+}
+
+/// The calls of the gates of a lane that fail.
+pub fn calls_of(alloc: Global, case: &str, lane: usize) -> Option<Vec<u64>> {
+    let mut calls = Vec::new(alloc);
+    for line in case.split('\n') {
+        if let Some(call) = call_of(line, lane)? {
+            calls.push(call).ok()?;
+        }
+    }
+    Some(calls)
+}
+
+/// The call that a line lets fail, where it speaks of this lane.
+fn call_of(line: &str, lane: usize) -> Option<Option<u64>> {
+    let Some(rest) = line.strip_prefix("failing ") else {
+        return Some(None);
+    };
+    let (of, call) = rest.split_once(' ')?;
+    let of: usize = of.parse().ok()?;
+    let call: u64 = call.parse().ok()?;
+    Some(if of == lane { Some(call) } else { None })
+}
+
+/// The URL and the manifest of a block, each empty where there is none.
+fn parts_of(block: &str) -> (&str, &str) {
+    let Some((head, rest)) = block.split_once('\n') else {
+        return ("", "");
+    };
+    let url = head.strip_prefix("manifest ").unwrap_or("");
+    match rest.split_once('\n') {
+        Some((text, _end)) => (url, text),
+        None => (url, ""),
+    }
+}
+
+/// The manifest of a named block, with so many spaces behind it.
+fn manifest_of(alloc: Global, held: &str) -> Option<Manifest> {
+    let (name, spaces) = held.split_once(' ')?;
+    let (url, text) = parts_of(named(name)?);
+    let mut bytes = text.as_bytes().to_vec(alloc).ok()?;
+    fill(&mut bytes, b' ', spaces.parse().ok()?)?;
+    Some(Manifest {
+        url: text_of(alloc, url)?,
+        bytes: Bytes::from_vec(bytes),
+    })
+}
+
+/// The manifests that the gates of each lane have.
+pub fn manifests_of(alloc: Global, case: &str) -> Option<List<Manifest>> {
+    let mut manifests = Vec::new(alloc);
+    for line in case.split('\n') {
+        if let Some(held) = line.strip_prefix("held ") {
+            manifests.push(manifest_of(alloc, held)?).ok()?;
+        }
+    }
+    Some(List::from_vec(manifests))
+}
