@@ -1,6 +1,8 @@
-"""Compares docs/REFERENCE.md with the sources that it speaks of, and the manual page with the reference.
+#!/usr/bin/env python3
+"""Compares docs/REFERENCE.md with the sources that it speaks of, and with it the manual page, the completion
+of words and the syntax for an editor.
 
-    python3 .ci/reference.py
+    .ci/reference.py
 
 It prints what is missing or wrong, a line each, and ends with status 1; else one line says what was compared.
 """
@@ -83,8 +85,12 @@ def literals(*texts):
 
 def words_and_options():
     """The words behind the program's name, and its options."""
-    text = specs("component_manager", "Calls")
-    options = {f"--{it}" for it in re.findall(r'long = Some \(codes "([^"]+)"\)', text)}
+    text = specs("cm_program", "Calls")
+    names = re.findall(r'long = Some \(codes "([^"]+)"\)', text)
+    # Rules that are made of a name which is their option too.
+    for rule in re.findall(r"^(\w+) name\b[^=]*=\s+record [^}]*long = Some name", text, re.M):
+        names += re.findall(rf'\b{rule} \(codes "([^"]+)"\)', text)
+    options = {f"--{it}" for it in names}
     return options | set(re.findall(r'bytes_eq word \(codes "([^"]+)"\)', text))
 
 
@@ -107,26 +113,32 @@ def replies():
 
 def manifest_words():
     """The sections, fields and listed words of manifests."""
-    names = ("Items", "Words", "Manifest")
+    names = ("Items", "Environments", "Words", "Manifest")
     kinds = literals(specs("cm_decl", "Words"))
     return literals(*(specs("cm_read", name) for name in names)) | kinds
 
 
+def sections():
+    """The names of a manifest's sections."""
+    names = re.search(r"^section_names =\n((?: .*\n)+)", specs("cm_read", "Manifest"), re.M)
+    return literals(names[1])
+
+
 def error_lines():
     """The lines that the program writes on standard error."""
-    sources = [read(f"crates/component_manager/src/{name}.rt") for name in ("ran", "run")]
+    sources = [read(f"crates/cm_program/src/{name}.rt") for name in ("ran", "run")]
     return {it for text in sources for it in re.findall(r'b"([^"]+)\\n"', text)}
 
 
 def statuses():
-    return set(re.findall(r"^ +/// - (\d): ", read("crates/component_manager/src/ran.rt"), re.M))
+    return set(re.findall(r"^ +/// - (\d): ", read("crates/cm_program/src/ran.rt"), re.M))
 
 
 def limits():
     """The limits, as the reference writes them."""
     found = re.findall(r"max_\w+ = (\d+)", specs("cm_read", "Numbers"))
     found += re.findall(r"_limit = (\d+)", specs("cm_command", "Scripts"))
-    stock = read("crates/component_manager/src/stock.rt")
+    stock = read("crates/cm_program/src/stock.rt")
     found += [it.replace("_", "") for it in re.findall(r"(?:rows|entries): ([\d_]+),", stock)]
     return {f"{int(it):,}" for it in found}
 
@@ -229,6 +241,16 @@ def outdated(text):
     return [] if is_same else ["docs/component_manager.1 is old: run tools/make-man"]
 
 
+def unshown():
+    """Words that the completion or the syntax for Vim lacks."""
+    syntax, completion = read("tools/editor/component-script.vim"), read("tools/completion.bash")
+    additions = {it.rstrip("=") for it in literals(specs("cm_command", "Additions", "Grammar"))}
+    shown = sorted(commands() | sections() | additions)
+    wrong = [f"tools/editor/component-script.vim lacks `{it}`" for it in shown if not stands_in(it, syntax)]
+    words = sorted(words_and_options())
+    return wrong + [f"tools/completion.bash lacks `{it}`" for it in words if not stands_in(it, completion)]
+
+
 def other_commands(text):
     """Commands that have no row in the table of commands, and rows for which there is no command."""
     listed = set(re.findall(r"^\| `([a-z-]+) T", section(text, "Commands"), re.M))
@@ -255,7 +277,7 @@ def faults(text):
     wrong += missing("the reply's word", replies(), code)
     wrong += missing("the manifest's word", manifest_words(), code)
     wrong += missing("the line", error_lines(), code)
-    wrong += other_commands(text) + other_limits(text) + other_statuses(text)
+    wrong += other_commands(text) + other_limits(text) + other_statuses(text) + unshown()
     return wrong + unlinked(text) + too_wide(text) + outdated(text)
 
 

@@ -1,10 +1,11 @@
 #!/usr/bin/env python3
-"""Runs each of two scripts again and again. In each run one request for memory is refused: the first,
+"""Runs each of three scripts again and again. In each run one request for memory is refused: the first,
 the second, and so on, until a run makes no such request.
 
 A run must end with status 0 and the whole text, or with status 6, `want of memory` on the error
 stream, and a front of the text or another text, in which lines may be answered `refused
-want-of-memory`. Where a journal was written, each action that was begun must have its end in it.
+want-of-memory`. Where a journal was written, each action that was begun must have its end in it. Where
+a stop was cut, the destroy behind it must have removed what was to go with it.
 Prints how many runs had each status, and each run that broke a rule. Needs a C compiler. Run it
 from anywhere: bench/allocations.py [PROGRAM]
 """
@@ -62,6 +63,7 @@ int posix_memalign(void **place, size_t align, size_t size) {
 
 REALM = """manifest fuchsia-pkg://t/a#meta/root.cm
 {"children":[{"name":"logger","url":"#meta/logger.cm"},{"name":"client","url":"#meta/client.cm"}],
+"collections":[{"name":"coll","durability":"transient"}],
 "offer":[{"protocol":"fuchsia.logger.LogSink","from":"#logger","to":"#client"}]}
 %%
 manifest fuchsia-pkg://t/a#meta/logger.cm
@@ -78,6 +80,8 @@ SCRIPTS = {
     "one lane": "0 route client /svc/fuchsia.logger.LogSink\n",
     "two lanes": "0 start client\n1 start client\n0 open client /svc/fuchsia.logger.LogSink\n"
                  "1 show logger\nsync\n0 stop logger\n1 open-exposed logger x\n1 exited client\n",
+    "a stop that removes": "0 start .\n0 create . coll x #meta/logger.cm\n0 start coll:x\n0 stop .\n"
+                           "0 destroy @3\n0 show @3\n",
 }
 
 
@@ -102,6 +106,13 @@ def open_actions(text):
     return sorted(begun - ended)
 
 
+def leaves_child(text):
+    """Whether a stop of the script `a stop that removes` was refused, and the child is there behind it."""
+    answers = text.split("\njournal")[0].splitlines()
+    refused = len(answers) == 6 and answers[3] == "0 refused want-of-memory"
+    return refused and answers[5] != "0 refused 81 gone incarnation 3"
+
+
 def broken(status, out, err, whole, lanes):
     """The rule that a run broke, if any."""
     if status not in (0, 6):
@@ -112,6 +123,8 @@ def broken(status, out, err, whole, lanes):
         return "another text"
     if "\njournal" in out and open_actions(out):
         return "open actions %s" % ", ".join(open_actions(out))
+    if "coll:x" in whole and leaves_child(out):
+        return "the stop's child is left"
     return None
 
 

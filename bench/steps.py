@@ -1,12 +1,14 @@
 #!/usr/bin/env python3
 """Prints the time of a step of a realm, as it grows with the realm: of 10,000 commands that show an
 instance among 250, 1,000 and 4,000, of 100 commands that walk a route of 250, 500 and 1,000 hops,
-and of the picks of a shutdown of 50, 100 and 200 instances.
+of the picks of a shutdown of 50, 100 and 200 instances, and of the stop of an instance with 1,000 and
+10,000 children in a collection, which go with it.
 
 Each command that shows or routes makes two entries of the history: it looks for the instance, and
 then makes its own event. What the realm takes to be made is measured by a run with one such
-command, and taken off. In a shutdown each instance is off, and is shut by one pick. Run it from
-anywhere: bench/steps.py [PROGRAM]
+command, and taken off. In a shutdown each instance is off, and is shut by one pick. A stop has two
+entries, a third names the children that went with the instance, and behind it each of them is shut,
+found done and removed: three entries a child. Run it from anywhere: bench/steps.py [PROGRAM]
 """
 import os
 import sys
@@ -48,6 +50,17 @@ def closing(instances, shutdowns):
         yield line
     for _ in range(shutdowns):
         yield "0 shutdown .\n"
+
+
+def stopping(children, stops):
+    """A root that runs, with so many children in a collection, which is stopped, or not."""
+    yield 'manifest fuchsia-pkg://bench/p#meta/root.cm\n'
+    yield '{"collections":[{"name":"k","durability":"transient"}]}\n%%\n'
+    yield "root fuchsia-pkg://bench/p#meta/root.cm\n0 start .\n"
+    for number in range(children):
+        yield "0 create . k c%d #meta/leaf.cm\n" % number
+    for _ in range(stops):
+        yield "0 stop .\n0 list . k\n"
 
 
 def seconds(lines):
@@ -93,6 +106,13 @@ def main():
         if answer != "0 shut .\n":
             sys.exit("told is: " + answer)
         print("%d, %.1f" % (instances, (whole - base) / instances * 1e6))
+    print("children in a collection, seconds for the stop of their parent, microseconds for each of them")
+    for children in (1000, 10000):
+        base, _ = seconds(stopping(children, 0))
+        whole, answer = seconds(stopping(children, 1))
+        if answer != "0 children . k 0\n":
+            sys.exit("told is: " + answer)
+        print("%d, %.3f, %.1f" % (children, whole - base, (whole - base) / children * 1e6), flush=True)
 
 
 if __name__ == "__main__":

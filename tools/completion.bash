@@ -4,9 +4,11 @@ _component_manager() {
     local word=${COMP_WORDS[COMP_CWORD]} before=${COMP_WORDS[COMP_CWORD - 1]}
     COMPREPLY=()
     if [ "$COMP_CWORD" -eq 1 ]; then
-        mapfile -t COMPREPLY < <(compgen -W "run check help --help" -- "$word")
+        mapfile -t COMPREPLY < <(compgen -W "run check generate help --help" -- "$word")
     elif [ "$before" = --repo ]; then
         mapfile -t COMPREPLY < <(compgen -d -- "$word")
+    elif [ "${COMP_WORDS[1]}" = generate ]; then
+        return
     elif [ "${COMP_WORDS[1]}" = run ] && [[ $before != '<' ]]; then
         mapfile -t COMPREPLY < <(compgen -W "--journal --repo" -- "$word")
     else

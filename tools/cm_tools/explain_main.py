@@ -52,7 +52,9 @@ def _parser() -> argparse.ArgumentParser:
 def _number_lines(number: int) -> list[str]:
     if number not in NUMBERS:
         raise Unusable(f"there is no number {number}")
-    return [f"{number} {NUMBERS[number].name}"] + advice(number)
+    is_planned = NUMBERS[number].printed == "planned"
+    later = ["It is planned: the program doesn't print it yet."] if is_planned else []
+    return [f"{number} {NUMBERS[number].name}"] + later + advice(number)
 
 
 def _said_lines(words: list[str]) -> list[str]:

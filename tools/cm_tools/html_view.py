@@ -48,7 +48,7 @@ def page_data(journal: Journal, world: World) -> dict[str, Any]:
             [
                 entry.caller,
                 event_words(entry, world),
-                reply_words(entry.reply, world),
+                reply_words(entry, world),
                 world.subjects[entry.number - 1],
             ]
             for entry in entries

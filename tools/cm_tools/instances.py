@@ -31,7 +31,9 @@ class Instance:
     """One instance, by its incarnation, with all that the entries so far say of it.
 
     `born` is the entry that made it, 0 for the root; `changes` are its states, each with the entry
-    that made it so. `failure` is the outcome of its last action that failed, else empty.
+    that made it so. `failure` is the outcome of its last action that failed, else empty. `passing`
+    are its children in collections that aren't doomed, in the order in which they came, and `once`
+    its collections that run each child once.
     """
 
     incarnation: int
@@ -44,6 +46,8 @@ class Instance:
     absolute: str = ""
     declaration: str = ""
     children: list[int] = field(default_factory=list)
+    passing: dict[int, None] = field(default_factory=dict)
+    once: frozenset[str] = frozenset()
     is_resolved: bool = False
     is_on: bool = False
     has_run: bool = False

@@ -183,6 +183,8 @@ def _parse_reply(text: str) -> Reply | None:
         return Reply(word, number, rest) if number is not None else None
     if word in BARE_REPLIES:
         return Reply(word, None, "") if not rest else None
+    if word == "reaping" and rest and None in map(parse_number, rest.split(" ")):
+        return None
     if word in TOLD_REPLIES or word == "reaping":
         return Reply(word, None, rest)
     return None

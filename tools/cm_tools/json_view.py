@@ -53,7 +53,7 @@ def _entry_value(entry: Entry, world: World) -> dict[str, Any]:
         "number": entry.number,
         "caller": entry.caller,
         "event": event_words(entry, world),
-        "reply": reply_words(entry.reply, world),
+        "reply": reply_words(entry, world),
         "instances": list(world.subjects[entry.number - 1]),
     }
 

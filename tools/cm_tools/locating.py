@@ -6,7 +6,7 @@ import re
 from dataclasses import dataclass
 
 from cm_tools.relaxed import Node
-from cm_tools.rows import KINDS, Row, items_of, many, rows_of
+from cm_tools.rows import KINDS, Row, child_names, items_of, many, rows_of, source_of
 from cm_tools.said import ManifestFault
 
 NAME = re.compile(r"#?[A-Za-z0-9_][A-Za-z0-9_.\-]{0,254}\Z")
@@ -137,9 +137,8 @@ def _row_node(root: Node, row: Row, number: int) -> Node:
 
 def _unknown(root: Node, row: Row) -> Node:
     """The reference that isn't declared: the source, or else the target."""
-    source = row.item.get("from")
-    children = {one.text("name") for one in items_of(root, "children")}
-    if source is not None and source.value.startswith("#") and source.value[1:] not in children:
+    source, told = row.item.get("from"), source_of(root, row.item)
+    if source is not None and told.startswith("#") and told[1:] not in child_names(root):
         return source
     return row.target or source or row.item
 

@@ -12,8 +12,8 @@ from dataclasses import dataclass
 class Number:
     """A number with its name, where it is printed, when it comes and what to do about it.
 
-    `printed` is `check` (behind `invalid`), `script` (behind `line L:`), `reply` (behind `refused`)
-    or `never` (it is answered by a crate and told by another number).
+    `printed` is `check` (behind `invalid`), `script` (behind `line L:`), `reply` (behind `refused`),
+    `never` (it is answered by a crate and told by another number) or `planned` (no crate answers it yet).
     """
 
     number: int
@@ -137,7 +137,7 @@ NUMBERS: dict[int, Number] = _table(
         35, "wrong-type", "check",
         "a value has another type than its field, or a list of names or references is empty",
         "Sections are lists of objects (`program` is one object), names and paths are texts, "
-        "`rights` is a list of texts.",
+        "`rights` is a list of texts, `runners` and `debug` of an environment are lists of objects.",
     ),
     Number(
         36, "bad-name", "check",
@@ -167,8 +167,8 @@ NUMBERS: dict[int, Number] = _table(
     Number(
         40, "kind-count", "check",
         "an item of `capabilities`, `use`, `offer` or `expose` has no kind, or two",
-        "Give each item exactly one of `protocol` and `directory`; services, runners, resolvers "
-        "and the like aren't read here.",
+        "Give each item exactly one of `protocol`, `directory` and `storage`, in `expose` of the first "
+        "two; services, runners, resolvers and the like aren't read here.",
     ),
     Number(
         41, "too-large", "check",
@@ -196,7 +196,8 @@ NUMBERS: dict[int, Number] = _table(
     Number(
         51, "unknown-reference", "check",
         "`from` names a child that isn't declared, or `to` names neither a child nor a collection",
-        "Declare it in `children` or `collections`, or mend the name behind `#`.",
+        "Declare it in `children` or `collections`, or mend the name behind `#`. A source that needn't be "
+        'there has `source_availability: "unknown"`.',
     ),
     Number(
         52, "not-declared", "check",
@@ -228,8 +229,9 @@ NUMBERS: dict[int, Number] = _table(
     ),
     Number(
         57, "required-void", "check",
-        "an offer or an expose from `void` is required",
-        "What comes from `void` is absent, so its `availability` has to be `optional`.",
+        "an offer or an expose from `void` is `required` or `same_as_target`, also where its "
+        "`source_availability` is `unknown` and its source isn't declared",
+        "What comes from `void` is absent, so its `availability` has to be `optional` or `transitional`.",
     ),
     Number(
         58, "strong-cycle", "check",
@@ -244,7 +246,7 @@ NUMBERS: dict[int, Number] = _table(
     Number(
         61, "already-exists", "reply",
         "the collection has a child of that name",
-        "Choose another name, or destroy the child first.",
+        "Choose another name, or destroy the child first; one that was shut down keeps its name.",
     ),
     Number(
         62, "dynamic-offers-refused", "reply",
@@ -338,8 +340,10 @@ NUMBERS: dict[int, Number] = _table(
     ),
     Number(
         81, "gone", "reply",
-        "the instance is destroyed, or is being destroyed",
-        "A child that is created anew has another incarnation; ask for it by its moniker.",
+        "the instance is destroyed, or is being destroyed: by a command, or since it went with an instance "
+        "that stopped",
+        "A child that is created anew has another incarnation; ask for it by its moniker. A child in a "
+        "collection goes when its parent stops, and one that runs once when it ends itself.",
     ),
     Number(
         82, "shut", "reply",
@@ -386,95 +390,95 @@ NUMBERS: dict[int, Number] = _table(
         "Open it before the shutdown, or take it from an instance that is left.",
     ),
     Number(
-        90, "repeated-environment", "check",
+        90, "repeated-environment", "planned",
         "an earlier environment has the name",
         "Rename one of the two.",
     ),
     Number(
-        91, "unknown-environment", "check",
+        91, "unknown-environment", "planned",
         "a child's or a collection's environment isn't declared",
         "Declare it in `environments`, or mend the name behind `#`.",
     ),
     Number(
-        92, "repeated-registration", "check",
+        92, "repeated-registration", "planned",
         "one environment registers two runners, or two debug protocols, by one name",
         "Take one of the two out, or give one another name with `as`.",
     ),
     Number(
-        93, "unknown-source", "check",
+        93, "unknown-source", "planned",
         "a registration comes from a child that isn't declared, or a debug protocol from `self` "
         "that isn't a capability",
         "Declare the child or the capability, or mend the name.",
     ),
     Number(
-        94, "repeated-debug-path", "check",
+        94, "repeated-debug-path", "planned",
         "another use has the path of a use from `debug`",
         "Give one of the two uses another `path`. The index counts the uses from `debug` alone.",
     ),
     Number(
-        95, "repeated-storage", "check",
+        95, "repeated-storage", "planned",
         "an earlier storage capability has the name",
         "Rename one of the two. The index counts the storage capabilities alone.",
     ),
     Number(
-        96, "unknown-storage-reference", "check",
+        96, "unknown-storage-reference", "planned",
         "the child that backs a storage, or the target of a storage offer, isn't declared",
         "Declare it, or mend the name behind `#`. The index counts the storage rows alone.",
     ),
     Number(
-        97, "storage-not-declared", "check",
+        97, "storage-not-declared", "planned",
         "a storage is offered from `self` and isn't declared",
         "Declare the storage in `capabilities`, or offer it from `parent`. The index counts the "
         "storage rows alone.",
     ),
     Number(
-        100, "no-storage-use", "never",
+        100, "no-storage-use", "planned",
         "the instance uses no storage at the path",
         "Ask for the path of one of its storage uses.",
     ),
     Number(
-        101, "no-storage-offer", "reply",
+        101, "no-storage-offer", "planned",
         "the instance that is printed doesn't offer the storage on",
         "Add the offer of the storage there.",
     ),
     Number(
-        102, "no-storage", "reply",
+        102, "no-storage", "planned",
         "the instance that is printed offers a storage from `self` that it doesn't declare",
         "Declare the storage in its `capabilities`.",
     ),
     Number(
-        103, "void-storage", "reply",
+        103, "void-storage", "planned",
         "the instance that is printed offers the storage from `void`",
         "There is no place to store; the client has to do without it.",
     ),
     Number(
-        104, "no-instance-id", "reply",
+        104, "no-instance-id", "planned",
         "the storage is only for instances with an identifier of their own, which this program "
         "doesn't keep",
         'Declare the storage with `storage_id: "static_instance_id_or_moniker"`.',
     ),
     Number(
-        105, "no-backing", "reply",
+        105, "no-backing", "planned",
         "the directory that backs the storage isn't there",
         "Look at `backing_dir` and `from` of the storage of the instance that is printed.",
     ),
     Number(
-        106, "backing-unresolved", "reply",
+        106, "backing-unresolved", "planned",
         "the instance that backs the storage isn't resolved",
         "Resolve it first.",
     ),
     Number(
-        107, "backing-route", "reply",
+        107, "backing-route", "planned",
         "the route to the directory that backs the storage fails at the hop that is printed",
         "Look at the offer or expose of that instance.",
     ),
     Number(
-        108, "backing-void", "reply",
+        108, "backing-void", "planned",
         "the route to the directory that backs the storage ends in `void`",
         "There is no place to store; back the storage by another directory.",
     ),
     Number(
-        109, "backing-rights-too-weak", "reply",
+        109, "backing-rights-too-weak", "planned",
         "the directory that backs the storage isn't given with the rights `rw*`",
         "Give the directory `rw*` at its capability and at each expose and offer that states "
         "rights.",
@@ -492,7 +496,7 @@ REASONS: dict[str, str] = {
     "no-builtin": "The root asks its parent for something that nothing provides: add a `builtin` line to"
     " the script, with the same kind and name.",
     "availability-too-weak": "The item states a weaker availability than the hop before it asks: make it"
-    " `required`, or the use and what stands between them `optional`.",
+    " `required`, or the use and what stands between them `optional` or `transitional`.",
     "rights-too-weak": "The route asks for more rights than the item states: ask for fewer in the use, or"
     " state more in the item.",
 }

@@ -46,6 +46,20 @@ def many(node: Node | None) -> list[Node]:
     return node.items if node.kind == "list" else [node]
 
 
+def source_of(root: Node, item: Node) -> str:
+    """Where an item takes its capability from: `void` where it names a child that needn't be there, and
+    isn't."""
+    source = item.text("from")
+    if source.startswith("#") and item.text("source_availability") == "unknown":
+        return source if source[1:] in child_names(root) else "void"
+    return source
+
+
+def child_names(root: Node) -> set[str]:
+    """The names of the children that a manifest declares."""
+    return {one.text("name") for one in items_of(root, "children")}
+
+
 def rows_of(root: Node, section: str, number: int) -> list[Row]:
     """The rows of a section in the order in which faults of this number count them."""
     rows = []

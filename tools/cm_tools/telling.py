@@ -2,6 +2,8 @@
 
 from __future__ import annotations
 
+from typing import Iterable
+
 from cm_tools.entries import Entry, Hop, Reply
 from cm_tools.instances import RouteNote
 from cm_tools.world import World
@@ -27,20 +29,32 @@ def event_words(entry: Entry, world: World) -> str:
     return " ".join(word for word in words if word)
 
 
-def reply_words(reply: Reply, world: World) -> str:
-    """What the tree answered, as `found core` or `begun action 3`."""
+def reply_words(entry: Entry, world: World) -> str:
+    """What the tree answered, as `found core` or `begun action 3`, and what went with a stop."""
+    words = _reply_words(entry.reply, world)
+    doomed = world.doomed.get(entry.number)
+    return f"{words}; doomed: {_monikers(doomed, world)}" if doomed else words
+
+
+def _reply_words(reply: Reply, world: World) -> str:
     if reply.word in OF_INSTANCES:
         return f"{reply.word} {world.moniker(reply.number)}"
     if reply.word in OF_ACTIONS:
         return f"{reply.word} action {reply.number}"
     if reply.word == "stopping":
         return f"stopping {world.moniker(reply.number)} (action {reply.text.partition(' ')[2]})"
+    if reply.word == "reaping":
+        return f"reaping {_monikers(map(int, reply.text.split()), world) or 'nothing'}"
     return f"{reply.word} {reply.text}".strip()
+
+
+def _monikers(incarnations: Iterable[int], world: World) -> str:
+    return ", ".join(world.moniker(incarnation) for incarnation in incarnations)
 
 
 def entry_words(entry: Entry, world: World) -> str:
     """The entry without its number and caller, as `find core => found core`."""
-    return f"{event_words(entry, world)} => {reply_words(entry.reply, world)}"
+    return f"{event_words(entry, world)} => {reply_words(entry, world)}"
 
 
 def hop_words(hop: Hop) -> str:

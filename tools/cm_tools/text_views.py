@@ -44,7 +44,6 @@ def timeline_text(journal: Journal, world: World) -> str:
     return "\n".join(lines) + "\n"
 
 
-
 def _branches(world: World) -> list[tuple[str, Instance]]:
     """Each instance behind its parent, with the lines that lead to it."""
     found: list[tuple[str, Instance]] = []

@@ -5,7 +5,7 @@ from __future__ import annotations
 from dataclasses import dataclass
 
 from cm_tools.relaxed import Node
-from cm_tools.rows import items_of, many
+from cm_tools.rows import items_of, many, source_of
 from cm_tools.scripts import Command, Sketch
 
 KINDS = ("protocol", "directory")
@@ -58,7 +58,7 @@ def _next(sketch: Sketch, stop: Stop, kind: str, name: str) -> tuple[Stop, str] 
     """The hop behind this one, and the name that is looked for behind it; None at the end."""
     if stop.item is None and stop.command is None:
         return None
-    origin = _origin(stop, name)
+    origin = _origin(sketch, stop, name)
     moniker = stop.moniker
     if stop.step == "capability" or origin in ("void", "framework"):
         return None
@@ -72,11 +72,12 @@ def _next(sketch: Sketch, stop: Stop, kind: str, name: str) -> tuple[Stop, str] 
     return _offer(sketch, moniker, kind, name)
 
 
-def _origin(stop: Stop, name: str) -> str:
+def _origin(sketch: Sketch, stop: Stop, name: str) -> str:
     if stop.command is not None:
         group = _group(stop.command, name)
         return group[2] if group else "parent"
-    origin = stop.item.text("from") if stop.item is not None else ""
+    root = _root(sketch, stop.moniker)
+    origin = source_of(root, stop.item) if stop.item is not None and root is not None else ""
     return origin or "parent"
 
 
@@ -140,6 +141,12 @@ def _group(command: Command, name: str) -> tuple[str, str, str] | None:
 
 
 def _items(sketch: Sketch, moniker: str, section: str) -> list[Node]:
+    root = _root(sketch, moniker)
+    return items_of(root, section) if root is not None else []
+
+
+def _root(sketch: Sketch, moniker: str) -> Node | None:
+    """The manifest of an instance; None where it is missing or is no object."""
     url = sketch.url(moniker)
     root = sketch.value(url) if url else None
-    return items_of(root, section) if root is not None and root.kind == "object" else []
+    return root if root is not None and root.kind == "object" else None

@@ -26,6 +26,7 @@ class World:
         self.actions: dict[int, Action] = {}
         self.routes: dict[tuple[int, str], RouteNote] = {}
         self.subjects: list[tuple[int, ...]] = []
+        self.doomed: dict[int, tuple[int, ...]] = {}
         self.applied = 0
         self._live: dict[str, int] = {".": 0}
         self._next = 1
@@ -92,6 +93,8 @@ class World:
         self.instances[child.incarnation] = child
         self._live[moniker] = child.incarnation
         parent.children.append(child.incarnation)
+        if child.collection:
+            parent.passing[child.incarnation] = None
         self._next += 1
         return child
 
@@ -132,6 +135,7 @@ class World:
             instance.is_on = instance.has_run = True
         elif outcome in ("stopped", "killed"):
             instance.is_on = False
+            return [instance.incarnation, *self._expire(instance, entry)]
         return [instance.incarnation]
 
     def _resolve(self, instance: Instance, entry: Entry) -> None:
@@ -139,8 +143,11 @@ class World:
         instance.absolute = entry.event.text
         instance.declaration = entry.event.declaration
         try:
-            children = json.loads(entry.event.declaration)["children"]
-            for child in children:
+            declared = json.loads(entry.event.declaration)
+            instance.once = frozenset(
+                one["name"] for one in declared["collections"] if one["durability"] == "single_run"
+            )
+            for child in declared["children"]:
                 eager = child.get("startup") == "eager"
                 self._add(instance, child["name"], child["url"], entry.number, eager)
         except (ValueError, KeyError, TypeError, AttributeError, RecursionError):
@@ -170,8 +177,32 @@ class World:
 
     def _doom(self, instance: Instance) -> None:
         instance.is_closing = instance.is_doomed = True
+        if instance.parent is not None:
+            self.instances[instance.parent].passing.pop(instance.incarnation, None)
         if self._live.get(instance.moniker) == instance.incarnation:
             del self._live[instance.moniker]
+
+    def _expire(self, instance: Instance, entry: Entry) -> list[int]:
+        """Dooms what goes with an instance that is off now, and gives it: the instance itself where its
+        collection runs it once, else its children in collections; nothing where it is being shut down.
+        """
+        if self._is_closed(instance):
+            return []
+        parent = self.instances.get(-1 if instance.parent is None else instance.parent)
+        runs_once = parent is not None and instance.collection in parent.once
+        gone = [instance.incarnation] if runs_once else list(instance.passing)
+        for incarnation in gone:
+            self._doom(self.instances[incarnation])
+        if gone:
+            self.doomed[entry.number] = tuple(gone)
+        return gone
+
+    def _is_closed(self, instance: Instance) -> bool:
+        """Whether it is shut, or it or one above it is being shut down or destroyed."""
+        above: Instance | None = instance
+        while above is not None and not above.is_closing:
+            above = None if above.parent is None else self.instances[above.parent]
+        return instance.is_shut or above is not None
 
     def _pick(self, entry: Entry) -> list[int]:
         target, reply = entry.event.number or 0, entry.reply
@@ -210,16 +241,21 @@ class World:
 
     def _reap(self, entry: Entry) -> list[int]:
         told = map(parse_number, entry.reply.text.split())
-        numbers = [number for number in told if number is not None]
-        for number in numbers:
-            self._doom(self._instance(number, entry))
-        return [entry.event.number or 0] + numbers
+        left = [self._instance(number, entry) for number in told]
+        for instance in left:
+            if not instance.is_doomed:
+                raise Unusable(
+                    f"entry {entry.number} reaps incarnation {instance.incarnation}, which isn't doomed"
+                )
+        return [entry.event.number or 0] + [instance.incarnation for instance in left]
 
     def _exited(self, entry: Entry) -> list[int]:
         incarnation = entry.event.number or 0
-        if entry.reply.word == "left":
-            self._instance(incarnation, entry).is_on = False
-        return [incarnation]
+        if entry.reply.word != "left":
+            return [incarnation]
+        instance = self._instance(incarnation, entry)
+        instance.is_on = False
+        return [incarnation, *self._expire(instance, entry)]
 
     def _route(self, entry: Entry) -> list[int]:
         event, reply = entry.event, entry.reply

@@ -21,7 +21,7 @@ syntax match componentPath " \zs/\S*"
 syntax match componentGroup " \zs+\ze " nextgroup=componentKind skipwhite
 syntax keyword componentKind contained protocol directory
 syntax match componentOption "\<\(as\|rights\|subdir\)="
-syntax keyword componentWord weak optional parent self framework void
+syntax keyword componentWord weak optional transitional same_as_target parent self framework void
 
 " Header lines.
 syntax match componentHeader "^\(builtin protocol\|builtin directory\|root\)\ze "
@@ -39,6 +39,7 @@ syntax region manifestString start=+'+ skip=+\\.+ end=+'+ oneline contained
 syntax match manifestKey +\(\<[A-Za-z_$][A-Za-z0-9_$]*\|"[^"\\]*"\|'[^'\\]*'\)\ze\s*:+ contained
 syntax match manifestSection contained
       \ +["']\=\<\(program\|children\|collections\|capabilities\|use\|offer\|expose\|facets\)\>["']\=\ze\s*:+
+syntax match manifestSection contained +["']\=\<environments\>["']\=\ze\s*:+
 syntax keyword manifestWord contained true false null
 
 highlight default link componentLane Number

@@ -2,10 +2,14 @@
 """Makes large journals for the tests and for trying the page.
 
     make_journal.py INSTANCES ENTRIES
+    make_journal.py sweeps ENTRIES
 
 Instance k has the parent (k - 1) / 4, uses its parent's protocol, and declares one of its own, which
 it offers to its children. Four callers start all instances in turn. Then they open their uses until
 there are as many entries as asked for. A collection of the root has a child that comes and goes.
+
+With `sweeps` there is a root alone, which is started and stopped again and again: each time children of
+its collection come, and go with it.
 """
 
 from __future__ import annotations
@@ -98,9 +102,7 @@ class Maker:
         number = self.incarnation[k]
         self.add(caller, f"begin start {number}", f"need {number}")
         self.resolve(caller, k)
-        self.actions += 1
-        self.add(caller, f"begin start {number}", f"begun {self.actions}")
-        self.add(caller, f"end {self.actions} started", "ended started")
+        self.act(caller, "start", number, "started")
 
     def open(self, caller: int, k: int) -> None:
         """Opens what instance k uses."""
@@ -119,6 +121,26 @@ class Maker:
         self.add(caller, f"pick {number}", f"shutdown {number}")
         self.add(caller, f"pick {number}", "done")
         self.add(caller, f"purge {number}", "purged 1")
+
+    def sweep(self, caller: int, guests: int) -> None:
+        """The root is started, children of the collection come, and it stops, and they go with it."""
+        self.act(caller, "start", 0, "started")
+        come = [self.made + k for k in range(guests)]
+        self.made += guests
+        for number in come:
+            self.add(caller, f"create 0 coll guest{number} #meta/guest.cm", f"created {number}")
+        self.act(caller, "stop", 0, "stopped")
+        self.add(caller, "reap 0", " ".join(["reaping", *map(str, come)]))
+        for number in come:
+            self.add(caller, f"pick {number}", f"shutdown {number}")
+            self.add(caller, f"pick {number}", "done")
+            self.add(caller, f"purge {number}", "purged 1")
+
+    def act(self, caller: int, kind: str, incarnation: int, outcome: str) -> None:
+        """A start or a stop, begun and ended."""
+        self.actions += 1
+        self.add(caller, f"begin {kind} {incarnation}", f"begun {self.actions}")
+        self.add(caller, f"end {self.actions} {outcome}", f"ended {outcome}")
 
     def text(self) -> str:
         """All that the program would print, with one reply in front."""
@@ -143,5 +165,19 @@ def make(instances: int, entries: int) -> str:
     return maker.text()
 
 
+def make_sweeps(entries: int) -> str:
+    """A journal with at least so many entries, in which ten children go with their parent each time."""
+    maker = Maker(1)
+    maker.resolve(0, 0)
+    while len(maker.lines) < entries:
+        maker.sweep(len(maker.lines) % LANES, 10)
+    return maker.text()
+
+
+def main(kind: str, entries: str) -> None:
+    """Writes the journal that the two words ask for."""
+    sys.stdout.write(make_sweeps(int(entries)) if kind == "sweeps" else make(int(kind), int(entries)))
+
+
 if __name__ == "__main__":
-    sys.stdout.write(make(int(sys.argv[1]), int(sys.argv[2])))
+    main(*sys.argv[1:])

@@ -42,6 +42,10 @@ MANIFEST_CASES: list[tuple[str, str, str, str]] = [
     ("items.cml", "invalid 40 expose 0", "14:15: 40 kind-count", "item 0 of `expose`"),
     ("items.cml", "invalid 42 use 3 path", "11:39: 42 not-with-many", "'/svc/x'"),
     ("items.cml", "invalid 43 use 0", "7:5: 43 too-many-rows", "the section `use`"),
+    ("sources.cml", "invalid 51 offer 1", "9:77: 51 unknown-reference", "row 1 of `offer`"),
+    ("sources.cml", "invalid 51 offer 2", "11:32: 51 unknown-reference", "item 3"),
+    ("sources.cml", "invalid 57 expose 0", "18:15: 57 required-void", "protocol p"),
+    ("sources.cml", "invalid 50 capabilities 1 capabilities 0", "5:22: 50 repeated-name", "which is item 2"),
     ("cut.cml", "invalid 31 manifest 0", "3:18: 31 not-json", "this string isn't closed"),
     ("bytes.cml", "invalid 30 manifest 0", "2:8: 30 not-utf8", "0x80"),
 ]
@@ -204,7 +208,7 @@ class NumberTests(unittest.TestCase):
     def test_numbers_of_scripts(self) -> None:
         """the words of the faults of scripts, as the program prints them"""
         lower = (ROOT / "crates" / "cm_command" / "src" / "fault.rt").read_text("utf-8")
-        upper = (ROOT / "crates" / "component_manager" / "src" / "fault.rt").read_text("utf-8")
+        upper = (ROOT / "crates" / "cm_program" / "src" / "fault.rt").read_text("utf-8")
         for number in range(70, 77):
             self.assertIn(f'"{NUMBERS[number].name}"', lower)
         for number in (77, 78):
@@ -217,6 +221,16 @@ class NumberTests(unittest.TestCase):
             self.assertTrue(known.comes and known.hint.endswith("."), number)
         shown = run("explain", "--number", "51").out
         self.assertTrue(shown.startswith("51 unknown-reference\nIt comes where "))
+
+    def test_planned(self) -> None:
+        """the numbers that aren't printed yet are those that the reference calls planned"""
+        text = (ROOT / "docs" / "REFERENCE.md").read_text("utf-8")
+        entries = re.findall(r"^- \*\*(\d+)\*\*(.*(?:\n  .*)*)", text, re.M)
+        told = {int(number) for number, said in entries if "Planned." in said}
+        planned = {number for number, known in NUMBERS.items() if known.printed == "planned"}
+        self.assertEqual(planned, told)
+        for number in sorted(planned)[:1]:
+            self.assertIn("It is planned", run("explain", "--number", str(number)).out)
 
 
 class CheckAllTests(unittest.TestCase):

@@ -12,16 +12,18 @@ import tempfile
 import unittest
 from pathlib import Path
 
+from cm_tools.entries import Journal
 from cm_tools.html_view import PAGE, page_data
 from cm_tools.instances import STATES
 from cm_tools.journal import parse_journal
 from cm_tools.world import replay
-from tests.make_journal import make
+from tests.make_journal import make, make_sweeps
 from tests.support import JOURNALS, ROOT, TESTS, TOOLS, quoted, run, run_process
 
 TABLES = ROOT / "crates" / "cm_reply" / "specs" / "Tables.antt"
 ROUTE = str(JOURNALS / "route.txt")
 COMINGS = str(JOURNALS / "comings.txt")
+SWEEPS = str(JOURNALS / "sweeps.txt")
 HEAD = "journal\nroot fuchsia-pkg://t/a#meta/root.cm\n"
 
 ROUTE_TREE = """\
@@ -48,6 +50,33 @@ root fuchsia-pkg://t/a#meta/root.cm, behind entry 34 of 34
 └─ elements:e1  closing     @3
 4 instances: 1 discovered, 1 resolved, 1 closing, 1 destroyed
 """
+
+# What goes with an instance that stops, or that ended by itself, and nothing at a shutdown.
+SWEEPS_TREE = """\
+root fuchsia-pkg://t/a#meta/root.cm, behind entry 61 of 61
+.          shut        @0
+├─ helper  shut        @1
+├─ coll:x  destroyed   @2
+├─ once:y  destroyed   @3
+└─ once:z  shut        @4
+5 instances: 3 shut, 2 destroyed
+"""
+
+SWEEPS_LINES = [
+    "23   ●  exited once:y => left; doomed: once:y",
+    "24   ●  reap once:y => reaping once:y",
+    "27   ●  purge once:y => purged 1",
+    "30   ●  end stop . (action 7) => ended stopped; doomed: coll:x",
+    "31   ●  reap . => reaping coll:x",
+    "56   ●  end stop once:z (action 12) => ended stopped",
+]
+
+# An incarnation, an entry, and the state behind it.
+SWEEPS_STATES = [
+    (3, 21, "started"), (3, 23, "doomed"), (3, 26, "doomed"), (3, 27, "destroyed"), (2, 29, "started"),
+    (2, 30, "doomed"), (2, 33, "doomed"), (2, 36, "destroyed"), (4, 54, "started"), (4, 56, "stopped"),
+    (4, 57, "shut"),
+]
 
 PRODUCT_TREE = [line.split() for line in """\
 . resolved @0
@@ -104,6 +133,9 @@ BAD_JOURNALS: list[tuple[bytes, str]] = [
     (HEAD.encode() + b"1 0 begin resolve 0 => begun 1\n", "no end of action 1"),
     (HEAD.encode() + b"1 0 begin resolve 7 => begun 1\n", "incarnation 7, which was never made"),
     (HEAD.encode() + b"1 0 end 3 started => ended started\n", "action 3, which was never begun"),
+    (HEAD.encode() + b"1 0 reap 0 => reaping x\n", "no entry of a journal"),
+    (HEAD.encode() + b"1 0 reap 0 => reaping 7\n", "incarnation 7, which was never made"),
+    (HEAD.encode() + b"1 0 reap 0 => reaping 0\n", "incarnation 0, which isn't doomed"),
     (HEAD.encode() + b"1 0 route 0 /svc/p => given nonsense\n", "no route that can be read"),
     (HEAD.encode() + b"1 0 begin resolve 0 => begun 1\n2 0 end 1 resolved u {} => ended resolved\n",
      "no declaration that can be read"),
@@ -117,9 +149,10 @@ class RealmTests(unittest.TestCase):
     """What `realm` shows of small journals."""
 
     def test_tree(self) -> None:
-        """the tree of two journals, letter by letter"""
+        """the tree of three journals, letter by letter"""
         self.assertEqual(run("realm", ROUTE).out, ROUTE_TREE)
         self.assertEqual(run("realm", "--tree", COMINGS).out, COMINGS_TREE)
+        self.assertEqual(run("realm", SWEEPS).out, SWEEPS_TREE)
 
     def test_standard_input(self) -> None:
         """a journal on the standard input"""
@@ -151,6 +184,27 @@ class RealmTests(unittest.TestCase):
         self.assertIn("elements:e1  doomed", doomed)
         self.assertIn("@0\n1 instance: 1 discovered", run("realm", "--at", "0", COMINGS).out)
         self.assertEqual({state for _, state in COMINGS_STATES} - set(STATES), set())
+
+    def test_sweeps(self) -> None:
+        """what goes with an instance that stops, ends by itself or is shut down, and its reaps"""
+        lines = run("realm", "--timeline", SWEEPS).out.split("\n")
+        self.assertEqual([line for line in SWEEPS_LINES if line not in lines], [])
+        world = replay(parse_journal(Path(SWEEPS).read_bytes()))
+        self.assertEqual(world.doomed, {23: (3,), 30: (2,)})
+        for incarnation, number, state in SWEEPS_STATES:
+            shown = json.loads(run("realm", "--json", "--at", str(number), SWEEPS).out)
+            self.assertEqual(shown["instances"][incarnation]["state"], state, (incarnation, number))
+        timeline = json.loads(run("realm", "--json", SWEEPS).out)["timeline"]
+        self.assertEqual([timeline[number - 1]["instances"] for number in (23, 24, 30, 31)],
+                         [[3], [3], [0, 2], [0, 2]])
+        self.assertIn("coll:x  doomed      @2     still runs\n", run("realm", "--at", "30", SWEEPS).out)
+        self.assertIn('label="coll:x\\ndestroyed"', run("realm", "--dot", SWEEPS).out)
+        self.assertIn("once:z<br/>shut", run("realm", "--mermaid", SWEEPS).out)
+
+    def test_nothing_is_reaped(self) -> None:
+        """a reap that finds nothing left"""
+        self.assertIn("1   ●  reap . => reaping nothing\n",
+                      run("realm", "--timeline", data=(HEAD + "1 0 reap 0 => reaping\n").encode()).out)
 
     def test_json(self) -> None:
         """the JSON, with instances, actions, routes and the timeline"""
@@ -224,17 +278,28 @@ class ProductTests(unittest.TestCase):
         routes = run("realm", "--routes", str(JOURNALS / "product.txt")).out
         self.assertIn(PRODUCT_ROUTE, routes)
 
-    def test_program(self) -> None:
-        """the replay of a run against the program's own survey (where COMPONENT_MANAGER names it)"""
+    def printed(self, script: str, more: str = "") -> bytes:
+        """What the program prints of a script with more behind it, and the journal of that."""
         program = os.environ.get("COMPONENT_MANAGER")
         if not program:
             self.skipTest("COMPONENT_MANAGER names no program")
-        script = (TESTS / "scripts" / "product.txt").read_text("utf-8")
-        data = (script + "sync\n0 survey .\n").encode()
+        data = (TESTS / "scripts" / script).read_bytes() + more.encode()
         ran = subprocess.run([program, "run", "--journal"], input=data, capture_output=True)
         self.assertEqual(ran.returncode, 0)
-        journal = parse_journal(ran.stdout)
-        surveyed = journal.replies[journal.replies.index("0 survey . 16") + 1 :]
+        return ran.stdout
+
+    def test_journal(self) -> None:
+        """a run in which instances go prints the journal that the tests read (where COMPONENT_MANAGER is)"""
+        self.assertEqual(self.printed("sweeps.txt"), Path(SWEEPS).read_bytes())
+
+    def test_program(self) -> None:
+        """the replays of runs against the program's own surveys (where COMPONENT_MANAGER is)"""
+        for script, count in (("product.txt", 16), ("sweeps.txt", 3)):
+            self.compare(parse_journal(self.printed(script, "sync\n0 survey .\n")), count)
+
+    def compare(self, journal: Journal, count: int) -> None:
+        """Compares the tree that a journal leaves with the survey at the end of its replies."""
+        surveyed = journal.replies[journal.replies.index(f"0 survey . {count}") + 1 :]
         world = replay(journal)
         shown = [
             f"  {one.moniker} incarnation {one.incarnation}"
@@ -298,6 +363,15 @@ class BadInputTests(unittest.TestCase):
 class LargeTests(unittest.TestCase):
     """Journals of 2,000 instances and of 100,000 entries."""
 
+    def show(self, view: str, data: bytes) -> None:
+        """Runs the tool on the data, which has to take less than five seconds of the processor."""
+        before = resource.getrusage(resource.RUSAGE_CHILDREN)
+        ran = run_process("realm", view, "-o", "/dev/null", data=data)
+        after = resource.getrusage(resource.RUSAGE_CHILDREN)
+        taken = after.ru_utime + after.ru_stime - before.ru_utime - before.ru_stime
+        self.assertEqual((ran.status, ran.err), (0, ""))
+        self.assertLess(taken, 5.0, view)
+
     def test_many_instances(self) -> None:
         """a journal of 2,000 instances: the tree, and the page's data"""
         data = make(2000, 0)
@@ -311,9 +385,12 @@ class LargeTests(unittest.TestCase):
         """a journal of 100,000 entries in at most 5 seconds: the tree, the JSON, the page"""
         data = make(2000, 100_000).encode()
         for view in ("--tree", "--json", "--html"):
-            before = resource.getrusage(resource.RUSAGE_CHILDREN)
-            ran = run_process("realm", view, "-o", "/dev/null", data=data)
-            after = resource.getrusage(resource.RUSAGE_CHILDREN)
-            taken = after.ru_utime + after.ru_stime - before.ru_utime - before.ru_stime
-            self.assertEqual((ran.status, ran.err), (0, ""))
-            self.assertLess(taken, 5.0, view)
+            self.show(view, data)
+
+    def test_many_sweeps(self) -> None:
+        """100,000 entries in which 10,000 children go with a parent that stops: the tree, the timeline"""
+        data = make_sweeps(100_000)
+        told = run("realm", data=data.encode()).out.rsplit("\n", 2)[-2]
+        self.assertRegex(told, r"^\d+ instances: 1 (started|stopped|resolved), \d+ destroyed$")
+        for view in ("--tree", "--timeline"):
+            self.show(view, data.encode())
