@@ -35,5 +35,6 @@ pub const GENERATED: &str = "\
 pub const LARGE: &str = "\
     == generate 3 2000\n\
     runs 2\n\
+    room 2000\n\
     => 0\n\
     out instances 2000 started 2000 opened 2000 shown 0\n";
