@@ -179,7 +179,8 @@ module _ (rows : List Row) (next : ℕ) (sound : IsSound rows next) (p : ℕ) (d
   first_node n m ([], on) = (edge_nodes d (dynamic_children rows p) n m on).0
   first_node n m (k ∷ ks, way) = (edge_nodes d (dynamic_children rows p) n k way.0).0
 
-  names_acyclic : NoCycle (StrongOn d (dynamic_children rows p))
+  -- the graph by names has no cycle
+  pub names_acyclic : NoCycle (StrongOn d (dynamic_children rows p))
   names_acyclic (n, way) =
       let row : (x : ℕ) × IsNamed rows p x n = node_row rows next sound p d found n (first_node n n way) in
       sound.acyclic p (row.0, reach_rows row.0 row.0 n n row.1 row.1 way)

@@ -1,7 +1,6 @@
 -- What a quick look at a level finds.
-use Rattle.std.proofs.Common.{◌≡◌, ◌≢◌, ℕ, ◌<◌, List, Bool, false, not, ◌&&◌, Option, Some, None, Result, Ok, Err, IfOk, IsTrue, is_none, refl, sym, ◌∙◌, ap, subst, inl, inr, ◌⊎◌, arith}
+use Rattle.std.proofs.Common.{◌≡◌, ◌≢◌, ℕ, ◌<◌, List, Bool, true, false, not, ◌&&◌, Option, Some, None, Result, Ok, Err, IfOk, IsTrue, is_none, refl, sym, ◌∙◌, ap, subst, inl, inr, ◌⊎◌, arith}
 use Rattle.std.specs.List.{list_any}
-use Rattle.std.specs.Prelude.{IfSome}
 use Rattle.std.specs.Option.{option_map_or}
 use Rattle.std.specs.BTreeSet.{BTreeSet}
 use Rattle.cm_decl.specs.declared.decl.Decl.{Decl}
@@ -9,16 +8,15 @@ use Rattle.cm_decl.specs.declared.rows.Usage.{Usage}
 use Rattle.cm_decl.specs.Graph.{is_strong, is_from_child}
 use Rattle.cm_decl.specs.Realm.{Depends}
 use Rattle.cm_decl.proofs.Sameness.{and_first, and_second, never}
-use Rattle.cm_deps.proofs.Ways.{last_step}
 use Rattle.cm_world.specs.declared.row.Row.{Row}
 use Rattle.cm_world.specs.Rows.{row_of, decl_of, child_behind, is_behind, is_subtree_shut}
-use Rattle.cm_world.specs.Level.{level, LevelOn}
+use Rattle.cm_world.specs.Level.{level}
 use Rattle.cm_world.specs.Sound.{IsSound}
 use Rattle.cm_world.specs.Stopping.{is_wholly_shut}
 use Rattle.cm_order.specs.declared.search.Wanted.TheVariants.{Idle}
 use Rattle.cm_order.specs.Kids.{IsKid}
 use Rattle.cm_order.specs.Search.{IsHere}
-use Rattle.cm_order.specs.Glances.{in_set, HasNamed, IsFreeKid, IsChosen, AreKidsShut}
+use Rattle.cm_order.specs.Glances.{in_set, HasBound, IsFreeKid, AreKidsShut}
 use Rattle.cm_order.proofs.Trees.{kid_higher, flip_not, true_not_false}
 use Rattle.cm_order.proofs.Kids.{next_kid, other_kids, no_kids}
 use Rattle.cm_order.proofs.Gathering.{own_shut, kid_shut}
@@ -39,22 +37,15 @@ module _ (rows : List Row) (next : ℕ) (sound : IsSound rows next) (p : ℕ) wh
   apart : (c : ℕ) → IsKid rows p c → c ≢ p
   apart c kid = λ same. let higher : p < c = kid_higher rows next sound.orderly p c kid in absurd (omega arith)
 
-  led_to : (c w : ℕ) (named : BTreeSet ℕ) → HasNamed rows p named → IsKid rows p c → in_set named c ≡ false → LevelOn rows p w c → ⊥
-  led_to c w named has kid out (inl strong) = true_not_false (in_set named c) (has w c (apart c kid) strong) out
-  led_to c w named has kid out (inr implied) = apart c kid implied.own
-
-  -- a child to which no strong edge leads is free
-  pub free_unnamed : (c : ℕ) (behind : Option ℕ) (named : BTreeSet ℕ) → HasNamed rows p named → Some c ≡ child_behind rows p behind → in_set named c ≡ false → IsFreeKid rows p c
+  -- a child on which nothing depends that isn't all shut is free
+  pub free_unnamed : (c : ℕ) (behind : Option ℕ) (named : BTreeSet ℕ) → HasBound rows p named → Some c ≡ child_behind rows p behind → in_set named c ≡ false → IsFreeKid rows p c
   free_unnamed c behind named has found out =
       let kid : IsKid rows p c = (next_kid rows next sound.orderly p behind c (sym found)).0 in
-      record {
-        kid = kid;
-        free = λ z way. let last : (w : ℕ) × LevelOn rows p w c = last_step (LevelOn rows p) z way.0 c way.1 in absurd (led_to c last.0 named has kid out last.1);
-      }
-
-  pub chosen_unnamed : (c : ℕ) (behind : Option ℕ) (named : BTreeSet ℕ) (o : Option ℕ) → HasNamed rows p named → Some c ≡ child_behind rows p behind → IfSome o (λ found. (found ≡ c) × (in_set named c ≡ false)) → IsChosen rows p o
-  chosen_unnamed c behind named None has found is = tt
-  chosen_unnamed c behind named (Some x) has found is = subst (IsFreeKid rows p) (sym is.0) (free_unnamed c behind named has found is.1)
+      record { kid = kid; free = λ z way. by z kid way (is_wholly_shut rows p z) refl }
+    where
+      by : (z : ℕ) → IsKid rows p c → Depends (level rows p) z c → (b : Bool) → is_wholly_shut rows p z ≡ b → IsTrue (is_wholly_shut rows p z)
+      by z kid way true shut = shut
+      by z kid way false unshut = true_not_false (in_set named c) (has z c (apart c kid) unshut way) out
 
   -- ---- p itself
 

@@ -1,18 +1,24 @@
--- What a quick look at a level comes to. It asks only for what no strong edge leads to.
-use Rattle.std.specs.Prelude.{◌≢◌, ℕ, List, Bool, ◌&&◌, Option, Some, None, IsTrue}
+-- What a quick look at a level comes to. It asks only for what nothing that isn't shut depends on by
+-- strong edges.
+use Rattle.std.specs.Prelude.{◌≡◌, ◌≢◌, ◌==◌, ℕ, List, Bool, true, false, ◌&&◌, Option, Some, None, IsTrue, ◌⊎◌}
 use Rattle.std.specs.List.{list_any}
 use Rattle.std.specs.Ordering.{nat_cmp}
+use Rattle.std.specs.Cmp.Lexicographic.{slice_cmp}
 use Rattle.std.specs.BTreeSet.{BTreeSet, contains}
+use Rattle.cm_names.specs.declared.child.ChildName.{ChildName}
 use Rattle.cm_names.specs.declared.dependency.Dependency.{Dependency}
 use Rattle.cm_decl.specs.declared.origin.Origin.{Origin}
 use Rattle.cm_decl.specs.declared.rows.Give.{Give}
 use Rattle.cm_decl.specs.declared.rows.Offer.{Offer}
 use Rattle.cm_decl.specs.declared.rows.Usage.{Usage}
-use Rattle.cm_decl.specs.Graph.{is_strong}
+use Rattle.cm_decl.specs.Graph.{is_strong, is_from_child, target_of}
+use Rattle.cm_decl.specs.Realm.{Depends}
 use Rattle.cm_world.specs.declared.row.Row.{Row}
 use Rattle.cm_world.specs.Rows.{is_subtree_shut}
-use Rattle.cm_world.specs.Level.{is_from_row, LevelStrong}
-use Rattle.cm_world.specs.Stopping.{IsFree}
+use Rattle.cm_world.specs.Level.{is_from_row, level, LevelStrong}
+use Rattle.cm_world.specs.Stopping.{is_wholly_shut, IsFree}
+use Rattle.cm_order.specs.declared.named.Look.{Look}
+use Rattle.cm_order.specs.declared.named.Look.TheVariants.{Quick, Close}
 use Rattle.cm_order.specs.declared.search.Wanted.TheVariants.{Idle}
 use Rattle.cm_order.specs.declared.search.Visit.{Visit}
 use Rattle.cm_order.specs.declared.search.Visit.TheVariants.{Here, Below}
@@ -28,6 +34,20 @@ in_set named x = contains nat_cmp named x
 -- nothing was taken out of a set
 abbrev pub Grows : BTreeSet ℕ → BTreeSet ℕ → Type 0
 Grows old new = (x : ℕ) → IsTrue (in_set old x) → IsTrue (in_set new x)
+
+-- whether a text is in a set
+abbrev pub in_texts : BTreeSet (List ℕ) → List ℕ → Bool
+in_texts targets name = contains (slice_cmp nat_cmp) targets name
+
+abbrev pub TextsGrow : BTreeSet (List ℕ) → BTreeSet (List ℕ) → Type 0
+TextsGrow old new = (name : List ℕ) → IsTrue (in_texts old name) → IsTrue (in_texts new name)
+
+-- whether a row is in a list
+abbrev pub in_list : List ℕ → ℕ → Bool
+in_list closed x = list_any (λ y. y == x) closed
+
+abbrev pub ListGrows : List ℕ → List ℕ → Type 0
+ListGrows old new = (x : ℕ) → IsTrue (in_list old x) → IsTrue (in_list new x)
 
 -- ---- what strong edges lead to
 
@@ -49,9 +69,39 @@ abbrev pub HasSources : {A : Type 0} → ℕ → (ℕ → A → Bool) → List A
 HasSources p comes_from xs named =
     (x : ℕ) → x ≢ p → IsTrue (list_any (comes_from x) xs) → IsTrue (in_set named x)
 
--- a set has each row but p to which a strong edge of p's level leads
-abbrev pub HasNamed : List Row → ℕ → BTreeSet ℕ → Type 0
-HasNamed rows p named = (w x : ℕ) → x ≢ p → LevelStrong rows p w x → IsTrue (in_set named x)
+-- whether something comes strongly from a child
+abbrev pub is_wired : Give → Bool
+is_wired g = is_strong g.dependency && is_from_child g.from
+
+-- whether offers to a target count: all at a quick look, those to these targets at a close one
+abbrev pub is_aimed : Look → BTreeSet (List ℕ) → List ℕ → Bool
+is_aimed Quick targets to = true
+is_aimed Close targets to = in_texts targets to
+
+-- whether an offer that counts comes strongly from a row of p's level
+abbrev pub aimed_from : List Row → ℕ → Look → BTreeSet (List ℕ) → ℕ → Offer → Bool
+aimed_from rows p look targets x o = is_aimed look targets o.to && offers_from rows p x o
+
+-- a set has each row but p to which a strong edge of p's level leads from w
+abbrev pub HasNext : List Row → ℕ → BTreeSet ℕ → ℕ → Type 0
+HasNext rows p named w = (x : ℕ) → x ≢ p → LevelStrong rows p w x → IsTrue (in_set named x)
+
+-- a set has each row but p on which a node of p's level depends that isn't wholly shut
+abbrev pub HasBound : List Row → ℕ → BTreeSet ℕ → Type 0
+HasBound rows p named =
+    (z x : ℕ) → x ≢ p → is_wholly_shut rows p z ≡ false → Depends (level rows p) z x → IsTrue (in_set named x)
+
+-- what a child was given alone is in the set, and offers to it count, unless no offer is strongly from
+-- a child
+pub record IsPut (rows : List Row) (p : ℕ) (look : Look) (wired : Bool) (named : BTreeSet ℕ)
+    (targets : BTreeSet (List ℕ)) (r : Row) : Type 0 where
+  pub given : HasSources p (gives_from rows p) r.gives named
+  pub target : (wired ≡ false) ⊎ ((c : ChildName) → r.name ≡ Some c → IsTrue (is_aimed look targets (target_of c)))
+
+-- that, or it is in the list of those that are all shut
+abbrev pub IsSeen : List Row → ℕ → Look → Bool → BTreeSet ℕ → BTreeSet (List ℕ) → List ℕ → ℕ → Row → Type 0
+IsSeen rows p look wired named targets closed c r =
+    IsPut rows p look wired named targets r ⊎ (IsTrue (in_list closed c) × IsTrue (is_subtree_shut rows c))
 
 -- ---- one look
 

@@ -1,48 +1,69 @@
 //! A quick look at a level: a node of it that nothing binds, found by tests that cost little.
 //!
-//! What no strong edge leads to depends on nothing that has to be asked for, so it is free. An
-//! instance itself is free where all below it is shut. Where neither test finds a node, nothing
-//! is said.
+//! A child on which nothing depends that isn't all shut is free, and so is the instance itself
+//! where all below it is shut. Both are tested by going through the level once. Where neither
+//! finds a node, nothing is said.
 
-ghost use Rattle.std.specs.Prelude.{◌≡◌, ◌&&◌, not, false, is_none, IsTrue, IfOk, IfSome};
+ghost use Rattle.std.specs.Prelude.{◌≡◌, ◌&&◌, not, false, is_none, IsTrue, IfOk};
 ghost use Rattle.std.specs.Option.{option_map_or};
 ghost use Rattle.std.specs.List.{list_any};
 ghost use Rattle.cm_decl.specs.Graph.{is_strong, is_from_child};
 ghost use Rattle.cm_world.specs.Rows.{row_of, decl_of, is_subtree_shut};
 ghost use Rattle.cm_world.specs.Sound.{IsSound};
-ghost use Rattle.cm_order.specs.Glances.{in_set, HasNamed, IsChosen, AreKidsShut, IsGlance};
+ghost use Rattle.cm_order.specs.Glances.{in_set, HasBound, IsChosen, AreKidsShut, IsGlance};
 ghost use Rattle.cm_order.specs.Search.{IsHere};
 ghost use Rattle.cm_order.specs.declared.search.Wanted.TheVariants as wanted;
 
 use crate::above::unshut;
 use crate::below::all_shut;
-use crate::named::named_at;
+use crate::named::{Look, is_from_child as of_child, is_strong as of_strong, named_at};
 use crate::search::Visit;
-use cm_decl::{Origin, Usage};
-use cm_names::{Dependency, Memory};
+use cm_decl::Usage;
+use cm_names::Memory;
 use cm_world::View;
 use std::alloc::Global;
 use std::collections::BTreeSet;
 
-/// The first child that isn't all shut, if nothing comes strongly from it; or the instance itself,
-/// where all its children are all shut, it isn't shut and has no pending action. `Below(None)`
-/// says nothing.
+/// The first child that isn't all shut and on which nothing depends that isn't; or the instance
+/// itself, where all its children are all shut, it isn't shut and has no pending action.
+/// `Below(None)` says nothing.
 pub(crate) fn glance<V: View>(alloc: Global, view: &V, inc: u64) -> Result<Visit, Memory>
     requires { IsSound (V.rows view.now) (V.next_inc view.now) }
     ensures { IfOk result (IsGlance (V.rows view.now) inc) }
 {
-    let named = named_at(alloc, view, inc)?;
-    let child = next_free(alloc, view, inc, &named)?;
-    if child.is_some() {
-        return Ok(Visit::Below(child));
+    let first = free_child(alloc, view, inc, Look::Quick)?;
+    if first.is_some() {
+        return Ok(Visit::Below(first));
     }
     if is_last(alloc, view, inc)? {
         return Ok(Visit::Here);
     }
-    Ok(Visit::Below(None))
+    let child = free_child(alloc, view, inc, Look::Close)?;
+    Ok(Visit::Below(child))
 }
 
-/// The first child that isn't all shut, if it isn't named.
+/// The first child that isn't all shut, and on which nothing depends that isn't, as far as such a
+/// look tells. Nothing is said where the instance itself is shut: then what it uses isn't bound
+/// any more, and would be named still.
+fn free_child<V: View>(
+    alloc: Global,
+    view: &V,
+    parent: u64,
+    look: Look,
+) -> Result<Option<u64>, Memory>
+    requires { IsSound (V.rows view.now) (V.next_inc view.now) }
+    ensures { IfOk result (IsChosen (V.rows view.now) parent) }
+{
+    if !unshut(view, parent) {
+        return Ok(None);
+    }
+    match named_at(alloc, view, parent, look)? {
+        None => Ok(None),
+        Some(named) => next_free(alloc, view, parent, &named),
+    }
+}
+
+/// The first child that isn't all shut and isn't named.
 fn next_free<V: View>(
     alloc: Global,
     view: &V,
@@ -50,28 +71,35 @@ fn next_free<V: View>(
     named: &BTreeSet<u64>,
 ) -> Result<Option<u64>, Memory>
     requires sound { IsSound (V.rows view.now) (V.next_inc view.now) }
-    requires named { HasNamed (V.rows view.now) parent named.now }
+    requires named { HasBound (V.rows view.now) parent named.now }
     ensures { IfOk result (IsChosen (V.rows view.now) parent) }
 {
     let mut behind = None;
     while let Some(child) = view.next_child(parent, behind) {
-        let left = is_left(alloc, view, child)?;
-        if left {
-            return Ok(unless_named(child, named));
+        let free = is_free(alloc, view, child, named)?;
+        if free {
+            return Ok(Some(child));
         }
         behind = Some(child);
     }
     Ok(None)
 }
 
-/// The child, if it isn't named.
-fn unless_named(child: u64, named: &BTreeSet<u64>) -> Option<u64>
-    ensures { IfSome result (λ found. (found ≡ child) × (in_set named.now child ≡ false)) }
+/// Whether a child isn't named, and there is something to be shut at or below it.
+fn is_free<V: View>(
+    alloc: Global,
+    view: &V,
+    child: u64,
+    named: &BTreeSet<u64>,
+) -> Result<bool, Memory>
+    ensures unnamed { IfOk result (λ free. IsTrue free → in_set named.now child ≡ false) }
+    ensures left { IfOk result (λ free. IsTrue free →
+        is_subtree_shut (V.rows view.now) child ≡ false) }
 {
     if named.contains(&child) {
-        return None;
+        return Ok(false);
     }
-    Some(child)
+    is_left(alloc, view, child)
 }
 
 /// Whether there is something to be shut at or below an instance. Where it is shut itself, what
@@ -110,7 +138,7 @@ fn are_of_child(uses: &[Usage]) -> bool
 fn is_of_child(usage: &Usage) -> bool
     ensures { result ≡ (is_strong usage.now.dependency && is_from_child usage.now.from) }
 {
-    usage.dependency == Dependency::Strong && matches!(usage.from, Origin::Child(_))
+    of_strong(usage.dependency) && of_child(&usage.from)
 }
 
 /// Whether an instance isn't shut and has no pending action, and all below it is shut.

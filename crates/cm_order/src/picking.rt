@@ -48,8 +48,10 @@ pub enum Picked {
 /// there alone.
 ///
 /// It goes down from the outermost one, at each level into the first child that isn't all shut, as
-/// long as nothing there comes strongly from that child. That looks once at the declaration and the
-/// children of each level on the way, and at all below the instance that it comes to.
+/// long as nothing there that isn't shut strongly depends on that child. That looks once at the
+/// declaration and the children of each level on the way, and at all below the instance that it
+/// comes to. Where a child that isn't all shut is named only by children that are shut, it also
+/// looks at all below those, and once more at the level.
 ///
 /// Where that leads to no instance that may be picked, it searches, at each level into the first
 /// child that may be next. Then the graph of each level on the way is made once, and once more for

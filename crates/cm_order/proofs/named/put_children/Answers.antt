@@ -4,18 +4,18 @@ use Rattle.cm_order.proofs.Sources.{covering_first, covering_more, covering_ends
 use Rattle.cm_order.proofs.named.put_children.Goals as goal
 
 pub loop-child-init : goal.loop-child-init
-loop-child-init g c = covering_first (g.V.View.rows c.args.view.now) c.args.parent c.args.named.now
+loop-child-init g c = covering_first (g.V.View.rows c.args.view.now) c.args.asked.parent c.args.asked.look c.args.asked.wired c.args.named.now c.args.targets.now c.args.closed.now.items
 
 pub loop-child-smaller : goal.loop-child-smaller
 loop-child-smaller g c =
-    room_less (g.V.View.rows c.args.view.now) (g.V.View.next_inc c.args.view.now) c.args.parent c.in-Some.child c.loop-child.behind c.requires.orderly c.in-Some.ensures
+    room_less (g.V.View.rows c.args.view.now) (g.V.View.next_inc c.args.view.now) c.args.asked.parent c.in-Some.child c.loop-child.behind c.requires.orderly c.in-Some.ensures
 
 pub loop-child-preserved : goal.loop-child-preserved
 loop-child-preserved g c =
-    covering_more (g.V.View.rows c.args.view.now) (g.V.View.next_inc c.args.view.now) c.requires.orderly c.args.parent c.in-Some.child c.loop-child.behind c.args.named.now c.loop-child.named c.put_child.new.named c.loop-child.invariant c.in-Some.ensures c.in_ok-put_child.ensures.all c.in_ok-put_child.ensures.kept
+    covering_more (g.V.View.rows c.args.view.now) (g.V.View.next_inc c.args.view.now) c.requires c.args.asked.parent c.in-Some.child c.args.asked.look c.args.asked.wired c.loop-child.behind c.args.named.now c.loop-child.named c.put_child.new.named c.loop-child.targets c.put_child.new.targets c.loop-child.closed.items c.put_child.new.closed.items c.loop-child.invariant c.in-Some.ensures c.in_ok-put_child.ensures.seen c.in_ok-put_child.ensures.kept c.in_ok-put_child.ensures.texts c.in_ok-put_child.ensures.list
 
 pub returns : goal.returns
 returns g c = record {
-  all = covering_ends (g.V.View.rows c.args.view.now) c.args.parent c.loop-child.behind c.args.named.now c.loop-child.named c.loop-child.invariant (sym c.in_default.is ∙ c.next_child.ensures);
+  all = covering_ends (g.V.View.rows c.args.view.now) c.args.asked.parent c.args.asked.look c.args.asked.wired c.loop-child.behind c.args.named.now c.loop-child.named c.loop-child.targets c.loop-child.closed.items c.loop-child.invariant (sym c.in_default.is ∙ c.next_child.ensures);
   kept = c.loop-child.invariant.kept;
 }
