@@ -4,3 +4,4 @@ pub mod Graphs
 pub mod Refusing
 pub mod Taking
 pub mod Rings
+pub mod Further

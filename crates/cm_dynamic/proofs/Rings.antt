@@ -1,6 +1,6 @@
 -- Where nothing strongly comes from a child of a collection, no ring passes through one.
 use Rattle.std.proofs.Common.{◌≡◌, ℕ, List, [], ◌∷◌, ◌++◌, Bool, true, false, not, ◌&&◌, ◌||◌, true≢false, Option, Some, None, IsTrue, is_some, is_none, filter, flat_map, map, option_and_then, option_map, option_to_list, refl, sym, ◌∙◌, ap, subst, inl, inr}
-use Rattle.std.specs.List.{list_any, list_all, filter_map, cons_option}
+use Rattle.std.specs.List.{list_any, list_all, cons_option}
 use Rattle.std.specs.Option.{option_eq}
 use Rattle.std.specs.Str.{bytes_eq}
 use Rattle.std.proofs.lemmas.List.Folds.{list_any-append}
@@ -9,14 +9,13 @@ use Rattle.cm_decl.specs.declared.decl.Decl.{Decl}
 use Rattle.cm_decl.specs.declared.origin.Origin.{Origin}
 use Rattle.cm_decl.specs.declared.origin.Origin.TheVariants as origin
 use Rattle.cm_decl.specs.declared.rows.Give.{Give}
-use Rattle.cm_decl.specs.declared.rows.Offer.{Offer}
 use Rattle.cm_decl.specs.declared.rows.Usage.{Usage}
 use Rattle.cm_decl.specs.declared.node.DynChild.{DynChild}
 use Rattle.cm_decl.specs.declared.node.Node.{Node}
 use Rattle.cm_decl.specs.declared.node.Node.TheVariants.{Own, Child}
 use Rattle.cm_decl.specs.Same.{same_child, same_node}
-use Rattle.cm_decl.specs.Reach.{Way, NoCycle}
-use Rattle.cm_decl.specs.Graph.{is_node, is_strong, is_from_child, is_from_node, node_of, static_node, dynamic_node, target_of, offers_to, gives_of, own_sources, child_sources, sources_of, StrongOn}
+use Rattle.cm_decl.specs.Reach.{NoCycle}
+use Rattle.cm_decl.specs.Graph.{is_node, is_strong, is_from_child, is_from_node, static_node, dynamic_node, target_of, offers_to, gives_of, own_sources, child_sources, sources_of, StrongOn}
 use Rattle.cm_decl.proofs.Sameness.{and_first, and_second, or_split, never, same_child_exact, same_node_exact}
 use Rattle.cm_deps.proofs.Ways.{Way-map, last_step}
 use Rattle.cm_world.specs.declared.row.Row.{Row}
@@ -24,25 +23,25 @@ use Rattle.cm_world.specs.Rows.{row_of, decl_of, child_behind}
 use Rattle.cm_world.specs.Sound.{IsRising, IsOrderly}
 use Rattle.cm_world.specs.Create.{dynamic_name, dynamic_of, dynamic_children, dynamic_with}
 use Rattle.cm_world.proofs.Finding.{none_some, some_same}
-use Rattle.cm_dynamic.specs.Apart.{is_from_created, binds_created, is_plain_give, is_plain_offer, is_plain_use, is_plain_child, AreApart}
+use Rattle.cm_dynamic.specs.Apart.{is_from_created, is_plain_give, is_plain_use, is_plain_child, AreApart}
 use Rattle.cm_dynamic.specs.Siblings.{sibling_by, sibling_of, siblings_behind}
 use Rattle.cm_dynamic.proofs.Following.{next_behind, none_behind}
 
 -- ---- lists
 
-and_pair : (p q : Bool) → IsTrue p → IsTrue q → IsTrue (p && q)
+pub and_pair : (p q : Bool) → IsTrue p → IsTrue q → IsTrue (p && q)
 and_pair true q first second = second
 and_pair false q first second = never first
 
-or_left : (p q : Bool) → IsTrue p → IsTrue (p || q)
+pub or_left : (p q : Bool) → IsTrue p → IsTrue (p || q)
 or_left true q h = refl
 or_left false q h = never h
 
-or_right : (p q : Bool) → IsTrue q → IsTrue (p || q)
+pub or_right : (p q : Bool) → IsTrue q → IsTrue (p || q)
 or_right true q h = refl
 or_right false q h = h
 
-all_join : {A : Type 0} (p : A → Bool) (xs ys : List A) → IsTrue (list_all p xs) → IsTrue (list_all p ys) → IsTrue (list_all p (xs ++ ys))
+pub all_join : {A : Type 0} (p : A → Bool) (xs ys : List A) → IsTrue (list_all p xs) → IsTrue (list_all p ys) → IsTrue (list_all p (xs ++ ys))
 all_join p [] ys first second = second
 all_join p (x ∷ xs) ys first second =
     and_pair (p x) (list_all p (xs ++ ys)) (and_first (p x) (list_all p xs) first) (all_join p xs ys (and_second (p x) (list_all p xs) first) second)
@@ -63,13 +62,13 @@ all_flat p f s t more (x ∷ xs) all = by (t x) refl (all_flat p f s t more xs (
   by false e rest = rw e rest
 
 -- one that is kept, and what all pass of it
-record IsKept {A B : Type 0} (q : B → Bool) (f : A → B) (t s : A → Bool) : Type 0 where
-  item : A
-  here : IsTrue (q (f item))
-  passes : IsTrue (t item)
-  all : IsTrue (s item)
+pub record IsKept {A B : Type 0} (q : B → Bool) (f : A → B) (t s : A → Bool) : Type 0 where
+  pub item : A
+  pub here : IsTrue (q (f item))
+  pub passes : IsTrue (t item)
+  pub all : IsTrue (s item)
 
-one_kept : {A B : Type 0} (q : B → Bool) (f : A → B) (t s : A → Bool) (xs : List A) → IsTrue (list_any q (map f (filter t xs))) → IsTrue (list_all s xs) → IsKept q f t s
+pub one_kept : {A B : Type 0} (q : B → Bool) (f : A → B) (t s : A → Bool) (xs : List A) → IsTrue (list_any q (map f (filter t xs))) → IsTrue (list_all s xs) → IsKept q f t s
 one_kept q f t s [] any all = never any
 one_kept q f t s (x ∷ xs) any all = by (t x) refl (λ later. one_kept q f t s xs later (and_second (s x) (list_all s xs) all)) where
   by : (b : Bool) → t x ≡ b → (IsTrue (list_any q (map f (filter t xs))) → IsKept q f t s) → IsKept q f t s
@@ -81,7 +80,7 @@ one_kept q f t s (x ∷ xs) any all = by (t x) refl (λ later. one_kept q f t s 
 
 -- ---- nodes that aren't children of collections
 
-is_static : Node → Bool
+abbrev pub is_static : Node → Bool
 is_static Own = true
 is_static (Child c) = is_none c.coll
 
@@ -89,20 +88,19 @@ none_of : (o : Option (List ℕ)) → is_some o ≡ false → IsTrue (is_none o)
 none_of None e = refl
 none_of (Some x) e = absurd (true≢false e)
 
-some_not_none : {A : Type 0} (o : Option (List ℕ)) → IsTrue (is_some o) → IsTrue (is_none o) → A
+pub some_not_none : {A : Type 0} (o : Option (List ℕ)) → IsTrue (is_some o) → IsTrue (is_none o) → A
 some_not_none None some none = never some
 some_not_none (Some x) some none = never none
 
 some_node : (n y : Node) → IsTrue (option_eq same_node (Some n) (Some y)) → n ≡ y
 some_node n y same = same_node_exact n y same
 
-unbound : (s : Bool) (from : Bool) → IsTrue s → IsTrue (not (s && from)) → from ≡ false
+pub unbound : (s : Bool) (from : Bool) → IsTrue s → IsTrue (not (s && from)) → from ≡ false
 unbound true true strong plain = never plain
 unbound true false strong plain = refl
 unbound false from strong plain = never strong
 
-static_source : (y : Node) (from : Origin) → IsTrue (is_from_node y from) → is_from_created from ≡ false → IsTrue (is_static y)
-unfolding is_static
+pub static_source : (y : Node) (from : Origin) → IsTrue (is_from_node y from) → is_from_created from ≡ false → IsTrue (is_static y)
 static_source y origin.Own is plain = subst (λ n. IsTrue (is_static n)) (some_node Own y is) refl
 static_source y (origin.Child c) is plain = subst (λ n. IsTrue (is_static n)) (some_node (Child c) y is) (none_of c.coll plain)
 static_source y origin.Parent is plain = never is
@@ -114,10 +112,10 @@ module _ (d : Decl) (dynamic : List DynChild) (apart : AreApart d dynamic) where
   plain_gives c =
       all_flat is_plain_give (λ k. k.gives) is_plain_child (λ k. same_child k.name c) (λ k plain. and_second (is_some k.name.coll) (list_all is_plain_give k.gives) plain) dynamic apart.children
 
-  plain_offers : (c : ChildName) → IsTrue (list_all is_plain_give (offers_to d c))
+  pub plain_offers : (c : ChildName) → IsTrue (list_all is_plain_give (offers_to d c))
   plain_offers c = all_kept is_plain_give (λ o. o.give) (λ o. bytes_eq o.to (target_of c)) d.offers apart.offers
 
-  own_static : (y : Node) → IsTrue (list_any (is_from_node y) (own_sources d)) → IsTrue (is_static y)
+  pub own_static : (y : Node) → IsTrue (list_any (is_from_node y) (own_sources d)) → IsTrue (is_static y)
   own_static y any =
       let one : IsKept (is_from_node y) (λ (u : Usage). u.from) (λ u. is_strong u.dependency && is_from_child u.from) is_plain_use =
       one_kept (is_from_node y) (λ u. u.from) (λ u. is_strong u.dependency && is_from_child u.from) is_plain_use d.uses any apart.usages in
@@ -153,7 +151,6 @@ module _ (d : Decl) (dynamic : List DynChild) (apart : AreApart d dynamic) where
     by false e rest = rw e rest
 
   same_sources : (x : Node) → IsTrue (is_static x) → sources_of d dynamic x ≡ sources_of d [] x
-  unfolding is_static
   same_sources Own static = refl
   same_sources (Child c) static = ap (child_sources d c) (other_gives c static dynamic apart.children)
 
@@ -166,7 +163,6 @@ module _ (d : Decl) (dynamic : List DynChild) (apart : AreApart d dynamic) where
     by false e rest = rw e rest
 
   still_node : (x : Node) → IsTrue (is_static x) → IsTrue (is_node d dynamic x) → IsTrue (is_node d [] x)
-  unfolding is_static
   still_node Own static node = refl
   still_node (Child c) static node =
       elim (or_split (list_any (λ y. same_node y (Child c)) (Own ∷ map static_node d.children)) (list_any (λ y. same_node y (Child c)) (map dynamic_node dynamic))

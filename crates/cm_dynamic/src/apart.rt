@@ -1,15 +1,17 @@
 //! Children of collections that nothing strongly comes from.
 //!
-//! A ring of siblings that isn't one of the declaration alone passes through a child of a
-//! collection, from which something strongly comes. A declaration has no such source, so only an
-//! offer that was made to a child alone can close a ring: where there is none of that kind, no
-//! realm graph has to be made.
+//! A ring of siblings that isn't one of the declaration alone passes through children of
+//! collections, from each of which something strongly comes. A declaration has no such source, so
+//! only offers that were made to children alone can close a ring: where a new child has none of
+//! that kind, it stands in no ring, and no realm graph has to be made.
 
-ghost use Rattle.std.specs.Prelude.{◌≡◌, not, IsTrue, option_and_then, option_to_list};
+ghost use Rattle.std.specs.Prelude.{◌≡◌, ℕ, List as Seq, not, IsTrue, Some, option_and_then};
+ghost use Rattle.std.specs.Prelude.{option_to_list};
 ghost use Rattle.std.specs.List.{list_all};
-ghost use Rattle.cm_decl.specs.Graph.{is_strong as passes_strong};
+ghost use Rattle.cm_decl.specs.Graph.{StrongOn, is_strong as passes_strong};
+ghost use Rattle.cm_decl.specs.Reach.{NoCycle};
 ghost use Rattle.cm_world.specs.Create as spec;
-ghost use Rattle.cm_world.specs.Rows.{row_of};
+ghost use Rattle.cm_world.specs.Rows.{row_of, decl_of};
 ghost use Rattle.cm_world.specs.Sound.{IsOrderly};
 ghost use Rattle.cm_dynamic.specs.Apart as apart;
 ghost use Rattle.cm_dynamic.specs.Siblings.{sibling_of};
@@ -18,19 +20,44 @@ use cm_decl::{Decl, Give, Offer, Origin, Usage};
 use cm_names::Dependency;
 use cm_world::View;
 
-/// Whether nothing that the instance declares, nothing of these offers and nothing that one of its
-/// children was given alone comes strongly from a child of a collection. Each of them is looked at
-/// once, up to the first that does.
-pub(crate) fn are_apart<V: View>(view: &V, decl: &Decl, parent: u64, gives: &[Give]) -> bool
-    requires { IsOrderly (V.rows view.now) (V.next_inc view.now) }
+/// Whether a further child of the instance with these offers, in any of its collections, closes no
+/// ring, by tests that cost little: nothing that the instance declares and nothing of these offers
+/// comes strongly from a child of a collection. Unless it is known that its children make no ring
+/// now, nothing that one of them was given may come so either; then each of them is looked at, up
+/// to the first that does. `false` says nothing.
+pub(crate) fn closes_no_ring<V: View>(
+    view: &V,
+    decl: &Decl,
+    parent: u64,
+    gives: &[Give],
+    acyclic: bool,
+) -> bool
+    requires orderly { IsOrderly (V.rows view.now) (V.next_inc view.now) }
+    requires decl { Some decl.now ≡ decl_of (V.rows view.now) parent }
+    requires acyclic { IsTrue acyclic →
+        NoCycle (StrongOn decl.now (spec.dynamic_children (V.rows view.now) parent)) }
+    ensures { IsTrue result → (coll name : Seq ℕ) → NoCycle (StrongOn decl.now
+        (spec.dynamic_with (V.rows view.now) parent (spec.dynamic_name coll name) gives.now)) }
+{
+    if !is_apart(decl, gives) {
+        return false;
+    }
+    if acyclic {
+        return true;
+    }
+    are_children_plain(view, parent)
+}
+
+/// Whether nothing that the instance declares and nothing of these offers comes strongly from a
+/// child of a collection.
+fn is_apart(decl: &Decl, gives: &[Give]) -> bool
     ensures given { IsTrue result → IsTrue (list_all apart.is_plain_give gives.now) }
-    ensures apart { IsTrue result →
-        apart.AreApart decl.now (spec.dynamic_children (V.rows view.now) parent) }
+    ensures offers { IsTrue result → IsTrue (list_all apart.is_plain_offer decl.now.offers) }
+    ensures usages { IsTrue result → IsTrue (list_all apart.is_plain_use decl.now.uses) }
 {
     is_plain(gives)
         && are_offers_plain(decl.offers.as_slice())
         && are_uses_plain(decl.uses.as_slice())
-        && are_children_plain(view, parent)
 }
 
 /// Whether no child of the instance was given anything of a child of a collection strongly.

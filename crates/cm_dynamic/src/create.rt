@@ -1,15 +1,16 @@
 //! Whether a child may be created.
 
-ghost use Rattle.std.specs.Prelude.{◌≡◌, IfOk, List as Seq};
+ghost use Rattle.std.specs.Prelude.{◌≡◌, IfOk, IsTrue, Some, List as Seq};
 ghost use Rattle.std.specs.Option.{option_copied};
 ghost use Rattle.cm_decl.specs.declared.decl.Decl.{Decl as Declaration};
 ghost use Rattle.cm_decl.specs.declared.node.DynChild.{DynChild as Dynamic};
 ghost use Rattle.cm_decl.specs.Graph.{StrongOn};
 ghost use Rattle.cm_decl.specs.Reach.{NoCycle};
 ghost use Rattle.cm_world.specs.Create as spec;
+ghost use Rattle.cm_world.specs.Rows.{decl_of};
 ghost use Rattle.cm_dynamic.specs.Replies.{AnswersCreate, AnswersGraph, Refuses};
 
-use crate::apart::are_apart;
+use crate::apart::closes_no_ring;
 use crate::offers::bad_give;
 use crate::siblings::siblings_with;
 use cm_decl::{Collection, Decl, DynChild, Give, Node};
@@ -86,13 +87,52 @@ pub fn may_create<V: View>(
     ensures { IfOk result (AnswersCreate (V.rows view.now) free parent coll.now child.now
         gives.now) }
 {
+    may_create_by(alloc, view, free, false, parent, coll, child, gives)
+}
+
+/// The same where the children of the parent in its collections make no ring as they are, as in
+/// every sound tree. Then only a child that is itself offered something of a child of a collection
+/// strongly can close one, and for any other the children of the parent aren't gone through.
+pub fn may_create_acyclic<V: View>(
+    alloc: Global,
+    view: &V,
+    free: u32,
+    parent: u64,
+    coll: &Name,
+    child: &Name,
+    gives: &[Give],
+) -> Result<MayCreate, Memory>
+    requires { (d : Declaration) → Some d ≡ decl_of (V.rows view.now) parent →
+        NoCycle (StrongOn d (spec.dynamic_children (V.rows view.now) parent)) }
+    ensures { IfOk result (AnswersCreate (V.rows view.now) free parent coll.now child.now
+        gives.now) }
+{
+    may_create_by(alloc, view, free, true, parent, coll, child, gives)
+}
+
+/// The same, by whether it is known that the children of the parent make no ring.
+fn may_create_by<V: View>(
+    alloc: Global,
+    view: &V,
+    free: u32,
+    acyclic: bool,
+    parent: u64,
+    coll: &Name,
+    child: &Name,
+    gives: &[Give],
+) -> Result<MayCreate, Memory>
+    requires { IsTrue acyclic → (d : Declaration) → Some d ≡ decl_of (V.rows view.now) parent →
+        NoCycle (StrongOn d (spec.dynamic_children (V.rows view.now) parent)) }
+    ensures { IfOk result (AnswersCreate (V.rows view.now) free parent coll.now child.now
+        gives.now) }
+{
     if let Some(refusal) = refusal(view, parent, coll, child, gives)? {
         return Ok(refusal);
     }
     let Some(decl) = view.decl(parent) else {
         return Ok(MayCreate::Need(parent));
     };
-    if are_apart(view, decl, parent, gives) {
+    if closes_no_ring(view, decl, parent, gives, acyclic) {
         return Ok(by_room(free));
     }
     let name = name_in(coll, child)?;

@@ -17,5 +17,5 @@ pub mod laws;
 pub(crate) mod offers;
 pub(crate) mod siblings;
 
-pub use create::{MayCreate, may_create};
+pub use create::{MayCreate, may_create, may_create_acyclic};
 pub use destroy::{MayDestroy, may_destroy};

@@ -16,7 +16,7 @@ use Rattle.cm_world.proofs.Finding.{none_some, some_same}
 use Rattle.cm_world.proofs.Walks.{find-lives}
 use Rattle.cm_laws.proofs.sound.Expiries.{once_row}
 use Rattle.cm_steps.specs.Expiring.{doomed_if_dynamic, doomed_below}
-use Rattle.cm_steps.proofs.Behind.{next_of, IsNext, is_next, lives_on, behind_more}
+use Rattle.cm_walk.proofs.Behind.{next_of, IsNext, is_next, lives_on, behind_more}
 
 -- ---- what a loop over children has done so far
 

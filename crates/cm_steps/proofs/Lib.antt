@@ -1,7 +1,7 @@
 pub mod Kids
 pub mod Reading
-pub mod Behind
 pub mod Reporting
+pub mod Gathered
 pub mod Counts
 pub mod Going
 pub mod Stepping

@@ -1,6 +1,6 @@
 -- The replies to lists of children and to surveys, from what was read row by row.
-use Rattle.std.proofs.Common.{◌≡◌, ℕ, List, [], ◌∷◌, Bool, true, false, cond, not, ◌&&◌, bytes_eq, Option, Some, None, is_some, filter, map, option_map, option_and_then, refl, sym, ◌∙◌, ap}
-use Rattle.std.specs.List.{cons_option, filter_map}
+use Rattle.std.proofs.Common.{◌≡◌, ℕ, List, [], Bool, true, false, cond, not, ◌&&◌, bytes_eq, Option, Some, None, is_some, filter, map, option_map, option_and_then, refl, sym, ◌∙◌, ap}
+use Rattle.std.specs.List.{filter_map}
 use Rattle.std.specs.Option.{option_eq, option_map_or}
 use Rattle.cm_names.specs.declared.child.ChildName.{ChildName}
 use Rattle.cm_names.specs.declared.moniker.Moniker.{Moniker}
@@ -10,11 +10,12 @@ use Rattle.cm_world.specs.declared.view.Facts.{Facts}
 use Rattle.cm_world.specs.declared.report.Kid.{Kid}
 use Rattle.cm_world.specs.declared.report.SurveyRow.{SurveyRow}
 use Rattle.cm_world.specs.declared.reply.Reply.TheVariants.{Gone, Surveyed}
-use Rattle.cm_world.specs.Rows.{row_of, decl_of, name_of, moniker_of, has_parent, subtree, is_below, is_gone, is_resolved, is_on, is_shut, facts_of}
+use Rattle.cm_world.specs.Rows.{row_of, decl_of, name_of, moniker_of, has_parent, subtree, is_gone, is_resolved, is_on, is_shut, facts_of}
 use Rattle.cm_world.specs.Reports.{kid_by, kid_of, paths_used, survey_row, survey_reply}
 use Rattle.cm_world.proofs.Finding.{row_of-inc}
 use Rattle.cm_steps.specs.Reporting.{kid_as, kid_in, paths_by, surveyed_row}
 use Rattle.cm_steps.proofs.Reading.{told_of}
+use Rattle.cm_walk.proofs.Behind.{made_of}
 
 -- ---- lists of children
 
@@ -40,20 +41,18 @@ kid_found rows i coll f c found r e named is lives =
 
 -- ---- one row of a survey
 
-by_tests : (rows : List Row) (top i : ℕ) (a b : Bool) (r : Row) → is_below rows top i ≡ a → is_gone rows i ≡ b → row_of rows i ≡ Some r → surveyed_row rows top r ≡ cond (a && not b) (Some (survey_row rows r)) None
-by_tests rows top i a b r below gone lives =
-    ap (λ j. cond {A = Option SurveyRow} (is_below rows top j && not (is_gone rows j)) (Some (survey_row rows r)) None) (row_of-inc rows i r lives)
-    ∙ ap (λ t. cond {A = Option SurveyRow} (t && not (is_gone rows i)) (Some (survey_row rows r)) None) below
-    ∙ ap (λ t. cond {A = Option SurveyRow} (a && not t) (Some (survey_row rows r)) None) gone
+by_gone : (rows : List Row) (i : ℕ) (b : Bool) (r : Row) → is_gone rows i ≡ b → row_of rows i ≡ Some r → surveyed_row rows r ≡ cond (not b) (Some (survey_row rows r)) None
+by_gone rows i b r gone lives =
+    ap (λ j. cond {A = Option SurveyRow} (not (is_gone rows j)) (Some (survey_row rows r)) None) (row_of-inc rows i r lives)
+    ∙ ap (λ t. cond {A = Option SurveyRow} (not t) (Some (survey_row rows r)) None) gone
 
-pub not_below : (rows : List Row) (top i : ℕ) (r : Row) → is_below rows top i ≡ false → row_of rows i ≡ Some r → None ≡ surveyed_row rows top r
-not_below rows top i r out lives = sym (by_tests rows top i false (is_gone rows i) r out refl lives)
+-- a row that is gone isn't in it
+pub gone_unseen : (rows : List Row) (i : ℕ) (r : Row) → is_gone rows i ≡ true → row_of rows i ≡ Some r → None ≡ surveyed_row rows r
+gone_unseen rows i r gone lives = sym (by_gone rows i true r gone lives)
 
-pub gone_below : (rows : List Row) (top i : ℕ) (r : Row) → is_below rows top i ≡ true → is_gone rows i ≡ true → row_of rows i ≡ Some r → None ≡ surveyed_row rows top r
-gone_below rows top i r within gone lives = sym (by_tests rows top i true true r within gone lives)
-
-pub here_below : (rows : List Row) (top i : ℕ) (row : SurveyRow) (r : Row) → is_below rows top i ≡ true → is_gone rows i ≡ false → row ≡ survey_row rows r → row_of rows i ≡ Some r → Some row ≡ surveyed_row rows top r
-here_below rows top i row r within here made lives = ap Some made ∙ sym (by_tests rows top i true false r within here lives)
+-- another one is, as it was read
+pub here_seen : (rows : List Row) (i : ℕ) (row : SurveyRow) (r : Row) → is_gone rows i ≡ false → row ≡ survey_row rows r → row_of rows i ≡ Some r → Some row ≡ surveyed_row rows r
+here_seen rows i row r here made lives = ap Some made ∙ sym (by_gone rows i false r here lives)
 
 paths_are : (o : Option Decl) → paths_by o ≡ elim o as (λ _. List (List ℕ)) [ None ↦ [] | Some d ↦ map (λ u. u.path) d.uses ]
 paths_are None = refl
@@ -71,19 +70,7 @@ row_made rows i m resolved on shut paths r m_is resolved_is on_is shut_is paths_
 
 -- ---- a survey
 
-kept_at : {B : Type 0} (a b : Bool) (s q : Row → Bool) (f : Row → B) (x : Row) (xs : List Row) → q x ≡ b → filter_map (λ r. cond (s r && q r) (Some (f r)) None) xs ≡ map f (filter q (filter s xs)) → cons_option (cond (a && b) (Some (f x)) None) (filter_map (λ r. cond (s r && q r) (Some (f r)) None) xs) ≡ map f (filter q (cond a (x ∷ filter s xs) (filter s xs)))
-kept_at true true s q f x xs pass later =
-    ap (λ l. f x ∷ l) later ∙ sym (ap (λ t. map f (cond t (x ∷ filter q (filter s xs)) (filter q (filter s xs)))) pass)
-kept_at true false s q f x xs pass later =
-    later ∙ sym (ap (λ t. map f (cond t (x ∷ filter q (filter s xs)) (filter q (filter s xs)))) pass)
-kept_at false b s q f x xs pass later = later
-
--- what is made of the items that pass two tests
-kept_both : {B : Type 0} (s q : Row → Bool) (f : Row → B) (xs : List Row) → filter_map (λ r. cond (s r && q r) (Some (f r)) None) xs ≡ map f (filter q (filter s xs))
-kept_both s q f [] = refl
-kept_both s q f (x ∷ xs) = kept_at (s x) (q x) s q f x xs refl (kept_both s q f xs)
-
-pub survey_all : (rows : List Row) (top : ℕ) (seen : List SurveyRow) → is_gone rows top ≡ false → seen ≡ filter_map (surveyed_row rows top) rows → Surveyed seen ≡ survey_reply rows top
+pub survey_all : (rows : List Row) (top : ℕ) (seen : List SurveyRow) → is_gone rows top ≡ false → seen ≡ filter_map (surveyed_row rows) (subtree rows top) → Surveyed seen ≡ survey_reply rows top
 survey_all rows top seen here is =
-    ap Surveyed (is ∙ kept_both (λ r. is_below rows top r.inc) (λ r. not (is_gone rows r.inc)) (survey_row rows) rows)
+    ap Surveyed (is ∙ made_of (λ r. not (is_gone rows r.inc)) (survey_row rows) (subtree rows top))
     ∙ sym (ap (λ b. cond b (Gone top) (Surveyed (map (survey_row rows) (filter (λ r. not (is_gone rows r.inc)) (subtree rows top))))) here)

@@ -9,7 +9,7 @@ use Rattle.cm_world.specs.declared.row.Row.{Row}
 use Rattle.cm_world.specs.declared.report.Kid.{Kid}
 use Rattle.cm_world.specs.declared.report.Lost.{Lost}
 use Rattle.cm_world.specs.declared.report.SurveyRow.{SurveyRow}
-use Rattle.cm_world.specs.Rows.{is_gone, is_below}
+use Rattle.cm_world.specs.Rows.{is_gone}
 use Rattle.cm_world.specs.Reports.{survey_row}
 use Rattle.cm_world.specs.Marks.{lost_of}
 
@@ -28,11 +28,10 @@ abbrev pub paths_by : Option Decl → List (List ℕ)
 paths_by None = []
 paths_by (Some d) = map (λ u. u.path) d.uses
 
--- a row in the survey of another, if it is at or below that one and isn't gone
-abbrev pub surveyed_row : List Row → ℕ → Row → Option SurveyRow
-surveyed_row rows top r =
-    if is_below rows top r.inc && not (is_gone rows r.inc) then Some (survey_row rows r) else None
+-- a row in a survey, if it isn't gone
+abbrev pub surveyed_row : List Row → Row → Option SurveyRow
+surveyed_row rows r = if not (is_gone rows r.inc) then Some (survey_row rows r) else None
 
--- a row that is removed with another, if it is at or below that one
-abbrev pub lost_row : List Row → ℕ → Row → Option Lost
-lost_row rows top r = if is_below rows top r.inc then Some (lost_of rows r) else None
+-- a row that is removed with another
+abbrev pub lost_row : List Row → Row → Option Lost
+lost_row rows r = Some (lost_of rows r)

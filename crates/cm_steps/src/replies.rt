@@ -12,3 +12,4 @@ pub mod purging;
 pub mod reaping;
 pub mod showing;
 pub mod surveying;
+pub mod telling;

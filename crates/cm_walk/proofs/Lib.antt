@@ -1,5 +1,9 @@
 pub mod Monikers
 pub mod Up
+pub mod Behind
+pub mod Standing
+pub mod Adding
+pub mod Descending
 pub mod NoUse
 pub mod Sources
 pub mod Steps

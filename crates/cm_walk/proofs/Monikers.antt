@@ -1,12 +1,11 @@
 -- The names from the root down to an instance, gathered on the way up.
-use Rattle.std.proofs.Common.{◌≡◌, ℕ, zero, suc, ◌+◌, ◌<◌, List, [], ◌∷◌, ◌++◌, Option, Some, None, length, reverse, option_to_list, option_and_then, refl, sym, ◌∙◌, ap, arith, append_assoc, append-nil}
+use Rattle.std.proofs.Common.{◌≡◌, ℕ, zero, suc, ◌+◌, ◌<◌, List, [], ◌++◌, Option, Some, None, length, reverse, option_to_list, option_and_then, refl, sym, ◌∙◌, ap, arith, append_assoc}
 use Rattle.std.proofs.lemmas.List.{reverse-append}
 use Rattle.cm_names.specs.declared.child.ChildName.{ChildName}
 use Rattle.cm_world.specs.declared.row.Row.{Row}
 use Rattle.cm_world.specs.Rows.{row_of, names_to}
 use Rattle.cm_world.specs.Sound.{IsOrderly}
 use Rattle.cm_world.proofs.Climbing.{names_to-step, names_root}
-use Rattle.cm_world.proofs.Finding.{none_some}
 
 -- an incarnation, which falls on the way up, and at last none
 abbrev pub height : Option ℕ → ℕ

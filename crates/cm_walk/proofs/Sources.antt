@@ -1,5 +1,5 @@
 -- What comes from the parent of an instance.
-use Rattle.std.proofs.Common.{◌≡◌, ℕ, List, Option, Some, None, option_map, option_and_then, refl, sym, ◌∙◌, ap, subst}
+use Rattle.std.proofs.Common.{◌≡◌, ℕ, List, Option, Some, None, option_map, option_and_then, refl, sym, ◌∙◌, ap}
 use Rattle.cm_decl.specs.declared.decl.Decl.{Decl}
 use Rattle.cm_decl.specs.declared.kind.Kind.{Kind}
 use Rattle.cm_decl.specs.declared.rows.Give.{Give}

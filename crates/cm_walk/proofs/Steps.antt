@@ -1,9 +1,8 @@
 -- One station of a walk, and the whole of it.
-use Rattle.std.proofs.Common.{◌≡◌, ℕ, ◌<◌, List, [], ◌∷◌, ◌++◌, Bool, true, false, true≢false, Option, Some, None, Result, Ok, Err, IfOk, option_map, refl, sym, ◌∙◌, ap, subst}
+use Rattle.std.proofs.Common.{◌≡◌, ℕ, ◌<◌, List, [], ◌∷◌, ◌++◌, true, false, true≢false, Option, Some, None, Result, Ok, Err, IfOk, refl, sym, ◌∙◌, ap, subst}
 use Rattle.cm_decl.specs.Clashes.{or_else}
 use Rattle.cm_world.specs.declared.row.Row.{Row}
 use Rattle.cm_world.specs.declared.frame.Builtin.{Builtin}
-use Rattle.cm_world.specs.declared.route.Hop.{Hop}
 use Rattle.cm_world.specs.declared.route.Why.{Why}
 use Rattle.cm_world.specs.declared.route.Why.TheVariants.{NoInstance}
 use Rattle.cm_world.specs.declared.route.Walked.{Walked}

@@ -1,17 +1,13 @@
 -- What a trail keeps, station by station.
-use Rattle.std.proofs.Common.{◌≡◌, ℕ, List, [], ◌∷◌, ◌++◌, Bool, true, false, cond, if◌then◌else◌, Option, Some, None, map, reverse, slice_get, option_map, option_and_then, option_to_list, refl, sym, ◌∙◌, ap, subst, append-nil}
+use Rattle.std.proofs.Common.{◌≡◌, ℕ, List, [], ◌∷◌, ◌++◌, Bool, true, false, if◌then◌else◌, Option, Some, None, map, reverse, slice_get, option_and_then, option_to_list, refl, sym, ◌∙◌, ap, append-nil}
 use Rattle.std.specs.List.{filter_map, cons_option}
 use Rattle.std.proofs.lemmas.List.{reverse-append, map-append}
 use Rattle.std.proofs.lemmas.List.Elements.{filter_map-append}
-use Rattle.cm_names.specs.declared.availability.Availability.{Availability}
 use Rattle.cm_names.specs.Rights.{RightSet}
 use Rattle.cm_decl.specs.Clashes.{or_else}
 use Rattle.cm_world.specs.declared.route.Hop.{Hop}
 use Rattle.cm_world.specs.declared.route.Provider.{Provider}
 use Rattle.cm_world.specs.declared.route.Route.{Route}
-use Rattle.cm_world.specs.declared.route.Why.{Why}
-use Rattle.cm_world.specs.declared.route.Walked.{Walked}
-use Rattle.cm_world.specs.declared.route.Walked.TheVariants.{Failed}
 use Rattle.cm_world.specs.Stations.{Station}
 use Rattle.cm_world.specs.Route.{asked_rights, first_rights, standing, is_use, is_offer_or_expose, unless_fitting, unless_within, weak_availability, weak_rights, path_of, provider_of, route_of}
 use Rattle.cm_walk.specs.declared.trail.Trail.{Trail}

@@ -26,7 +26,7 @@ told rows i f e = told_by (row_of rows i) f e
 
 -- ---- a mark at a row or above it
 
-nothing_above : (n : ℕ) (p : Row → Bool) (rows : List Row) (i : ℕ) → row_of rows i ≡ None → at_or_above n p rows (Some i) ≡ false
+pub nothing_above : (n : ℕ) (p : Row → Bool) (rows : List Row) (i : ℕ) → row_of rows i ≡ None → at_or_above n p rows (Some i) ≡ false
 nothing_above zero p rows i none = refl
 nothing_above (suc n) p rows i none = rw (none, at_or_above) refl
 

@@ -1,3 +1,4 @@
 pub mod Marks
+pub mod Ahead
 pub mod Laws
 pub mod Walking

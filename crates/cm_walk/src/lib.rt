@@ -16,7 +16,9 @@ pub mod hop;
 pub mod laws;
 pub(crate) mod next;
 pub(crate) mod station;
+pub mod subtree;
 pub(crate) mod trail;
 pub mod walking;
 
+pub use subtree::rows_below;
 pub use walking::walk;

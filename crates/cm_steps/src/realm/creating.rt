@@ -13,6 +13,7 @@ use crate::nostep::NoStep;
 use crate::replies::creating::{CreateAnswer, child_name, create_answer};
 use crate::rooms::add_row;
 use cm_decl::Give;
+use cm_laws::trees_stay_sound;
 use cm_names::{List, Memory, Name, Text};
 use cm_world::{Entry, Event, Reply};
 use std::alloc::Global;
@@ -65,6 +66,7 @@ impl Realm {
             IfOk result (CreatesBy w.frame.limits.rows w.rows w.next_inc parent coll.now name.now
             gives.now) }
     {
+        trees_stay_sound();
         create_answer(alloc, &self.table, parent, coll, name, gives)
     }
 

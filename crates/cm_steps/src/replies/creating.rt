@@ -2,11 +2,12 @@
 
 ghost use Rattle.std.specs.Prelude.{◌≡◌, IfOk};
 ghost use Rattle.cm_world.specs.Create.{dynamic_name};
+ghost use Rattle.cm_world.specs.Sound.{IsSound};
 ghost use Rattle.cm_steps.specs.Answers.{CreatesBy, IsAnswerOf};
 
 use cm_decl::Give;
 use cm_dynamic::laws::parents_can_take;
-use cm_dynamic::{MayCreate, may_create};
+use cm_dynamic::{MayCreate, may_create_acyclic};
 use cm_names::{ChildName, Memory, Name};
 use cm_table::Table;
 use cm_world::Reply;
@@ -21,7 +22,7 @@ pub enum CreateAnswer {
     Creates,
 }
 
-/// What a create comes to.
+/// What a create comes to, in a sound tree.
 pub fn create_answer(
     alloc: Global,
     table: &Table,
@@ -30,11 +31,12 @@ pub fn create_answer(
     name: &Name,
     gives: &[Give],
 ) -> Result<CreateAnswer, Memory>
+    requires { IsSound table.now.rows table.now.next_inc }
     ensures { let t = table.now in
         IfOk result (CreatesBy t.limit t.rows t.next_inc parent coll.now name.now gives.now) }
 {
     parents_can_take();
-    let may = may_create(alloc, table, table.free(), parent, coll, name, gives)?;
+    let may = may_create_acyclic(alloc, table, table.free(), parent, coll, name, gives)?;
     Ok(answer_of(may))
 }
 

@@ -1,16 +1,12 @@
 //! What a purge comes to.
 
-ghost use Rattle.std.specs.Prelude.{◌≡◌, IfOk, Some};
-ghost use Rattle.std.specs.List.{filter_map};
-ghost use Rattle.cm_world.specs.declared.row.Row.{Row};
-ghost use Rattle.cm_world.specs.Rows.{row_of, is_live};
+ghost use Rattle.std.specs.Prelude.{◌≡◌, IfOk};
+ghost use Rattle.cm_world.specs.Rows.{is_live};
 ghost use Rattle.cm_steps.specs.Answers.{AnswersPurge};
-ghost use Rattle.cm_steps.specs.Reporting as spec;
 
-use crate::replies::beginning::push_found;
+use crate::replies::telling::{Told, told_below};
 use cm_names::{List, Memory};
 use cm_table::Table;
-use cm_walk::above::below;
 use cm_walk::hop::moniker;
 use cm_world::{Lost, View};
 use std::alloc::Global;
@@ -31,7 +27,7 @@ pub fn purge_answer(alloc: Global, table: &Table, inc: u64) -> Result<PurgeAnswe
     if !lives(table, inc) {
         return Ok(PurgeAnswer::Before);
     }
-    let lost = lost_rows(alloc, table, inc)?;
+    let lost = told_below(alloc, table, inc)?;
     Ok(PurgeAnswer::Removes(lost))
 }
 
@@ -45,30 +41,13 @@ fn lives<V: View>(view: &V, inc: u64) -> bool
     }
 }
 
-/// The instances at and below the given one, by their incarnations.
-fn lost_rows(alloc: Global, table: &Table, top: u64) -> Result<List<Lost>, Memory>
-    ensures { let rows = table.now.rows in
-        IfOk result (λ lost. lost ≡ filter_map (spec.lost_row rows top) rows) }
-{
-    let mut lost = List::new(alloc);
-    let mut after = None;
-    'next: while let Some(inc) = table.next_instance(after) {
-        let found = lost_row(alloc, table, top, inc)?;
-        push_found(&mut lost, found)?;
-        after = Some(inc);
-    }
-    Ok(lost)
-}
+impl Told for Lost {
+    ghost use Rattle.cm_steps.specs.Reporting.{lost_row};
 
-/// An instance as one that is removed with another, if it is at or below that one.
-fn lost_row<V: View>(alloc: Global, view: &V, top: u64, inc: u64) -> Result<Option<Lost>, Memory>
-    ensures { let rows = V.rows view.now in
-        IfOk result (λ found. (r : Row) → row_of rows inc ≡ Some r
-        → found ≡ spec.lost_row rows top r) }
-{
-    if !below(view, top, inc) {
-        return Ok(None);
+    ghost told_of = { lost_row };
+
+    fn told(alloc: Global, table: &Table, inc: u64) -> Result<Option<Lost>, Memory> {
+        let moniker = moniker(alloc, table, inc)?;
+        Ok(Some(Lost { inc, moniker }))
     }
-    let moniker = moniker(alloc, view, inc)?;
-    Ok(Some(Lost { inc, moniker }))
 }

@@ -1,17 +1,16 @@
 //! The reply to who asks how an instance and all below it are.
 
 ghost use Rattle.std.specs.Prelude.{◌≡◌, IfOk, Some, map};
-ghost use Rattle.std.specs.List.{filter_map};
 ghost use Rattle.cm_world.specs.declared.row.Row.{Row};
 ghost use Rattle.cm_world.specs.Rows.{row_of, decl_of};
 ghost use Rattle.cm_world.specs.Reports as reports;
 ghost use Rattle.cm_steps.specs.Reporting as spec;
 
-use crate::replies::beginning::push_found;
+use crate::replies::telling::{Told, told_below};
 use cm_decl::Usage;
 use cm_names::{CapPath, List, Memory};
 use cm_table::Table;
-use cm_walk::above::{below, gone, on, resolved, shut};
+use cm_walk::above::{gone, on, resolved, shut};
 use cm_walk::hop::moniker;
 use cm_world::{Reply, SurveyRow, View};
 use std::alloc::Global;
@@ -23,44 +22,22 @@ pub fn surveyed(alloc: Global, table: &Table, inc: u64) -> Result<Reply, Memory>
     if gone(table, inc) {
         return Ok(Reply::Gone(inc));
     }
-    let rows = survey_rows(alloc, table, inc)?;
+    let rows = told_below(alloc, table, inc)?;
     Ok(Reply::Surveyed(rows))
 }
 
-/// The instances at and below the given one that aren't gone, by their incarnations.
-fn survey_rows(alloc: Global, table: &Table, top: u64) -> Result<List<SurveyRow>, Memory>
-    ensures { let rows = table.now.rows in
-        IfOk result (λ told. told ≡ filter_map (spec.surveyed_row rows top) rows) }
-{
-    let mut told = List::new(alloc);
-    let mut after = None;
-    'next: while let Some(inc) = table.next_instance(after) {
-        let found = surveyed_row(alloc, table, top, inc)?;
-        push_found(&mut told, found)?;
-        after = Some(inc);
-    }
-    Ok(told)
-}
+impl Told for SurveyRow {
+    ghost use Rattle.cm_steps.specs.Reporting.{surveyed_row};
 
-/// An instance in the survey of another, if it is at or below that one and isn't gone.
-fn surveyed_row<V: View>(
-    alloc: Global,
-    view: &V,
-    top: u64,
-    inc: u64,
-) -> Result<Option<SurveyRow>, Memory>
-    ensures { let rows = V.rows view.now in
-        IfOk result (λ found. (r : Row) → row_of rows inc ≡ Some r
-        → found ≡ spec.surveyed_row rows top r) }
-{
-    if !below(view, top, inc) {
-        return Ok(None);
+    ghost told_of = { surveyed_row };
+
+    fn told(alloc: Global, table: &Table, inc: u64) -> Result<Option<SurveyRow>, Memory> {
+        if gone(table, inc) {
+            return Ok(None);
+        }
+        let row = survey_row(alloc, table, inc)?;
+        Ok(Some(row))
     }
-    if gone(view, inc) {
-        return Ok(None);
-    }
-    let row = survey_row(alloc, view, inc)?;
-    Ok(Some(row))
 }
 
 /// How an instance is, with the paths that it uses.

@@ -1,4 +1,4 @@
-use Rattle.std.proofs.Common.{◌≡◌, IsTrue, sym, ◌∙◌, ap, subst}
+use Rattle.std.proofs.Common.{IsTrue, sym, ◌∙◌, subst}
 use Rattle.std.specs.List.{list_all}
 use Rattle.cm_dynamic.specs.Apart.{is_plain_give}
 use Rattle.cm_dynamic.proofs.Rings.{given_plain, none_plain}

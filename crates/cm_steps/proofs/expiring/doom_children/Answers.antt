@@ -4,7 +4,7 @@ use Rattle.cm_world.specs.Rows.{has_parent}
 use Rattle.cm_table.specs.Tree.{Tree}
 use Rattle.cm_table.specs.Change.{with_changed}
 use Rattle.cm_steps.specs.Expiring.{doomed_if_dynamic}
-use Rattle.cm_steps.proofs.Behind.{next_of, left_falls}
+use Rattle.cm_walk.proofs.Behind.{next_of, left_falls}
 use Rattle.cm_steps.proofs.Dooming.{doomed_up_to, up_first, up_more, up_all, next_same}
 use Rattle.cm_steps.proofs.expiring.doom_children.Goals as goal
 

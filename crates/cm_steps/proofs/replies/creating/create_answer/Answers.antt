@@ -1,6 +1,10 @@
 use Rattle.std.proofs.Common.{arith}
-use Rattle.cm_steps.proofs.Creations.{creates_by}
+use Rattle.cm_steps.proofs.Creations.{creates_by, siblings_acyclic}
 use Rattle.cm_steps.proofs.replies.creating.create_answer.Goals as goal
+
+pub may_create_acyclic-requires : goal.may_create_acyclic-requires
+may_create_acyclic-requires c = λ d found.
+    siblings_acyclic c.args.table.now.rows c.args.table.now.next_inc c.args.parent d c.requires found
 
 pub returns : goal.returns
 returns c =

@@ -1,11 +1,9 @@
 use Rattle.std.proofs.Common.{Option, None, refl, sym, subst}
 use Rattle.cm_world.specs.Create.{dynamic_name, dynamic_with, refused_create}
-use Rattle.cm_dynamic.specs.Apart.{AreApart}
 use Rattle.cm_dynamic.specs.Replies.{AnswersCreate, AnswersGraph, Refuses}
 use Rattle.cm_dynamic.specs.declared.create.MayCreate.{MayCreate}
 use Rattle.cm_dynamic.proofs.Refusing.{is_refused, is_resolved, is_by_graph, if_ok}
-use Rattle.cm_dynamic.proofs.Rings.{apart_acyclic, decl_acyclic, one_more_apart}
-use Rattle.cm_dynamic.proofs.create.may_create.Goals as goal
+use Rattle.cm_dynamic.proofs.create.may_create_by.Goals as goal
 
 pub returns-in-Some : goal.returns-in-Some
 returns-in-Some g c =
@@ -19,18 +17,21 @@ returns-in_default-decl g c =
     let refuses : Refuses None (refused_create rows c.args.parent c.args.coll.now c.args.child.now c.args.gives.now) = subst (λ (o : Option MayCreate). Refuses o (refused_create rows c.args.parent c.args.coll.now c.args.child.now c.args.gives.now)) c.in_default.is c.in_ok-refusal.ensures in
     absurd (is_resolved rows c.args.parent c.args.coll.now c.args.child.now c.args.gives.now refuses (sym c.in_default-decl.ensures.decl))
 
-pub are_apart-requires : goal.are_apart-requires
-are_apart-requires g c = c.in-Some-decl.ensures.orderly
+pub closes_no_ring-requires : goal.closes_no_ring-requires
+closes_no_ring-requires g c = record {
+  orderly = c.in-Some-decl.ensures.orderly;
+  decl = c.in-Some-decl.ensures.decl;
+  acyclic = λ known. c.requires known c.in-Some-decl.decl.now c.in-Some-decl.ensures.decl;
+}
 
-pub returns-then-are_apart : goal.returns-then-are_apart
-returns-then-are_apart g c =
+pub returns-then-closes_no_ring : goal.returns-then-closes_no_ring
+returns-then-closes_no_ring g c =
     let rows = g.V.View.rows c.args.view.now in
     let d = c.in-Some-decl.decl.now in
     let refuses : Refuses None (refused_create rows c.args.parent c.args.coll.now c.args.child.now c.args.gives.now) = subst (λ (o : Option MayCreate). Refuses o (refused_create rows c.args.parent c.args.coll.now c.args.child.now c.args.gives.now)) c.in_default.is c.in_ok-refusal.ensures in
     let dynamic = dynamic_with rows c.args.parent (dynamic_name c.args.coll.now c.args.child.now) c.args.gives.now in
-    let apart : AreApart d dynamic = one_more_apart rows c.args.parent c.args.coll.now c.args.child.now d c.args.gives.now (c.are_apart.ensures.apart c.if-are_apart.true) (c.are_apart.ensures.given c.if-are_apart.true) in
     is_by_graph rows c.args.free c.args.parent c.args.coll.now c.args.child.now c.args.gives.now d (dynamic_name c.args.coll.now c.args.child.now) dynamic dynamic c.by_room.result refuses (sym c.in-Some-decl.ensures.decl) refl refl refl
-    (c.by_room.ensures d dynamic (apart_acyclic d dynamic apart (decl_acyclic rows (g.V.View.next_inc c.args.view.now) c.args.parent d c.in-Some-decl.ensures.orderly c.in-Some-decl.ensures.decl)))
+    (c.by_room.ensures d dynamic (c.closes_no_ring.ensures c.if-closes_no_ring.true c.args.coll.now c.args.child.now))
 
 pub returns : goal.returns
 returns g c =

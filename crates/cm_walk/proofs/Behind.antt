@@ -1,9 +1,9 @@
 -- The rows that stand behind one, and what is taken from row after row.
-use Rattle.std.proofs.Common.{◌≡◌, ℕ, suc, ◌<◌, List, [], ◌∷◌, ◌++◌, Bool, true, false, cond, ◌&&◌, ◌==◌, Option, Some, None, IsSome, is_some, find, filter, length, option_map, option_to_list, refl, sym, ◌∙◌, ap, subst, arith, append_assoc, append-nil}
+use Rattle.std.proofs.Common.{◌≡◌, ℕ, suc, ◌<◌, List, [], ◌∷◌, ◌++◌, Bool, true, false, cond, ◌&&◌, ◌==◌, Option, Some, None, IsSome, is_some, find, filter, map, length, option_map, option_to_list, refl, sym, ◌∙◌, ap, subst, arith, append_assoc, append-nil}
 use Rattle.std.specs.List.{cons_option, filter_map}
 use Rattle.std.specs.Cmp.{unsigned_Decides}
 use Rattle.std.proofs.lemmas.Bool.{lt-ltb, le-ltb, ltb-true}
-use Rattle.cm_decl.proofs.Sameness.{and_first}
+use Rattle.cm_decl.proofs.Sameness.{and_first, and_second}
 use Rattle.cm_world.specs.declared.row.Row.{Row}
 use Rattle.cm_world.specs.Rows.{row_of, is_behind}
 use Rattle.cm_world.specs.Sound.{IsRising, IsOrderly}
@@ -92,6 +92,7 @@ pub record IsNext (p : Row → Bool) (after : Option ℕ) (rows : List Row) (j :
   pub lives : row_of rows j ≡ Some row
   pub inc : row.inc ≡ j
   pub passes : p row ≡ true
+  pub later : is_behind after j ≡ true
 
 row_by : (p : Row → Bool) (after : Option ℕ) (rows : List Row) (next j : ℕ) (o : Option Row) → IsRising next rows → find (λ r. p r && is_behind after r.inc) rows ≡ o → option_map (λ r. r.inc) o ≡ Some j → IsNext p after rows j
 row_by p after rows next j None rising f e = absurd (none_some j e)
@@ -101,6 +102,7 @@ row_by p after rows next j (Some r) rising f e = record {
   lives = subst (λ i. row_of rows i ≡ Some r) (some_same r.inc j e) (find-lives (λ s. p s && is_behind after s.inc) rows next r rising f);
   inc = some_same r.inc j e;
   passes = and_first (p r) (is_behind after r.inc) (find-passes (λ s. p s && is_behind after s.inc) rows r f);
+  later = subst (λ i. is_behind after i ≡ true) (some_same r.inc j e) (and_second (p r) (is_behind after r.inc) (find-passes (λ s. p s && is_behind after s.inc) rows r f));
 }
 
 pub is_next : (p : Row → Bool) (after : Option ℕ) (rows : List Row) (next j : ℕ) → IsOrderly rows next → next_of p after rows ≡ Some j → IsNext p after rows j
@@ -120,7 +122,8 @@ taken_more p g rows next j after seen more found orderly none e is pushed so_far
 pub taken_first : {B : Type 0} (g : Row → Option B) (rows : List Row) → [] ++ filter_map g (behind None rows) ≡ filter_map g rows
 taken_first g rows = ap (filter_map g) (all_behind None rows (λ s h. refl))
 
-none_by : (o : Option Row) → option_map (λ r. r.inc) o ≡ None → o ≡ None
+-- where none is told, none is found
+pub none_by : (o : Option Row) → option_map (λ r. r.inc) o ≡ None → o ≡ None
 none_by None e = refl
 none_by (Some r) e = absurd (none_some r.inc (sym e))
 
@@ -128,6 +131,17 @@ none_by (Some r) e = absurd (none_some r.inc (sym e))
 pub taken_all : {B : Type 0} (p : Row → Bool) (g : Row → Option B) (rows : List Row) (after : Option ℕ) (seen : List B) → ((y : Row) → p y ≡ false → g y ≡ None) → next_of p after rows ≡ None → seen ++ filter_map g (behind after rows) ≡ filter_map g rows → seen ≡ filter_map g rows
 taken_all p g rows after seen none e so_far =
     sym (ap (λ l. seen ++ l) (none_left p g after rows none (none_by (find (λ r. p r && is_behind after r.inc) rows) e)) ∙ append-nil seen) ∙ so_far
+
+-- ---- what is made of those that pass
+
+made_by : {A B : Type 0} (t : Bool) (p : A → Bool) (f : A → B) (x : A) (xs : List A) → filter_map (λ y. cond (p y) (Some (f y)) None) xs ≡ map f (filter p xs) → cons_option (cond t (Some (f x)) None) (filter_map (λ y. cond (p y) (Some (f y)) None) xs) ≡ map f (cond t (x ∷ filter p xs) (filter p xs))
+made_by true p f x xs later = ap (λ l. f x ∷ l) later
+made_by false p f x xs later = later
+
+-- what is made of the items that pass a test, one by one
+pub made_of : {A B : Type 0} (p : A → Bool) (f : A → B) (xs : List A) → filter_map (λ y. cond (p y) (Some (f y)) None) xs ≡ map f (filter p xs)
+made_of p f [] = refl
+made_of p f (x ∷ xs) = made_by (p x) p f x xs (made_of p f xs)
 
 -- ---- how many are left
 
