@@ -1,0 +1,6 @@
+pub mod Placing
+pub mod Reading
+pub mod Staying
+pub mod Folding
+pub mod Putting
+pub mod Caching

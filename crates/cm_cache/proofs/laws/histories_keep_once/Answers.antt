@@ -1,0 +1,5 @@
+use Rattle.cm_cache.proofs.Folding.{histories_keep_once}
+use Rattle.cm_cache.proofs.laws.histories_keep_once.Goals as goal
+
+pub returns : goal.returns
+returns c = histories_keep_once

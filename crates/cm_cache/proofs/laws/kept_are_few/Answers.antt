@@ -1,0 +1,5 @@
+use Rattle.cm_cache.proofs.Folding.{kept_are_few}
+use Rattle.cm_cache.proofs.laws.kept_are_few.Goals as goal
+
+pub returns : goal.returns
+returns c = kept_are_few

@@ -1,0 +1,5 @@
+use Rattle.cm_cache.proofs.Reading.{walks_read_bare_rows}
+use Rattle.cm_cache.proofs.laws.walks_read_bare_rows.Goals as goal
+
+pub returns : goal.returns
+returns c = walks_read_bare_rows

@@ -1,0 +1,5 @@
+use Rattle.cm_cache.proofs.Staying.{bare_rows_stay, walks_stay}
+use Rattle.cm_cache.proofs.laws.walks_stay.Goals as goal
+
+pub returns : goal.returns
+returns c = record { bare = bare_rows_stay; walks = walks_stay }

@@ -1,0 +1,124 @@
+-- Which answers a legal history keeps, and how often a kept answer was there for one who asked.
+use Rattle.std.specs.Prelude.{◌≡◌, ℕ, ◌+◌, List, [], ◌∷◌, ◌++◌, Bool, true, false, not, ◌&&◌, ◌||◌, ◌==◌}
+use Rattle.std.specs.Prelude.{nat_le, length, Option, Some, None, if◌then◌else◌}
+use Rattle.std.specs.List.{list_any}
+use Rattle.std.specs.Str.{bytes_eq}
+use Rattle.cm_world.specs.declared.frame.Frame.{Frame}
+use Rattle.cm_world.specs.declared.action.Outcome.TheVariants as outcome
+use Rattle.cm_world.specs.declared.event.Event.{Event}
+use Rattle.cm_world.specs.declared.event.Event.TheVariants.{Route, OpenUse, End}
+use Rattle.cm_world.specs.declared.reply.Entry.{Entry}
+use Rattle.cm_world.specs.declared.reply.Reply.{Reply}
+use Rattle.cm_world.specs.declared.reply.Reply.TheVariants.{Ended, Created, Purged}
+use Rattle.cm_world.specs.declared.route.Start.TheVariants.{UseAt}
+use Rattle.cm_world.specs.declared.route.Walked.{Walked}
+use Rattle.cm_world.specs.declared.route.Walked.TheVariants.{Need, Given}
+use Rattle.cm_world.specs.Rows.{is_gone, is_resolved, is_on}
+use Rattle.cm_world.specs.Route.{IsWalked}
+use Rattle.cm_world.specs.World.{World, start}
+use Rattle.cm_world.specs.After.{after, dooms}
+use Rattle.cm_cache.specs.Answers.{most}
+
+-- the use of a path by an instance
+pub record Asked : Type 0 where
+  pub inc : ℕ
+  pub path : List ℕ
+
+-- the uses whose answers are kept, in the order in which they came, and how many answers were there
+pub record Kept : Type 0 where
+  pub uses : List Asked
+  pub number : ℕ
+
+abbrev pub nothing : Kept
+nothing = record { uses = []; number = 0 }
+
+abbrev pub is_use : Asked → Asked → Bool
+is_use u v = (v.inc == u.inc) && bytes_eq v.path u.path
+
+abbrev pub has_use : List Asked → Asked → Bool
+has_use uses u = list_any (is_use u) uses
+
+-- ---- an entry that asks
+
+-- an instance that isn't gone and is resolved
+abbrev pub is_ready : World → ℕ → Bool
+is_ready w i = not (is_gone w.rows i) && is_resolved w.rows i
+
+abbrev pub asks_if : Bool → ℕ → List ℕ → Option Asked
+asks_if ready i path = if ready then Some (record { inc = i; path = path }) else None
+
+-- the use that an entry asks for: one of an instance that is ready, and for an opening is on
+abbrev pub asked_by : World → Event → Option Asked
+asked_by w (Route i path) = asks_if (is_ready w i) i path
+asked_by w (OpenUse i path) = asks_if (is_ready w i && is_on w.rows i) i path
+asked_by w _ = None
+
+-- whether an answer is kept: it waits for no declaration, and is no route of more than 64 hops
+abbrev pub is_lasting : Walked → Bool
+is_lasting (Need j) = false
+is_lasting (Given route) = nat_le (length route.hops) 64
+is_lasting _ = true
+
+-- the uses with one more; a full list is emptied first
+abbrev pub with_use : Asked → List Asked → List Asked
+with_use u uses = if nat_le most (length uses) then u ∷ [] else uses ++ u ∷ []
+
+-- behind an entry that asks for a use whose walk comes to this answer: where the use is kept, its answer was
+-- there once more; else it is kept from now on, if its answer lasts
+abbrev pub counted_for : Asked → Walked → Kept → Kept
+counted_for u v kept =
+    if has_use kept.uses u then record kept { number = kept.number + 1 }
+    else if is_lasting v then record kept { uses = with_use u kept.uses }
+    else kept
+
+-- ---- an entry that empties what is kept
+
+-- the end of an action by which an instance is resolved
+abbrev pub resolves : Event → Reply → Bool
+resolves (End a finish) (Ended outcome.Resolved) = true
+resolves event reply = false
+
+-- a reply by which an instance came, or instances went
+abbrev pub comes_or_goes : Reply → Bool
+comes_or_goes (Created i) = true
+comes_or_goes (Purged lost) = true
+comes_or_goes reply = false
+
+-- whether an entry dooms an instance that lives behind it
+abbrev pub dooms_some : World → Entry → Bool
+dooms_some w e = list_any (λ r. dooms w e r.inc) (after w e).rows
+
+abbrev pub forgets : World → Entry → Bool
+forgets w e = resolves e.event e.reply || comes_or_goes e.reply || dooms_some w e
+
+abbrev pub emptied : Kept → Kept
+emptied kept = record kept { uses = [] }
+
+-- ---- histories
+
+-- behind an entry that doesn't ask
+abbrev pub forgetting : World → Entry → Kept → Kept
+forgetting w e kept = if forgets w e then emptied kept else kept
+
+-- behind an entry that asks for this use, if it asks
+abbrev pub KeepsBy : Option Asked → World → Entry → Kept → Kept → Type 0
+KeepsBy None w e old new = new ≡ forgetting w e old
+KeepsBy (Some u) w e old new =
+    (v : Walked) × IsWalked w.rows w.frame.builtins (UseAt u.inc u.path) v × (new ≡ counted_for u v old)
+
+-- behind an entry that is made in this world
+abbrev pub Keeps : World → Entry → Kept → Kept → Type 0
+Keeps w e old new = KeepsBy (asked_by w e.event) w e old new
+
+-- entry by entry
+abbrev pub KeepsAll : World → List Entry → Kept → Kept → Type 0
+KeepsAll w [] old new = new ≡ old
+KeepsAll w (e ∷ es) old new = (mid : Kept) × Keeps w e old mid × KeepsAll (after w e) es mid new
+
+-- what a history from a frame keeps; it begins with nothing
+abbrev pub IsKeptOf : Frame → List Entry → Kept → Type 0
+IsKeptOf f es kept = KeepsAll (start f) es nothing kept
+
+-- and how many answers were there
+abbrev pub IsKeptNumber : Frame → List Entry → ℕ → Type 0
+IsKeptNumber f es n = (kept : Kept) × IsKeptOf f es kept × (kept.number ≡ n)

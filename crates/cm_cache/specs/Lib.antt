@@ -1,0 +1,5 @@
+pub mod Answers
+pub mod Places
+pub mod Keeping
+pub mod Right
+pub mod Laws

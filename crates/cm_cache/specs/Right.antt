@@ -1,0 +1,22 @@
+-- Answers that are those of the walks in a tree, and what of a tree walks read.
+use Rattle.std.specs.Prelude.{List, [], ◌∷◌, false, None, map}
+use Rattle.cm_world.specs.declared.row.Row.{Row}
+use Rattle.cm_world.specs.declared.frame.Builtin.{Builtin}
+use Rattle.cm_world.specs.declared.route.Start.TheVariants.{UseAt}
+use Rattle.cm_world.specs.Route.{IsWalked}
+use Rattle.cm_cache.specs.declared.answer.Answer.{Answer}
+use Rattle.cm_cache.specs.Keeping.{Asked}
+
+-- the uses that answers were put for
+abbrev pub uses_of : List Answer → List Asked
+uses_of answers = map (λ a. record { inc = a.inc; path = a.path }) answers
+
+-- each answer is that of the walk in this tree
+abbrev pub AreRight : List Row → List Builtin → List Answer → Type 0
+AreRight rows builtins [] = Unit {0}
+AreRight rows builtins (a ∷ rest) =
+    IsWalked rows builtins (UseAt a.inc a.path) a.walked × AreRight rows builtins rest
+
+-- a row without what no walk reads: whether it is on, its pending action, whether it is closing and shut
+abbrev pub bare : Row → Row
+bare r = record r { on = false; pending = None; closing = false; shut = false }

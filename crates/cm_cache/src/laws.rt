@@ -1,0 +1,62 @@
+//! Laws of what a cache and a history keep.
+//!
+//! These functions do nothing: what each of them promises is a fact about the definitions in
+//! `specs/`, which its proof shows.
+
+ghost use Rattle.cm_cache.specs.Laws as laws;
+
+/// Behind a put a cache keeps the answer that was put for its use, and for each other use what it
+/// kept before, or nothing where it was emptied first.
+pub fn what_is_put_is_kept()
+    ensures { laws.WhatIsPutIsKept }
+{}
+
+/// A history keeps the answers to one list of uses, and has one number of answers that were there.
+pub fn histories_keep_once()
+    ensures { laws.HistoriesKeepOnce }
+{}
+
+/// Each legal history keeps some, where the trees on the way are orderly, as all trees of legal
+/// histories are.
+pub fn histories_keep()
+    ensures { laws.HistoriesKeep }
+{}
+
+/// An entry more changes what is kept by itself alone.
+pub fn keeping_goes_on()
+    ensures { laws.KeepingGoesOn }
+{}
+
+/// At most 16,384 answers are kept, and no more answers were there than entries.
+pub fn kept_are_few()
+    ensures { laws.KeptAreFew }
+{}
+
+/// A walk reads of an instance where it stands, its declaration and what it was given, and whether
+/// it is being destroyed; it doesn't read whether it runs, has a pending action, is closing or is
+/// shut.
+pub fn walks_read_bare_rows()
+    ensures { laws.WalksReadBareRows }
+{}
+
+/// An entry that doesn't empty what is kept changes nothing else of any instance, so each walk
+/// comes to what it came to before.
+pub fn walks_stay()
+    ensures bare { laws.BareRowsStay }
+    ensures walks { laws.WalksStay }
+{}
+
+/// A cache into which the answers are put that a history keeps has the history's uses, one answer
+/// for each.
+pub fn caches_follow()
+    ensures uses { laws.UsesAreKept }
+    ensures puts { laws.PutsAddUses }
+{}
+
+/// Answers that are those of the walks in a tree stay so behind a put of another walk's answer, and
+/// behind each entry that doesn't empty what is kept.
+pub fn answers_stay_right()
+    ensures answers { laws.RightAnswers }
+    ensures puts { laws.PutsStayRight }
+    ensures stays { laws.AnswersStayRight }
+{}
