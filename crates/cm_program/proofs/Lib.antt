@@ -1,12 +1,17 @@
+mod Attending
 mod CheckLemmas
 mod FrontLemmas
 mod GeneratorLemmas
 mod Histories
+mod Nothing
 mod OwnScript
 mod Printing
 mod RunLemmas
 mod Saying
 mod ScriptLaws
+mod SessionLines
+mod SessionLinks
+mod SessionWorkers
 mod Sixteen
 mod StockLemmas
 mod Wanting

@@ -1,34 +1,27 @@
 -- What a run of a script promises, from what its parts did.
 use Rattle.std.proofs.Common.{◌≡◌, ◌≢◌, ◌⊎◌, inl, inr, ℕ, List, [], ◌++◌, All, map, flat_map, length, Option, Some, None, IfSome, Result, Ok, Err, refl, sym, ap, subst, ◌∙◌}
-use Rattle.std.proofs.Math.Nat.{le_refl}
-use Rattle.std.specs.List.{slice_get}
 use Rattle.cm_turn.specs.Passes.{LockView, new_passes}
 use Rattle.cm_world.specs.declared.answer.Refusal.TheVariants as refusal
 use Rattle.cm_world.specs.declared.frame.Frame.{Frame}
 use Rattle.cm_world.specs.declared.reply.Entry.{Entry}
 use Rattle.cm_world.specs.World.{start}
 use Rattle.cm_world.specs.Legal.{Legal}
-use Rattle.cm_world.proofs.Finding.{some_same}
 use Rattle.cm_book.specs.History.{History}
 use Rattle.cm_command.specs.declared.script.Line.{Line}
 use Rattle.cm_command.specs.declared.script.Script.{Script}
 use Rattle.cm_gate.specs.declared.asked.Asked.{Asked}
-use Rattle.cm_gate.proofs.Logs.{grew_nothing, rose_nothing}
 use Rattle.cm_reply.specs.Journal.{header_text}
-use Rattle.cm_laws.proofs.AllLaws.{histories_keep_laws}
-use Rattle.cm_manager.specs.Turns.{own_entries}
 use Rattle.cm_manager.specs.Asking.{no_frame}
 use Rattle.cm_manager.specs.Closed.{HasEnds}
 use Rattle.cm_manager.specs.Contract.{RealmPass}
 use Rattle.cm_manager.specs.Managers.{Closes}
-use Rattle.cm_manager.specs.Work.{Shelf, WorksWith, nothing}
-use Rattle.cm_manager.proofs.HavingEnds.{none_has_ends}
+use Rattle.cm_manager.specs.Work.{Shelf}
 use Rattle.cm_lanes.specs.declared.said.Said.{Said}
 use Rattle.cm_lanes.specs.declared.said.Lanes.{Lanes}
 use Rattle.cm_lanes.specs.Script.{Answered, said_of, answered_lines}
 use Rattle.cm_manager.specs.Kept.{AreSixteen}
 use Rattle.cm_lanes.specs.Lanes.{RanOrNot}
-use Rattle.cm_program.specs.Headline.{EndsWell, IsHistory, WorksEach, RunsScript, shelf_of}
+use Rattle.cm_program.specs.Headline.{IsHistory, RunsScript, shelf_of}
 use Rattle.cm_program.specs.Performing.{Performs}
 use Rattle.cm_program.specs.Printed.{IsPrinted, phases_text, journal_of, printed_text, summary_text, texts_of, wanted_text}
 use Rattle.cm_program.specs.Calls.{words_of}
@@ -43,6 +36,7 @@ use Rattle.cm_program.specs.declared.performing.Performed.{Performed}
 use Rattle.cm_program.specs.declared.stock.Served.{Served}
 use Rattle.cm_program.specs.declared.wanted.Wanted.{Wanted}
 use Rattle.cm_program.specs.declared.wanted.Wanted.TheVariants.{Answers, Summary}
+use Rattle.cm_program.proofs.Nothing.{ends_well, nothing_ends, nothing_legal, works_nothing}
 use Rattle.cm_program.proofs.Histories.{makes_by, works_by, nothing_happened, legal_nothing}
 use Rattle.cm_program.proofs.Printing.{texts_all, results_all, no_want_all, nothing_written, front_of_nothing}
 use Rattle.cm_program.proofs.ScriptLaws.{served_are_not_refused_lem, bytes_ask_for_one_lem}
@@ -65,15 +59,6 @@ as_served P (Some bytes) served known is = λ other serves. subst P (bytes_ask_f
 
 -- ---- runs
 
-nothing_legal : (f : Frame) → Legal (start f) []
-nothing_legal f = tt
-
-nothing_ends : (history : List Entry) → history ≡ [] → HasEnds history
-nothing_ends history none = subst HasEnds (sym none) none_has_ends
-
-ends_well : (f : Frame) (history : List Entry) → Legal (start f) history → HasEnds history → EndsWell f history
-ends_well f history legal ends = record { laws = histories_keep_laws f history legal; ends = ends }
-
 -- a run that made no realm leaves a history all the same
 pub empty_history : (history : List Entry) → history ≡ [] → IsHistory history
 empty_history history none =
@@ -89,21 +74,13 @@ module _ {G : Type 0} (log_of : G → Option (List Asked)) (faults_of : G → �
   pub history_of : (wanted : Wanted) (folder : Option (List ℕ)) (served : Served) (gates₀ gates₁ : List G) (history : List Entry) (status : ℕ) (old new : Option (List ℕ)) → RunsScript log_of faults_of wanted folder served gates₀ gates₁ history status old new → IsHistory history
   history_of wanted folder served gates₀ gates₁ history status old new runs = record { frame = served.frame; legal = runs.makes.legal; laws = runs.laws }
 
-  -- gates that were asked nothing
-  works_nothing : (shelf : Shelf) (history : List Entry) (gates₀ gates₁ : List G) → history ≡ [] → gates₁ ≡ gates₀ → WorksEach log_of faults_of shelf history gates₀ gates₁
-  works_nothing shelf history gates₀ gates₁ none same k g h at now =
-      let is : g ≡ h = some_same g h (sym at ∙ ap (λ (l : List G). slice_get l k) (sym same) ∙ now) in
-      subst (λ (x : G). WorksWith shelf (own_entries k history) (log_of g) (log_of x) (faults_of g) (faults_of x)) is
-      (subst (λ (l : List Entry). WorksWith shelf (own_entries k l) (log_of g) (log_of g) (faults_of g) (faults_of g)) (sym none)
-      (record { asked = []; works = nothing; log = grew_nothing (log_of g); faults = rose_nothing (faults_of g) (faults_of g) (le_refl (faults_of g)) }))
-
   -- a realm that was made and closed without a manager
   pub performs_nothing : (shelf : Shelf) (f : Frame) (phases : List (List Line)) (gates : List G) (book : History) → book.entries ≡ [] → Performs log_of faults_of shelf f phases gates (record { book = book; gates = gates; said = None })
   performs_nothing shelf f phases gates book none = record {
     answered = all_wanting phases;
     makes = makes_nothing f phases book.entries none (subst (Legal (start f)) (sym none) (nothing_legal f));
     ends = nothing_ends book.entries none;
-    work = works_nothing shelf book.entries gates gates none refl;
+    work = works_nothing log_of faults_of shelf book.entries gates gates none refl;
     said = tt;
   }
 
@@ -123,7 +100,7 @@ module _ {G : Type 0} (log_of : G → Option (List Asked)) (faults_of : G → �
         answered = all_wanting phases;
         makes = makes_nothing f phases book.entries none (legal_nothing log_of faults_of shelf turn f phases passes gates back book.entries new count are closes un.same_passes);
         ends = ends;
-        work = works_nothing shelf book.entries gates back.gates none un.same_gates;
+        work = works_nothing log_of faults_of shelf book.entries gates back.gates none un.same_gates;
         said = subst (λ (o : Option (List Said)). IfSome o (λ said. said ≡ flat_map (λ phase. map said_of phase) (all_wanting phases))) (sym un.nothing) tt;
       }
 
@@ -192,7 +169,7 @@ module _ {G : Type 0} (log_of : G → Option (List Asked)) (faults_of : G → �
         answered = answered;
         makes = makes_nothing served.frame served.phases history none legal;
         laws = ends_well served.frame history legal (nothing_ends history none);
-        work = works_nothing (shelf_of folder served) history gates₀ gates₁ none same;
+        work = works_nothing log_of faults_of (shelf_of folder served) history gates₀ gates₁ none same;
         text = text;
         prints = refl;
         all = λ ended. absurd (cc (ended, is));

@@ -13,8 +13,9 @@ use Rattle.clap.specs.declared.builder.ValueParser.TheVariants as value
 use Rattle.clap.specs.declared.builder.ArgAction.TheVariants.{Set, SetTrue}
 use Rattle.clap.specs.declared.ArgMatches.{ArgMatches}
 use Rattle.cm_program.specs.declared.call.Call.{Call}
-use Rattle.cm_program.specs.declared.call.Call.TheVariants.{Run, Check, Generate}
+use Rattle.cm_program.specs.declared.call.Call.TheVariants.{Run, Check, Generate, Serve}
 use Rattle.cm_program.specs.declared.call.RunOptions.{RunOptions}
+use Rattle.cm_program.specs.declared.call.ServeOptions.{ServeOptions}
 use Rattle.cm_program.specs.declared.call.Workload.{Workload}
 use Rattle.cm_program.specs.declared.call.WordsFault.{WordsFault}
 use Rattle.cm_program.specs.declared.call.WordsFault.TheVariants.{Usage, Memory}
@@ -64,6 +65,40 @@ abbrev pub generate_app : App
 generate_app =
     with_rule (with_rule (app_named (codes "generate")) (number_rule (codes "seed") 0 last_seed))
     (number_rule (codes "size") 1 most_instances)
+
+-- a text that has to be there, by its place or behind `--` and its name
+abbrev pub text_rule : List ℕ → Rule
+text_rule name = record (new_rule name) { required = true; action = Some Set }
+
+abbrev pub named_rule : List ℕ → Rule
+named_rule name = record (text_rule name) { long = Some name }
+
+-- `--`, a name, and a whole number from low to high
+abbrev pub count_rule : List ℕ → ℕ → ℕ → Rule
+count_rule name low high =
+    record (new_rule name) { long = Some name; action = Some Set; parser = Some (value.Unsigned low high) }
+
+-- the most sessions, and the most workers
+abbrev pub most_sessions : ℕ
+most_sessions = 4096
+
+abbrev pub most_workers : ℕ
+most_workers = 16
+
+-- `SOCKET --root URL`: where links come, and the realm's root
+abbrev pub place_app : App
+place_app =
+    with_rule (with_rule (app_named (codes "serve")) (text_rule (codes "socket"))) (named_rule (codes "root"))
+
+-- `--repo DIR` besides, where its manifests are
+abbrev pub needed_app : App
+needed_app = with_rule place_app (named_rule (codes "repo"))
+
+-- `[--sessions N] [--workers W]` besides
+abbrev pub serve_app : App
+serve_app =
+    with_rule (with_rule needed_app (count_rule (codes "sessions") 1 most_sessions))
+    (count_rule (codes "workers") 1 most_workers)
 
 abbrev pub is_free : Kinds → Bool
 is_free [] = true
@@ -122,6 +157,44 @@ generate_words words = do
   rows ← rows_read generate_app words
   workload_in rows
 
+-- the text that was given
+abbrev pub text_in : Option Text → Read Text
+text_in None = Err Usage
+text_in (Some text) = Ok text
+
+-- the number that was given, from low to high, or the other one where none was
+abbrev pub number_or : ℕ → ℕ → ℕ → Option Text → Read ℕ
+number_or other low high None = Ok other
+number_or other low high (Some text) = number_in low high (Some text)
+
+-- what rows of a parse ask to serve
+unfoldable pub serving_in : List Row → Read Call
+serving_in rows = do
+  socket ← text_in (first_of (codes "socket") rows)
+  root ← text_in (first_of (codes "root") rows)
+  repository ← text_in (first_of (codes "repo") rows)
+  sessions ← number_or 1 1 most_sessions (first_of (codes "sessions") rows)
+  workers ← number_or 4 1 most_workers (first_of (codes "workers") rows)
+  Ok (Serve (record {
+    socket = socket;
+    root = root;
+    repository = repository;
+    sessions = sessions;
+    workers = workers;
+  }))
+
+unfoldable pub serve_words : List Text → Read Call
+serve_words words = do
+  rows ← rows_read serve_app words
+  serving_in rows
+
+-- what words can ask to serve
+pub record IsServing (o : ServeOptions) : Type 0 where
+  pub some_sessions : 0 < o.sessions
+  pub sessions : o.sessions ≤ most_sessions
+  pub some_workers : 0 < o.workers
+  pub workers : o.workers ≤ most_workers
+
 -- a workload that words can ask for
 pub record IsWorkload (w : Workload) : Type 0 where
   pub seed : w.seed < 2 ^ 31
@@ -133,6 +206,7 @@ abbrev pub IsPossible : Call → Type 0
 IsPossible (Run options) = Unit {0}
 IsPossible Check = Unit {0}
 IsPossible (Generate w) = IsWorkload w
+IsPossible (Serve o) = IsServing o
 
 -- what words ask for: the first is the command, and the others are for its parser
 unfoldable pub words_of : List Text → Read Call
@@ -141,4 +215,5 @@ words_of (word ∷ words) =
     if bytes_eq word (codes "run") then run_words words
     else if bytes_eq word (codes "check") then check_words words
     else if bytes_eq word (codes "generate") then generate_words words
+    else if bytes_eq word (codes "serve") then serve_words words
     else Err Usage

@@ -8,6 +8,7 @@ pub mod Written
 pub mod Checks
 pub mod Printed
 pub mod Headline
+pub mod Sessions
 pub mod Performing
 pub mod Run
 pub mod Laws

@@ -5,8 +5,9 @@ use Rattle.cm_program.specs.Calls.{words_of}
 use Rattle.cm_program.specs.Stock.{IsFault, Serves, served_script}
 use Rattle.cm_program.specs.Texts.{fault_line}
 use Rattle.cm_program.specs.Written.{IsSaid, OfSome}
-use Rattle.cm_program.specs.declared.call.Call.TheVariants.{Run, Check, Generate}
+use Rattle.cm_program.specs.declared.call.Call.TheVariants.{Run, Check, Generate, Serve}
 use Rattle.cm_program.specs.declared.call.RunOptions.{RunOptions}
+use Rattle.cm_program.specs.declared.call.ServeOptions.{ServeOptions}
 use Rattle.cm_program.specs.declared.call.Workload.{Workload}
 use Rattle.cm_program.specs.declared.fault.Fault.{Fault}
 use Rattle.cm_program.specs.declared.fault.Fault.TheVariants as fault
@@ -26,9 +27,17 @@ AsksCheck words = words_of words ≡ Ok Check
 abbrev pub AsksGenerate : List (List ℕ) → Type 0
 AsksGenerate words = (workload : Workload) × (words_of words ≡ Ok (Generate workload))
 
+-- the words are those of `serve`
+abbrev pub AsksServe : List (List ℕ) → Type 0
+AsksServe words = (options : ServeOptions) × (words_of words ≡ Ok (Serve options))
+
 -- the words ask for the run of a script, whoever wrote it
 abbrev pub AsksScript : List (List ℕ) → Type 0
 AsksScript words = AsksRun words ⊎ AsksGenerate words
+
+-- the words ask for something that is done over a realm
+abbrev pub AsksRealm : List (List ℕ) → Type 0
+AsksRealm words = AsksScript words ⊎ AsksServe words
 
 -- the bytes that a source had left are refused, or bytes that it gave are where it tells none; and the line
 -- that says why is said on the error stream
@@ -74,6 +83,11 @@ IsScriptRun status = (status ≡ 0) ⊎ ((status ≡ 4) ⊎ (status ≡ 6))
 
 abbrev pub IsScriptStatus : ℕ → Type 0
 IsScriptStatus status = IsScriptRun status ⊎ ((status ≡ 3) ⊎ (status ≡ 7))
+
+-- the status of sessions: as many links came as were asked for or none comes, the door failed, or memory
+-- ran out
+abbrev pub IsServeStatus : ℕ → Type 0
+IsServeStatus status = (status ≡ 0) ⊎ ((status ≡ 5) ⊎ (status ≡ 6))
 
 abbrev pub IsCheckStatus : ℕ → Type 0
 IsCheckStatus status =

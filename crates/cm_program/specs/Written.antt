@@ -24,6 +24,9 @@ usage_line = codes "usage: run, check, serve, audit, generate\n"
 abbrev pub read_fault_line : List ℕ
 read_fault_line = codes "read fault\n"
 
+abbrev pub door_fault_line : List ℕ
+door_fault_line = codes "door fault\n"
+
 abbrev pub want_line : List ℕ
 want_line = codes "want of memory\n"
 
@@ -34,9 +37,11 @@ module _ {E : Type 0} (written_of : E → Option (List ℕ)) (faults_of : E → 
       Appends (written_of old) (written_of new) line
       ⊎ (Rose (faults_of old) (faults_of new) × AppendsFront (written_of old) (written_of new) line)
 
-  -- what is said on the error stream at a status: a line of its own at 2, 3 and 6, and nothing at 0, 1 and 4
+  -- what is said on the error stream at a status: a line of its own at 2, 3, 5 and 6, and nothing at 0, 1
+  -- and 4
   pub record Says (old new : E) (status : ℕ) : Type 0 where
     pub usage : status ≡ 2 → IsSaid old new usage_line
     pub read : status ≡ 3 → IsSaid old new read_fault_line
+    pub door : status ≡ 5 → IsSaid old new door_fault_line
     pub memory : status ≡ 6 → IsSaid old new want_line
     pub nothing : (status ≡ 0) ⊎ ((status ≡ 1) ⊎ (status ≡ 4)) → Keeps (written_of old) (written_of new)

@@ -1,6 +1,6 @@
 //! What the words behind the program's name ask for.
 
-ghost use Rattle.std.specs.Prelude.{◌≡◌, ◌≤◌, option_map, IfOk, true, false, Ok, Some};
+ghost use Rattle.std.specs.Prelude.{◌≡◌, ◌<◌, ◌≤◌, option_map, IfOk, true, false, Ok, Some};
 ghost use Rattle.clap.specs.Words.{app_of, first_of, found_of, rule_of};
 ghost use Rattle.clap.specs.Walk.{rows_of};
 ghost use Rattle.clap.specs.Faults.{is_simple_and_free};
@@ -31,6 +31,21 @@ pub struct Workload {
     pub size: usize,
 }
 
+/// What `serve` is asked for.
+#[derive(Debug, Drop)]
+pub struct ServeOptions {
+    /// `SOCKET`: the path of the socket at which links come.
+    pub socket: Text,
+    /// `--root URL`: the manifest of the root.
+    pub root: Text,
+    /// `--repo DIR`: the folder of all manifests.
+    pub repository: Text,
+    /// `--sessions N`: how many links are served in all: 1 to 4,096, and 1 where it isn't said.
+    pub sessions: u32,
+    /// `--workers W`: how many of them are served at once: 1 to 16, and 4 where it isn't said.
+    pub workers: u32,
+}
+
 /// What the program is to do.
 #[derive(Debug, Drop)]
 pub enum Call {
@@ -40,6 +55,9 @@ pub enum Call {
     Check,
     /// `generate G N`: run the workload of that seed and size.
     Generate(Workload),
+    /// `serve SOCKET --root URL --repo DIR [--sessions N] [--workers W]`: answer the commands that
+    /// come over links.
+    Serve(ServeOptions),
 }
 
 /// Why words ask for nothing.
@@ -116,6 +134,62 @@ fn generate_command<'a>(alloc: Global) -> Result<Command<'a>, AllocError>
         .no_binary_name(true)
         .arg(seed)?
         .arg(size)
+}
+
+/// An argument that has to be there, by its place.
+fn text_arg<'a>(alloc: Global, name: &'a str) -> Arg<'a>
+    ensures rule { rule_of result ≡ spec.text_rule name.entry.now }
+    ensures local { result.global ≡ false }
+{
+    Arg::new(alloc, name).required(true).action(ArgAction::Set)
+}
+
+/// An argument that has to be there, behind its name.
+fn named_arg<'a>(alloc: Global, name: &'a str) -> Arg<'a>
+    ensures rule { rule_of result ≡ spec.named_rule name.entry.now }
+    ensures local { result.global ≡ false }
+{
+    text_arg(alloc, name).long(name)
+}
+
+/// A whole number from 1 to high behind its name, which may be left out.
+fn count_arg<'a>(alloc: Global, name: &'a str, high: u64) -> Arg<'a>
+    ensures rule { rule_of result ≡ spec.count_rule name.entry.now 1 high }
+    ensures local { result.global ≡ false }
+{
+    Arg::new(alloc, name)
+        .long(name)
+        .action(ArgAction::Set)
+        .value_parser(ValueParser::unsigned(1, high))
+}
+
+/// The parser of where links come, and of the realm's root.
+fn place_command<'a>(alloc: Global) -> Result<Command<'a>, AllocError>
+    ensures { IfOk result (λ c. app_of c ≡ spec.place_app) }
+{
+    let socket = text_arg(alloc, "socket");
+    let root = named_arg(alloc, "root");
+    Command::new(alloc, "serve")
+        .no_binary_name(true)
+        .arg(socket)?
+        .arg(root)
+}
+
+/// The parser of all that has to be there behind `serve`.
+fn needed_command<'a>(alloc: Global) -> Result<Command<'a>, AllocError>
+    ensures { IfOk result (λ c. app_of c ≡ spec.needed_app) }
+{
+    let repo = named_arg(alloc, "repo");
+    place_command(alloc)?.arg(repo)
+}
+
+/// The parser of the words behind `serve`.
+fn serve_command<'a>(alloc: Global) -> Result<Command<'a>, AllocError>
+    ensures { IfOk result (λ c. app_of c ≡ spec.serve_app) }
+{
+    let sessions = count_arg(alloc, "sessions", 4_096);
+    let workers = count_arg(alloc, "workers", 16);
+    needed_command(alloc)?.arg(sessions)?.arg(workers)
 }
 
 /// What a parser makes of words.
@@ -236,14 +310,67 @@ fn read_generate(alloc: Global, words: &[Text]) -> Result<Call, WordsFault>
     workload_of(&matches)
 }
 
+/// The text at `id`, which has to be there.
+fn needed_at(alloc: Global, matches: &ArgMatches<'_>, id: &str) -> Result<Text, WordsFault>
+    ensures { Gives result (spec.text_in (first_of id.now (rows_of (found_of matches.now)))) }
+{
+    let Some(text) = text_at(matches, id) else {
+        return Err(WordsFault::Usage);
+    };
+    Ok(Text::from_str(alloc, text)?)
+}
+
+/// The number at `id`, if it lies from 1 to high, or the other one where none is there.
+fn count_at(matches: &ArgMatches<'_>, id: &str, other: u64, high: u64) -> Result<u64, WordsFault>
+    requires { (0 < other) × (other ≤ high) }
+    ensures gives { Gives result
+        (spec.number_or other 1 high (first_of id.now (rows_of (found_of matches.now)))) }
+    ensures within { IfOk result (λ number. (0 < number) × (number ≤ high)) }
+{
+    let Some(text) = text_at(matches, id) else {
+        return Ok(other);
+    };
+    number_in(text, 1, high)
+}
+
+/// What a parse asks to serve.
+#[tactic(auto, unfolding(crate::specs::Calls::serving_in))]
+fn serving_of(alloc: Global, matches: &ArgMatches<'_>) -> Result<Call, WordsFault>
+    ensures gives { Gives result (spec.serving_in (rows_of (found_of matches.now))) }
+    ensures possible { IfOk result IsPossible }
+{
+    let socket = needed_at(alloc, matches, "socket")?;
+    let root = needed_at(alloc, matches, "root")?;
+    let repository = needed_at(alloc, matches, "repo")?;
+    let sessions = count_at(matches, "sessions", 1, 4_096)?;
+    let workers = count_at(matches, "workers", 4, 16)?;
+    Ok(Call::Serve(ServeOptions {
+        socket,
+        root,
+        repository,
+        sessions: sessions as u32,
+        workers: workers as u32,
+    }))
+}
+
+/// What the words behind `serve` ask for.
+#[tactic(auto, unfolding(crate::specs::Calls::serve_words))]
+fn read_serve(alloc: Global, words: &[Text]) -> Result<Call, WordsFault>
+    ensures gives { Gives result (spec.serve_words words.now) }
+    ensures possible { IfOk result IsPossible }
+{
+    let matches = parsed(serve_command(alloc)?, words)?;
+    serving_of(alloc, &matches)
+}
+
 /// What the words behind the program's name ask for.
 ///
 /// The first word picks the command, and the further words go to that command's parser, which is
 /// one of the crate `clap`.
 ///
-/// `Err(Usage)` comes exactly where the first word is none of `run`, `check` and `generate`, or
-/// clap's definition of that command finds a fault in the further words; `Err(Memory)` where memory
-/// runs out. The words are this project's own choice.
+/// `Err(Usage)` comes exactly where the first word is none of `run`, `check`, `generate` and
+/// `serve`, or clap's definition of that command finds a fault in the further words; `Err(Memory)`
+/// where memory runs out. The words are this project's own choice.
 #[tactic(auto, unfolding(crate::specs::Calls::words_of))]
 pub fn read_words(alloc: Global, words: &[Text]) -> Result<Call, WordsFault>
     ensures gives { Gives result (spec.words_of words.now) }
@@ -260,6 +387,9 @@ pub fn read_words(alloc: Global, words: &[Text]) -> Result<Call, WordsFault>
     }
     if word.as_str() == "generate" {
         return read_generate(alloc, others);
+    }
+    if word.as_str() == "serve" {
+        return read_serve(alloc, others);
     }
     Err(WordsFault::Usage)
 }

@@ -11,7 +11,7 @@ ghost use Rattle.cm_program.specs.Stock.{served_script};
 ghost use Rattle.cm_program.specs.Written.{Says};
 
 use crate::call::Workload;
-use crate::ran::{Ran, ended, want_of_memory};
+use crate::ran::{Finished, ended, want_of_memory};
 use crate::running::run_served;
 use crate::stock::{Served, serve_script};
 use crate::wanted::Wanted;
@@ -47,7 +47,7 @@ pub fn run_generated<R: Threads + Wait + Sync, K: Sink, E: Sink, G: Gates + Send
     out: &mut K,
     err: &mut E,
     gates: List<G>,
-) -> Ran<G>
+) -> Finished<G>
     requires gates { length gates ≡ 16 }
     requires workload { IsWorkload workload }
     ensures gates { length result.gates ≡ 16 }

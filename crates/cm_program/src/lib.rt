@@ -1,14 +1,15 @@
-//! The program, as one call: it runs the commands of a script of component manifests or of a workload
-//! that it generates, and says whether a manifest is valid.
+//! The program, as one call: it runs the commands of a script of component manifests, of a workload
+//! that it generates or of links that come at a door, and says whether a manifest is valid.
 //!
-//! [`run::run`] is the top call. What it sees of the outside are a source, two sinks and sixteen gates;
-//! the crate above this one makes the real ones, or for tests those in memory.
+//! [`run::run`] is the top call. What it sees of the outside are a source, two sinks, a door and
+//! sixteen gates; the crate above this one makes the real ones, or for tests those in memory.
 //!
 //! | file of `specs/` | says |
 //! |---|---|
 //! | `Calls` | what the words ask for |
 //! | `Headline`, `Run` | what is promised of the run of a script, and of each status |
 //! | `Stock`, `Reading` | what a script asks for, and why it is refused |
+//! | `Sessions` | what is promised of sessions |
 //! | `Printed`, `Texts`, `Written` | what is printed, and what is known of bytes written |
 //! | `Checks` | what `check` says of a manifest |
 //! | `Generated` | the script that a workload is; `GeneratedExamples` has small ones |
@@ -28,6 +29,8 @@ pub mod ran;
 pub mod run;
 mod running;
 mod scripts;
+mod serving;
+mod sessions;
 mod stock;
 mod wanted;
 mod workload;

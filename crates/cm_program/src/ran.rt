@@ -1,31 +1,50 @@
 //! What a run comes to, and the lines of the error stream.
 
 ghost use Rattle.std.specs.Prelude.{◌≡◌, []};
-ghost use Rattle.cm_program.specs.Written.{IsSaid, read_fault_line, want_line};
+ghost use Rattle.cm_program.specs.Written.{IsSaid, door_fault_line, read_fault_line, want_line};
 
 use cm_book::Book;
 use cm_io::{Put, Sink, put_all};
 use cm_names::List;
+use cm_session::Back;
 use std::alloc::Global;
 use std::sync::Wait;
 use std::thread::Threads;
 
 /// What a run came to.
 #[derive(Drop)]
-pub struct Ran<G> {
+pub struct Ran<D, L, G> {
     /// The status that the program ends with.
     ///
     /// - 0: what the source had left, or each line of the workload, was answered, and everything was
-    ///   written.
+    ///   written; or as many links were served as were asked for, or no further one comes.
     /// - 1: the manifest that was checked has a fault, which was written on `out`.
     /// - 2: the words ask for nothing, and `err` tells what they may be; nothing was written on
     ///   `out`.
     /// - 3: the source failed, which `err` tells; nothing was written on `out`.
     /// - 4: `out` failed; a front of the text was written.
+    /// - 5: the door failed, which `err` tells; the links that came before were served.
     /// - 6: memory ran out, or a line was answered so, which `err` tells; a front of the text was
     ///   written.
     /// - 7: the script is refused, and the line on `err` says where and why; nothing was written
     ///   on `out`.
+    pub status: u8,
+    /// The history of the realm that a script was run over, or that links were served over. It is
+    /// empty where neither was done.
+    pub book: Book,
+    /// The links that came, each with the number of the worker that served it, worker by worker,
+    /// and each worker's as its sessions followed one another.
+    pub links: List<Back<L>>,
+    /// The gates, in the order in which they were given.
+    pub gates: List<G>,
+    /// The door.
+    pub door: D,
+}
+
+/// What a run came to that has no need of a door.
+#[derive(Drop)]
+pub struct Finished<G> {
+    /// The status that the program ends with.
     pub status: u8,
     /// The history of the realm that a script was run over. It is empty where none was.
     pub book: Book,
@@ -33,13 +52,30 @@ pub struct Ran<G> {
     pub gates: List<G>,
 }
 
+/// A run that came to this without a realm and without a link.
+pub fn stopped<D, L, G>(alloc: Global, status: u8, gates: List<G>, door: D) -> Ran<D, L, G>
+    ensures status { result.status ≡ status }
+    ensures empty { result.book.entries ≡ [] }
+    ensures gates { result.gates ≡ gates }
+    ensures links { result.links ≡ [] }
+    ensures door { result.door ≡ door }
+{
+    Ran {
+        status,
+        book: Book::new(alloc, 0),
+        links: List::new(alloc),
+        gates,
+        door,
+    }
+}
+
 /// A run that came to this without a realm.
-pub fn ended<G>(alloc: Global, status: u8, gates: List<G>) -> Ran<G>
+pub fn ended<G>(alloc: Global, status: u8, gates: List<G>) -> Finished<G>
     ensures status { result.status ≡ status }
     ensures empty { result.book.entries ≡ [] }
     ensures gates { result.gates ≡ gates }
 {
-    Ran {
+    Finished {
         status,
         book: Book::new(alloc, 0),
         gates,
@@ -63,6 +99,15 @@ pub fn want_of_memory<R: Threads + Wait + Sync, E: Sink>(rt: &R, err: &mut E) ->
 {
     tell(rt, err, b"want of memory\n");
     6
+}
+
+/// Says that the door failed. The result is the status.
+pub fn door_fault<R: Threads + Wait + Sync, E: Sink>(rt: &R, err: &mut E) -> u8
+    ensures status { result ≡ 5 }
+    ensures said { IsSaid E.written E.faults err.old err.new door_fault_line }
+{
+    tell(rt, err, b"door fault\n");
+    5
 }
 
 /// Says that the source failed. The result is the status.

@@ -1,43 +1,55 @@
 //! The top call.
 
-ghost use Rattle.std.specs.Prelude.{◌≡◌, ◌⊎◌, None, Ok, Err, length};
+ghost use Rattle.std.specs.Prelude.{◌≡◌, ◌⊎◌, ◌+◌, ◌≤◌, [], None, Ok, Err, length, map};
 ghost use Rattle.std.specs.Io.KnownBytes.{Appends, Keeps};
 ghost use Rattle.cm_io.specs.Outside.{Rose};
 ghost use Rattle.cm_program.specs.Calls.{words_of};
 ghost use Rattle.cm_program.specs.Checks.{IsChecked, IsTold};
 ghost use Rattle.cm_program.specs.Generated.{script_of};
 ghost use Rattle.cm_program.specs.Headline.{IsHistory, RunsNothing, RunsScript};
-ghost use Rattle.cm_program.specs.Run.{AsksCheck, AsksGenerate, AsksRun, AsksScript};
-ghost use Rattle.cm_program.specs.Run.{IsCheckStatus, IsFaulty, IsRefusal, IsRefused};
-ghost use Rattle.cm_program.specs.Run.{IsScriptRun, IsScriptStatus, RunsAsServed, RunsOwn};
+ghost use Rattle.cm_program.specs.Run.{AsksCheck, AsksGenerate, AsksRealm, AsksRun, AsksScript};
+ghost use Rattle.cm_program.specs.Run.{AsksServe, IsCheckStatus, IsFaulty, IsRefusal, IsRefused};
+ghost use Rattle.cm_program.specs.Run.{IsScriptRun, IsScriptStatus, IsServeStatus, RunsAsServed};
+ghost use Rattle.cm_program.specs.Run.{RunsOwn};
+ghost use Rattle.cm_program.specs.Sessions.{RunsSessions, served_frame, served_shelf};
 ghost use Rattle.cm_program.specs.declared.call.RunOptions.{RunOptions as TheOptions};
+ghost use Rattle.cm_program.specs.declared.call.ServeOptions.{ServeOptions as TheServing};
 ghost use Rattle.cm_program.specs.declared.call.Workload.{Workload as TheWorkload};
 ghost use Rattle.cm_program.specs.Written.{AppendsFront, OfKnown, Says};
+ghost use Rattle.cm_session.specs.Links.{link_view};
+ghost use Rattle.cm_session.specs.Serving.{back_view};
 
-use crate::call::{Call, RunOptions, WordsFault, read_words};
+use crate::call::{Call, WordsFault, read_words};
 use crate::check::run_check;
 use crate::generate::run_generated;
-use crate::ran::{Ran, ended, tell, want_of_memory};
+use crate::ran::{Finished, Ran, stopped, tell, want_of_memory};
 use crate::scripts::run_script;
+use crate::serving::run_sessions;
 use crate::wanted::Wanted;
 use cm_gate::Gates;
-use cm_io::{Sink, Source};
+use cm_io::{Door, Sink, Source};
 use cm_names::{List, Text};
 use std::alloc::Global;
 use std::sync::Wait;
 use std::thread::Threads;
 
-/// Runs the program with these words, on this input, with these outputs and gates.
+/// Runs the program with these words, on this input, with these outputs, this door and these gates.
 ///
 /// The words `run [--journal] [--repo DIR]` ask for the answers to the commands of the script that
 /// the input is, with `--journal` for the history behind them, and with `--repo DIR` for manifests
 /// of that folder besides the script's. The word `check` asks for the verdict on the manifest that
 /// the input is. The words `generate G N` ask for the run of a workload of N instances, which is
 /// made from G and for which the input isn't read: the one line that is written counts its answers.
+///
+/// The words `serve SOCKET --root URL --repo DIR [--sessions N] [--workers W]` let links come at that
+/// place of the door: N of them are served, W at once, each by a session over one new realm of that
+/// root, whose manifests are those of that folder. Neither the input nor `out` is touched.
+///
 /// The words, the statuses, the workload and the lines on `err` are this project's own choice;
 /// [`Ran`] lists the statuses.
 ///
-/// There are sixteen gates, one for each lane of a script; they come back in their order.
+/// There are sixteen gates, one for each lane of a script or worker of a door; they come back in
+/// their order, and so does the door.
 ///
 /// A script that is refused ends the run with 7, and its line on `err` tells the first of these:
 ///
@@ -45,15 +57,25 @@ use std::thread::Threads;
 /// - 77 and 78: a manifest that [`Repository::add`](cm_repo::Repository::add) refuses, for its URL
 ///   and as one that is repeated.
 #[tactic(auto, using(crate::proofs::Saying::says, crate::proofs::RunLemmas::idle))]
-pub fn run<R: Threads + Wait + Sync, S: Source, K: Sink, E: Sink, G: Gates + Send + Drop>(
+pub fn run<
+    R: Threads + Wait + Sync,
+    S: Source,
+    K: Sink,
+    E: Sink,
+    D: Door + Send,
+    G: Gates + Send + Drop,
+>(
     rt: &R,
     alloc: Global,
     words: &[Text],
     input: &mut S,
     out: &mut K,
     err: &mut E,
+    door: D,
     gates: List<G>,
-) -> Ran<G>
+) -> Ran<D, D::Link, G>
+where
+    D::Link: Send,
     requires gates { length gates ≡ 16 }
 
     // 2 comes only where the words ask for nothing, and there it comes unless memory ran out.
@@ -61,9 +83,14 @@ pub fn run<R: Threads + Wait + Sync, S: Source, K: Sink, E: Sink, G: Gates + Sen
     ensures unusable { words_of words.now ≡ Err WordsFault.Usage → (result.status ≡ 2) ⊎
         (result.status ≡ 6) }
 
-    // 3 comes only where the source failed in this run, and 4 only where `out` did.
+    // 3 comes only where the source failed in this run, 4 only where `out` did, and 5 only where the
+    // door did. 0 comes only where the door never failed in this run.
     ensures read { result.status ≡ 3 → Rose (S.faults input.old) (S.faults input.new) }
     ensures write { result.status ≡ 4 → Rose (K.faults out.old) (K.faults out.new) }
+    ensures door { result.status ≡ 5 →
+        Rose (D.counts door).faults (D.counts result.door).faults }
+    ensures sound { result.status ≡ 0 →
+        (D.counts result.door).faults ≡ (D.counts door).faults }
 
     // Nothing is written on `out` at 2, 3 and 7, and at 6 only for a script that was run. What is said
     // on `err` goes by the status; at 7 it is the line of the script's fault.
@@ -79,10 +106,16 @@ pub fn run<R: Threads + Wait + Sync, S: Source, K: Sink, E: Sink, G: Gates + Sen
     ensures gates { length result.gates ≡ 16 }
     ensures empty { (result.status ≡ 2) ⊎ ((result.status ≡ 3) ⊎ (result.status ≡ 7)) →
         RunsNothing result.book.entries gates result.gates }
-    ensures other { (AsksScript words.now → ⊥) →
+    ensures other { (AsksRealm words.now → ⊥) →
         RunsNothing result.book.entries gates result.gates }
-    ensures unserved { (AsksGenerate words.now → ⊥) → OfKnown (λ bytes. IsFaulty bytes →
+    ensures unserved { (AsksGenerate words.now → ⊥) → (AsksServe words.now → ⊥) →
+        OfKnown (λ bytes. IsFaulty bytes →
         RunsNothing result.book.entries gates result.gates) (S.left input.old) }
+
+    // As many links come back as the door gave in this run. Without a service no link comes, and the
+    // door is as it was.
+    ensures given { (D.counts result.door).links ≡ (D.counts door).links + length result.links }
+    ensures unopened { (AsksServe words.now → ⊥) → (result.links ≡ []) × (result.door ≡ door) }
 
     // For `run`: 7 comes only for a script that is refused, and all that is refused or isn't served
     // gets it unless the source failed or memory ran out.
@@ -109,6 +142,23 @@ pub fn run<R: Threads + Wait + Sync, S: Source, K: Sink, E: Sink, G: Gates + Sen
     ensures generate { AsksGenerate words.now → IsScriptRun result.status }
     ensures unread { AsksGenerate words.now → input.new ≡ input.old }
 
+    // The same per link: the history is one of the root's realm, each worker's entries are those of
+    // the commands of its links, and each link was written the replies of its lines, as far as its
+    // own counts of faults say that it never failed. 0 comes only where as many links came as were
+    // asked for, or the door closed; and the input and `out` are as they were.
+    ensures sessions { (o : TheServing) → words_of words.now ≡ Ok (Call.Serve o) →
+        let view = link_view D.Link.left D.Link.given D.Link.written D.Link.Source.faults
+        D.Link.Sink.faults in
+        RunsSessions G.log G.faults view (served_frame o) (served_shelf o) o.workers gates
+        result.gates result.book.entries (map (back_view view) result.links) result.status }
+    ensures few { (o : TheServing) → words_of words.now ≡ Ok (Call.Serve o) →
+        length result.links ≤ o.sessions }
+    ensures done { (o : TheServing) → words_of words.now ≡ Ok (Call.Serve o) →
+        result.status ≡ 0 → (length result.links ≡ o.sessions)
+        ⊎ Rose (D.counts door).closings (D.counts result.door).closings }
+    ensures serve { AsksServe words.now → IsServeStatus result.status }
+    ensures untouched { AsksServe words.now → (input.new ≡ input.old) × (out.new ≡ out.old) }
+
     // For `check`: 0 and `valid`, or 1 and the first fault; and at 4 a front of that line.
     ensures valid { AsksCheck words.now → result.status ≡ 0 →
         OfKnown (IsChecked (Appends (K.written out.old) (K.written out.new)) 0)
@@ -122,23 +172,47 @@ pub fn run<R: Threads + Wait + Sync, S: Source, K: Sink, E: Sink, G: Gates + Sen
     ensures check { AsksCheck words.now → IsCheckStatus result.status }
 {
     match read_words(alloc, words) {
-        Ok(
-            Call::Run(
-                RunOptions {
-                    journal,
-                    repository,
-                },
-            ),
-        ) => {
-            let wanted = Wanted::Answers { journal };
-            run_script(rt, alloc, wanted, repository, input, out, err, gates)
+        Ok(Call::Run(options)) => {
+            let wanted = Wanted::Answers {
+                journal: options.journal,
+            };
+            let folder = options.repository;
+            let Finished {
+                status,
+                book,
+                gates,
+            } = run_script(rt, alloc, wanted, folder, input, out, err, gates);
+            Ran {
+                status,
+                book,
+                links: List::new(alloc),
+                gates,
+                door,
+            }
         }
-        Ok(Call::Check) => ended(alloc, run_check(rt, alloc, input, out, err), gates),
-        Ok(Call::Generate(workload)) => run_generated(rt, alloc, workload, out, err, gates),
+        Ok(Call::Check) => {
+            let status = run_check(rt, alloc, input, out, err);
+            stopped(alloc, status, gates, door)
+        }
+        Ok(Call::Generate(workload)) => {
+            let Finished {
+                status,
+                book,
+                gates,
+            } = run_generated(rt, alloc, workload, out, err, gates);
+            Ran {
+                status,
+                book,
+                links: List::new(alloc),
+                gates,
+                door,
+            }
+        }
+        Ok(Call::Serve(options)) => run_sessions(rt, alloc, options, err, door, gates),
         Err(WordsFault::Usage) => {
             tell(rt, err, b"usage: run, check, serve, audit, generate\n");
-            ended(alloc, 2, gates)
+            stopped(alloc, 2, gates, door)
         }
-        Err(WordsFault::Memory) => ended(alloc, want_of_memory(rt, err), gates),
+        Err(WordsFault::Memory) => stopped(alloc, want_of_memory(rt, err), gates, door),
     }
 }

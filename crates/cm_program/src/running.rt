@@ -12,7 +12,7 @@ ghost use Rattle.cm_program.specs.Written.{AppendsFront, Says};
 
 use crate::answers::{push_answers, push_entries};
 use crate::performing::{Performed, perform};
-use crate::ran::{Ran, ended, want_of_memory};
+use crate::ran::{Finished, ended, want_of_memory};
 use crate::stock::Served;
 use crate::wanted::{Wanted, summary_text};
 use cm_command::Line;
@@ -148,7 +148,7 @@ fn print_performed<R: Threads + Wait + Sync, K: Sink, E: Sink, G>(
     head: &Text,
     wanted: Wanted,
     done: Performed<G>,
-) -> Ran<G>
+) -> Finished<G>
     ensures said { (said : Seq TheSaid) → done.said ≡ Some said
         → IsPrinted (printed_text phases.now said wanted head.now done.book.entries) said
         result.status (K.written out.old) (K.written out.new) }
@@ -162,7 +162,7 @@ fn print_performed<R: Threads + Wait + Sync, K: Sink, E: Sink, G>(
 {
     let Performed { book, gates, said } = done;
     let Some(said) = said else {
-        return Ran {
+        return Finished {
             status: want_of_memory(rt, err),
             book,
             gates,
@@ -175,7 +175,7 @@ fn print_performed<R: Threads + Wait + Sync, K: Sink, E: Sink, G>(
     };
     let status = print(rt, alloc, out, phases, said.as_slice(), &sheet);
     report(rt, err, status);
-    Ran {
+    Finished {
         status,
         book,
         gates,
@@ -194,7 +194,7 @@ pub fn run_served<R: Threads + Wait + Sync, K: Sink, E: Sink, G: Gates + Send + 
     out: &mut K,
     err: &mut E,
     gates: List<G>,
-) -> Ran<G>
+) -> Finished<G>
     requires gates { length gates ≡ 16 }
     requires fit { All (λ lines. All IsFit lines) served.phases }
     ensures gates { length result.gates ≡ 16 }

@@ -13,7 +13,7 @@ ghost use Rattle.cm_program.specs.Texts as spec;
 ghost use Rattle.cm_program.specs.Written.{IsSaid, OfKnown, Says};
 
 use crate::fault::Fault;
-use crate::ran::{Ran, ended, read_fault, tell, want_of_memory};
+use crate::ran::{Finished, ended, read_fault, tell, want_of_memory};
 use crate::running::run_served;
 use crate::stock::{Served, serve};
 use crate::wanted::Wanted;
@@ -109,7 +109,7 @@ pub fn run_script<R: Threads + Wait + Sync, S: Source, K: Sink, E: Sink, G: Gate
     out: &mut K,
     err: &mut E,
     gates: List<G>,
-) -> Ran<G>
+) -> Finished<G>
     requires gates { length gates ≡ 16 }
     ensures gates { length result.gates ≡ 16 }
     ensures read { result.status ≡ 3 → Rose (S.faults script.old) (S.faults script.new) }

@@ -15,7 +15,7 @@ use cm_world::{Frame, Limits};
 use std::alloc::Global;
 
 /// How many instances a realm may have, and how many entries its history.
-const LIMITS: Limits = Limits {
+pub const LIMITS: Limits = Limits {
     rows: 65_536,
     entries: 4_194_304,
 };

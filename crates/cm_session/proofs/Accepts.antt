@@ -64,6 +64,7 @@ counted_more first before now es w (accept.Link l) is now_is =
       links = grind (arith, is.links, more.links_are);
       faults_stay = is.faults_stay;
       faults = λ some. is.faults (subst (λ (n : ℕ). 0 < n) no_failure some);
+      sound = λ none. is.sound (sym no_failure ∙ none);
       closings_stay = is.closings_stay;
       closings = λ some. is.closings (subst (λ (n : ℕ). 0 < n) no_closing some);
     })
@@ -75,6 +76,7 @@ counted_more first before now es w accept.Closed is both =
       links = ap (λ (d : DoorCounts). d.links) both.1 ∙ grind (arith, is.links, more.links_are);
       faults_stay = subst (λ (n : ℕ). first.faults ≤ n) (sym (ap (λ (d : DoorCounts). d.faults) both.1)) is.faults_stay;
       faults = λ some. subst (λ (n : ℕ). Rose first.faults n) (sym (ap (λ (d : DoorCounts). d.faults) both.1)) (is.faults (subst (λ (n : ℕ). 0 < n) no_failure some));
+      sound = λ none. ap (λ (d : DoorCounts). d.faults) both.1 ∙ is.sound (sym no_failure ∙ none);
       closings_stay = grind (arith, is.closings_stay, both.0);
       closings = λ some. rises_more first.closings before.closings now.closings is.closings_stay closings_is both.0;
     }
@@ -86,6 +88,7 @@ counted_more first before now es w accept.Failed is both =
       links = ap (λ (d : DoorCounts). d.links) both.1 ∙ grind (arith, is.links, more.links_are);
       faults_stay = grind (arith, is.faults_stay, both.0);
       faults = λ some. rises_more first.faults before.faults now.faults is.faults_stay faults_is both.0;
+      sound = λ none. absurd (omega (arith, none, more.failures_are));
       closings_stay = subst (λ (n : ℕ). first.closings ≤ n) (sym (ap (λ (d : DoorCounts). d.closings) both.1)) is.closings_stay;
       closings = λ some. subst (λ (n : ℕ). Rose first.closings n) (sym (ap (λ (d : DoorCounts). d.closings) both.1)) (is.closings (subst (λ (n : ℕ). 0 < n) no_closing some));
     }

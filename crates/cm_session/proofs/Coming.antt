@@ -20,7 +20,7 @@ use Rattle.cm_session.specs.Links.{LinkView}
 use Rattle.cm_session.specs.Parts.{AreParts, Links}
 use Rattle.cm_session.specs.Serving.{IsUnserved, ServedOrNot}
 use Rattle.cm_session.proofs.Ending.{places_of, sixteen_long, team_of}
-use Rattle.cm_session.proofs.Finishing.{all_at_door, counts_links, done_over, ends_back, fault_rose, few_links, gates_back, keeps_all, keeps_each, links_counted, serves_all, sixteen_back}
+use Rattle.cm_session.proofs.Finishing.{all_at_door, counts_links, done_over, ends_back, fault_rose, few_links, gates_back, keeps_all, keeps_each, links_counted, serves_all, sixteen_back, done_sound}
 use Rattle.cm_session.proofs.Making.{Made}
 
 module _ {D L G : Type 0} (log_of : G → Option (List Asked)) (faults_of : G → ℕ) (view : L → LinkView) (counts : D → DoorCounts) (shelf : Shelf) (realm : LockView) (sessions workers : ℕ) (passes : List RealmPass) (gates : List G) (door : D) where
@@ -45,6 +45,7 @@ module _ {D L G : Type 0} (log_of : G → Option (List Asked)) (faults_of : G �
     pub few : length back.links ≤ sessions
     pub done : back.cause ≡ cause.Done → (length back.links ≡ sessions) ⊎ Rose (counts door).closings (counts back.door).closings
     pub fault : back.cause ≡ cause.DoorFault → Rose (counts door).faults (counts back.door).faults
+    pub sound : back.cause ≡ cause.Done → (counts back.door).faults ≡ (counts door).faults
 
   -- where nothing was done
   pub comes_not : AreSixteen realm passes → length gates ≡ 16 → IsUnserved passes gates door back → Comes
@@ -61,6 +62,7 @@ module _ {D L G : Type 0} (log_of : G → Option (List Asked)) (faults_of : G �
         few = omega (arith, none);
         done = λ e. absurd (cc (sym is.memory ∙ e));
         fault = λ e. absurd (cc (sym is.memory ∙ e));
+        sound = λ e. absurd (cc (sym is.memory ∙ e));
       }
 
   -- where links were served
@@ -80,6 +82,7 @@ module _ {D L G : Type 0} (log_of : G → Option (List Asked)) (faults_of : G �
         few = few_links log_of faults_of view shelf workers lock o passes at_door gates parts team.0 pl sixteen new (counts door) refl some (counts back.door) (length back.links) back.cause closes;
         done = done_over log_of faults_of view shelf workers lock o passes at_door gates parts team.0 pl sixteen new (counts door) refl some (counts back.door) (length back.links) back.cause closes;
         fault = fault_rose log_of faults_of view shelf workers lock o passes at_door gates parts team.0 pl sixteen new (counts door) refl some (counts back.door) (length back.links) back.cause closes;
+        sound = done_sound log_of faults_of view shelf workers lock o passes at_door gates parts team.0 pl sixteen new (counts door) refl some (counts back.door) (length back.links) back.cause closes;
       }
 
 -- what is as it was is kept

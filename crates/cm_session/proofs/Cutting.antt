@@ -144,6 +144,21 @@ cut-fault bytes given before done cut still unbroken =
           (end.whole.0, end.whole.1 ∙ ap (λ (l : Text). whole_lines l ++ end.whole.0) (sym (whole ∙ ap (λ (l : Text). cut.gone ++ l) (none-taken given before.held end.none (still end.over)) ∙ append-nil cut.gone)))
     ]
 
+-- the lines that were taken are whole ones, or the last of them isn't and the source came to its end
+pub cut-ended : (bytes given : Text) (before : Reader) (done : List Text) → Cut bytes before done → Begins (whole_lines (bytes ++ given)) done ⊎ (before.over ≡ true)
+cut-ended bytes given before done cut =
+    elim cut.at [
+      | inl at ↦ inl (whole_lines (before.held ++ given), ap whole_lines (parted-more bytes given before.held cut.gone cut.parted) ∙ at.whole (before.held ++ given))
+      | inr end ↦ inr end.over
+    ]
+
+pub cut-ended-so-far : (bytes : Text) (reader : Reader) (done : List Text) → Cut bytes reader done → Begins (whole_lines bytes) done ⊎ (reader.over ≡ true)
+cut-ended-so-far bytes reader done cut =
+    elim cut.at [
+      | inl at ↦ inl (whole_lines reader.held, ap whole_lines cut.parted ∙ at.whole reader.held)
+      | inr end ↦ inr end.over
+    ]
+
 -- one line more comes next
 pub cut-next : (bytes given : Text) (before after : Reader) (done : List Text) (line : Text) → Cut bytes before done → (before.over ≡ true → given ≡ [])
     → IsFirstLine (before.held ++ given) after line → (rest : List Text) × (lines (bytes ++ given) ≡ done ++ line ∷ rest)

@@ -164,6 +164,12 @@ module _ {G L : Type 0} (log_of : G → Option (List Asked)) (faults_of : G → 
       by (inr (inl closed)) none = inr (subst (λ (x : DoorCounts). Rose x.closings now.closings) counts_first (is.counted.closings closed))
       by (inr (inr failed)) none = absurd (omega (arith, failed, none))
 
+    -- where that is the cause, the door never failed
+    pub done_sound : why ≡ cause.Done → now.faults ≡ first.faults
+    done_sound done =
+        let means = done_means parts.lost is.failed why is.why_is done in
+        is.counted.sound (is.no_failure means.1) ∙ ap (λ (x : DoorCounts). x.faults) counts_first
+
     -- ---- all that comes back
 
     module _ {D : Type 0} (back : Served D L G) (passes_are : back.passes ≡ parts.passes.items) (gates_are : back.gates ≡ parts.gates.items) (links_are : back.links ≡ links_from 0 parts.links.items) (why_is : back.cause ≡ why) where

@@ -1,7 +1,7 @@
 -- Lemmas on a session, step by step.
 use Rattle.std.proofs.Common.{◌≡◌, ◌≢◌, ◌≤◌, ◌<◌, ◌⊎◌, inl, inr, ℕ, ◌+◌, Bool, true, false, List, [], ◌∷◌, ◌++◌, take, length, length-append, refl, ap, sym, ◌∙◌, subst, append_assoc, append-nil, true≢false, Option, Some, None, Result, Err, All, arith}
 use Rattle.std.specs.List.{AllZip}
-use lib.Seq.{take_all, take-append-add}
+use lib.Seq.{take_all}
 use Rattle.std.proofs.lemmas.List.Concat.{flat_map-append}
 use Rattle.std.proofs.lemmas.List.Elements.{All-append, All-from_recursion}
 use Rattle.std.specs.Io.KnownBytes.{Appends, IsAtEnd}
@@ -29,11 +29,11 @@ use Rattle.cm_manager.specs.Work.{Shelf}
 use Rattle.cm_manager.proofs.Keeping.{keeps_helps}
 use Rattle.cm_session.specs.declared.ended.Ended.{Ended}
 use Rattle.cm_session.specs.declared.ended.Ended.TheVariants as ended
-use Rattle.cm_session.specs.Links.{Begins, GrowsByFront, LinkView}
+use Rattle.cm_session.specs.Links.{Begins, GrowsByFront, LinkView, whole_lines}
 use Rattle.cm_session.specs.Told.{Told, performed, bad, too_long, Reads, reply_line, replies, done_of, IsNoWant}
-use Rattle.cm_session.specs.Session.{KeepsOrNot, Served, Session, Wrote, most_lines, quit}
+use Rattle.cm_session.specs.Session.{AreEnded, BreaksOff, KeepsOrNot, Served, Session, Wrote, most_lines, quit}
 use Rattle.cm_session.specs.Steps.{IsSilent, LineDone, LineWrote, ServedCommand, ServedLine, ServedOrNot, StepBy, Stepped}
-use Rattle.cm_session.proofs.Cutting.{Cut, cut-begins, cut-end, cut-fault, cut-more, cut-next, cut-none}
+use Rattle.cm_session.proofs.Cutting.{Cut, cut-begins, cut-end, cut-ended, cut-ended-so-far, cut-fault, cut-more, cut-next, cut-none}
 use Rattle.cm_session.proofs.Kept.{GoesOn, does_as, goes_all, goes_lost, goes_more, goes_none, kept_same, kept_then}
 
 bool_or : (b : Bool) → (b ≡ true) ⊎ (b ≡ false)
@@ -74,17 +74,17 @@ same-sink : (old now then : AsSink) (text : Text) → Appends old.written now.wr
 same-sink old now then text wrote same = subst (λ (s : AsSink). Appends old.written s.written text) (sym same) wrote
 
 -- all of the earlier replies and a front of the next one
-fronts : (a b c : Option Text) (xs ys : Text) → Appends a b xs → GrowsByFront b c ys → GrowsByFront a c (xs ++ ys)
-fronts a b c xs ys h (n, k) =
-    (length xs + n, subst (Appends a c) (sym (take-append-add xs ys n)) (Appends-trans a b c xs (take n ys) h k))
+breaks-off : (a b c : Option Text) (told : List Told) (t : Told) → Appends a b (replies told) → GrowsByFront b c (reply_line t) → BreaksOff a c (told ++ t ∷ [])
+breaks-off a b c told t h (n, k) = record { before = told; last = t; all = refl; count = n; wrote = Appends-trans a b c (replies told) (take n (reply_line t)) h k }
+
+-- of lines that were ended, or of an end that came
+ended-by : (bytes : Text) (done : List Text) (over : Bool) (left : Option Text) → (over ≡ true → IsAtEnd left) → Begins (whole_lines bytes) done ⊎ (over ≡ true) → AreEnded bytes done left
+ended-by bytes done over left end (inl begins) = inl begins
+ended-by bytes done over left end (inr is) = inr (end is)
 
 -- bytes that were written are a front of themselves
 pub whole-front : (a b : Option Text) (xs : Text) → Appends a b xs → GrowsByFront a b xs
 whole-front a b xs h = (length xs, subst (Appends a b) (sym (take_all (length xs) xs (omega arith))) h)
-
--- nothing is a front of every text
-pub no-front : (a : Option Text) (xs : Text) → GrowsByFront a a xs
-no-front a xs = (0, appends-nil a)
 
 -- ---- lists
 
@@ -179,7 +179,7 @@ going-more shelf p q r g h k old now then before after n go s =
 with-line : (shelf : Shelf) (p q r : RealmPass) (g h k : GatesView) (old now then : LinkView) (before after : Reader) (n : ℕ) (e : Ended)
     → (go : Going shelf p q g h old now before n) → (s : Stepped shelf q r h k before after now then (Some e)) → (l : LineDone shelf q r h k (before.held ++ s.given) after now.sink then.sink (Some e))
     → ((bytes : Text) (lines_done : List Text) (left : Option Text) → Begins (lines bytes) lines_done → Served e bytes lines_done left)
-    → Wrote e old.sink then.sink (replies go.told ++ reply_line l.served.told) → (e ≢ ended.Memory → IsNoWant l.served.told) → (e ≡ ended.ReadFault → ⊥) → n < most_lines
+    → Wrote e old.sink then.sink (go.told ++ l.served.told ∷ []) → (e ≢ ended.Memory → IsNoWant l.served.told) → (e ≡ ended.ReadFault → ⊥) → n < most_lines
     → Session shelf p r g k old then e
 with-line shelf p q r g h k old now then before after n e go s l served wrote want none lt =
     let v = l.served in
@@ -197,7 +197,9 @@ with-line shelf p q r g h k old now then before after n e go s l served wrote wa
       served = served (go.bytes ++ s.given) (go.lines_done ++ l.line ∷ []) then.source.left (next.0, next.1 ∙ sym (append_assoc go.lines_done (l.line ∷ []) next.0));
       follows = goes_all (frame_of p) p.caller (done_of (go.told ++ v.told ∷ [])) p.seen r.seen
           (goes_more (frame_of p) p.caller go.told v.told p.seen q.seen r.seen go.goes_on (does_as shelf p q r g h v.told go.keeps v.does));
-      wrote = subst (Wrote e old.sink then.sink) (sym (replies-push go.told v.told)) wrote;
+      ended_lines = ended-by (go.bytes ++ s.given) (go.lines_done ++ l.line ∷ []) after.over then.source.left (end-more before after now.source then.source s.given go.end s.once)
+          (cut-ended-so-far (go.bytes ++ s.given) after (go.lines_done ++ l.line ∷ []) (cut-more go.bytes s.given before after go.lines_done l.line go.cut (λ over. (s.once.still over).0) l.first));
+      wrote = wrote;
       no_want = λ other. all-push IsNoWant go.told v.told go.no_want (want other);
       read_fault = λ fault. absurd (none fault);
     }
@@ -205,7 +207,7 @@ with-line shelf p q r g h k old now then before after n e go s l served wrote wa
 -- what comes of a session that ends without a line
 without-line : (shelf : Shelf) (p q r : RealmPass) (g h k : GatesView) (old now then : LinkView) (before after : Reader) (n : ℕ) (e : Ended)
     → (go : Going shelf p q g h old now before n) → (s : Stepped shelf q r h k before after now then (Some e)) → IsSilent q r h k now.sink then.sink
-    → Served e (go.bytes ++ s.given) go.lines_done then.source.left → Wrote e old.sink then.sink (replies go.told)
+    → Served e (go.bytes ++ s.given) go.lines_done then.source.left → Wrote e old.sink then.sink go.told
     → (e ≡ ended.ReadFault → Rose now.source.faults then.source.faults) → n < most_lines → Session shelf p r g k old then e
 without-line shelf p q r g h k old now then before after n e go s silent served wrote fault lt = record {
   keeps = kept_then shelf p q r g h k go.keeps (inl (silent.pass, silent.gates));
@@ -217,6 +219,8 @@ without-line shelf p q r g h k old now then before after n e go s silent served 
   reads = go.reads;
   no_quit = go.no_quit;
   served = served;
+  ended_lines = ended-by (go.bytes ++ s.given) go.lines_done before.over then.source.left (λ over. subst (λ (x : AsSource). IsAtEnd x.left) (sym (s.once.still over).2) (go.end over))
+      (cut-ended go.bytes s.given before go.lines_done go.cut);
   follows = subst (λ (x : RealmPass). Follows (frame_of p) p.caller (done_of go.told) p.seen x.seen) (sym silent.pass) (goes_all (frame_of p) p.caller (done_of go.told) p.seen q.seen go.goes_on);
   wrote = wrote;
   no_want = λ other. go.no_want;
@@ -234,8 +238,13 @@ going-ends shelf p q r g h k old now then before after n ended.End go lt s =
 going-ends shelf p q r g h k old now then before after n ended.Quit go lt s =
     let few : length go.lines_done < most_lines = omega (arith, lt, go.count) in
     let next = cut-next go.bytes s.given before after go.lines_done quit go.cut (λ over. (s.once.still over).0) s.by.0 in
-    without-line shelf p q r g h k old now then before after n ended.Quit go s s.by.1
-    (next.0, next.1, few)
+    without-line shelf p q r g h k old now then before after n ended.Quit go s s.by.1 (
+      next.0,
+      next.1,
+      few,
+      ended-by (go.bytes ++ s.given) (go.lines_done ++ quit ∷ []) after.over then.source.left (end-more before after now.source then.source s.given go.end s.once)
+          (cut-ended-so-far (go.bytes ++ s.given) after (go.lines_done ++ quit ∷ []) (cut-more go.bytes s.given before after go.lines_done quit go.cut (λ over. (s.once.still over).0) s.by.0)),
+    )
     (same-sink old.sink now.sink then.sink (replies go.told) go.wrote s.by.1.sink)
     (λ is. absurd (quit-is-no-fault is)) lt
 going-ends shelf p q r g h k old now then before after n ended.ReadFault go lt s =
@@ -246,17 +255,17 @@ going-ends shelf p q r g h k old now then before after n ended.ReadFault go lt s
 going-ends shelf p q r g h k old now then before after n ended.WriteFault go lt s =
     let l = s.by in
     with-line shelf p q r g h k old now then before after n ended.WriteFault go s l (λ bytes ls left begins. begins)
-    (fronts old.sink.written now.sink.written then.sink.written (replies go.told) (reply_line l.served.told) go.wrote l.served.wrote.0, subst (λ (m : ℕ). Rose m then.sink.faults) go.unfailed l.served.wrote.1)
+    (breaks-off old.sink.written now.sink.written then.sink.written go.told l.served.told go.wrote l.served.wrote.0, subst (λ (m : ℕ). Rose m then.sink.faults) go.unfailed l.served.wrote.1)
     (λ other. l.served.wrote.2) write-is-no-fault lt
 going-ends shelf p q r g h k old now then before after n ended.LinesSpent go lt s = absurd s.by
 going-ends shelf p q r g h k old now then before after n ended.Memory go lt s =
     elim s.by [
       | inl silent ↦ without-line shelf p q r g h k old now then before after n ended.Memory go s silent
           (cut-begins go.bytes s.given before go.lines_done go.cut (λ over. (s.once.still over).0))
-          (whole-front old.sink.written then.sink.written (replies go.told) (same-sink old.sink now.sink then.sink (replies go.told) go.wrote silent.sink))
+          (inl (same-sink old.sink now.sink then.sink (replies go.told) go.wrote silent.sink))
           (λ is. absurd (memory-is-no-fault is)) lt
       | inr l ↦ with-line shelf p q r g h k old now then before after n ended.Memory go s l (λ bytes ls left begins. begins)
-          (fronts old.sink.written now.sink.written then.sink.written (replies go.told) (reply_line l.served.told) go.wrote l.served.wrote)
+          (inr (breaks-off old.sink.written now.sink.written then.sink.written go.told l.served.told go.wrote l.served.wrote))
           (λ other. absurd (other refl)) memory-is-no-fault lt
     ]
 
@@ -271,6 +280,7 @@ going-spent shelf p q g h old now reader n all go = record {
   reads = go.reads;
   no_quit = go.no_quit;
   served = (subst (λ (b : Text). Begins (lines b) go.lines_done) (append-nil go.bytes) (cut-begins go.bytes [] reader go.lines_done go.cut (λ over. refl)), go.count ∙ all);
+  ended_lines = ended-by go.bytes go.lines_done reader.over now.source.left go.end (cut-ended-so-far go.bytes reader go.lines_done go.cut);
   follows = goes_all (frame_of p) p.caller (done_of go.told) p.seen q.seen go.goes_on;
   wrote = go.wrote;
   no_want = λ other. go.no_want;
@@ -289,8 +299,9 @@ session-none shelf p g link = record {
   reads = tt;
   no_quit = λ k d lt. absurd (omega arith);
   served = (lines [], refl);
+  ended_lines = inl (whole_lines [], refl);
   follows = goes_all (frame_of p) p.caller (done_of []) p.seen p.seen (goes_none (frame_of p) p.caller p.seen);
-  wrote = no-front link.sink.written [];
+  wrote = inl (appends-nil link.sink.written);
   no_want = λ other. absurd (other refl);
   read_fault = λ is. absurd (memory-is-no-fault is);
 }

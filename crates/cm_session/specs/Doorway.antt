@@ -34,11 +34,13 @@ closings_of entries = length (filter is_closing entries)
 abbrev pub failures_of : List Accepted → ℕ
 failures_of entries = length (filter is_failure entries)
 
--- what the entries say was counted: each link, and that a closing or a fault came
+-- what the entries say was counted: each link, that a closing or a fault came, and where none of them is a
+-- failure, that none came
 pub record IsCounted (first now : DoorCounts) (entries : List Accepted) : Type 0 where
   pub links : now.links ≡ first.links + links_of entries
   pub faults_stay : first.faults ≤ now.faults
   pub faults : 0 < failures_of entries → Rose first.faults now.faults
+  pub sound : failures_of entries ≡ 0 → now.faults ≡ first.faults
   pub closings_stay : first.closings ≤ now.closings
   pub closings : 0 < closings_of entries → Rose first.closings now.closings
 

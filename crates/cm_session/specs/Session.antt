@@ -1,5 +1,6 @@
 -- One session over a link, by its end.
-use Rattle.std.specs.Prelude.{◌≡◌, ◌≢◌, ◌⊎◌, ◌<◌, ◌≤◌, ℕ, List, ◌∷◌, ◌++◌, All, length, codes, Option}
+use Rattle.std.specs.Prelude.{◌≡◌, ◌≢◌, ◌⊎◌, ◌<◌, ◌≤◌, ℕ, List, [], ◌∷◌, ◌++◌, All, length, take, codes}
+use Rattle.std.specs.Prelude.{Option}
 use Rattle.std.specs.List.{AllZip}
 use Rattle.std.specs.Io.KnownBytes.{Appends, IsAtEnd}
 use Rattle.cm_io.specs.Lines.{lines, Moves}
@@ -12,8 +13,8 @@ use Rattle.cm_manager.specs.Work.{Shelf}
 use Rattle.cm_manager.specs.Contract.{RealmPass, GatesView}
 use Rattle.cm_session.specs.declared.ended.Ended.{Ended}
 use Rattle.cm_session.specs.declared.ended.Ended.TheVariants as ended
-use Rattle.cm_session.specs.Links.{Begins, GrowsByFront, LinkView, whole_lines}
-use Rattle.cm_session.specs.Told.{Told, Reads, replies, done_of, IsNoWant}
+use Rattle.cm_session.specs.Links.{Begins, LinkView, whole_lines}
+use Rattle.cm_session.specs.Told.{Told, Reads, reply_line, replies, done_of, IsNoWant}
 
 -- the line that ends a session
 abbrev pub quit : Text
@@ -23,21 +24,38 @@ quit = codes "quit"
 abbrev pub most_lines : ℕ
 most_lines = 1048576
 
+-- these are first lines of the bytes, each of which a line feed ended; or nothing is left behind the bytes
+abbrev pub AreEnded : Text → List Text → Option Text → Type 0
+AreEnded bytes first left = Begins (whole_lines bytes) first ⊎ IsAtEnd left
+
 -- which lines of these bytes were served, by the end of the session
 abbrev pub Served : Ended → Text → List Text → Option Text → Type 0
 Served ended.End bytes done left = (lines bytes ≡ done) × (length done < most_lines) × IsAtEnd left
 Served ended.Quit bytes done left =
     (rest : List Text) × (lines bytes ≡ done ++ quit ∷ rest) × (length done < most_lines)
+    × AreEnded bytes (done ++ quit ∷ []) left
 Served ended.LinesSpent bytes done left = Begins (lines bytes) done × (length done ≡ most_lines)
 Served ended.ReadFault bytes done left = Begins (lines bytes) done × Begins done (whole_lines bytes)
 Served ended.WriteFault bytes done left = Begins (lines bytes) done
 Served ended.Memory bytes done left = Begins (lines bytes) done
 
+-- the replies to all lines but the last were written whole, and of that one a front
+pub record BreaksOff (old new : Option Text) (told : List Told) : Type 0 where
+  pub before : List Told
+  pub last : Told
+  pub all : told ≡ before ++ last ∷ []
+  pub count : ℕ
+  pub wrote : Appends old new (replies before ++ take count (reply_line last))
+
+-- all replies were written, or they break off in the last one
+abbrev pub WroteFront : Option Text → Option Text → List Told → Type 0
+WroteFront old new told = Appends old new (replies told) ⊎ BreaksOff old new told
+
 -- what was written of the replies, by the end of the session
-abbrev pub Wrote : Ended → AsSink → AsSink → Text → Type 0
-Wrote ended.WriteFault old new text = GrowsByFront old.written new.written text × Rose old.faults new.faults
-Wrote ended.Memory old new text = GrowsByFront old.written new.written text
-Wrote end old new text = Appends old.written new.written text
+abbrev pub Wrote : Ended → AsSink → AsSink → List Told → Type 0
+Wrote ended.WriteFault old new told = BreaksOff old.written new.written told × Rose old.faults new.faults
+Wrote ended.Memory old new told = WroteFront old.written new.written told
+Wrote end old new told = Appends old.written new.written (replies told)
 
 -- the pass and the gates are as they were; or the pass is the same one, its entries are its caller's in what
 -- it has seen, and its new entries are whole calls, with the work of its gates
@@ -58,9 +76,11 @@ pub record Session (shelf : Shelf) (p q : RealmPass) (g h : GatesView) (old new 
   pub reads : AllZip Reads lines_done told
   pub no_quit : All (λ t. t ≢ quit) lines_done
   pub served : Served end bytes lines_done new.source.left
+  -- a line that no line feed ended was served only where the link is at its end
+  pub ended_lines : AreEnded bytes lines_done new.source.left
   -- what the caller performed: the commands among them, in their order, and nothing else
   pub follows : Follows (frame_of p) p.caller (done_of told) p.seen q.seen
   -- what was written of the replies, and why the session ended
-  pub wrote : Wrote end old.sink new.sink (replies told)
+  pub wrote : Wrote end old.sink new.sink told
   pub no_want : end ≢ ended.Memory → All IsNoWant told
   pub read_fault : end ≡ ended.ReadFault → Rose old.source.faults new.source.faults

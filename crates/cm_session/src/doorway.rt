@@ -2,7 +2,7 @@
 
 ghost use Rattle.std.specs.Prelude.{◌≡◌, ◌<◌, ◌≤◌, [], IfErr, IfOk, true, false};
 ghost use Rattle.cm_io.specs.Doors.{IsNew};
-ghost use Rattle.cm_session.specs.Doorway.{DoorwayView, IsCounted, IsOver, OnGiven, TurnedBy, came_of};
+ghost use Rattle.cm_session.specs.Doorway.{DoorwayView, IsCounted, OnGiven, TurnedBy, came_of};
 ghost use Rattle.cm_session.specs.Doorway.{failures_of, links_of};
 
 use cm_io::{Accept, Door, DoorCounts};
@@ -119,13 +119,6 @@ impl<D: Door> Doorway<D> {
             failures: 0,
             first,
         })
-    }
-
-    /// Whether no further accept is due.
-    pub fn is_over(&self) -> bool
-        ensures { result ≡ true → IsOver self.now.opening.sessions self.now.entries }
-    {
-        self.closings > 0 || self.failures > 0 || self.links >= self.sessions
     }
 
     /// Accepts for this worker, unless no further accept is due.

@@ -256,9 +256,10 @@ fn serve_link<R: Threads + Wait + Sync, G: Gates, L: Link>(
 /// where its first K bytes are the longest front of it that some command begins with; one of more
 /// than 65,536 bytes by `refused 75 line-too-long`. A line `quit` ends the session without a reply.
 ///
-/// `ReadFault` comes only where the link's count as a source rose, and `WriteFault` only where its
-/// count as a sink did; `LinesSpent` after 1,048,576 lines. `Memory` comes where memory ran out for
-/// a line or its reply, also where the link failed then. Whatever the end, the link is hung up.
+/// The end is `ReadFault` only if a failed read of this link was counted meanwhile, and `WriteFault`
+/// only if a failed write was; `LinesSpent` after 1,048,576 lines. `Memory` comes where memory ran
+/// out for a line or its reply, also where the link failed then. Whatever the end, the link is hung
+/// up.
 pub fn session<R: Threads + Wait + Sync, G: Gates, L: Link>(
     rt: &R,
     alloc: Global,

@@ -31,7 +31,7 @@ pub struct Served<D, L, G> {
     pub gates: List<G>,
     /// The door.
     pub door: D,
-    /// All links that came, worker by worker, those of one worker in the order in which it served them.
+    /// All links that came, worker by worker, and each worker's as its sessions followed one another.
     pub links: List<Back<L>>,
     /// Why no more were served.
     pub cause: Cause,

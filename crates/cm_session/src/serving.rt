@@ -32,14 +32,14 @@ use std::thread::Threads;
 /// accept the next. A worker uses the pass and the gates of its number, one session after another.
 /// While it waits for a link, reads or writes, it holds up no other's session.
 ///
-/// The passes are the manager's of callers 0 to 15, in this order, and there are 16 gates; both come
-/// back in their order in every case, and so does the door. All links that came are handed back with
-/// their workers' numbers, worker by worker, those of one worker in the order in which it served
-/// them. A fault of a link ends its session alone.
+/// The passes are the manager's of callers 0 to 15, in this order, and there are 16 gates. Whatever
+/// happens, both are handed back, ordered as they were given, and so is the door. All links that came
+/// are handed back with their workers' numbers, worker by worker, and each worker's as its sessions
+/// followed one another. A link that fails ends the session over it and no other.
 ///
 /// The cause is the first of these that applies: `Memory` where a session ended for want of memory,
 /// or there was too little to begin with, and then nothing was done; `DoorFault` where the door
-/// failed; `Done` where as many links came as were asked for, or the door closed.
+/// failed; `Done` where as many links came as were asked for, or the door closed, and it never failed.
 pub fn serve_sessions<R: Threads + Wait + Sync, G: Gates + Send + Drop, D: Door + Send>(
     rt: &R,
     alloc: Global,
@@ -70,6 +70,8 @@ where
         ⊎ Rose (D.counts door).closings (D.counts result.door).closings }
     ensures fault { result.cause ≡ cause.DoorFault →
         Rose (D.counts door).faults (D.counts result.door).faults }
+    ensures sound { result.cause ≡ cause.Done →
+        (D.counts result.door).faults ≡ (D.counts door).faults }
 {
     let Ok(room) = room_for(alloc, sessions, workers) else {
         return unserved(alloc, passes, gates, door);

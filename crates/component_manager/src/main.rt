@@ -1,7 +1,8 @@
-//! A component manager: it runs the commands of a script of component manifests or of a workload
-//! that it generates, and says whether a manifest is valid.
+//! A component manager: it runs the commands of a script of component manifests, of a workload that
+//! it generates or of links over a Unix socket, and says whether a manifest is valid.
 //!
-//! [`cm_program::run::run`] is the top call; `main` makes the standard streams and the gates for it.
+//! [`cm_program::run::run`] is the top call; `main` makes the standard streams, the door and the
+//! gates for it.
 #![tactic(auto)]
 
 #[cfg(test)]
@@ -10,9 +11,9 @@ mod tests;
 ghost use Rattle.std.specs.Prelude.{◌≡◌, IfOk, length};
 
 use cm_gate::FolderGates;
-use cm_io::{Reading, Writing};
+use cm_io::{Reading, SocketDoor, Writing};
 use cm_names::{List, Memory, Text};
-use cm_program::{run, want_of_memory};
+use cm_program::{Ran, run, want_of_memory};
 use std::alloc::Global;
 use std::io::ErrorKind;
 use std::process::ExitCode;
@@ -72,7 +73,15 @@ fn main(rt: HostRuntime) -> ExitCode {
         &mut input,
         &mut out,
         &mut err,
+        SocketDoor::new(rt),
         gates,
     );
-    ExitCode::from(ran.status)
+    let Ran {
+        status,
+        mut door,
+        ..
+    } = ran;
+    // The socket file would outlive the program.
+    door.close();
+    ExitCode::from(status)
 }

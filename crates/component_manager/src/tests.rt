@@ -4,45 +4,61 @@
 //! may come to. One player takes the tables apart and runs all cases.
 
 mod checks;
+mod commands;
+mod doors;
 mod ends;
 mod gates;
 mod generated;
 mod input;
+mod journals;
 mod manifests;
 mod meeting;
 mod outside;
 mod player;
+mod reading;
 mod realms;
 mod refusals;
 mod routes;
+mod serving;
+mod sockets;
 
+use cm_io::SocketDoor;
 use std::test::Fail;
+use std::{fs, thread};
 
-#[test]
-fn routes_are_answered(rt: HostRuntime) -> Result<(), Fail> {
-    let odd = player::odd_cases(&rt, rt.alloc(), routes::ROUTES)?;
-    assert!(rt; odd.is_empty(), "{odd}");
-    Ok(())
+/// The tables of runs that are short.
+fn table_of(number: u8) -> &'static str {
+    match number {
+        0 => routes::ROUTES,
+        1 => realms::REALMS,
+        2 => refusals::REFUSALS,
+        3 => checks::CHECKS,
+        4 => outside::OUTSIDE,
+        5 => gates::GATES,
+        6 => generated::GENERATED,
+        7 => reading::MANIFESTS,
+        8 => reading::VALID,
+        9 => reading::FIELDS,
+        10 => reading::UNJUDGED,
+        11 => reading::LIMITS,
+        12 => reading::WRITTEN,
+        13 => commands::SCRIPTS,
+        14 => commands::COMMANDS,
+        15 => commands::PIECES,
+        16 => commands::SESSIONS,
+        17 => journals::STOPS,
+        18 => journals::CREATES,
+        19 => gates::PLANS,
+        _ => "",
+    }
 }
 
 #[test]
-fn realms_change(rt: HostRuntime) -> Result<(), Fail> {
-    let odd = player::odd_cases(&rt, rt.alloc(), realms::REALMS)?;
-    assert!(rt; odd.is_empty(), "{odd}");
-    Ok(())
-}
-
-#[test]
-fn faulty_scripts_are_refused(rt: HostRuntime) -> Result<(), Fail> {
-    let odd = player::odd_cases(&rt, rt.alloc(), refusals::REFUSALS)?;
-    assert!(rt; odd.is_empty(), "{odd}");
-    Ok(())
-}
-
-#[test]
-fn words_and_manifests_are_checked(rt: HostRuntime) -> Result<(), Fail> {
-    let odd = player::odd_cases(&rt, rt.alloc(), checks::CHECKS)?;
-    assert!(rt; odd.is_empty(), "{odd}");
+fn runs_come_to_their_ends(rt: HostRuntime) -> Result<(), Fail> {
+    for number in 0..20 {
+        let odd = player::odd_cases(&rt, rt.alloc(), table_of(number))?;
+        assert!(rt; odd.is_empty(), "table {number}: {odd}");
+    }
     Ok(())
 }
 
@@ -54,23 +70,34 @@ fn the_largest_scripts_are_refused(rt: HostRuntime) -> Result<(), Fail> {
 }
 
 #[test]
-fn the_outside_may_fail(rt: HostRuntime) -> Result<(), Fail> {
-    let odd = player::odd_cases(&rt, rt.alloc(), outside::OUTSIDE)?;
+fn links_are_served(rt: HostRuntime) -> Result<(), Fail> {
+    let odd = player::odd_cases(&rt, rt.alloc(), serving::SERVING)?;
     assert!(rt; odd.is_empty(), "{odd}");
     Ok(())
 }
 
 #[test]
-fn gates_may_fail(rt: HostRuntime) -> Result<(), Fail> {
-    let odd = player::odd_cases(&rt, rt.alloc(), gates::GATES)?;
-    assert!(rt; odd.is_empty(), "{odd}");
-    Ok(())
-}
-
-#[test]
-fn workloads_run(rt: HostRuntime) -> Result<(), Fail> {
-    let odd = player::odd_cases(&rt, rt.alloc(), generated::GENERATED)?;
-    assert!(rt; odd.is_empty(), "{odd}");
+fn sockets_are_served(rt: HostRuntime) -> Result<(), Fail> {
+    let _ = fs::remove_dir_all(&rt, "socket_folder");
+    fs::create_dir(&rt, "socket_folder")?;
+    let alloc = rt.alloc();
+    let (served, told) = thread::join(
+        &rt,
+        move || sockets::serve(&rt, alloc, SocketDoor::new(rt)),
+        move || sockets::ask(&rt, alloc),
+    );
+    let Some((status, links, mut door)) = served else {
+        return Err(Fail::from("nothing was served"));
+    };
+    let Some(told) = told else {
+        return Err(Fail::from("a client was not served"));
+    };
+    door.close();
+    assert_eq!(rt; status, 0);
+    assert_eq!(rt; links, 3);
+    assert_eq!(rt; told.as_slice(), sockets::TOLD.as_bytes());
+    // The socket file is gone.
+    fs::remove_dir(&rt, "socket_folder")?;
     Ok(())
 }
 
@@ -83,8 +110,10 @@ fn large_workloads_run(rt: HostRuntime) -> Result<(), Fail> {
 
 #[test]
 fn lanes_meet(rt: HostRuntime) {
-    let odd = meeting::odd_meeting(&rt, rt.alloc());
-    assert!(rt; odd.is_some_and(|odd| odd.is_none()));
+    for case in [meeting::BOTH, meeting::ONE] {
+        let odd = meeting::odd_meeting(&rt, rt.alloc(), case);
+        assert!(rt; odd.is_some_and(|odd| odd.is_none()), "{case}");
+    }
 }
 
 /// A table in which the second case is wrong, and those behind it can't be read.

@@ -186,189 +186,6 @@ pub const RELAXED: &str = "\
     == json 1 /*/\n\
     => fault Unclosed(2)\n";
 
-/// Manifests that have a fault, which has its number and place, and some that have none.
-pub const MANIFESTS: &str = "\
-    == manifest {children:[\n\
-    => invalid 31 manifest 0\n\
-    == manifest {children:[]/\n\
-    => invalid 31 manifest 0\n\
-    == manifest []\n\
-    => invalid 32 manifest 0\n\
-    == manifest {zoo:1,any:2,facets:3}\n\
-    => invalid 33 manifest 0 any\n\
-    == manifest {children:[{name:'a',url:'u'},{url:'u'}]}\n\
-    => invalid 34 children 1 name\n\
-    == manifest {program:[]}\n\
-    => invalid 35 program 0\n\
-    == manifest {use:[{protocol:[]}]}\n\
-    => invalid 35 use 0 protocol\n\
-    == manifest {expose:[{protocol:'p',from:'#'}]}\n\
-    => invalid 36 expose 0 from\n\
-    == manifest {capabilities:[{directory:'d',path:'/a/../b',rights:['r*']}]}\n\
-    => invalid 37 capabilities 0 path\n\
-    == manifest {use:[{directory:'d',path:'/d',rights:['r*','r*']}]}\n\
-    => invalid 38 use 0 rights\n\
-    == manifest {collections:[{name:'c',durability:'forever'}]}\n\
-    => invalid 39 collections 0 durability\n\
-    == manifest {offer:[{from:'self',to:'#c'}]}\n\
-    => invalid 40 offer 0\n\
-    == manifest {offer:[{protocol:['p','q'],from:'self',to:'#c',as:'r'}]}\n\
-    => invalid 42 offer 0 as\n\
-    == manifest {expose:3,children:[{}],program:{}}\n\
-    => invalid 34 program 0 runner\n\
-    == manifest {use:[{},{protocol:'-'}],children:[3]}\n\
-    => invalid 35 children 0\n\
-    == manifest {use:[{protocol:'p',directory:'d',color:1}]}\n\
-    => invalid 40 use 0\n\
-    == manifest {use:[{protocol:'-',color:1,colour:2}]}\n\
-    => invalid 33 use 0 color\n\
-    == manifest {use:[{availability:'maybe',protocol:'-'}]}\n\
-    => invalid 36 use 0 protocol\n\
-    == manifest {offer:[{protocol:['p','q'],from:'self',to:['#-','x'],as:'-'}]}\n\
-    => invalid 36 offer 0 to\n\
-    == manifest {offer:[{protocol:['p','q'],from:'self',to:['x','#-'],as:'-'}]}\n\
-    => invalid 39 offer 0 to\n\
-    == manifest {offer:[{protocol:['p','q'],from:'self',to:'#c',as:'-'}]}\n\
-    => invalid 36 offer 0 as\n\
-    == written \n\
-    \x20   // The realm of a session.\n\
-    \x20   {\n\
-    \x20       program: { runner: 'elf', binary: 'bin/session' },\n\
-    \x20       children: [ { name: 'shell', url: '#meta/shell.cm', startup: 'eager' }, ],\n\
-    \x20       collections: [\n\
-    \x20           { name: 'elements', durability: 'transient', allowed_offers: \
-    'static_and_dynamic' },\n\
-    \x20       ],\n\
-    \x20       capabilities: [ { directory: 'data', path: '/data', rights: [ 'r*' ] } ],\n\
-    \x20       use: [ { protocol: [ 'a.B', 'a.C' ] }, /* from the parent */ ],\n\
-    \x20       offer: [ { protocol: 'a.B', from: 'parent', to: [ '#shell', '#elements' ] } ],\n\
-    \x20       expose: [ { directory: 'data', from: 'self', as: 'session-data', subdir: 'x/y' } \
-    ],\n\
-    \x20       facets: { any: [ true, 1.5, null ] },\n\
-    \x20   }\n\
-    => {\"capabilities\":[{\"directory\":\"data\",\"path\":\"/data\",\"rights\":[\"connect\",\
-    \"enumerate\",\"get_attributes\",\"read_bytes\",\"traverse\"]}],\
-    \"children\":[{\"name\":\"shell\",\"startup\":\"eager\",\"url\":\"#meta/shell.cm\"}],\
-    \"collections\":[{\"allowed_offers\":\"static_and_dynamic\",\"durability\":\"transient\",\
-    \"name\":\"elements\"}],\"expose\":[{\"as\":\"session-data\",\"availability\":\"required\",\
-    \"directory\":\"data\",\"from\":\"self\",\"subdir\":\"x/y\"}],\"offer\":[{\"as\":\"a.B\",\
-    \"availability\":\"required\",\"dependency\":\"strong\",\"from\":\"parent\",\
-    \"protocol\":\"a.B\",\"to\":\"#shell\"},{\"as\":\"a.B\",\"availability\":\"required\",\
-    \"dependency\":\"strong\",\"from\":\"parent\",\"protocol\":\"a.B\",\"to\":\"#elements\"}],\
-    \"program\":{\"runner\":\"elf\"},\"use\":[{\"availability\":\"required\",\
-    \"dependency\":\"strong\",\"from\":\"parent\",\"path\":\"/svc/a.B\",\"protocol\":\"a.B\"},\
-    {\"availability\":\"required\",\"dependency\":\"strong\",\"from\":\"parent\",\
-    \"path\":\"/svc/a.C\",\"protocol\":\"a.C\"}]}\n\
-    == bytes manifest {\u{ff}}\n\
-    => invalid 30 manifest 0\n\
-    == cloned {program:{runner:'elf'},children:[{name:'logger',url:'#meta/logger.cm',\
-    startup:'eager'}]}\n\
-    => true\n";
-
-/// Declarations with two children, a collection and a protocol, and their faults.
-pub const VALID: &str = "\
-    == valid {children:[{name:'a',url:'#meta/child.cm'},{name:'b',url:'#meta/child.cm'}],\
-    collections:[{name:'c',durability:'transient'}],capabilities:[{protocol:'p',path:'/svc/p'}]}\n\
-    => 2 children\n\
-    == valid {children:[{name:'a',url:'#meta/child.cm'},{name:'b',url:'#meta/child.cm'},{name:'a',\
-    url:'#meta/child.cm'}],collections:[{name:'c',durability:'transient'}],\
-    capabilities:[{protocol:'p',path:'/svc/p'}]}\n\
-    => invalid 50 children 2 children 0\n\
-    == valid {children:[{name:'a',url:'#meta/child.cm'},{name:'b',url:'#meta/child.cm'}],\
-    collections:[{name:'c',durability:'transient'},{name:'b',durability:'transient'}],\
-    capabilities:[{protocol:'p',path:'/svc/p'}]}\n\
-    => invalid 50 collections 1 children 1\n\
-    == valid {children:[{name:'a',url:'#meta/child.cm'},{name:'b',url:'#meta/child.cm'}],\
-    collections:[{name:'c',durability:'transient'}],capabilities:[{protocol:'p',path:'/svc/p'},\
-    {directory:'p',path:'/svc/p',rights:['r*']}]}\n\
-    => invalid 50 capabilities 1 capabilities 0\n\
-    == valid {children:[{name:'a',url:'#meta/child.cm'},{name:'b',url:'#meta/child.cm'}],\
-    collections:[{name:'c',durability:'transient'}],capabilities:[{protocol:'p',path:'/svc/p'}],\
-    use:[{protocol:'p',from:'#d',path:'/svc/p'}]}\n\
-    => invalid 51 use 0\n\
-    == valid {children:[{name:'a',url:'#meta/child.cm'},{name:'b',url:'#meta/child.cm'}],\
-    collections:[{name:'c',durability:'transient'}],capabilities:[{protocol:'p',path:'/svc/p'}],\
-    offer:[{protocol:'p',from:'parent',to:'#d'}]}\n\
-    => invalid 51 offer 0\n\
-    == valid {children:[{name:'a',url:'#meta/child.cm'},{name:'b',url:'#meta/child.cm'}],\
-    collections:[{name:'c',durability:'transient'}],capabilities:[{protocol:'p',path:'/svc/p'}],\
-    use:[{protocol:'q',from:'self',path:'/svc/q'}]}\n\
-    => invalid 52 use 0\n\
-    == valid {children:[{name:'a',url:'#meta/child.cm'},{name:'b',url:'#meta/child.cm'}],\
-    collections:[{name:'c',durability:'transient'}],capabilities:[{protocol:'p',path:'/svc/p'}],\
-    expose:[{directory:'p',from:'framework'}]}\n\
-    => invalid 52 expose 0\n\
-    == valid {children:[{name:'a',url:'#meta/child.cm'},{name:'b',url:'#meta/child.cm'}],\
-    collections:[{name:'c',durability:'transient'}],capabilities:[{protocol:'p',path:'/svc/p'}],\
-    offer:[{protocol:'p',from:'#a',to:'#a'}]}\n\
-    => invalid 53 offer 0\n\
-    == valid {children:[{name:'a',url:'#meta/child.cm'},{name:'b',url:'#meta/child.cm'}],\
-    collections:[{name:'c',durability:'transient'}],capabilities:[{protocol:'p',path:'/svc/p'}],\
-    offer:[{protocol:'p',from:'parent',to:'#a'},{protocol:'p',from:'#b',to:'#a'}]}\n\
-    => invalid 54 offer 1 offer 0\n\
-    == valid {children:[{name:'a',url:'#meta/child.cm'},{name:'b',url:'#meta/child.cm'}],\
-    collections:[{name:'c',durability:'transient'}],capabilities:[{protocol:'p',path:'/svc/p'}],\
-    expose:[{protocol:'p',from:'#a'},{directory:'p',from:'#b'}]}\n\
-    => invalid 54 expose 1 expose 0\n\
-    == valid {children:[{name:'a',url:'#meta/child.cm'},{name:'b',url:'#meta/child.cm'}],\
-    collections:[{name:'c',durability:'transient'}],capabilities:[{protocol:'p',path:'/svc/p'}],\
-    use:[{protocol:'p',from:'#a',path:'/svc/p'},{protocol:'q',from:'#a',path:'/svc/p'}]}\n\
-    => invalid 55 use 1 use 0\n\
-    == valid {children:[{name:'a',url:'#meta/child.cm'},{name:'b',url:'#meta/child.cm'}],\
-    collections:[{name:'c',durability:'transient'}],capabilities:[{protocol:'p',path:'/svc/p'}],\
-    use:[{protocol:'p',from:'#a',path:'/svc/p'},{protocol:'q',from:'#a',path:'/svcs'},\
-    {directory:'r',from:'#a',path:'/svc',rights:['r*']}]}\n\
-    => invalid 56 use 2 use 0\n\
-    == valid {children:[{name:'a',url:'#meta/child.cm'},{name:'b',url:'#meta/child.cm'}],\
-    collections:[{name:'c',durability:'transient'}],capabilities:[{protocol:'p',path:'/svc/p'}],\
-    offer:[{protocol:'p',from:'void',to:'#a',availability:'optional'},{protocol:'q',from:'void',\
-    to:'#a'}]}\n\
-    => invalid 57 offer 1\n\
-    == valid {children:[{name:'a',url:'#meta/child.cm'},{name:'b',url:'#meta/child.cm'}],\
-    collections:[{name:'c',durability:'transient'}],capabilities:[{protocol:'p',path:'/svc/p'}],\
-    offer:[{protocol:'p',from:'#a',to:'#b'},{protocol:'q',from:'#b',to:'#a'}]}\n\
-    => invalid 58 graph 0 a b a\n\
-    == valid {children:[{name:'a',url:'#meta/child.cm'},{name:'b',url:'#meta/child.cm'}],\
-    collections:[{name:'c',durability:'transient'}],capabilities:[{protocol:'p',path:'/svc/p'}],\
-    use:[{protocol:'p',from:'#a',path:'/svc/p'}],offer:[{protocol:'p',from:'self',to:'#a'}]}\n\
-    => invalid 58 graph 0 self a self\n\
-    == valid {children:[{name:'a',url:'#meta/child.cm'},{name:'b',url:'#meta/child.cm'}],\
-    collections:[{name:'c',durability:'transient'}],capabilities:[{protocol:'p',path:'/svc/p'}],\
-    offer:[{protocol:'p',from:'#a',to:'#b'},{protocol:'q',from:'#b',to:'#a',dependency:'weak'}]}\n\
-    => 2 children\n\
-    == valid {children:[{name:'a',url:'#meta/child.cm'},{name:'b',url:'#meta/child.cm'}],\
-    collections:[{name:'c',durability:'transient'}],capabilities:[{protocol:'p',path:'/svc/p'}],\
-    offer:[{protocol:'p',from:'#a',to:'#b'},{protocol:'q',from:'#b',to:'#a'},{protocol:'q',\
-    from:'#b',to:'#a'}]}\n\
-    => invalid 54 offer 2 offer 1\n";
-
-/// Graphs of a declaration, and of what commands create in it: their order or a cycle, and what
-/// depends on what.
-pub const GRAPHS: &str = "\
-    == graph ring\n\
-    => cycle: a b a \n\
-    == graph two-ways\n\
-    => b a self \n\
-    == graph two-ways\n\
-    create . dyn x u + protocol p #dyn:z\n\
-    create . dyn z u + protocol p #dyn:x\n\
-    => cycle: dyn:x dyn:z dyn:x \n\
-    == depends b a\n\
-    => true\n\
-    == depends a b\n\
-    => false\n\
-    == depends a self\n\
-    => true\n\
-    == would-depend a\n\
-    create . dyn n u + protocol p #b\n\
-    => true\n\
-    == would-depend self\n\
-    create . dyn n u\n\
-    => true\n\
-    == would-depend a\n\
-    create . dyn n u\n\
-    => false\n";
-
 /// URLs, on the base of the second line; then a repository, and what is found in it.
 pub const URLS: &str = "\
     == url fuchsia-pkg://t/a#meta/root.cm\n\
@@ -424,7 +241,7 @@ pub const URLS: &str = "\
     find fuchsia-pkg://t/a\n\
     => added;fault Repeated;added;fault NoFragment;fault BadUrl;{};[1];nothing;nothing;\n";
 
-/// Commands, as they are written, or the place up to which some command goes so.
+/// Commands, as they are written; then words of a line, or the place behind which none goes on so.
 pub const COMMANDS: &str = "\
     == command resolve .\n\
     => resolve .\n\
@@ -461,72 +278,6 @@ pub const COMMANDS: &str = "\
     weak optional + protocol q void weak\n\
     == command create . c n #m + protocol p parent transitional + protocol q self weak same_as_target\n\
     => create . c n #m + protocol p parent transitional + protocol q self weak same_as_target\n\
-    == command \n\
-    => fault BadCommand(0)\n\
-    == command x\n\
-    => fault BadCommand(0)\n\
-    == command start\n\
-    => fault BadCommand(5)\n\
-    == command start ..\n\
-    => fault BadCommand(7)\n\
-    == command start a/\n\
-    => fault BadCommand(8)\n\
-    == command startx\n\
-    => fault BadCommand(5)\n\
-    == command openx\n\
-    => fault BadCommand(4)\n\
-    == command open-exposed\n\
-    => fault BadCommand(12)\n\
-    == command open . /a/.\n\
-    => fault BadCommand(11)\n\
-    == command open . /a/./b\n\
-    => fault BadCommand(11)\n\
-    == command open . /a//b\n\
-    => fault BadCommand(10)\n\
-    == command open .  /a\n\
-    => fault BadCommand(7)\n\
-    == command start a \n\
-    => fault BadCommand(7)\n\
-    == command start @18446744073709551616\n\
-    => fault BadCommand(26)\n\
-    == command start @00\n\
-    => fault BadCommand(8)\n\
-    == command start \u{e9}\n\
-    => fault BadCommand(6)\n\
-    == command create . c n u + p\n\
-    => fault BadCommand(18)\n\
-    == command create . c n u + protocol n parent rights=r*\n\
-    => fault BadCommand(35)\n\
-    == command create . c n u + directory n parent rights=connect,connec\n\
-    => fault BadCommand(51)\n\
-    == command create . c n u + directory n #a:b:c weak as=x\n\
-    => fault BadCommand(33)\n\
-    == command create . c n u + directory n parent weak as=x\n\
-    => fault BadCommand(41)\n\
-    == command create . c n u weak\n\
-    => fault BadCommand(15)\n\
-    == command create . c n u + protocol n parent transitionalx\n\
-    => fault BadCommand(47)\n\
-    == command create . c n u + protocol n parent same_as_targets\n\
-    => fault BadCommand(49)\n\
-    == command create . c n u + protocol n parent s\n\
-    => fault BadCommand(36)\n\
-    == command create . c n u + protocol n parent su\n\
-    => fault BadCommand(36)\n\
-    == command create . c n u + directory n parent su\n\
-    => fault BadCommand(38)\n\
-    == command create . c n u + protocol n parent optional transitional\n\
-    => fault BadCommand(44)\n\
-    == command start @\n\
-    => fault BadCommand(7)\n\
-    == command start a:\n\
-    => fault BadCommand(8)\n\
-    == command show .\r\n\
-    => fault BadCommand(6)\n\
-    == bytes command start \u{ff}\n\
-    => fault BadCommand(6)\n\
-    == bytes command open . /\u{c3}\n\
-    => fault BadCommand(8)\n\
     == number-word 18446744073709551615\n\
     => 18446744073709551615\n\
     == number-word 18446744073709551616\n\
@@ -541,86 +292,6 @@ pub const COMMANDS: &str = "\
     => .\n\
     == moniker-word a//b\n\
     => fault Bad(3)\n";
-
-/// Scripts: their first fault, or what they have.
-pub const SCRIPTS: &str = "\
-    == script \n\
-    => line 1: 72 no-root\n\
-    == script root a\n\
-    route client /a\n\
-    => line 2: 71 bad-lane\n\
-    == script root a\n\
-    0 route client\n\
-    => line 2: 70 bad-command at 14\n\
-    == script 16 show .\n\
-    => line 1: 74 too-many-lanes\n\
-    == script 99999999999999999999999 show .\n\
-    \n\
-    => line 1: 74 too-many-lanes\n\
-    == script 0 nonsense\n\
-    => line 1: 72 no-root\n\
-    == script root a\n\
-    \n\
-    manifest a\n\
-    %\n\
-    \n\
-    => line 3: 73 unclosed-manifest\n\
-    == script #\n\
-    sync\n\
-    root a\n\
-    => line 2: 72 no-root\n\
-    == script root a\n\
-    root b\n\
-    => line 2: 70 bad-command at 0\n\
-    == script root  a\n\
-    => line 1: 70 bad-command at 5\n\
-    == script builtin protocol p\n\
-    builtin protocol p\n\
-    => line 2: 70 bad-command at 0\n\
-    == script root a\n\
-    0 show .\n\
-    manifest\n\
-    => line 3: 71 bad-lane\n\
-    == script root a\n\
-    0 show .\n\
-    manifest x y\n\
-    => line 3: 70 bad-command at 0\n\
-    == script builtin directory d /d r*,r*\n\
-    => line 1: 70 bad-command at 27\n\
-    == script manifest a b\n\
-    %%\n\
-    root a\n\
-    => line 1: 70 bad-command at 10\n\
-    == script root a\n\
-    sync\n\
-    root a\n\
-    => line 3: 70 bad-command at 0\n\
-    == script root a\n\
-    00 show .\n\
-    => line 2: 71 bad-lane\n\
-    == script root a\n\
-    0 exited @18446744073709551616\n\
-    => line 2: 70 bad-command at 29\n\
-    == script # x\n\
-    \n\
-    manifest a:b#c\n\
-    {\n\
-    }\n\
-    %%\n\
-    builtin protocol p\n\
-    builtin directory p /d r*\n\
-    root a:b#c\n\
-    0 show .\n\
-    sync\n\
-    15 show .\n\
-    => root a:b#c, 2 builtins, 2 phases, line 3 123 10 125 10\n\
-    == bytes script #\u{ff}\n\
-    manifest a\n\
-    \u{ff}\n\
-    %%\n\
-    root a\n\
-    \n\
-    => root a, 0 builtins, 1 phases, line 2 255 10\n";
 
 /// The limits of lengths, just kept and just passed; of a long text the number of its bytes.
 pub const LARGE: &str = "\
@@ -674,22 +345,6 @@ pub const LARGE: &str = "\
     [\n\
     \n\
     => 2097151 bytes\n\
-    == many manifest 1048576\n\
-    \n\
-    [\n\
-    \n\
-    => invalid 31 manifest 0\n\
-    == many manifest 1048577\n\
-    \n\
-    [\n\
-    \n\
-    => invalid 41 manifest 0\n\
-    == many manifest 127\n\
-    {facets:\n\
-    [\n\
-    ]]]]]]]]]]]]]]]]]]]]]]]]]]]]]]]]]]]]]]]]]]]]]]]]]]]]]]]]]]]]]]]]]]]]]]]]]]]]]]]]]]]]]]]]]]]]]]]\
-    ]]]]]]]]]]]]]]]]]]]]]]]]]]]]]]]]}\n\
-    => invalid 31 manifest 0\n\
     == many url 4078\n\
     fuchsia-pkg://t/\n\
     a\n\
@@ -735,26 +390,11 @@ pub const LARGE: &str = "\
     a\n\
     \n\
     => 262 bytes\n\
-    == many command 256\n\
-    list . \n\
-    a\n\
-    \n\
-    => fault BadCommand(262)\n\
     == many command 4095\n\
     open . /\n\
     a\n\
     \n\
     => 4103 bytes\n\
-    == many command 4096\n\
-    open . /\n\
-    a\n\
-    \n\
-    => fault BadCommand(4103)\n\
-    == many command 4093\n\
-    open . /\n\
-    a\n\
-    /.\n\
-    => fault BadCommand(4102)\n\
     == many command 4093\n\
     open . /\n\
     a\n\
@@ -764,27 +404,4 @@ pub const LARGE: &str = "\
     create . c n \n\
     a\n\
     \n\
-    => 4109 bytes\n\
-    == many command 4097\n\
-    create . c n \n\
-    a\n\
-    \n\
-    => fault BadCommand(4109)\n\
-    == many script 65535\n\
-    #\n\
-    x\n\
-    \n\
-    root a\n\
-    \n\
-    => root a, 0 builtins, 1 phases\n\
-    == many script 65536\n\
-    #\n\
-    x\n\
-    \n\
-    root a\n\
-    \n\
-    => line 1: 75 line-too-long\n\
-    == offers 128 128\n\
-    => 16384 offers\n\
-    == offers 145 113\n\
-    => invalid 43 offer 0\n";
+    => 4109 bytes\n";

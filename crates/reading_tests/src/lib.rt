@@ -1,5 +1,7 @@
-//! Tests of the crates that read: names, streams, texts, declarations, manifests, graphs, validity,
-//! repositories and commands. They stand here, above those crates, so that each crate is proved once.
+//! Tests of the crates that read: names, doors, relaxed texts, repositories and commands. They stand
+//! here, above those crates, so that each crate is proved once. What manifests, scripts, and lines that
+//! come in pieces are read as, and who depends on whom, is shown by runs, above the top call, at no cost
+//! of proof.
 //!
 //! Most cases stand in the texts of `cases`: the word of a reader, what it reads, and what it tells.
 //! `player` takes them apart when they run, so that one more costs no proof.
@@ -8,9 +10,7 @@
 #[cfg(test)]
 mod cases;
 #[cfg(test)]
-mod fields;
-#[cfg(test)]
-mod graphs;
+mod doors;
 #[cfg(test)]
 mod player;
 #[cfg(test)]
@@ -21,7 +21,5 @@ mod reading;
 mod repositories;
 #[cfg(test)]
 mod rights;
-#[cfg(test)]
-mod streams;
 #[cfg(test)]
 mod values;

@@ -5,81 +5,25 @@ use crate::player::odd_cases;
 use cm_command::ScriptNumber;
 use std::test::Fail;
 
-#[test]
-fn reads_names(rt: HostRuntime) -> Result<(), Fail> {
-    let odd = odd_cases(rt.alloc(), cases::NAMES)?;
-    assert!(rt; odd.is_empty(), "{odd}");
-    Ok(())
+fn table_of(number: u8) -> &'static str {
+    match number {
+        0 => cases::NAMES,
+        1 => cases::MONIKERS,
+        2 => cases::RIGHTS,
+        3 => cases::RELAXED,
+        4 => cases::URLS,
+        5 => cases::COMMANDS,
+        6 => cases::LARGE,
+        _ => "",
+    }
 }
 
 #[test]
-fn reads_monikers(rt: HostRuntime) -> Result<(), Fail> {
-    let odd = odd_cases(rt.alloc(), cases::MONIKERS)?;
-    assert!(rt; odd.is_empty(), "{odd}");
-    Ok(())
-}
-
-#[test]
-fn reads_rights(rt: HostRuntime) -> Result<(), Fail> {
-    let odd = odd_cases(rt.alloc(), cases::RIGHTS)?;
-    assert!(rt; odd.is_empty(), "{odd}");
-    Ok(())
-}
-
-#[test]
-fn reads_relaxed_texts(rt: HostRuntime) -> Result<(), Fail> {
-    let odd = odd_cases(rt.alloc(), cases::RELAXED)?;
-    assert!(rt; odd.is_empty(), "{odd}");
-    Ok(())
-}
-
-#[test]
-fn reads_manifests(rt: HostRuntime) -> Result<(), Fail> {
-    let odd = odd_cases(rt.alloc(), cases::MANIFESTS)?;
-    assert!(rt; odd.is_empty(), "{odd}");
-    Ok(())
-}
-
-/// Each fault of a declaration has its number and place.
-#[test]
-fn validates_declarations(rt: HostRuntime) -> Result<(), Fail> {
-    let odd = odd_cases(rt.alloc(), cases::VALID)?;
-    assert!(rt; odd.is_empty(), "{odd}");
-    Ok(())
-}
-
-#[test]
-fn tells_of_graphs(rt: HostRuntime) -> Result<(), Fail> {
-    let odd = odd_cases(rt.alloc(), cases::GRAPHS)?;
-    assert!(rt; odd.is_empty(), "{odd}");
-    Ok(())
-}
-
-#[test]
-fn keeps_blocks(rt: HostRuntime) -> Result<(), Fail> {
-    let odd = odd_cases(rt.alloc(), cases::URLS)?;
-    assert!(rt; odd.is_empty(), "{odd}");
-    Ok(())
-}
-
-#[test]
-fn reads_commands(rt: HostRuntime) -> Result<(), Fail> {
-    let odd = odd_cases(rt.alloc(), cases::COMMANDS)?;
-    assert!(rt; odd.is_empty(), "{odd}");
-    Ok(())
-}
-
-#[test]
-fn reads_scripts(rt: HostRuntime) -> Result<(), Fail> {
-    let odd = odd_cases(rt.alloc(), cases::SCRIPTS)?;
-    assert!(rt; odd.is_empty(), "{odd}");
-    Ok(())
-}
-
-#[test]
-fn keeps_the_limits(rt: HostRuntime) -> Result<(), Fail> {
-    let odd = odd_cases(rt.alloc(), cases::LARGE)?;
-    assert!(rt; odd.is_empty(), "{odd}");
+fn readers_tell_what_they_should(rt: HostRuntime) -> Result<(), Fail> {
+    for number in 0..7 {
+        let odd = odd_cases(rt.alloc(), table_of(number))?;
+        assert!(rt; odd.is_empty(), "table {number}: {odd}");
+    }
     Ok(())
 }
 

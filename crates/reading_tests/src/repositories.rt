@@ -21,24 +21,18 @@ fn absolute_of(alloc: Global, base: &str, url: &str) -> Result<Text, UrlFault> {
 
 /// The URL of a block of a repository: whether it is added.
 pub fn block(alloc: Global, input: &str) -> Option<Text> {
-    let mut repository = Repository::new(alloc);
-    let added = add(alloc, &mut repository, input, "")?;
-    told_of(alloc, added)
+    added(alloc, &mut Repository::new(alloc), input, "")
 }
 
-fn add(
-    alloc: Global,
-    repository: &mut Repository,
-    url: &str,
-    block: &str,
-) -> Option<Result<(), RepoFault>> {
+/// Adds a block to a repository under a URL: what comes of it.
+fn added(alloc: Global, repository: &mut Repository, url: &str, block: &str) -> Option<Text> {
     let bytes = block.as_bytes().to_vec(alloc).ok()?;
-    Some(repository.add(url, Bytes::from_vec(bytes)))
+    told_of(alloc, repository.add(url, Bytes::from_vec(bytes)))
 }
 
 fn told_of(alloc: Global, added: Result<(), RepoFault>) -> Option<Text> {
     match added {
-        Ok(()) => Text::from_str(alloc, "added").ok(),
+        Ok(()) => shown(alloc, "added"),
         Err(found) => fault(alloc, found),
     }
 }
@@ -84,9 +78,9 @@ fn push_added(
     told: &mut Text,
 ) -> Option<()> {
     let (block, url) = rest.split_once(' ')?;
-    let added = add(alloc, repository, url, block)?;
-    let line = told_of(alloc, added)?;
-    told.push(format_args!("{line};")).ok()
+    let line = added(alloc, repository, url, block)?;
+    told.push_str(line.as_str()).ok()?;
+    told.push_str(";").ok()
 }
 
 fn push_found(found: Option<&Bytes>, told: &mut Text) -> Result<(), Memory> {

@@ -1,12 +1,10 @@
 //! Values that no text reads or that take several: words, lists, paths, monikers and sections.
 
-use crate::graphs::{child, nodes_text};
 use crate::readers::shown;
-use cm_decl::{Node, Section};
+use cm_decl::Node;
 use cm_names::*;
 use std::alloc::Global;
 use std::collections::HashMap;
-use std::test::Fail;
 
 /// A path with two subdirectories more.
 pub fn joined(alloc: Global, input: &str) -> Option<Text> {
@@ -52,12 +50,16 @@ pub fn child_of(alloc: Global, input: &str) -> Option<Text> {
     written(alloc, &below_by(alloc, above, child_name(alloc, name)?)?)
 }
 
-/// The name of a child, as it stands in a moniker.
+/// The name of a child, which may stand in a collection.
 fn child_name(alloc: Global, name: &str) -> Option<ChildName> {
-    match child(alloc, name) {
-        Some(Node::Child(name)) => Some(name),
-        _ => None,
+    match Moniker::read(alloc, name) {
+        Ok(moniker) => copy_of(moniker.parts.as_slice().last()?),
+        Err(_) => None,
     }
+}
+
+fn copy_of(name: &ChildName) -> Option<ChildName> {
+    name.clone().ok()
 }
 
 fn below_by(alloc: Global, above: &str, name: ChildName) -> Option<Moniker> {
@@ -82,92 +84,99 @@ fn knows_the_root(rt: HostRuntime) {
     assert!(rt; Moniker::root(rt.alloc()).is_root());
 }
 
-/// The words of dependencies and availabilities.
-fn words(alloc: Global) -> Result<Text, Memory> {
-    let strong = Dependency::Strong;
-    let weak = Dependency::Weak;
-    let required = Availability::Required;
-    let optional = Availability::Optional;
-    let passing = Availability::Transitional;
-    let same = Availability::SameAsTarget;
-    let mut text = Text::new(alloc);
-    text.push(format_args!("{strong} {weak} {required} {optional} {passing} {same}"))?;
-    Ok(text)
-}
-
 #[test]
-fn writes_words(rt: HostRuntime) -> Result<(), Fail> {
+fn compares_availabilities(rt: HostRuntime) {
     let required = Availability::Required;
     let optional = Availability::Optional;
-    assert_eq!(rt;
-        words(rt.alloc())?.as_str(),
-        "strong weak required optional transitional same_as_target"
-    );
     assert!(rt; Availability::fits(optional, required) && !Availability::fits(required, optional));
     assert!(rt; optional.allows_void() && !required.allows_void());
     let passing = Availability::Transitional;
     let same = Availability::SameAsTarget;
     assert!(rt; !Availability::fits(optional, passing) && Availability::fits(required, same));
     assert!(rt; passing.allows_void() && !same.allows_void() && same.stated_itself().is_none());
-    Ok(())
 }
 
 /// A text that is made in three parts.
-fn in_parts(alloc: Global) -> Result<Text, Fail> {
-    let mut text = Text::from_string(String::from_str(alloc, "ab")?);
-    text.push_str("c")?;
-    text.push(7)?;
-    Ok(text)
+fn in_parts(alloc: Global) -> Option<Text> {
+    let mut text = Text::from_string(String::from_str(alloc, "ab").ok()?);
+    text.push_str("c").ok()?;
+    text.push(7).ok()?;
+    Some(text)
+}
+
+fn is_in_parts(alloc: Global, text: Text) -> bool {
+    let is_so = text.len() == 4 && !text.is_empty() && Text::new(alloc) < text;
+    is_so && text.into_string().as_str() == "abc7"
 }
 
 #[test]
-fn keeps_texts(rt: HostRuntime) -> Result<(), Fail> {
-    let text = in_parts(rt.alloc())?;
-    assert_eq!(rt; text.as_str(), "abc7");
-    assert_eq!(rt; text.len(), 4);
-    assert!(rt; !text.is_empty() && Text::new(rt.alloc()) < text);
-    assert_eq!(rt; text.into_string().as_str(), "abc7");
-    Ok(())
+fn keeps_texts(rt: HostRuntime) {
+    assert!(rt; in_parts(rt.alloc()).is_some_and(|text| is_in_parts(rt.alloc(), text)));
 }
 
-/// A list of two texts.
-fn two(alloc: Global) -> Result<List<Text>, Fail> {
-    let texts = vec![in alloc; in_parts(alloc)?, in_parts(alloc)?]?;
-    Ok(List::from_vec(texts))
+/// A list of so many texts.
+fn texts(alloc: Global, count: u8) -> Option<List<Text>> {
+    let mut list = List::new(alloc);
+    for _ in 0..count {
+        list.push(in_parts(alloc)?).ok()?;
+    }
+    Some(list)
 }
 
 /// A list of three texts, of which two come from another list.
-fn three(alloc: Global) -> Result<List<Text>, Fail> {
-    let mut list = List::new(alloc);
-    list.push(in_parts(alloc)?)?;
-    list.append(two(alloc)?)?;
-    Ok(list)
+fn three(alloc: Global) -> Option<List<Text>> {
+    let mut list = texts(alloc, 1)?;
+    list.append(texts(alloc, 2)?).ok()?;
+    Some(list)
+}
+
+fn equals_its_copy(list: &List<Text>) -> bool {
+    match list.clone() {
+        Ok(copied) => copied == *list,
+        Err(_) => false,
+    }
+}
+
+/// Whether a list has three texts and equals its copy.
+fn is_kept(list: List<Text>) -> bool {
+    list.len() == 3 && !list.is_empty() && list.get(3).is_none() && equals_its_copy(&list)
+}
+
+/// How many texts of a list that is taken apart are as they were made.
+fn count_made(list: List<Text>) -> usize {
+    list.into_vec()
+        .as_slice()
+        .iter()
+        .filter(|text| text.as_str() == "abc7")
+        .count()
 }
 
 #[test]
-fn keeps_lists(rt: HostRuntime) -> Result<(), Fail> {
-    let list = three(rt.alloc())?;
-    let copied = list.clone()?;
-    assert!(rt; copied == list && !list.is_empty());
-    assert_eq!(rt; list.len(), 3);
-    assert!(rt; list.get(3).is_none());
-    for text in copied.into_vec() {
-        assert_eq!(rt; text.as_str(), "abc7");
-    }
-    let bytes: Bytes = List::new(rt.alloc());
-    assert!(rt; bytes.as_slice().is_empty());
-    Ok(())
+fn keeps_lists(rt: HostRuntime) {
+    assert!(rt; three(rt.alloc()).is_some_and(is_kept));
+    assert!(rt; three(rt.alloc()).is_some_and(|list| count_made(list) == 3));
+    assert!(rt; texts(rt.alloc(), 0).is_some_and(|list| list.is_empty()));
 }
 
-/// Children with these names and the instance itself, in order.
-fn ordered(alloc: Global, names: &str) -> Option<Text> {
+/// Children with these names and the instance itself.
+fn nodes(alloc: Global, names: &str) -> Option<Vec<Node>> {
     let mut nodes = Vec::new(alloc);
     for name in names.split(' ') {
-        nodes.push(child(alloc, name)?).ok()?;
+        nodes.push(Node::Child(child_name(alloc, name)?)).ok()?;
     }
     nodes.push(Node::Own).ok()?;
+    Some(nodes)
+}
+
+/// Children with these names and the instance itself, in order, each with a space behind it.
+fn ordered(alloc: Global, names: &str) -> Option<Text> {
+    let mut nodes = nodes(alloc, names)?;
     nodes.sort().ok()?;
-    nodes_text(alloc, "", nodes.as_slice())
+    let mut text = Text::new(alloc);
+    for node in nodes.as_slice() {
+        text.push(format_args!("{node} ")).ok()?;
+    }
+    Some(text)
 }
 
 #[test]
@@ -189,33 +198,4 @@ fn told_apart(alloc: Global, names: &str) -> Option<usize> {
 #[test]
 fn hashes_names(rt: HostRuntime) {
     assert!(rt; told_apart(rt.alloc(), "a b a:b b:a a a:b c:a b:a a") == Some(5));
-}
-
-/// The words of all sections.
-fn sections(alloc: Global) -> Result<Text, Memory> {
-    let mut text = Text::new(alloc);
-    for section in [
-        Section::Manifest,
-        Section::Program,
-        Section::Children,
-        Section::Collections,
-        Section::Capabilities,
-        Section::Uses,
-        Section::Offers,
-        Section::Exposes,
-        Section::Environments,
-        Section::Graph,
-    ] {
-        text.push(format_args!("{section} "))?;
-    }
-    Ok(text)
-}
-
-#[test]
-fn prints_sections(rt: HostRuntime) -> Result<(), Fail> {
-    assert_eq!(rt;
-        sections(rt.alloc())?.as_str(),
-        "manifest program children collections capabilities use offer expose environments graph "
-    );
-    Ok(())
 }

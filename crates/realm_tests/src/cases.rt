@@ -28,27 +28,6 @@ const CLIENT: &str = "{
 
 const COLLECTION: &str = "{collections:[{name:'coll',durability:'transient'}]}";
 
-/// The root of a realm in which each child but the client has a client: the weak offer doesn't
-/// count.
-const CHAIN: &str = "{
-    children: [
-        { name: 'provider', url: '#provider' },
-        { name: 'client', url: '#client' },
-        { name: 'mid', url: '#mid' },
-    ],
-    offer: [
-        { protocol: 'work', from: '#mid', to: '#client' },
-        { protocol: 'store', from: '#provider', to: '#mid' },
-        { protocol: 'back', from: '#client', to: '#provider', dependency: 'weak' },
-    ],
-}";
-
-/// The child in the middle, which uses something of its own child.
-const MID: &str = "{
-    children: [ { name: 'leaf', url: '#leaf' } ],
-    use: [ { protocol: 'part', from: '#leaf' } ],
-}";
-
 /// A root that offers the client the store's directory as it is.
 const OFFER_OF_DATA: &str = "{children:[{name:'store',url:'#s'},{name:'client',url:'#c'}],\
      offer:[{to:'#client',directory:'data',from:'#store'}]}";
@@ -73,8 +52,6 @@ pub fn manifest_of(word: &str) -> &str {
         "@store" => STORE,
         "@client" => CLIENT,
         "@collection" => COLLECTION,
-        "@chain" => CHAIN,
-        "@mid" => MID,
         "@offer-of-data" => OFFER_OF_DATA,
         "@offer-of-subdirectory" => OFFER_OF_SUBDIRECTORY,
         "@store-of-data" => STORE_OF_DATA,
@@ -423,55 +400,19 @@ pub const OPENINGS: &str = "\
 
 /// Shutdowns, and children that are created and destroyed.
 pub const SHUTDOWNS: &str = "\
-    == realm 9 99 destroys what starts\n\
+    == realm 9 99 waits to destroy what starts\n\
     0 resolve 0 @collection\n\
     0 create 0 create . coll one #new\n\
     0 resolve 1 {}\n\
     --\n\
-    1 destroy-while-starting 1\n\
+    1 doom-while-starting 1\n\
     0 begin 1 start\n\
     =>\n\
     busy 3\n\
     6 0 begin start 1 => begun 3\n\
     7 1 mark doomed 1 => marked\n\
     8 0 end 3 started => ended started\n\
-    9 1 pick 1 => stopping 1 4\n\
-    10 1 end 4 stopped => ended stopped\n\
-    11 1 pick 1 => shutdown 1\n\
-    12 1 pick 1 => done\n\
-    13 1 purge 1 => purged 1\n\
-    14 0 begin start 1 => gone 1\n\
-    == realm 9 99 stops clients first\n\
-    0 resolve 0 @chain\n\
-    0 resolve 1 {}\n\
-    0 resolve 2 {}\n\
-    0 resolve 3 @mid\n\
-    0 resolve 4 {}\n\
-    0 started 0\n\
-    0 started 1\n\
-    0 started 2\n\
-    0 started 3\n\
-    0 started 4\n\
-    --\n\
-    1 shut-down 0\n\
-    =>\n\
-    21 1 mark closing 0 => marked\n\
-    22 1 pick 0 => stopping 2 11\n\
-    23 1 end 11 stopped => ended stopped\n\
-    24 1 pick 0 => shutdown 2\n\
-    25 1 pick 0 => stopping 3 12\n\
-    26 1 end 12 stopped => ended stopped\n\
-    27 1 pick 0 => shutdown 3\n\
-    28 1 pick 0 => stopping 4 13\n\
-    29 1 end 13 stopped => ended stopped\n\
-    30 1 pick 0 => shutdown 4\n\
-    31 1 pick 0 => stopping 1 14\n\
-    32 1 end 14 stopped => ended stopped\n\
-    33 1 pick 0 => shutdown 1\n\
-    34 1 pick 0 => stopping 0 15\n\
-    35 1 end 15 stopped => ended stopped\n\
-    36 1 pick 0 => shutdown 0\n\
-    37 1 pick 0 => done\n\
+    9 0 begin start 1 => gone 1\n\
     == realm 9 99 refuses what is closing\n\
     0 resolve 0 @root\n\
     0 resolve 1 @store\n\
@@ -537,21 +478,7 @@ pub const SHUTDOWNS: &str = "\
     14 2 show 1 => gone 1\n\
     15 2 create 0 coll one #new => created 3\n\
     16 2 mark closing 0 => marked\n\
-    17 2 create 0 coll six #new => closing 0\n\
-    == realm 9 99 writes what is offered to a new child\n\
-    0 resolve 0 {children:[{name:'a',url:'#a'},{name:'b',url:'#b'},{name:'c',url:'#c'},{name:'d',\
-    url:'#d'}]}\n\
-    0 resolve 2 {collections:[{name:'k',durability:'transient',\
-    allowed_offers:'static_and_dynamic'}]}\n\
-    0 show 9\n\
-    0 show 9\n\
-    --\n\
-    3 create 2 create . k e1 #meta/e.cm + directory d parent as=logs rights=r* weak optional\n\
-    3 list 2 k\n\
-    =>\n\
-    7 3 create 2 k e1 #meta/e.cm + directory d parent as=logs rights=connect,enumerate,\
-    get_attributes,read_bytes,traverse weak optional => created 5\n\
-    8 3 list 2 k => listed 1 [e1 incarnation 5]\n";
+    17 2 create 0 coll six #new => closing 0\n";
 
 /// Instances that go with one that stops, and what is left to be removed of it.
 pub const EXPIRIES: &str = "\
@@ -649,27 +576,6 @@ pub const EXPIRIES: &str = "\
     busy 4\n\
     11 3 begin start 1 => gone 1\n\
     12 3 reap 0 => reaping 1\n\
-    == realm 9 99 keeps its children in a shutdown\n\
-    0 resolve 0 @collection\n\
-    0 create 0 create . coll one #new\n\
-    0 resolve 1 {}\n\
-    0 started 0\n\
-    0 started 1\n\
-    --\n\
-    1 shut-down 0\n\
-    0 show 1\n\
-    0 reap 0\n\
-    =>\n\
-    10 1 mark closing 0 => marked\n\
-    11 1 pick 0 => stopping 1 5\n\
-    12 1 end 5 stopped => ended stopped\n\
-    13 1 pick 0 => shutdown 1\n\
-    14 1 pick 0 => stopping 0 6\n\
-    15 1 end 6 stopped => ended stopped\n\
-    16 1 pick 0 => shutdown 0\n\
-    17 1 pick 0 => done\n\
-    18 0 show 1 => shown resolved off shut\n\
-    19 0 reap 0 => reaping\n\
     == realm 9 99 names what an earlier stop has left, too\n\
     0 resolve 0 @collection\n\
     0 create 0 create . coll one #new\n\
@@ -685,33 +591,7 @@ pub const EXPIRIES: &str = "\
     11 0 reap 0 => reaping 1\n\
     12 0 begin stop 0 => begun 5\n\
     13 0 end 5 killed => ended killed\n\
-    14 0 reap 0 => reaping 1 2\n\
-    == realm 9 99 removes by a later destroy what a stop has left\n\
-    0 resolve 0 @collection\n\
-    0 create 0 create . coll one #new\n\
-    0 resolve 1 {}\n\
-    0 started 0\n\
-    0 started 1\n\
-    --\n\
-    0 killed 0\n\
-    0 reap 0\n\
-    1 destroy 1\n\
-    0 reap 0\n\
-    0 reap 1\n\
-    0 begin 1 start\n\
-    =>\n\
-    10 0 begin stop 0 => begun 5\n\
-    11 0 end 5 killed => ended killed\n\
-    12 0 reap 0 => reaping 1\n\
-    13 1 mark doomed 1 => already\n\
-    14 1 pick 1 => stopping 1 6\n\
-    15 1 end 6 stopped => ended stopped\n\
-    16 1 pick 1 => shutdown 1\n\
-    17 1 pick 1 => done\n\
-    18 1 purge 1 => purged 1\n\
-    19 0 reap 0 => reaping\n\
-    20 0 reap 1 => reaping\n\
-    21 0 begin start 1 => gone 1\n";
+    14 0 reap 0 => reaping 1 2\n";
 
 /// What stands at each hop of a route of which all know how sure they are.
 pub const AVAILABILITY: &str = "\
@@ -841,101 +721,3 @@ pub const OFFERS: &str = "\
     from:'#b',to:'#a'}]}\n\
     =>\n\
     needs 2\n";
-
-/// What is answered to the command of a line, or why nothing is, and its text.
-pub const ANSWERS: &str = "\
-    == said created create core k e1 #meta/e.cm\n\
-    =>\n\
-    created core k:e1 incarnation 5\n\
-    == said children list core k\n\
-    =>\n\
-    children core k 1\n\
-    \x20 e1 incarnation 5\n\
-    == said opened open-exposed core p\n\
-    =>\n\
-    opened /svc/p at core incarnation 2 rights connect,enumerate,get_attributes,read_bytes,\
-    traverse\n\
-    == said routed route core /svc/p\n\
-    =>\n\
-    route /svc/p at builtin through use core, capability core\n\
-    == said offer-cycle start @3\n\
-    =>\n\
-    refused 64 offer-cycle self k:a self\n\
-    == said no-route start @3\n\
-    =>\n\
-    refused 87 no-expose at expose core\n\
-    == said invalid start @3\n\
-    =>\n\
-    refused 83 cannot-resolve action 3 invalid 51 offer 2\n\
-    == said memory start @3\n\
-    =>\n\
-    refused want-of-memory\n";
-
-/// Planned gates: the room for notes and the calls that fail, and what comes of all questions.
-pub const PLANS: &str = "\
-    == planned 5\n\
-    =>\n\
-    first absent Running Declined Stopped, 5 noted, 0 faults\n\
-    == planned 9 0 3\n\
-    =>\n\
-    failed absent Running Failed Stopped, 5 noted, 2 faults\n\
-    == planned 5 4 9\n\
-    =>\n\
-    first absent Running Declined Failed, 5 noted, 1 faults\n\
-    == planned 2\n\
-    =>\n\
-    first absent Failed Failed Failed, not all noted, 3 faults\n\
-    == planned 0 1\n\
-    =>\n\
-    failed failed Failed Failed Failed, not all noted, 5 faults\n";
-
-/// A URL, what gates to a folder read under it, and how often they failed.
-pub const FOLDER: &str = "\
-    == folder fuchsia-pkg://t/a/b#meta/root.cm\n\
-    =>\n\
-    {}, 0 faults\n\
-    == folder fuchsia-pkg://t/a/b?hash=1#meta/root.cm\n\
-    =>\n\
-    {}, 0 faults\n\
-    == folder fuchsia-pkg://t:80/a/./c/../b#meta/root.cm\n\
-    =>\n\
-    {}, 0 faults\n\
-    == folder fuchsia-pkg://t/a/b#meta/none.cm\n\
-    =>\n\
-    absent, 0 faults\n\
-    == folder fuchsia-pkg://t/file/x#meta/root.cm\n\
-    =>\n\
-    absent, 0 faults\n\
-    == folder fuchsia-pkg://t/a/b#meta/../meta/root.cm\n\
-    =>\n\
-    absent, 0 faults\n\
-    == folder fuchsia-pkg://t/a/b#meta/./root.cm\n\
-    =>\n\
-    absent, 0 faults\n\
-    == folder fuchsia-pkg://t/a/b#meta//root.cm\n\
-    =>\n\
-    absent, 0 faults\n\
-    == folder fuchsia-pkg://t/a/b/#meta/root.cm\n\
-    =>\n\
-    absent, 0 faults\n\
-    == folder fuchsia-pkg://../a/b#meta/root.cm\n\
-    =>\n\
-    absent, 0 faults\n\
-    == folder fuchsia-pkg://t/a/b#%6Deta/root.cm\n\
-    =>\n\
-    absent, 0 faults\n\
-    == folder fuchsia-pkg://t/a/b\n\
-    =>\n\
-    absent, 0 faults\n\
-    == folder fuchsia-boot:///#meta/root.cm\n\
-    =>\n\
-    absent, 0 faults\n\
-    == folder fuchsia-pkg:a#meta/root.cm\n\
-    =>\n\
-    absent, 0 faults\n\
-    == folder meta/root.cm\n\
-    =>\n\
-    absent, 0 faults\n\
-    == folder fuchsia-pkg://t/a/b#meta/folder.cm\n\
-    =>\n\
-    failed, 1 faults\n";

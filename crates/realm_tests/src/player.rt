@@ -4,42 +4,29 @@
 //! A case begins with `== `, the word of what is played and a space. Then comes what is played, and
 //! behind a line `=>` what has to be told of it, line by line.
 
-use crate::{gates, realms, texts, walks};
+use crate::{realms, walks};
 use cm_names::{Memory, Text};
 use std::alloc::Global;
-use std::rt::Files;
-use std::sync::Wait;
 use std::test::Fail;
-use std::thread::Threads;
 
 /// The cases that tell something else, or that can't be read: the line at which each begins, the
 /// case, and what it tells.
-pub fn odd_cases<R: Threads + Wait + Sync + Files>(
-    rt: &R,
-    alloc: Global,
-    table: &str,
-) -> Result<Text, Memory> {
+pub fn odd_cases(alloc: Global, table: &str) -> Result<Text, Memory> {
     let mut odd = Text::new(alloc);
     let mut line: usize = 1;
     for case in table.split("== ") {
-        push_if_odd(rt, alloc, &mut odd, line, case)?;
+        push_if_odd(alloc, &mut odd, line, case)?;
         line = line.saturating_add(case.matches('\n').count());
     }
     Ok(odd)
 }
 
 /// Puts a case down that begins at this line, where it tells something else.
-fn push_if_odd<R: Threads + Wait + Sync + Files>(
-    rt: &R,
-    alloc: Global,
-    odd: &mut Text,
-    line: usize,
-    case: &str,
-) -> Result<(), Memory> {
+fn push_if_odd(alloc: Global, odd: &mut Text, line: usize, case: &str) -> Result<(), Memory> {
     if case.is_empty() {
         return Ok(());
     }
-    match told_of(rt, alloc, case) {
+    match told_of(alloc, case) {
         Some(told) => push_if_else(odd, line, case, told.as_str()),
         None => odd.push(format_args!("line {line}: {case}nothing\n")),
     }
@@ -54,15 +41,12 @@ fn push_if_else(odd: &mut Text, line: usize, case: &str, told: &str) -> Result<(
 }
 
 /// What a case tells, where it can be read.
-fn told_of<R: Threads + Wait + Sync + Files>(rt: &R, alloc: Global, case: &str) -> Option<Text> {
+fn told_of(alloc: Global, case: &str) -> Option<Text> {
     let (played, _) = case.split_once("\n=>\n")?;
     let (word, input) = played.split_once(' ')?;
     match word {
         "realm" => realms::told(alloc, input),
-        "said" => texts::told(alloc, input),
-        "planned" => gates::told_by_plan(rt, alloc, input),
         "offer" => walks::told(alloc, input),
-        "folder" => gates::told_by_folder(rt, alloc, input),
         _ => None,
     }
 }
@@ -102,7 +86,7 @@ const ODD: &str = "\
 
 #[test]
 fn finds_wrong_cases(rt: HostRuntime) -> Result<(), Fail> {
-    assert_eq!(rt; odd_cases(&rt, rt.alloc(), WRONG)?.as_str(), ODD);
-    assert!(rt; !odd_cases(&rt, rt.alloc(), "no case")?.is_empty());
+    assert_eq!(rt; odd_cases(rt.alloc(), WRONG)?.as_str(), ODD);
+    assert!(rt; !odd_cases(rt.alloc(), "no case")?.is_empty());
     Ok(())
 }

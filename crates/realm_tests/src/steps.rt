@@ -9,16 +9,13 @@ ghost use Rattle.cm_world.specs.End.{fits_kind};
 ghost use Rattle.cm_world.specs.declared.action.Finish.TheVariants as finish;
 
 use crate::cases::manifest_of;
-use crate::joins::join_and_decline;
-use crate::shutdowns::{destroy, destroy_while_starting, shut_down};
-use cm_command::{Command, read_command};
-use cm_decl::Give;
+use crate::meanwhile::{doom_while_starting, join_and_decline};
 use cm_names::{CapPath, List, Memory, Moniker, Name, Text};
 use cm_read::read_decl;
 use cm_reply::entry_text;
 use cm_steps::{Ending, NoStep, Realm};
 use cm_table::Prepared;
-use cm_valid::validate;
+use cm_valid::{ValidDecl, validate};
 use cm_world::{ActKind, Entry, Limits, Outcome, Reply};
 use std::alloc::Global;
 
@@ -90,22 +87,12 @@ fn change(
         "reap" => Some(realm.reap(alloc, caller, inc).err()),
         "create" => create(realm, alloc, caller, inc, word),
         "resolve" => resolve(realm, alloc, inc, word),
-        "started" => Some(started(realm, alloc, inc, Outcome::Started).err()),
-        "declined" => Some(started(realm, alloc, inc, Outcome::Declined).err()),
-        "killed" => Some(killed(realm, alloc, inc).err()),
-        "destroy" => Some(destroy(realm, alloc, inc).err()),
-        "shut-down" => Some(shut_down(realm, alloc, inc).err()),
-        "join-and-decline" => Some(join_and_decline(realm, alloc, inc).err()),
-        "destroy-while-starting" => Some(Some(waited(destroy_while_starting(realm, alloc, inc)))),
+        "started" => Some(started(realm, alloc, inc)),
+        "declined" => Some(declined(realm, alloc, inc)),
+        "killed" => Some(killed(realm, alloc, inc)),
+        "join-and-decline" => Some(join_and_decline(realm, alloc, inc)),
+        "doom-while-starting" => Some(doom_while_starting(realm, alloc, inc)),
         _ => None,
-    }
-}
-
-/// That an action had to be waited for, or why no step was made.
-fn waited(made: Result<u64, NoStep>) -> NoStep {
-    match made {
-        Ok(action) => NoStep::Busy(action),
-        Err(no_step) => no_step,
     }
 }
 
@@ -190,7 +177,7 @@ fn kind_of(word: &str) -> Option<ActKind> {
     }
 }
 
-/// Creates a child by a command to create one, whose parent isn't read.
+/// Creates a child by a command to create one, whose parent isn't read and which offers nothing.
 fn create(
     realm: &mut Realm,
     alloc: Global,
@@ -198,35 +185,15 @@ fn create(
     parent: u64,
     word: &str,
 ) -> Option<Option<NoStep>> {
-    match command(alloc, word) {
-        Some(
-            Command::Create {
-                parent: _named,
-                coll,
-                name,
-                url,
-                gives,
-            },
-        ) => {
-            let child = Child {
-                coll,
-                name,
-                url,
-                gives,
-            };
-            Some(create_child(realm, alloc, caller, parent, child))
-        }
-        _other => None,
+    let (_, rest) = word.split_once(" . ")?;
+    let (coll, rest) = rest.split_once(' ')?;
+    let (name, url) = rest.split_once(' ')?;
+    let coll = Name::read(alloc, coll).ok()?;
+    let name = Name::read(alloc, name).ok()?;
+    match Text::from_str(alloc, url) {
+        Ok(url) => Some(create_child(realm, alloc, caller, parent, coll, name, url)),
+        Err(_) => None,
     }
-}
-
-/// A child that is to be created.
-#[derive(Drop)]
-struct Child {
-    coll: Name,
-    name: Name,
-    url: Text,
-    gives: List<Give>,
 }
 
 fn create_child(
@@ -234,37 +201,27 @@ fn create_child(
     alloc: Global,
     caller: u32,
     parent: u64,
-    child: Child,
+    coll: Name,
+    name: Name,
+    url: Text,
 ) -> Option<NoStep> {
-    let Child {
-        coll,
-        name,
-        url,
-        gives,
-    } = child;
     realm
-        .create(alloc, caller, parent, coll, name, url, gives)
+        .create(alloc, caller, parent, coll, name, url, List::new(alloc))
         .err()
 }
 
-/// The command of a line.
-pub fn command(alloc: Global, line: &str) -> Option<Command> {
-    if line.len() > 65_536 {
-        return None;
-    }
-    read_command(alloc, line.as_bytes()).ok()
+/// Begins a start, and ends it well where it begins.
+fn started(realm: &mut Realm, alloc: Global, inc: u64) -> Option<NoStep> {
+    act(realm, alloc, ActKind::Start, inc, Outcome::Started)
 }
 
-/// Begins a start, and ends it so where it begins.
-fn started(realm: &mut Realm, alloc: Global, inc: u64, outcome: Outcome) -> Result<(), NoStep> {
-    match outcome {
-        Outcome::Started => act(realm, alloc, ActKind::Start, inc, Outcome::Started),
-        _ => act(realm, alloc, ActKind::Start, inc, Outcome::Declined),
-    }
+/// Begins a start, and declines it where it begins.
+fn declined(realm: &mut Realm, alloc: Global, inc: u64) -> Option<NoStep> {
+    act(realm, alloc, ActKind::Start, inc, Outcome::Declined)
 }
 
 /// Begins a stop, and ends it by force where it begins.
-fn killed(realm: &mut Realm, alloc: Global, inc: u64) -> Result<(), NoStep> {
+fn killed(realm: &mut Realm, alloc: Global, inc: u64) -> Option<NoStep> {
     act(realm, alloc, ActKind::Stop, inc, Outcome::Killed)
 }
 
@@ -284,18 +241,32 @@ fn resolve(realm: &mut Realm, alloc: Global, inc: u64, word: &str) -> Option<Opt
     }
 }
 
+/// The declaration of a manifest, where it is valid.
+fn valid_of(alloc: Global, manifest: &str) -> Option<ValidDecl> {
+    match read_decl(alloc, manifest.as_bytes()) {
+        Ok(decl) => validate(alloc, decl).ok(),
+        Err(_) => None,
+    }
+}
+
+/// A valid declaration that is got ready.
+fn prepared_at(alloc: Global, valid: ValidDecl, url: Text) -> Option<Prepared>
+    ensures { IfSome result (λ made. IsValid made.decl) }
+{
+    Prepared::make(alloc, valid.into_decl(), url).ok()
+}
+
 /// The declaration of a manifest, which is valid.
 pub fn prepared(alloc: Global, manifest: &str) -> Option<Prepared>
     ensures { IfSome result (λ made. IsValid made.decl) }
 {
-    let url = Text::from_str(alloc, "fuchsia-pkg://t/a#x").ok()?;
-    let Ok(decl) = read_decl(alloc, manifest.as_bytes()) else {
-        return None;
-    };
-    let Ok(valid) = validate(alloc, decl) else {
-        return None;
-    };
-    Prepared::make(alloc, valid.into_decl(), url).ok()
+    match valid_of(alloc, manifest) {
+        Some(valid) => match Text::from_str(alloc, "fuchsia-pkg://t/a#x") {
+            Ok(url) => prepared_at(alloc, valid, url),
+            Err(_) => None,
+        },
+        None => None,
+    }
 }
 
 /// Begins an action for caller 0, and ends it in this where it begins.
@@ -305,16 +276,16 @@ fn act(
     kind: ActKind,
     inc: u64,
     outcome: Outcome,
-) -> Result<(), NoStep>
+) -> Option<NoStep>
     requires { IsTrue (fits_kind kind (finish.Other outcome)) }
 {
-    let reply = realm.begin(alloc, 0, kind, inc)?;
-    match reply {
-        Reply::Begun(work) => {
+    match realm.begin(alloc, 0, kind, inc) {
+        Ok(Reply::Begun(work)) => {
             realm.end(0, work.action, Ending::Other(outcome));
-            Ok(())
+            None
         }
-        _ => Ok(()),
+        Ok(_other) => None,
+        Err(no_step) => Some(no_step),
     }
 }
 

@@ -3,73 +3,59 @@
 
 use crate::cases::OFFERS;
 use crate::player::odd_cases;
-use crate::steps::{command, prepared};
+use crate::steps::prepared;
 use cm_command::Command;
-use cm_decl::{Decl, Give, Kind};
-use cm_names::{CapPath, ChildName, List, Memory, Name, Text};
+use cm_names::{CapPath, List, Memory, Name, Text};
 use cm_reply::reply_text;
 use cm_table::{Prepared, Table};
 use cm_walk::walk;
-use cm_world::{Answer, Builtin, Facts, Refusal, Start, StepKind, View, Walked, Why};
+use cm_world::{Answer, Refusal, Start, StepKind, Target, Walked, Why};
 use std::alloc::Global;
 use std::test::Fail;
 
 /// A tree without instances.
-#[derive(Drop)]
-struct Bare;
-
-impl View for Bare {
-    ghost use Rattle.std.specs.Prelude.{[]};
-
-    ghost rows = { λ _. [] };
-
-    ghost next_inc = { λ _. 0 };
-
-    ghost builtins = { λ _. [] };
-
-    fn facts(&self, _inc: u64) -> Option<Facts> {
-        None
-    }
-
-    fn name(&self, _inc: u64) -> Option<&ChildName> {
-        None
-    }
-
-    fn decl(&self, _inc: u64) -> Option<&Decl> {
-        None
-    }
-
-    fn gives(&self, _inc: u64) -> Option<&List<Give>> {
-        None
-    }
-
-    fn child(&self, _parent: u64, _name: &ChildName) -> Option<u64> {
-        None
-    }
-
-    fn next_child(&self, _parent: u64, _after: Option<u64>) -> Option<u64> {
-        None
-    }
-
-    fn builtin(&self, _kind: Kind, _name: &Name) -> Option<&Builtin> {
-        None
+fn bare(alloc: Global) -> Option<Table> {
+    let root = Text::from_str(alloc, "r").ok()?;
+    match Table::new(alloc, root, List::new(alloc), 9) {
+        Ok(mut table) => {
+            table.remove_below(0);
+            Some(table)
+        }
+        Err(_) => None,
     }
 }
 
+fn walk_in(alloc: Global, table: &Table, start: Start) -> Option<Walked> {
+    walk(alloc, table, start).ok()
+}
+
+fn walk_bare(alloc: Global, start: Start) -> Option<Walked> {
+    match bare(alloc) {
+        Some(table) => walk_in(alloc, &table, start),
+        None => None,
+    }
+}
+
+fn walk_of_use(alloc: Global) -> Option<Walked> {
+    let path = CapPath::read(alloc, "/svc/p").ok()?;
+    walk_bare(alloc, Start::UseAt(0, path))
+}
+
+fn walk_of_expose(alloc: Global) -> Option<Walked> {
+    let name = Name::read(alloc, "p").ok()?;
+    walk_bare(alloc, Start::ExposeAt(0, name))
+}
+
 #[test]
-fn finds_nothing(rt: HostRuntime) -> Result<(), Fail> {
-    let alloc = rt.alloc();
-    let path = CapPath::read(alloc, "/svc/p")?;
-    let walked = walk(alloc, &Bare, Start::UseAt(0, path)).map_err(|_| "memory")?;
-    assert!(rt; matches!(walked, Walked::NoSuchUse));
-    let name = Name::read(alloc, "p")?;
-    let walked = walk(alloc, &Bare, Start::ExposeAt(0, name)).map_err(|_| "memory")?;
-    let Walked::Failed(hop, why) = walked else {
-        return Err(Fail::from("a route"));
+fn finds_nothing(rt: HostRuntime) {
+    assert!(rt; matches!(walk_of_use(rt.alloc()), Some(Walked::NoSuchUse)));
+    let is_so = match walk_of_expose(rt.alloc()) {
+        Some(Walked::Failed(hop, Why::NoExpose)) => {
+            hop.step == StepKind::ExposeHop && hop.moniker.is_root()
+        }
+        _other => false,
     };
-    assert!(rt; hop.step == StepKind::ExposeHop && hop.moniker.is_root());
-    assert_eq!(rt; why, Why::NoExpose);
-    Ok(())
+    assert!(rt; is_so);
 }
 
 /// What a walk from an offer of a root comes to, with a line feed behind it. First comes the index
@@ -91,7 +77,7 @@ fn walked(alloc: Global, index: u32, manifest: &str) -> Option<Walked> {
 
 fn walked_in(alloc: Global, index: u32, prepared: Prepared) -> Option<Walked> {
     match table_of(alloc, prepared) {
-        Some(table) => walk(alloc, &table, Start::OfferAt(0, index)).ok(),
+        Some(table) => walk_in(alloc, &table, Start::OfferAt(0, index)),
         None => None,
     }
 }
@@ -106,24 +92,34 @@ fn table_of(alloc: Global, prepared: Prepared) -> Option<Table> {
 }
 
 fn told_by(alloc: Global, walked: Walked) -> Option<Text> {
-    match command(alloc, "route . /svc/p") {
-        Some(command) => written(alloc, &command, walked).ok(),
-        None => None,
+    match walked {
+        Walked::Given(route) => said(alloc, &Ok(Answer::Routed(route))),
+        Walked::Failed(hop, why) => said(alloc, &Err(Refusal::NoRoute(hop, why))),
+        Walked::Void(hop) => said(alloc, &Err(Refusal::VoidSource(hop))),
+        Walked::NoSuchUse => said(alloc, &Err(Refusal::NoSuchUse)),
+        Walked::Need(inc) => needs(alloc, inc).ok(),
     }
 }
 
-/// The text of a walk, as one of a route that is asked for.
-fn written(alloc: Global, command: &Command, walked: Walked) -> Result<Text, Memory> {
-    let said = match walked {
-        Walked::Given(route) => Ok(Answer::Routed(route)),
-        Walked::Failed(hop, why) => Err(Refusal::NoRoute(hop, why)),
-        Walked::Void(hop) => Err(Refusal::VoidSource(hop)),
-        Walked::NoSuchUse => Err(Refusal::NoSuchUse),
-        Walked::Need(inc) => return needs(alloc, inc),
-    };
-    let mut text = reply_text(alloc, command, &said)?;
-    text.push_str("\n")?;
-    Ok(text)
+/// The text of what is said, with a line feed behind it. No text here tells what was asked.
+fn said(alloc: Global, said: &Result<Answer, Refusal>) -> Option<Text> {
+    ended(text_of(alloc, &Command::Show(Target::Inc(0)), said)?)
+}
+
+fn text_of(alloc: Global, command: &Command, said: &Result<Answer, Refusal>) -> Option<Text> {
+    reply_text(alloc, command, said).ok()
+}
+
+/// A text with a line feed behind it.
+fn ended(mut text: Text) -> Option<Text> {
+    text.push_str("\n").ok()?;
+    Some(text)
+}
+
+#[test]
+fn tells_want_of_memory(rt: HostRuntime) {
+    let text = said(rt.alloc(), &Err(Refusal::Memory));
+    assert!(rt; text.is_some_and(|text| text.as_str() == "refused want-of-memory\n"));
 }
 
 fn needs(alloc: Global, inc: u64) -> Result<Text, Memory> {
@@ -134,7 +130,7 @@ fn needs(alloc: Global, inc: u64) -> Result<Text, Memory> {
 
 #[test]
 fn walks_from_offers(rt: HostRuntime) -> Result<(), Fail> {
-    let odd = odd_cases(&rt, rt.alloc(), OFFERS)?;
+    let odd = odd_cases(rt.alloc(), OFFERS)?;
     assert!(rt; odd.is_empty(), "{odd}");
     Ok(())
 }

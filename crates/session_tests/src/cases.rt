@@ -1,132 +1,207 @@
-//! Sessions over a link in memory, each with a new manager.
+//! Sessions over a link in memory, each with a new manager of a new realm.
+//!
+//! A case begins with `== `, how many entries the history takes, how many bytes one read or write of
+//! the link moves at most, its read and its write that fail, or `-` for none, and `both` where the
+//! manifests of the root and of its child `x` are there. Then comes what the link gives, and behind a
+//! line feed and `=> ` the end, on a line of its own, with what was written. Another line feed may stand
+//! behind that.
 
-/// A session: what the link gives, how its two sides behave, and what is told of it.
-#[derive(Drop)]
-pub struct Case {
-    /// So many bytes `a` come first.
-    pub filler: usize,
-    /// What the link gives behind them.
-    pub input: &'static str,
-    /// The most bytes that one read gives.
-    pub read_piece: usize,
-    /// The read that fails, if one does.
-    pub read_fails: Option<u64>,
-    /// The most bytes that one write takes.
-    pub write_piece: usize,
-    /// The write that fails, if one does.
-    pub write_fails: Option<u64>,
-    /// The end, on a line of its own, and then what was written.
-    pub told: &'static str,
-}
+/// Lines by one byte, ends by `quit`, at the last byte and by a fault. Nothing behind `quit` is served,
+/// and the last line needs no line feed. What is nearly `quit`, an empty line and a comment are no
+/// commands. The lines of a session are one caller's, in order.
+pub const ENDS: &str = "\
+    == 4194304 65536 - - none\n\
+    \n\
+    => End\n\
+    == 4194304 1 - - none\n\
+    show .\n\
+    foo\n\
+    quit\n\
+    \n\
+    => Quit\n\
+    shown . incarnation 0 url fuchsia-pkg://t/a#meta/root.cm unresolved off\n\
+    refused 70 bad-command at 0\n\
+    == 4194304 65536 - - none\n\
+    quit\n\
+    show .\n\
+    \n\
+    => Quit\n\
+    == 4194304 65536 - - none\n\
+    show .\n\
+    quit\n\
+    => Quit\n\
+    shown . incarnation 0 url fuchsia-pkg://t/a#meta/root.cm unresolved off\n\
+    == 4194304 65536 - - none\n\
+    foo\n\
+    show .\n\
+    => End\n\
+    refused 70 bad-command at 0\n\
+    shown . incarnation 0 url fuchsia-pkg://t/a#meta/root.cm unresolved off\n\
+    == 4194304 65536 - - none\n\
+    quit \n\
+    quit\r\n\
+    \n\
+    # show .\n\
+    show . x\n\
+    quit\n\
+    \n\
+    => Quit\n\
+    refused 70 bad-command at 0\n\
+    refused 70 bad-command at 0\n\
+    refused 70 bad-command at 0\n\
+    refused 70 bad-command at 0\n\
+    refused 70 bad-command at 6\n\
+    == 4194304 1 - 2 none\n\
+    show .\n\
+    foo\n\
+    quit\n\
+    \n\
+    => WriteFault\n\
+    sh\n\
+    == 4194304 7 1 - none\n\
+    show .\n\
+    foo\n\
+    \n\
+    => ReadFault\n\
+    shown . incarnation 0 url fuchsia-pkg://t/a#meta/root.cm unresolved off\n\
+    == 4194304 6 1 - none\n\
+    foo\n\
+    show .\n\
+    \n\
+    => ReadFault\n\
+    refused 70 bad-command at 0\n\
+    == 4194304 65536 - - none\n\
+    resolve .\n\
+    resolve .\n\
+    show .\n\
+    \n\
+    => End\n\
+    refused 83 cannot-resolve action 1 absent\n\
+    refused 83 cannot-resolve action 2 absent\n\
+    shown . incarnation 0 url fuchsia-pkg://t/a#meta/root.cm unresolved off\n";
 
-/// A link that never fails, and whose bytes come all at once.
-pub const LINK: Case = Case {
-    filler: 0,
-    input: "",
-    read_piece: 65_536,
-    read_fails: None,
-    write_piece: 65_536,
-    write_fails: None,
-    told: "End\n",
-};
-
-/// The sessions.
-pub const CASES: [Case; 12] = [
-    Case { ..LINK },
-    Case {
-        input: "show .\nfoo\nquit\n",
-        read_piece: 1,
-        write_piece: 1,
-        told: "\
-            Quit\n\
-            shown . incarnation 0 url fuchsia-pkg://t/a#meta/root.cm unresolved off\n\
-            refused 70 bad-command at 0\n",
-        ..LINK
-    },
-    // Nothing behind `quit` is served, and the last line needs no line feed.
-    Case {
-        input: "quit\nshow .\n",
-        told: "Quit\n",
-        ..LINK
-    },
-    Case {
-        input: "show .\nquit",
-        told: "\
-            Quit\n\
-            shown . incarnation 0 url fuchsia-pkg://t/a#meta/root.cm unresolved off\n",
-        ..LINK
-    },
-    Case {
-        input: "foo\nshow .",
-        told: "\
-            End\n\
-            refused 70 bad-command at 0\n\
-            shown . incarnation 0 url fuchsia-pkg://t/a#meta/root.cm unresolved off\n",
-        ..LINK
-    },
-    // What is nearly `quit`, an empty line and a comment are no commands.
-    Case {
-        input: "quit \nquit\r\n\n# show .\nshow . x\nquit\n",
-        told: "\
-            Quit\n\
-            refused 70 bad-command at 0\n\
-            refused 70 bad-command at 0\n\
-            refused 70 bad-command at 0\n\
-            refused 70 bad-command at 0\n\
-            refused 70 bad-command at 6\n",
-        ..LINK
-    },
-    Case {
-        filler: 65_537,
-        input: "\nshow .\n",
-        told: "\
-            End\n\
-            refused 75 line-too-long\n\
-            shown . incarnation 0 url fuchsia-pkg://t/a#meta/root.cm unresolved off\n",
-        ..LINK
-    },
-    Case {
-        filler: 65_536,
-        input: "\nshow .\n",
-        told: "\
-            End\n\
-            refused 70 bad-command at 0\n\
-            shown . incarnation 0 url fuchsia-pkg://t/a#meta/root.cm unresolved off\n",
-        ..LINK
-    },
-    // The third write fails.
-    Case {
-        input: "show .\nfoo\nquit\n",
-        write_piece: 1,
-        write_fails: Some(2),
-        told: "WriteFault\nsh",
-        ..LINK
-    },
-    // The read behind the first line fails, and one in the middle of a line.
-    Case {
-        input: "show .\nfoo\n",
-        read_piece: 7,
-        read_fails: Some(1),
-        told: "\
-            ReadFault\n\
-            shown . incarnation 0 url fuchsia-pkg://t/a#meta/root.cm unresolved off\n",
-        ..LINK
-    },
-    Case {
-        input: "foo\nshow .\n",
-        read_piece: 6,
-        read_fails: Some(1),
-        told: "ReadFault\nrefused 70 bad-command at 0\n",
-        ..LINK
-    },
-    // The lines of a session are one caller's, in order.
-    Case {
-        input: "resolve .\nresolve .\nshow .\n",
-        told: "\
-            End\n\
-            refused 83 cannot-resolve action 1 absent\n\
-            refused 83 cannot-resolve action 2 absent\n\
-            shown . incarnation 0 url fuchsia-pkg://t/a#meta/root.cm unresolved off\n",
-        ..LINK
-    },
-];
+/// Stops whose history becomes full: what went with the instance stays marked to be destroyed, and is
+/// removed as far as there is room. Up to the end of the root's stop the lines make 17 entries; then come
+/// one for what goes with the root, four until the child is shut, and one for its removal. Each of the
+/// three picks asks for room for two entries.
+pub const LIMITS: &str = "\
+    == 17 65536 - - both\n\
+    start .\n\
+    create . coll x #meta/x.cm\n\
+    start coll:x\n\
+    stop .\n\
+    show @1\n\
+    show @1\n\
+    \n\
+    => End\n\
+    started . action 2\n\
+    created . coll:x incarnation 1\n\
+    started coll:x action 4\n\
+    refused 69 history-full\n\
+    refused 69 history-full\n\
+    refused 69 history-full\n\
+    == 18 65536 - - both\n\
+    start .\n\
+    create . coll x #meta/x.cm\n\
+    start coll:x\n\
+    stop .\n\
+    show @1\n\
+    show @1\n\
+    \n\
+    => End\n\
+    started . action 2\n\
+    created . coll:x incarnation 1\n\
+    started coll:x action 4\n\
+    refused 69 history-full\n\
+    refused 69 history-full\n\
+    refused 69 history-full\n\
+    == 19 65536 - - both\n\
+    start .\n\
+    create . coll x #meta/x.cm\n\
+    start coll:x\n\
+    stop .\n\
+    show @1\n\
+    show @1\n\
+    \n\
+    => End\n\
+    started . action 2\n\
+    created . coll:x incarnation 1\n\
+    started coll:x action 4\n\
+    refused 69 history-full\n\
+    refused 81 gone incarnation 1\n\
+    refused 69 history-full\n\
+    == 20 65536 - - both\n\
+    start .\n\
+    create . coll x #meta/x.cm\n\
+    start coll:x\n\
+    stop .\n\
+    show @1\n\
+    show @1\n\
+    \n\
+    => End\n\
+    started . action 2\n\
+    created . coll:x incarnation 1\n\
+    started coll:x action 4\n\
+    refused 69 history-full\n\
+    refused 69 history-full\n\
+    refused 69 history-full\n\
+    == 21 65536 - - both\n\
+    start .\n\
+    create . coll x #meta/x.cm\n\
+    start coll:x\n\
+    stop .\n\
+    show @1\n\
+    show @1\n\
+    \n\
+    => End\n\
+    started . action 2\n\
+    created . coll:x incarnation 1\n\
+    started coll:x action 4\n\
+    refused 69 history-full\n\
+    refused 81 gone incarnation 1\n\
+    refused 69 history-full\n\
+    == 22 65536 - - both\n\
+    start .\n\
+    create . coll x #meta/x.cm\n\
+    start coll:x\n\
+    stop .\n\
+    show @1\n\
+    show @1\n\
+    \n\
+    => End\n\
+    started . action 2\n\
+    created . coll:x incarnation 1\n\
+    started coll:x action 4\n\
+    refused 69 history-full\n\
+    refused 81 gone incarnation 1\n\
+    refused 69 history-full\n\
+    == 23 65536 - - both\n\
+    start .\n\
+    create . coll x #meta/x.cm\n\
+    start coll:x\n\
+    stop .\n\
+    show @1\n\
+    show @1\n\
+    \n\
+    => End\n\
+    started . action 2\n\
+    created . coll:x incarnation 1\n\
+    started coll:x action 4\n\
+    stopped . action 5\n\
+    refused 69 history-full\n\
+    refused 69 history-full\n\
+    == 24 65536 - - both\n\
+    start .\n\
+    create . coll x #meta/x.cm\n\
+    start coll:x\n\
+    stop .\n\
+    show @1\n\
+    show @1\n\
+    \n\
+    => End\n\
+    started . action 2\n\
+    created . coll:x incarnation 1\n\
+    started coll:x action 4\n\
+    stopped . action 5\n\
+    refused 81 gone incarnation 1\n\
+    refused 69 history-full\n";

@@ -4,8 +4,8 @@
 #[cfg(test)]
 mod cases;
 #[cfg(test)]
+mod meeting;
+#[cfg(test)]
 mod player;
 #[cfg(test)]
 mod serving;
-#[cfg(test)]
-mod sweeping;

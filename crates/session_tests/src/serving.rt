@@ -2,7 +2,7 @@
 
 ghost use Rattle.std.specs.Prelude.{◌≡◌, [], ◌∷◌, IfOk, length};
 
-use cm_gate::QuietGates;
+use cm_gate::{Gates, QuietGates};
 use cm_io::{LinkPlan, MemoryDoor, MemoryLink, Plan};
 use cm_manager::Manager;
 use cm_names::{Bytes, List, Memory, Text};
@@ -17,8 +17,8 @@ use std::sync::Wait;
 use std::test::Fail;
 use std::thread::Threads;
 
-/// The root's URL, and its manifest.
-const ROOT: (&str, &str) = ("fuchsia-pkg://t/a#meta/root.cm", "{}");
+/// The root's URL.
+const ROOT: &str = "fuchsia-pkg://t/a#meta/root.cm";
 
 /// What each link gives, and what is written to it.
 const LINKS: [(&str, &str); 2] = [
@@ -33,15 +33,15 @@ const LINKS: [(&str, &str); 2] = [
 ];
 
 /// The bytes of a text.
-fn bytes_of(alloc: Global, text: &str) -> Result<Bytes, AllocError> {
+pub fn bytes_of(alloc: Global, text: &str) -> Result<Bytes, AllocError> {
     Ok(Bytes::from_vec(text.as_bytes().to_vec(alloc)?))
 }
 
 /// A new realm of that root.
-fn new_realm(alloc: Global) -> Result<Realm, Memory>
+pub fn new_realm(alloc: Global) -> Result<Realm, Memory>
     ensures { IfOk result (λ realm. realm.entries ≡ []) }
 {
-    let root = Text::from_str(alloc, ROOT.0)?;
+    let root = Text::from_str(alloc, ROOT)?;
     let limits = Limits {
         rows: 100,
         entries: 1000,
@@ -50,9 +50,9 @@ fn new_realm(alloc: Global) -> Result<Realm, Memory>
 }
 
 /// The root's manifest under its URL.
-fn repository(alloc: Global) -> Result<Repository, Fail> {
+pub fn repository(alloc: Global, manifest: &str) -> Result<Repository, Fail> {
     let mut repository = Repository::new(alloc);
-    repository.add(ROOT.0, bytes_of(alloc, ROOT.1)?)?;
+    repository.add(ROOT, bytes_of(alloc, manifest)?)?;
     Ok(repository)
 }
 
@@ -68,10 +68,10 @@ fn link(alloc: Global, text: &str) -> Result<LinkPlan, AllocError> {
     })
 }
 
-/// A door with these links.
-fn door(alloc: Global) -> Result<MemoryDoor, AllocError> {
+/// A door with links that give these texts.
+pub fn door(alloc: Global, texts: &[&str]) -> Result<MemoryDoor, AllocError> {
     let mut waiting = VecDeque::new(alloc);
-    for (text, _) in &LINKS {
+    for text in texts {
         waiting.push_back(link(alloc, text)?)?;
     }
     Ok(MemoryDoor::new(alloc, waiting, List::new(alloc)))
@@ -84,15 +84,15 @@ fn gates(alloc: Global) -> Result<List<QuietGates>, AllocError>
     Ok(List::from_vec(vec![in alloc; QuietGates; 16]?))
 }
 
-/// Serves both links with two workers.
-fn serve<R: Threads + Wait + Sync>(
+/// Serves two links with two workers.
+pub fn serve<R: Threads + Wait + Sync, G: Gates + Send + Drop>(
     rt: &R,
     alloc: Global,
     realm: Realm,
     repository: Repository,
     door: MemoryDoor,
-    gates: List<QuietGates>,
-) -> Option<Served<MemoryDoor, MemoryLink, QuietGates>>
+    gates: List<G>,
+) -> Option<Served<MemoryDoor, MemoryLink, G>>
     requires empty { realm.entries ≡ [] }
     requires gates { length gates ≡ 16 }
 {
@@ -102,8 +102,8 @@ fn serve<R: Threads + Wait + Sync>(
     Some(serve_sessions(rt, alloc, &manager, passes, gates, door, 2, 2))
 }
 
-/// Whether one of the links that came back gave this, and was written that.
-fn is_served(links: &[Back<MemoryLink>], replies: &str) -> bool {
+/// Whether this was written to one of the links that came back.
+pub fn is_served(links: &[Back<MemoryLink>], replies: &str) -> bool {
     links
         .iter()
         .any(|back| back.link.sink.bytes() == replies.as_bytes())
@@ -112,8 +112,8 @@ fn is_served(links: &[Back<MemoryLink>], replies: &str) -> bool {
 /// Whether both links came back, each with its replies.
 fn are_served<R: Threads + Wait + Sync>(rt: &R, alloc: Global) -> Result<bool, Fail> {
     let gates = gates(alloc)?;
-    let door = door(alloc)?;
-    let repository = repository(alloc)?;
+    let door = door(alloc, &[LINKS[0].0, LINKS[1].0])?;
+    let repository = repository(alloc, "{}")?;
     let Some(served) = serve(rt, alloc, new_realm(alloc)?, repository, door, gates) else {
         return Ok(false);
     };

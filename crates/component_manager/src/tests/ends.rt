@@ -1,9 +1,9 @@
 //! The ends that a run may come to.
 //!
-//! An end is the status, and then lines by their first word: `out`, `err` and `told` tell a line of
-//! the output, of the error stream, and of what the gates tell afterwards; `out+` and `err+` a text
-//! that no line feed ends; `entries` the length of the history. The gates and the history are only
-//! looked at where a line speaks of them.
+//! An end is the status, and then lines by their first word: `out`, `err`, `sent` and `told` tell a line
+//! of the output, of the error stream, of what was written to the links, and of what the gates tell
+//! afterwards; `out+`, `err+` and `sent+` a text that no line feed ends; `entries` the length of the
+//! history. The gates and the history are only looked at where a line speaks of them.
 
 use super::input::{number_of, push_line};
 use super::player::Came;
@@ -31,6 +31,7 @@ fn is_known(line: &str) -> bool {
 fn is_word(word: &str) -> bool {
     match word {
         "=>" | "out" | "out+" | "err" | "err+" | "told" | "entries" => true,
+        "sent" | "sent+" => true,
         _ => false,
     }
 }
@@ -61,7 +62,11 @@ fn is_end<G>(alloc: Global, came: &Came<G>, told: &str, end: &str) -> Option<boo
 fn is_written<G>(alloc: Global, came: &Came<G>, lines: &str) -> Option<bool> {
     let out = lines_of(alloc, lines, "out", "out+")?;
     let err = lines_of(alloc, lines, "err", "err+")?;
-    Some(came.out.bytes() == out.as_slice() && came.err.bytes() == err.as_slice())
+    let sent = lines_of(alloc, lines, "sent", "sent+")?;
+    let is_so = came.out.bytes() == out.as_slice()
+        && came.err.bytes() == err.as_slice()
+        && came.sent.as_slice() == sent.as_slice();
+    Some(is_so)
 }
 
 /// Whether gates told these lines, where there are any.

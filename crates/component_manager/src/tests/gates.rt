@@ -213,3 +213,185 @@ pub const GATES: &str = "\
     told 0 faults 1\n\
     told 1 launch fuchsia-pkg://t/a#meta/logger.cm action 3 Failed\n\
     told 1 faults 1\n";
+
+/// What gates answer by their plan, what they note while there is room, and how often they fail. Of two
+/// manifests under one URL they have the first.
+pub const PLANS: &str = "\
+    == run\n\
+    room 5\n\
+    held @logger 0\n\
+    held @logger-empty 9\n\
+    declined fuchsia-pkg://t/a#meta/client.cm\n\
+    | manifest fuchsia-pkg://t/a#meta/root.cm\n\
+    | {children:[{name:'logger',url:'#meta/logger.cm'},{name:'client',url:'#meta/client.cm'},\n\
+    | {name:'none',url:'#meta/none.cm'}]}\n\
+    | %%\n\
+    @client\n\
+    @root-line\n\
+    | 0 resolve logger\n\
+    | 0 resolve none\n\
+    | 0 start logger\n\
+    | 0 start client\n\
+    | 0 stop logger\n\
+    => 0\n\
+    out 0 resolved logger action 2\n\
+    out 0 refused 83 cannot-resolve action 3 absent\n\
+    out 0 started logger action 4\n\
+    out 0 refused 84 cannot-start action 6 declined\n\
+    out 0 stopped logger action 7\n\
+    told 0 fetch fuchsia-pkg://t/a#meta/logger.cm found\n\
+    told 0 fetch fuchsia-pkg://t/a#meta/none.cm absent\n\
+    told 0 launch fuchsia-pkg://t/a#meta/logger.cm action 4 Running\n\
+    told 0 launch fuchsia-pkg://t/a#meta/client.cm action 6 Declined\n\
+    told 0 halt fuchsia-pkg://t/a#meta/logger.cm action 7 Stopped\n\
+    == run\n\
+    failing 0 0\n\
+    failing 0 3\n\
+    held @logger 0\n\
+    held @logger-empty 9\n\
+    declined fuchsia-pkg://t/a#meta/client.cm\n\
+    | manifest fuchsia-pkg://t/a#meta/root.cm\n\
+    | {children:[{name:'logger',url:'#meta/logger.cm'},{name:'client',url:'#meta/client.cm'},\n\
+    | {name:'none',url:'#meta/none.cm'}]}\n\
+    | %%\n\
+    @client\n\
+    @root-line\n\
+    | 0 resolve logger\n\
+    | 0 resolve none\n\
+    | 0 start logger\n\
+    | 0 start client\n\
+    | 0 start logger\n\
+    | 0 stop logger\n\
+    => 0\n\
+    out 0 refused 83 cannot-resolve action 2 gate-failed\n\
+    out 0 refused 83 cannot-resolve action 3 absent\n\
+    out 0 refused 84 cannot-start action 5 gate-failed\n\
+    out 0 refused 84 cannot-start action 7 declined\n\
+    out 0 started logger action 8\n\
+    out 0 stopped logger action 9\n\
+    told 0 fetch fuchsia-pkg://t/a#meta/logger.cm failed\n\
+    told 0 fetch fuchsia-pkg://t/a#meta/none.cm absent\n\
+    told 0 fetch fuchsia-pkg://t/a#meta/logger.cm found\n\
+    told 0 launch fuchsia-pkg://t/a#meta/logger.cm action 5 Failed\n\
+    told 0 launch fuchsia-pkg://t/a#meta/client.cm action 7 Declined\n\
+    told 0 launch fuchsia-pkg://t/a#meta/logger.cm action 8 Running\n\
+    told 0 halt fuchsia-pkg://t/a#meta/logger.cm action 9 Stopped\n\
+    told 0 faults 2\n\
+    == run\n\
+    room 5\n\
+    failing 0 4\n\
+    failing 0 9\n\
+    held @logger 0\n\
+    held @logger-empty 9\n\
+    declined fuchsia-pkg://t/a#meta/client.cm\n\
+    | manifest fuchsia-pkg://t/a#meta/root.cm\n\
+    | {children:[{name:'logger',url:'#meta/logger.cm'},{name:'client',url:'#meta/client.cm'},\n\
+    | {name:'none',url:'#meta/none.cm'}]}\n\
+    | %%\n\
+    @client\n\
+    @root-line\n\
+    | 0 resolve logger\n\
+    | 0 resolve none\n\
+    | 0 start logger\n\
+    | 0 start client\n\
+    | 0 stop logger\n\
+    => 0\n\
+    out 0 resolved logger action 2\n\
+    out 0 refused 83 cannot-resolve action 3 absent\n\
+    out 0 started logger action 4\n\
+    out 0 refused 84 cannot-start action 6 declined\n\
+    out 0 stopped logger by-force action 7\n\
+    told 0 fetch fuchsia-pkg://t/a#meta/logger.cm found\n\
+    told 0 fetch fuchsia-pkg://t/a#meta/none.cm absent\n\
+    told 0 launch fuchsia-pkg://t/a#meta/logger.cm action 4 Running\n\
+    told 0 launch fuchsia-pkg://t/a#meta/client.cm action 6 Declined\n\
+    told 0 halt fuchsia-pkg://t/a#meta/logger.cm action 7 Failed\n\
+    told 0 faults 1\n\
+    == run\n\
+    room 2\n\
+    held @logger 0\n\
+    held @logger-empty 9\n\
+    declined fuchsia-pkg://t/a#meta/client.cm\n\
+    | manifest fuchsia-pkg://t/a#meta/root.cm\n\
+    | {children:[{name:'logger',url:'#meta/logger.cm'},{name:'client',url:'#meta/client.cm'},\n\
+    | {name:'none',url:'#meta/none.cm'}]}\n\
+    | %%\n\
+    @client\n\
+    @root-line\n\
+    | 0 resolve logger\n\
+    | 0 resolve none\n\
+    | 0 start logger\n\
+    | 0 start client\n\
+    | 0 start logger\n\
+    => 0\n\
+    out 0 resolved logger action 2\n\
+    out 0 refused 83 cannot-resolve action 3 absent\n\
+    out 0 refused 84 cannot-start action 4 gate-failed\n\
+    out 0 refused 84 cannot-start action 6 gate-failed\n\
+    out 0 refused 84 cannot-start action 7 gate-failed\n\
+    told 0 untold\n\
+    told 0 faults 3\n\
+    == run\n\
+    room 3\n\
+    held @logger 0\n\
+    held @logger-empty 9\n\
+    declined fuchsia-pkg://t/a#meta/client.cm\n\
+    | manifest fuchsia-pkg://t/a#meta/root.cm\n\
+    | {children:[{name:'logger',url:'#meta/logger.cm'},{name:'client',url:'#meta/client.cm'},\n\
+    | {name:'none',url:'#meta/none.cm'}]}\n\
+    | %%\n\
+    @client\n\
+    @root-line\n\
+    | 0 resolve logger\n\
+    | 0 start logger\n\
+    | 0 stop logger\n\
+    | 0 start logger\n\
+    => 0\n\
+    out 0 resolved logger action 2\n\
+    out 0 started logger action 3\n\
+    out 0 stopped logger action 4\n\
+    out 0 refused 84 cannot-start action 5 gate-failed\n\
+    told 0 untold\n\
+    told 0 faults 1\n\
+    == run\n\
+    room 0\n\
+    failing 0 1\n\
+    held @logger 0\n\
+    held @logger-empty 9\n\
+    declined fuchsia-pkg://t/a#meta/client.cm\n\
+    | manifest fuchsia-pkg://t/a#meta/root.cm\n\
+    | {children:[{name:'logger',url:'#meta/logger.cm'},{name:'client',url:'#meta/client.cm'},\n\
+    | {name:'none',url:'#meta/none.cm'}]}\n\
+    | %%\n\
+    @client\n\
+    @root-line\n\
+    | 0 resolve logger\n\
+    | 0 resolve none\n\
+    | 0 start logger\n\
+    | 0 start client\n\
+    | 0 resolve logger\n\
+    => 0\n\
+    out 0 refused 83 cannot-resolve action 2 gate-failed\n\
+    out 0 refused 83 cannot-resolve action 3 gate-failed\n\
+    out 0 refused 83 cannot-resolve action 4 gate-failed\n\
+    out 0 refused 84 cannot-start action 6 gate-failed\n\
+    out 0 refused 83 cannot-resolve action 7 gate-failed\n\
+    told 0 untold\n\
+    told 0 faults 5\n\
+    == run --repo repo\n\
+    room 3\n\
+    failing 0 2\n\
+    @root\n\
+    @logger\n\
+    @root-line\n\
+    | 0 resolve client\n\
+    | 0 start logger\n\
+    | 0 stop logger\n\
+    => 0\n\
+    out 0 refused 83 cannot-resolve action 2 absent\n\
+    out 0 started logger action 4\n\
+    out 0 stopped logger by-force action 5\n\
+    told 0 fetch fuchsia-pkg://t/a#meta/client.cm absent\n\
+    told 0 launch fuchsia-pkg://t/a#meta/logger.cm action 4 Running\n\
+    told 0 halt fuchsia-pkg://t/a#meta/logger.cm action 5 Failed\n\
+    told 0 faults 1\n";

@@ -1,7 +1,8 @@
 //! What the lines of a case say of its run.
 //!
 //! The input is made of lines in their order: `| ` and a line, `+ ` and a text that no line feed
-//! ends, `@` and the name of a text of `manifests`, or `fill`, a byte and how often it stands there.
+//! ends, `@` and the name of a text of `manifests`, `fill`, a byte and how often it stands there, or
+//! `names`, a front and how many names in quotes begin with it, each with its number and a comma behind it.
 //! The other words, each of which may be left out:
 //!
 //! - `piece`: how many bytes one read or write moves at most;
@@ -12,7 +13,10 @@
 //! - `declined`: the URL of a component whose program is declined;
 //! - `failing`: a lane, and a call of its gates that fails;
 //! - `room`: how many questions the gates of a lane have room to note;
-//! - `runs`: how often the case is run, each time over new gates.
+//! - `runs`: how often the case is run, each time over new gates;
+//! - `door`: the call of the door that fails, from 0 on, which is the listen;
+//! - `link`: a link that the door gives begins, with any name. What it gives is said by the lines behind
+//!   it as the input is, and `piece`, `read` and `write` among them are its own.
 
 use super::manifests::named;
 use cm_gate::Manifest;
@@ -44,6 +48,7 @@ fn is_word(word: &str) -> bool {
     match word {
         "|" | "+" | "fill" | "piece" | "read" | "write" => true,
         "say" | "held" | "declined" | "failing" | "room" | "runs" => true,
+        "door" | "link" | "names" => true,
         _ => false,
     }
 }
@@ -107,7 +112,7 @@ fn fill(bytes: &mut Vec<u8>, byte: u8, count: u64) -> Option<()> {
 }
 
 /// Puts down what a line says of the input.
-fn push_input(bytes: &mut Vec<u8>, line: &str) -> Option<()> {
+fn push_input(alloc: Global, bytes: &mut Vec<u8>, line: &str) -> Option<()> {
     if line.starts_with('@') {
         return bytes.extend_from_slice(named(line)?.as_bytes()).ok();
     }
@@ -119,8 +124,21 @@ fn push_input(bytes: &mut Vec<u8>, line: &str) -> Option<()> {
             let (byte, count) = text.split_once(' ')?;
             fill(bytes, byte.parse().ok()?, count.parse().ok()?)
         }
+        "names" => {
+            let (front, count) = text.split_once(' ')?;
+            push_names(alloc, bytes, front, count.parse().ok()?)
+        }
         _ => Some(()),
     }
+}
+
+/// Puts down so many names that begin with a front.
+fn push_names(alloc: Global, bytes: &mut Vec<u8>, front: &str, count: u64) -> Option<()> {
+    let mut names = Text::new(alloc);
+    for number in 0..count {
+        names.push(format_args!("'{front}{number}',")).ok()?;
+    }
+    bytes.extend_from_slice(names.as_str().as_bytes()).ok()
 }
 
 /// Puts down a line, with its line feed.
@@ -129,12 +147,12 @@ pub fn push_line(bytes: &mut Vec<u8>, line: &str) -> Option<()> {
     bytes.push(b'\n').ok()
 }
 
-/// The input of a run.
-fn input_of(alloc: Global, case: &str) -> Option<Vec<u8>> {
+/// The input of a run, or what a link gives.
+pub fn input_of(alloc: Global, case: &str) -> Option<Vec<u8>> {
     let mut bytes = Vec::new(alloc);
     if let Some((_, lines)) = case.split_once('\n') {
         for line in lines.split('\n') {
-            push_input(&mut bytes, line)?;
+            push_input(alloc, &mut bytes, line)?;
         }
     }
     Some(bytes)

@@ -22,6 +22,7 @@ pub fn named(name: &str) -> Option<&'static str> {
         "@p-client" => Some(P_CLIENT),
         "@ask-p" => Some(ASK_P),
         "@root-once" => Some(ROOT_ONCE),
+        "@root-empty" => Some(ROOT_EMPTY),
         _ => None,
     }
 }
@@ -117,3 +118,5 @@ const ROOT_ONCE: &str = "\
     manifest fuchsia-pkg://t/a#meta/root.cm\n\
     {\"collections\":[{\"name\":\"once\",\"durability\":\"single_run\"}]}\n\
     %%\n";
+
+const ROOT_EMPTY: &str = "manifest fuchsia-pkg://t/a#meta/root.cm\n{}\n%%\n";

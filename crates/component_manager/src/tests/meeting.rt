@@ -4,40 +4,51 @@ ghost use Rattle.std.specs.Prelude.{◌≡◌, IfSome, length};
 
 use super::ends::is_an_end;
 use super::input::manifests_of;
-use super::player::{Came, come, shown};
+use super::player::{Came, come, parts_of, shown};
 use cm_gate::MeetingGates;
 use cm_names::{List, Text};
 use std::alloc::Global;
 use std::sync::Wait;
 use std::thread::Threads;
 
-/// The script whose two fetches have to meet: the root is in the script, its children aren't.
-const MEETING: &str = "\
+/// The script whose two fetches have to meet: the root is in the script, its children aren't. Either
+/// lane may begin its action first.
+pub const BOTH: &str = "\
     run\n\
     @root\n\
     @root-line\n\
     | 0 resolve logger\n\
     | 1 resolve client\n\
     held @logger 0\n\
-    held @client 0";
-
-/// Either lane may begin its action first.
-const ENDS: &str = "\
-    0\n\
+    held @client 0\n\
+    => 0\n\
     out 0 resolved logger action 2\n\
     out 1 resolved client action 3\n\
+    told faults 0\n\
     => 0\n\
     out 0 resolved logger action 3\n\
-    out 1 resolved client action 2";
+    out 1 resolved client action 2\n\
+    told faults 0";
 
-/// Eight pairs of gates, of which each has the manifests of that script's case.
-fn meeting_gates(alloc: Global) -> Option<List<MeetingGates>>
+/// A fetch that no other meets.
+pub const ONE: &str = "\
+    run\n\
+    @root\n\
+    @root-line\n\
+    | 0 resolve logger\n\
+    held @logger 0\n\
+    => 0\n\
+    out 0 refused 83 cannot-resolve action 2 gate-failed\n\
+    told faults 1";
+
+/// Eight pairs of gates, of which each has the manifests of a case.
+fn meeting_gates(alloc: Global, case: &str) -> Option<List<MeetingGates>>
     ensures { IfSome result (λ gates. length gates ≡ 16) }
 {
     let mut gates = Vec::new(alloc);
     for pair in 0..8_usize {
         let _number = pair;
-        let manifests = manifests_of(alloc, MEETING)?;
+        let manifests = manifests_of(alloc, case)?;
         let (one, other) = MeetingGates::pair(alloc, manifests).ok()?;
         gates.push(one).ok()?;
         gates.push(other).ok()?;
@@ -45,25 +56,37 @@ fn meeting_gates(alloc: Global) -> Option<List<MeetingGates>>
     Some(List::from_vec(gates))
 }
 
-/// The run of that script, where it comes to none of its ends or the gates failed.
-pub fn odd_meeting<R: Threads + Wait + Sync>(rt: &R, alloc: Global) -> Option<Option<Text>> {
-    match meeting_gates(alloc) {
-        Some(gates) => match come(rt, alloc, MEETING, gates) {
-            Some(came) => compared(alloc, &came),
+/// What came of the run of a case over gates that have to meet, where that is none of its ends.
+pub fn odd_meeting<R: Threads + Wait + Sync>(
+    rt: &R,
+    alloc: Global,
+    case: &str,
+) -> Option<Option<Text>> {
+    let (given, ends) = parts_of(case);
+    match meeting_gates(alloc, given) {
+        Some(gates) => match come(rt, alloc, given, gates) {
+            Some(came) => compared(alloc, &came, ends),
             None => None,
         },
         None => None,
     }
 }
 
-fn compared(alloc: Global, came: &Came<MeetingGates>) -> Option<Option<Text>> {
-    let met = came
-        .gates
-        .as_slice()
-        .iter()
-        .all(|gates| gates.faults() == 0);
-    if met && is_an_end(alloc, came, "", ENDS)? {
+/// How often gates failed, as a text.
+fn told_by(alloc: Global, gates: &[MeetingGates]) -> Option<Text> {
+    let mut faults: u64 = 0;
+    for gate in gates {
+        faults = faults.saturating_add(gate.faults());
+    }
+    let mut told = Text::new(alloc);
+    told.push(format_args!("faults {faults}\n")).ok()?;
+    Some(told)
+}
+
+fn compared(alloc: Global, came: &Came<MeetingGates>, ends: &str) -> Option<Option<Text>> {
+    let told = told_by(alloc, came.gates.as_slice())?;
+    if is_an_end(alloc, came, told.as_str(), ends)? {
         return Some(None);
     }
-    Some(Some(shown(alloc, came, "")?))
+    Some(Some(shown(alloc, came, told.as_str())?))
 }

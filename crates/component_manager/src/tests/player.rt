@@ -7,12 +7,13 @@
 
 ghost use Rattle.std.specs.Prelude.{◌≡◌, IfSome, length};
 
+use super::doors::{door_of, sent_of};
 use super::ends::{are_known_ends, is_an_end, told_by};
 use super::input::{
     are_known, calls_of, manifests_of, number_of, plan_of, source_of, values_of, words_of,
 };
 use cm_gate::{GatePlan, Gates, PlannedGates};
-use cm_io::{MemorySink, MemorySource};
+use cm_io::{MemoryDoor, MemoryLink, MemorySink, MemorySource};
 use cm_names::{List, Memory, Text};
 use cm_program::Ran;
 use cm_program::run::run;
@@ -27,6 +28,14 @@ struct Arguments {
     input: MemorySource,
     out: MemorySink,
     err: MemorySink,
+    door: MemoryDoor,
+}
+
+/// The sinks of a run, behind it.
+#[derive(Drop)]
+struct Sinks {
+    out: MemorySink,
+    err: MemorySink,
 }
 
 /// What came of a run.
@@ -36,6 +45,7 @@ pub struct Came<G> {
     pub entries: usize,
     pub out: MemorySink,
     pub err: MemorySink,
+    pub sent: Vec<u8>,
     pub gates: List<G>,
 }
 
@@ -49,6 +59,7 @@ fn arguments_of(alloc: Global, case: &str) -> Option<Arguments> {
         input: source_of(alloc, case)?,
         out: sink_of(alloc, case, "write")?,
         err: sink_of(alloc, case, "say")?,
+        door: door_of(alloc, case)?,
     })
 }
 
@@ -56,18 +67,23 @@ fn arguments_of(alloc: Global, case: &str) -> Option<Arguments> {
 fn ran<R: Threads + Wait + Sync, G: Gates + Send + Drop>(
     rt: &R,
     alloc: Global,
-    given: &mut Arguments,
+    given: Arguments,
     gates: List<G>,
-) -> Ran<G>
+) -> (Ran<MemoryDoor, MemoryLink, G>, Sinks)
     requires { length gates ≡ 16 }
 {
     let Arguments {
         words,
-        input,
-        out,
-        err,
+        mut input,
+        mut out,
+        mut err,
+        door,
     } = given;
-    run(rt, alloc, words.as_slice(), input, out, err, gates)
+    let words = words.as_slice();
+    let ran = run(
+        rt, alloc, words, &mut input, &mut out, &mut err, door, gates,
+    );
+    (ran, Sinks { out, err })
 }
 
 /// What comes of a run over these gates.
@@ -80,22 +96,27 @@ pub fn come<R: Threads + Wait + Sync, G: Gates + Send + Drop>(
     requires { length gates ≡ 16 }
 {
     match arguments_of(alloc, case) {
-        Some(mut given) => {
-            let ran = ran(rt, alloc, &mut given, gates);
-            Some(came_of(given, ran))
+        Some(given) => {
+            let (ran, sinks) = ran(rt, alloc, given, gates);
+            came_of(alloc, ran, sinks)
         }
         None => None,
     }
 }
 
-fn came_of<G>(given: Arguments, ran: Ran<G>) -> Came<G> {
-    Came {
+fn came_of<G: Drop>(
+    alloc: Global,
+    ran: Ran<MemoryDoor, MemoryLink, G>,
+    sinks: Sinks,
+) -> Option<Came<G>> {
+    Some(Came {
         status: ran.status,
         entries: ran.book.entries().len(),
-        out: given.out,
-        err: given.err,
+        out: sinks.out,
+        err: sinks.err,
+        sent: sent_of(alloc, ran.links.as_slice())?,
         gates: ran.gates,
-    }
+    })
 }
 
 /// The plan of the gates of a lane.
@@ -120,7 +141,7 @@ fn planned_gates(alloc: Global, case: &str) -> Option<List<PlannedGates>>
 }
 
 /// A run, and the ends that it may come to.
-fn parts_of(case: &str) -> (&str, &str) {
+pub fn parts_of(case: &str) -> (&str, &str) {
     case.split_once("\n=> ").unwrap_or((case, ""))
 }
 
@@ -165,18 +186,19 @@ fn first_odd<R: Threads + Wait + Sync>(rt: &R, alloc: Global, case: &str) -> Opt
 }
 
 /// What was written, as a text.
-fn written(alloc: Global, out: &MemorySink) -> Option<String> {
-    String::from_utf8(out.bytes().to_vec(alloc).ok()?).ok()
+fn written(alloc: Global, bytes: &[u8]) -> Option<String> {
+    String::from_utf8(bytes.to_vec(alloc).ok()?).ok()
 }
 
 /// What came of a run, as a text.
 pub fn shown<G>(alloc: Global, came: &Came<G>, told: &str) -> Option<Text> {
     let status = came.status;
     let entries = came.entries;
-    let out = written(alloc, &came.out)?;
-    let err = written(alloc, &came.err)?;
+    let out = written(alloc, came.out.bytes())?;
+    let err = written(alloc, came.err.bytes())?;
+    let sent = written(alloc, came.sent.as_slice())?;
     let mut text = Text::new(alloc);
-    text.push(format_args!("status {status}, {entries} entries\n{out}{err}{told}"))
+    text.push(format_args!("status {status}, {entries} entries\n{out}{err}{sent}{told}"))
         .ok()?;
     Some(text)
 }

@@ -81,3 +81,9 @@ returns-clause-fault g c =
     (comes g.G.Gates.log g.G.Gates.faults (link_view g.D.Link.Source.left g.D.Link.Source.given g.D.Link.Sink.written g.D.Link.Source.faults g.D.Link.Sink.faults) g.D.Door.counts c.args.manager.now.shelf c.args.manager.now.turn c.args.sessions c.args.workers c.args.passes c.args.gates c.args.door c.hand_back.result
     c.in-Ok-open_door.opened.0 c.in-Ok-open_door.opened.1 c.in-Ok.room.links.items c.make_crew-crew.result.items c.run_all-crew.result.items c.take_apart-parts.result
     c.requires.passes c.requires.gates c.requires.workers.0 c.in-Ok-open_door.ensures.new (record { passes_are = c.make_crew-crew.ensures.passes; at_door_are = c.make_crew-crew.ensures.at_door; gates_are = c.make_crew-crew.ensures.gates; links_are = c.make_crew-crew.ensures.links }) c.run_all-crew.ensures.worked c.take_apart-parts.ensures c.hand_back.ensures.closed c.hand_back.ensures.passes c.hand_back.ensures.gates c.hand_back.ensures.links).fault
+
+pub returns-clause-sound : goal.returns-clause-sound
+returns-clause-sound g c =
+    (comes g.G.Gates.log g.G.Gates.faults (link_view g.D.Link.Source.left g.D.Link.Source.given g.D.Link.Sink.written g.D.Link.Source.faults g.D.Link.Sink.faults) g.D.Door.counts c.args.manager.now.shelf c.args.manager.now.turn c.args.sessions c.args.workers c.args.passes c.args.gates c.args.door c.hand_back.result
+    c.in-Ok-open_door.opened.0 c.in-Ok-open_door.opened.1 c.in-Ok.room.links.items c.make_crew-crew.result.items c.run_all-crew.result.items c.take_apart-parts.result
+    c.requires.passes c.requires.gates c.requires.workers.0 c.in-Ok-open_door.ensures.new (record { passes_are = c.make_crew-crew.ensures.passes; at_door_are = c.make_crew-crew.ensures.at_door; gates_are = c.make_crew-crew.ensures.gates; links_are = c.make_crew-crew.ensures.links }) c.run_all-crew.ensures.worked c.take_apart-parts.ensures c.hand_back.ensures.closed c.hand_back.ensures.passes c.hand_back.ensures.gates c.hand_back.ensures.links).sound

@@ -1,0 +1,129 @@
+-- The headline of `serve`: what is promised of the sessions of a run, whoever comes.
+use Rattle.std.specs.Prelude.{◌≡◌, ◌≢◌, ◌⊎◌, ℕ, ◌<◌, ◌≤◌, nat_eq, cond, List, [], ◌∷◌, All, Contains}
+use Rattle.std.specs.Prelude.{length, take, ⊤, Option, Some}
+use Rattle.std.specs.List.{AllZip}
+use Rattle.std.specs.Str.{bytes_eq}
+use Rattle.std.specs.Io.KnownBytes.{Appends, IsAtEnd}
+use Rattle.cm_io.specs.Lines.{lines, Moves}
+use Rattle.cm_world.specs.declared.frame.Frame.{Frame}
+use Rattle.cm_world.specs.declared.reply.Entry.{Entry}
+use Rattle.cm_world.specs.World.{start}
+use Rattle.cm_world.specs.Legal.{Legal}
+use Rattle.cm_gate.specs.declared.asked.Asked.{Asked}
+use Rattle.cm_reply.specs.Lists.{Text}
+use Rattle.cm_manager.specs.Done.{Follows}
+use Rattle.cm_manager.specs.Turns.{Later}
+use Rattle.cm_manager.specs.Work.{Shelf}
+use Rattle.cm_session.specs.declared.served.Back.{Back}
+use Rattle.cm_session.specs.declared.served.Cause.{Cause}
+use Rattle.cm_session.specs.declared.served.Cause.TheVariants as cause
+use Rattle.cm_session.specs.Links.{Begins, LinkView, whole_lines}
+use Rattle.cm_session.specs.Serving.{IsNewLink}
+use Rattle.cm_session.specs.Session.{AreEnded, WroteFront, most_lines, quit}
+use Rattle.cm_session.specs.Told.{Told, Reads, replies, done_of, IsNoWant}
+use Rattle.cm_program.specs.Headline.{EndsWell, WorksEach}
+use Rattle.cm_program.specs.Stock.{limits}
+use Rattle.cm_program.specs.declared.call.ServeOptions.{ServeOptions}
+
+-- ---- what sessions are served over
+
+-- the realm: nothing stands above its root, and its limits are those of every run
+abbrev pub served_frame : ServeOptions → Frame
+served_frame o = record { root = o.root; builtins = []; limits = limits }
+
+-- manifests are asked of the gates alone, in that folder
+abbrev pub served_shelf : ServeOptions → Shelf
+served_shelf o = record { repo = Some o.repository; blocks = [] }
+
+-- ---- the lines of a session
+
+-- the lines in front of the first `quit`
+abbrev pub before_quit : List Text → List Text
+before_quit [] = []
+before_quit (t ∷ ts) = cond (bytes_eq t quit) [] (t ∷ before_quit ts)
+
+-- the lines of these bytes that a session has: those in front of the first `quit`, and at most so many
+abbrev pub session_lines : Text → List Text
+session_lines bytes = take most_lines (before_quit (lines bytes))
+
+-- those of them that a line feed ends
+abbrev pub whole_session_lines : Text → List Text
+whole_session_lines bytes = take most_lines (before_quit (whole_lines bytes))
+
+-- ---- one link
+
+-- what came of a link: the bytes that it gave, the lines that were served, and what was made of each
+pub record Sat : Type 0 where
+  pub bytes : Text
+  pub lines_done : List Text
+  pub told : List Told
+
+-- all lines of the session were served, and no byte was left behind them unless a whole line `quit` or
+-- their number ended it
+pub record HasAll (left : Option Text) (sat : Sat) : Type 0 where
+  pub served : sat.lines_done ≡ session_lines sat.bytes
+  pub nothing_left : IsAtEnd left
+      ⊎ (Contains (whole_lines sat.bytes) quit ⊎ (length sat.lines_done ≡ most_lines))
+
+module _ {L : Type 0} (view : L → LinkView) where
+  -- what came of a link that was new, by its own counts and the status of the run
+  pub record IsSat (status : ℕ) (now : LinkView) (sat : Sat) : Type 0 where
+    pub came : L
+    pub new : IsNewLink (view came)
+    pub gave : Moves (view came).source now.source sat.bytes
+    pub reads : AllZip Reads sat.lines_done sat.told
+    -- the lines that were served are the first ones; one that no line feed ended only at the link's end
+    pub first : Begins (session_lines sat.bytes) sat.lines_done
+    pub ended : AreEnded sat.bytes sat.lines_done now.source.left
+    -- all of them, where the link never failed; and each whole line, where it never failed as a sink
+    pub all : status ≢ 6 → now.source.faults ≡ 0 → now.sink.faults ≡ 0 → HasAll now.source.left sat
+    pub whole : status ≢ 6 → now.sink.faults ≡ 0 → Begins sat.lines_done (whole_session_lines sat.bytes)
+    -- what was written is the replies, where the link never failed as a sink; and else they may break off in
+    -- the last one
+    pub wrote : status ≢ 6 → now.sink.faults ≡ 0
+        → Appends (view came).sink.written now.sink.written (replies sat.told)
+    pub front : WroteFront (view came).sink.written now.sink.written sat.told
+    pub no_want : status ≢ 6 → All IsNoWant sat.told
+
+-- ---- all links
+
+-- what came of one worker's links, in their order
+abbrev pub sats_by : ℕ → List (Back LinkView) → List Sat → List Sat
+sats_by k [] sats = []
+sats_by k (b ∷ bs) [] = []
+sats_by k (b ∷ bs) (s ∷ ss) = cond (nat_eq b.worker k) (s ∷ sats_by k bs ss) (sats_by k bs ss)
+
+-- a caller performs the commands of one session after another, and makes no entry besides
+pub data FollowsEach (f : Frame) (c : ℕ) : List Sat → List Entry → List Entry → Type 0 where
+  none_left : {h₀ h₁ : List Entry} → Later c h₀ h₁ → FollowsEach f c [] h₀ h₁
+  one_first : {s : Sat} {others : List Sat} {h₀ h₁ h₂ : List Entry}
+      → Follows f c (done_of s.told) h₀ h₁
+      → FollowsEach f c others h₁ h₂
+      → FollowsEach f c (s ∷ others) h₀ h₂
+
+-- the links stand worker by worker, from worker k on
+abbrev pub AreByWorker : ℕ → List (Back LinkView) → Type 0
+AreByWorker k [] = ⊤
+AreByWorker k (b ∷ bs) = (k ≤ b.worker) × AreByWorker b.worker bs
+
+module _ {G L : Type 0} (log_of : G → Option (List Asked)) (faults_of : G → ℕ) (view : L → LinkView) where
+  -- the sessions of a run: what came of each link, and the history, in which each worker's entries are those
+  -- of the commands of its links, in their order
+  pub record RunsSessions
+      (f : Frame) (shelf : Shelf) (workers : ℕ) (gates₀ gates₁ : List G) (history : List Entry)
+      (links : List (Back LinkView)) (status : ℕ) : Type 0 where
+    pub sats : List Sat
+    pub each : AllZip (λ b s. IsSat view status b.link s) links sats
+    pub workers_are : All (λ b. b.worker < workers) links
+    pub order : AreByWorker 0 links
+    pub legal : Legal (start f) history
+    pub entries : (k : ℕ) → k < 16 → FollowsEach f k (sats_by k links sats) [] history
+    pub callers : All (λ (e : Entry). e.caller < 16) history
+    pub laws : EndsWell f history
+    pub work : WorksEach log_of faults_of shelf history gates₀ gates₁
+
+-- why no more links were served, as a status
+abbrev pub status_of : Cause → ℕ
+status_of cause.Done = 0
+status_of cause.DoorFault = 5
+status_of cause.Memory = 6

@@ -1,0 +1,152 @@
+//! The sessions of a run, over one realm.
+
+ghost use Rattle.std.specs.Prelude.{◌≡◌, ◌⊎◌, ◌+◌, ◌<◌, ◌≤◌, [], Some, length, map};
+ghost use Rattle.cm_io.specs.Outside.{Rose};
+ghost use Rattle.cm_world.specs.declared.frame.Frame.{Frame as TheFrame};
+ghost use Rattle.cm_turn.specs.Passes.{new_passes};
+ghost use Rattle.cm_manager.specs.Work.{Shelf};
+ghost use Rattle.cm_program.specs.Sessions.{RunsSessions, status_of};
+ghost use Rattle.cm_session.specs.Links.{link_view};
+ghost use Rattle.cm_session.specs.Serving.{back_view};
+
+use cm_book::Book;
+use cm_gate::Gates;
+use cm_io::Door;
+use cm_manager::Manager;
+use cm_names::{List, Text};
+use cm_repo::Repository;
+use cm_session::{Back, Cause, Served, serve_sessions};
+use cm_steps::Realm;
+use cm_turn::Pass;
+use cm_world::{Entry, Frame};
+use std::alloc::Global;
+use std::sync::Wait;
+use std::thread::Threads;
+
+/// What sessions are served over, and how many.
+#[derive(Drop)]
+pub struct Service {
+    /// The realm, which is new.
+    pub realm: Realm,
+    /// The folder in which its manifests are looked for.
+    pub folder: Text,
+    /// How many links are served in all.
+    pub sessions: u32,
+    /// How many of them are served at once.
+    pub workers: u32,
+}
+
+/// What came of the sessions.
+#[derive(Drop)]
+pub struct Attended<D, L, G> {
+    /// The history of the realm, with the entries of all workers.
+    pub book: Book,
+    /// The gates, in the order of their workers.
+    pub gates: List<G>,
+    /// The door.
+    pub door: D,
+    /// The links that came, worker by worker.
+    pub links: List<Back<L>>,
+    /// Why no more came.
+    pub cause: Cause,
+}
+
+/// Serves the links of a door under a manager, and closes it.
+fn attend_under<R: Threads + Wait + Sync, G: Gates + Send + Drop, D: Door + Send>(
+    rt: &R,
+    alloc: Global,
+    manager: Manager,
+    passes: List<Pass<Entry, Frame>>,
+    door: D,
+    gates: List<G>,
+    sessions: u32,
+    workers: u32,
+) -> Attended<D, D::Link, G>
+where
+    D::Link: Send,
+    requires count { manager.turn.passes ≡ 16 }
+    requires new { (f : TheFrame) × (passes ≡ new_passes manager.turn.lock f 16) }
+    requires gates { length gates ≡ 16 }
+    requires sessions { (0 < sessions) × (sessions ≤ 4096) }
+    requires workers { (0 < workers) × (workers ≤ 16) }
+    ensures gates { length result.gates ≡ 16 }
+    ensures runs { (f : TheFrame) → passes ≡ new_passes manager.turn.lock f 16 →
+        let view = link_view D.Link.left D.Link.given D.Link.written D.Link.Source.faults
+        D.Link.Sink.faults in
+        RunsSessions G.log G.faults view f manager.shelf workers gates result.gates
+        result.book.entries (map (back_view view) result.links) (status_of result.cause) }
+    ensures links { (D.counts result.door).links ≡ (D.counts door).links + length result.links }
+    ensures few { length result.links ≤ sessions }
+    ensures done { result.cause ≡ Cause.Done → (length result.links ≡ sessions)
+        ⊎ Rose (D.counts door).closings (D.counts result.door).closings }
+    ensures fault { result.cause ≡ Cause.DoorFault →
+        Rose (D.counts door).faults (D.counts result.door).faults }
+    ensures sound { result.cause ≡ Cause.Done →
+        (D.counts result.door).faults ≡ (D.counts door).faults }
+{
+    let Served {
+        passes,
+        gates,
+        door,
+        links,
+        cause,
+    } = serve_sessions(rt, alloc, &manager, passes, gates, door, sessions, workers);
+    let book = manager.close(passes);
+    Attended {
+        book,
+        gates,
+        door,
+        links,
+        cause,
+    }
+}
+
+/// Serves the links that come at a door, over this realm, with these gates.
+pub fn attend<R: Threads + Wait + Sync, G: Gates + Send + Drop, D: Door + Send>(
+    rt: &R,
+    alloc: Global,
+    service: Service,
+    door: D,
+    gates: List<G>,
+) -> Attended<D, D::Link, G>
+where
+    D::Link: Send,
+    requires empty { service.realm.entries ≡ [] }
+    requires gates { length gates ≡ 16 }
+    requires sessions { (0 < service.sessions) × (service.sessions ≤ 4096) }
+    requires workers { (0 < service.workers) × (service.workers ≤ 16) }
+    ensures gates { length result.gates ≡ 16 }
+    ensures runs { let shelf : Shelf = record { repo = Some service.folder; blocks = [] } in
+        let view = link_view D.Link.left D.Link.given D.Link.written D.Link.Source.faults
+        D.Link.Sink.faults in
+        RunsSessions G.log G.faults view service.realm.frame shelf service.workers gates
+        result.gates result.book.entries (map (back_view view) result.links)
+        (status_of result.cause) }
+    ensures links { (D.counts result.door).links ≡ (D.counts door).links + length result.links }
+    ensures few { length result.links ≤ service.sessions }
+    ensures done { result.cause ≡ Cause.Done → (length result.links ≡ service.sessions)
+        ⊎ Rose (D.counts door).closings (D.counts result.door).closings }
+    ensures fault { result.cause ≡ Cause.DoorFault →
+        Rose (D.counts door).faults (D.counts result.door).faults }
+    ensures sound { result.cause ≡ Cause.Done →
+        (D.counts result.door).faults ≡ (D.counts door).faults }
+{
+    let Service {
+        realm,
+        folder,
+        sessions,
+        workers,
+    } = service;
+    match Manager::new(alloc, realm, Repository::new(alloc), Some(folder), 16) {
+        Ok((manager, passes)) => attend_under(
+            rt, alloc, manager, passes, door, gates, sessions, workers,
+        ),
+        Err(realm) => Attended {
+            book: realm.into_book(),
+            gates,
+            door,
+            links: List::new(alloc),
+            cause: Cause::Memory,
+        },
+    }
+}
