@@ -11,8 +11,9 @@ isn't compared.
 
 Commands are run by sh, one after another, in a copy of the repository's top whose entries are links, so that
 a file that an example writes at the top comes to stand there. With --program, ./component_manager is the
-program at PATH, except for the words for help, which the script at the top answers. --seconds is how
-long one command may take.
+program at PATH, except for the words for help, which the script at the top answers. `rt try -- WORDS`, by
+which a document runs the program before it is proved, runs the same one. --seconds is how long one command
+may take.
 
 Each difference is printed with its file and line. The status is 0 where all examples print what is said, 1
 where one doesn't or there is none, and 2 for words that are none of these or a file that can't be read.
@@ -29,6 +30,18 @@ import tempfile
 TOP = os.path.dirname(os.path.dirname(os.path.abspath(__file__)))
 FENCE = re.compile(r" {0,3}(`{3,}|~{3,})\s*(\S*)")
 STATUS = re.compile(r"# status (\d+)\s*")
+# The folder of the scripts that an example's path begins with.
+SCRIPTS = ".scripts"
+# What stands for rt: a try runs the program, and all else is refused.
+RT = """\
+#!/bin/sh
+if [ "$1 $2" != "try --" ]; then
+    echo "rt: an example has 'rt try -- WORDS' alone" >&2
+    exit 2
+fi
+shift 2
+exec {program} "$@"
+"""
 
 
 class Example:
@@ -98,27 +111,39 @@ def wrapper(program):
     return f'#!/bin/sh\ncase "$1" in help | --help | -h) exec {own} "$@" ;; esac\nexec {given} "$@"\n'
 
 
+def write_script(path, text):
+    with open(path, "w", encoding="utf-8") as it:
+        it.write(text)
+    os.chmod(path, 0o755)
+
+
 def make_copy(folder, program):
-    """Fills a folder with links to what stands at the repository's top, but for the program."""
+    """Fills a folder with links to what stands at the repository's top, but for the program, and with a
+    folder of scripts that go before those of the path.
+    """
     for name in os.listdir(TOP):
         if name != "component_manager":
             os.symlink(os.path.join(TOP, name), os.path.join(folder, name))
-    script = os.path.join(folder, "component_manager")
-    with open(script, "w", encoding="utf-8") as it:
-        it.write(wrapper(program))
-    os.chmod(script, 0o755)
+    write_script(os.path.join(folder, "component_manager"), wrapper(program))
+    os.mkdir(os.path.join(folder, SCRIPTS))
+    program = shlex.quote(os.path.join(folder, "component_manager"))
+    write_script(os.path.join(folder, SCRIPTS, "rt"), RT.format(program=program))
 
 
 def run(command, folder, seconds):
     """What a command prints, and its exit status; None as the status where it took too long."""
     # The tools take the program that this variable names.
     given = {**os.environ, "COMPONENT_MANAGER": os.path.join(folder, "component_manager")}
-    how = {"stdin": subprocess.DEVNULL, "stdout": subprocess.PIPE, "timeout": seconds, "check": False}
-    try:
-        done = subprocess.run(["sh", "-c", command], cwd=folder, env=given, **how)
-    except subprocess.TimeoutExpired as late:
-        return (late.stdout or b"").decode("utf-8", "replace"), None
-    return done.stdout.decode("utf-8", "replace"), done.returncode
+    given["PATH"] = os.path.join(folder, SCRIPTS) + os.pathsep + given.get("PATH", "")
+    # A file and no pipe, since a command may leave a program behind that holds its output open.
+    with tempfile.TemporaryFile() as out:
+        how = {"stdin": subprocess.DEVNULL, "stdout": out, "timeout": seconds, "check": False}
+        try:
+            status = subprocess.run(["sh", "-c", command], cwd=folder, env=given, **how).returncode
+        except subprocess.TimeoutExpired:
+            status = None
+        out.seek(0)
+        return out.read().decode("utf-8", "replace"), status
 
 
 def differs(example, folder, seconds):

@@ -241,6 +241,18 @@ def outdated(text):
     return [] if is_same else ["docs/component_manager.1 is old: run tools/make-man"]
 
 
+def unanswered():
+    """Words that the script at the top keeps from the program, or doesn't tell on its page."""
+    script = read("component_manager")
+    handed = re.search(r"^([a-z |]+)\) ;;$", script, re.M)[1].split(" | ")
+    page = script.partition("<<'END'\n")[2].partition("\nEND\n")[0]
+    words = sorted(words_and_options())
+    kept = [it for it in words if it[0] != "-" and it not in handed]
+    wrong = [f"component_manager doesn't hand on `{it}`" for it in kept]
+    wrong += [f"component_manager hands on `{it}`, which is no word" for it in handed if it not in words]
+    return wrong + [f"component_manager's page lacks `{it}`" for it in words if not stands_in(it, page)]
+
+
 def unshown():
     """Words that the completion or the syntax for Vim lacks."""
     syntax, completion = read("tools/editor/component-script.vim"), read("tools/completion.bash")
@@ -277,7 +289,7 @@ def faults(text):
     wrong += missing("the reply's word", replies(), code)
     wrong += missing("the manifest's word", manifest_words(), code)
     wrong += missing("the line", error_lines(), code)
-    wrong += other_commands(text) + other_limits(text) + other_statuses(text) + unshown()
+    wrong += other_commands(text) + other_limits(text) + other_statuses(text) + unshown() + unanswered()
     return wrong + unlinked(text) + too_wide(text) + outdated(text)
 
 

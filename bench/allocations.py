@@ -1,20 +1,23 @@
 #!/usr/bin/env python3
-"""Runs each of three scripts again and again. In each run one request for memory is refused: the first,
-the second, and so on, until a run makes no such request.
+"""Makes each of some runs again and again: three short scripts, the day of the product in examples/product, a
+workload that is generated, and a session over a Unix socket. In each run one request for memory is refused:
+the first, the second, and so on, until a run makes no such request.
 
 A run must end with status 0 and the whole text, or with status 6, `want of memory` on the error
 stream, and a front of the text or another text, in which lines may be answered `refused
 want-of-memory`. Where a journal was written, each action that was begun must have its end in it. Where
 a stop was cut, the destroy behind it must have removed what was to go with it.
 Prints how many runs had each status, and each run that broke a rule. Needs a C compiler. Run it
-from anywhere: bench/allocations.py [PROGRAM]
+from anywhere: bench/allocations.py [PROGRAM [RUN..]]
 """
 import collections
 import os
 import re
+import socket
 import subprocess
 import sys
 import tempfile
+import time
 
 HERE = os.path.dirname(os.path.abspath(__file__))
 PROGRAM = sys.argv[1] if len(sys.argv) > 1 else os.path.join(HERE, "..", "component_manager")
@@ -85,18 +88,87 @@ SCRIPTS = {
 }
 
 
-def run(shim, script, number):
+ROOT = "fuchsia-pkg://fuchsia.com/product#meta/product.cm"
+PRODUCT = os.path.join(HERE, "..", "examples", "product")
+# The lines of a session over the product.
+SESSION = (
+    "resolve .\nstart session\nopen session /data\nfoo\n"
+    "route netstack /svc/fuchsia.net.name.Lookup\nquit\n"
+)
+
+
+class Script:
+    """A run over an input."""
+
+    def __init__(self, words, text):
+        self.words, self.text = words, text
+        self.lanes = 2 if "\n1 " in text or words[0] == "generate" else 1
+
+    def come(self, environment, told):
+        """The status and both outputs of a run; `told` is a descriptor that it gets."""
+        done = subprocess.run(
+            [PROGRAM, *self.words],
+            input=self.text.encode(), capture_output=True, env=environment, pass_fds=[told],
+        )
+        return done.returncode, done.stdout.decode(), done.stderr.decode()
+
+
+class Session:
+    """A run that serves one client."""
+
+    lanes = 1
+
+    def come(self, environment, told):
+        """The status, what was sent to the client, and what stands on the error stream."""
+        with tempfile.TemporaryDirectory() as folder:
+            path = os.path.join(folder, "s")
+            words = ["serve", path, "--root", ROOT, "--repo", os.path.join(PRODUCT, "packages")]
+            with subprocess.Popen(
+                [PROGRAM, *words], stdin=subprocess.DEVNULL, stderr=subprocess.PIPE,
+                env=environment, pass_fds=[told],
+            ) as process:
+                sent = session_at(path, process)
+                err = process.communicate()[1]
+        return process.returncode, sent.decode(), err.decode()
+
+
+def session_at(path, process):
+    """All that a server sends to one client, or nothing where it ends before."""
+    while process.poll() is None:
+        with socket.socket(socket.AF_UNIX, socket.SOCK_STREAM) as link:
+            try:
+                link.connect(path)
+                link.sendall(SESSION.encode())
+                return b"".join(iter(lambda: link.recv(65536), b""))
+            except (FileNotFoundError, ConnectionRefusedError):
+                time.sleep(0.001)
+            except (BrokenPipeError, ConnectionResetError):
+                return b""
+    return b""
+
+
+def runs():
+    """All runs, by their names."""
+    with open(os.path.join(PRODUCT, "product.txt"), encoding="utf-8") as file:
+        product = file.read()
+    folder = os.path.join(PRODUCT, "packages")
+    scripts = {name: Script(["run", "--journal"], REALM + lines) for name, lines in SCRIPTS.items()}
+    return scripts | {
+        "the product": Script(["run", "--journal", "--repo", folder], product),
+        "a workload": Script(["generate", "1", "5"], ""),
+        "a session": Session(),
+    }
+
+
+def run(shim, made, number):
     """One run whose request of that number is refused: whether it was, and the status and both outputs."""
     told, tell = os.pipe()
     environment = dict(os.environ, LD_PRELOAD=shim, REFUSED=str(number), TELL=str(tell))
-    done = subprocess.run(
-        [PROGRAM, "run", "--journal"],
-        input=script.encode(), capture_output=True, env=environment, pass_fds=[tell],
-    )
+    status, out, err = made.come(environment, tell)
     os.close(tell)
     was = os.read(told, 1) == b"x"
     os.close(told)
-    return was, done.returncode, done.stdout.decode(), done.stderr.decode()
+    return was, status, out, err
 
 
 def open_actions(text):
@@ -121,6 +193,8 @@ def broken(status, out, err, whole, lanes):
         return "error stream %r" % err
     if status == 0 and lanes == 1 and out != whole:
         return "another text"
+    if status == 6 and lanes == 1 and not front_or_wanting(out, whole):
+        return "neither a front nor a line that was answered so"
     if "\njournal" in out and open_actions(out):
         return "open actions %s" % ", ".join(open_actions(out))
     if "coll:x" in whole and leaves_child(out):
@@ -128,33 +202,42 @@ def broken(status, out, err, whole, lanes):
     return None
 
 
+def front_or_wanting(out, whole):
+    """Whether a text is a front of the whole one, or has a line that was answered so."""
+    return whole.startswith(out) or "refused want-of-memory" in out
+
+
+def try_all(shim, name, made):
+    """Makes a run with each request refused in turn, and says how many of them broke a rule."""
+    _, status, whole, err = run(shim, made, 0)
+    if status != 0:
+        sys.exit("%s: without a refused request: status %d, %s" % (name, status, err))
+    failures, counts, number = 0, collections.Counter(), 0
+    while True:
+        number += 1
+        was, status, out, err = run(shim, made, number)
+        if not was:
+            break
+        counts[status] += 1
+        rule = broken(status, out, err, whole, made.lanes)
+        if rule:
+            failures += 1
+            print("%s, request %d: %s" % (name, number, rule))
+    print("%s: %d runs, by status %s" % (name, number - 1, dict(counts)), flush=True)
+    if number == 1:
+        sys.exit("%s: no request was refused" % name)
+    return failures
+
+
 def main():
+    wanted = sys.argv[2:] or list(runs())
     with tempfile.TemporaryDirectory() as folder:
         source, shim = os.path.join(folder, "refuse.c"), os.path.join(folder, "refuse.so")
         with open(source, "w") as file:
             file.write(REFUSE)
         subprocess.run(["cc", "-shared", "-fPIC", "-O1", "-o", shim, source], check=True)
-        failures = 0
-        for name, lines in SCRIPTS.items():
-            script, lanes = REALM + lines, 2 if "\n1 " in lines else 1
-            _, status, whole, err = run(shim, script, 0)
-            if status != 0:
-                sys.exit("%s: without a refused request: status %d, %s" % (name, status, err))
-            counts, number = collections.Counter(), 0
-            while True:
-                number += 1
-                was, status, out, err = run(shim, script, number)
-                if not was:
-                    break
-                counts[status] += 1
-                rule = broken(status, out, err, whole, lanes)
-                if rule:
-                    failures += 1
-                    print("%s, request %d: %s" % (name, number, rule))
-            print("%s: %d runs, by status %s" % (name, number - 1, dict(counts)))
-            if number == 1:
-                sys.exit("%s: no request was refused" % name)
-        return 1 if failures else 0
+        failures = sum(try_all(shim, name, runs()[name]) for name in wanted)
+    return 1 if failures else 0
 
 
 if __name__ == "__main__":

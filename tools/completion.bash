@@ -4,11 +4,16 @@ _component_manager() {
     local word=${COMP_WORDS[COMP_CWORD]} before=${COMP_WORDS[COMP_CWORD - 1]}
     COMPREPLY=()
     if [ "$COMP_CWORD" -eq 1 ]; then
-        mapfile -t COMPREPLY < <(compgen -W "run check generate help --help" -- "$word")
+        mapfile -t COMPREPLY < <(compgen -W "run check generate serve help --help" -- "$word")
     elif [ "$before" = --repo ]; then
         mapfile -t COMPREPLY < <(compgen -d -- "$word")
     elif [ "${COMP_WORDS[1]}" = generate ]; then
         return
+    elif [ "${COMP_WORDS[1]}" = serve ] && [ "$COMP_CWORD" -gt 2 ]; then
+        case $before in
+            --root | --sessions | --workers) ;;
+            *) mapfile -t COMPREPLY < <(compgen -W "--root --repo --sessions --workers" -- "$word") ;;
+        esac
     elif [ "${COMP_WORDS[1]}" = run ] && [[ $before != '<' ]]; then
         mapfile -t COMPREPLY < <(compgen -W "--journal --repo" -- "$word")
     else
@@ -49,7 +54,23 @@ _component_check_all() {
     fi
 }
 
+_component_commands="resolve start stop shutdown create destroy list open open-exposed route doctor show"
+_component_commands+=" survey exited quit"
+
+# The socket, behind how long to wait for it if that is said, and then words of commands.
+_component_session() {
+    local word=${COMP_WORDS[COMP_CWORD]} before=${COMP_WORDS[COMP_CWORD - 1]} socket=1
+    COMPREPLY=()
+    [ "${COMP_WORDS[1]}" != --wait ] || socket=3
+    if [ "$COMP_CWORD" -eq "$socket" ] || [ "$COMP_CWORD" -eq 1 ]; then
+        _component_tool "--wait --help"
+    elif [ "$before" != --wait ]; then
+        mapfile -t COMPREPLY < <(compgen -W "$_component_commands" -- "$word")
+    fi
+}
+
 complete -o filenames -F _component_manager component_manager ./component_manager
 complete -o filenames -F _component_realm tools/realm ./tools/realm
 complete -o filenames -F _component_explain tools/explain ./tools/explain
+complete -o filenames -F _component_session tools/session ./tools/session
 complete -o filenames -F _component_check_all tools/check-all ./tools/check-all

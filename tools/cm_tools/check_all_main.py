@@ -2,17 +2,19 @@
 
 from __future__ import annotations
 
-import argparse
 import os
+import re
 import subprocess
 from pathlib import Path
 
-from cm_tools.console import Unusable
+from cm_tools.console import Unusable, Words
 
 BESIDE = Path(__file__).resolve().parent.parent.parent / "component_manager"
 VARIABLE = "COMPONENT_MANAGER"
 # A manifest as its author writes it, and one as a folder of packages holds it.
 SUFFIXES = (".cml", ".cm")
+# What the program says of a manifest, by its status.
+VERDICTS = {0: re.compile("valid"), 1: re.compile("invalid .*")}
 
 
 def main(words: list[str]) -> int:
@@ -22,6 +24,9 @@ def main(words: list[str]) -> int:
     if not os.access(program, os.X_OK) or program.is_dir():
         raise Unusable(f"{program} is no program that can be run; name it with --program")
     manifests = _manifests(Path(options.folder))
+    if program == BESIDE:
+        # It builds itself first where it has to, and says how far it is.
+        subprocess.run([program, "check"], stdin=subprocess.DEVNULL, stdout=subprocess.DEVNULL)
     faulty = 0
     for manifest in manifests:
         verdict, is_valid = _check(program, manifest)
@@ -30,8 +35,8 @@ def main(words: list[str]) -> int:
     return 1 if faulty else 0
 
 
-def _parser() -> argparse.ArgumentParser:
-    parser = argparse.ArgumentParser(
+def _parser() -> Words:
+    parser = Words(
         prog="check-all", description="Checks each manifest (*.cml, *.cm) below a folder, a line for each."
     )
     parser.add_argument("folder", metavar="DIR")
@@ -58,7 +63,10 @@ def _check(program: Path, manifest: Path) -> tuple[str, bool]:
             ran = subprocess.run([program.absolute(), "check"], stdin=source, capture_output=True)
     except OSError as fault:
         raise Unusable(f"{fault.filename or program}: {fault.strerror}") from None
+    verdict = ran.stdout.decode("utf-8", "replace").strip()
     if ran.returncode not in (0, 1):
         told = ran.stderr.decode("utf-8", "replace").strip().split("\n")[-1]
         raise Unusable(f"{program} ended with status {ran.returncode} on {manifest}: {told}")
-    return ran.stdout.decode("utf-8", "replace").strip(), ran.returncode == 0
+    if not VERDICTS[ran.returncode].fullmatch(verdict):
+        raise Unusable(f"{program} gave no verdict on {manifest}: {ascii(verdict[:60])}")
+    return verdict, ran.returncode == 0

@@ -2,16 +2,25 @@
 
 from __future__ import annotations
 
+import argparse
 import gc
 import os
 import sys
-from typing import Callable
+from typing import Callable, NoReturn
 
 UNUSABLE_STATUS = 2
 
 
 class Unusable(Exception):
     """The input can't be used; the text says why, in one line."""
+
+
+class Words(argparse.ArgumentParser):
+    """The parser of a tool's words, which refuses them as anything else that can't be used."""
+
+    def error(self, message: str) -> NoReturn:
+        """Says what is wrong with the words, in one line."""
+        raise Unusable(f"{message.replace(chr(10), ' ')} (--help tells the words)")
 
 
 def run_tool(name: str, main: Callable[[list[str]], int]) -> int:

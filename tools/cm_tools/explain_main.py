@@ -2,10 +2,10 @@
 
 from __future__ import annotations
 
-import argparse
+import os
 import sys
 
-from cm_tools.console import Unusable, read_bytes, write_text
+from cm_tools.console import Unusable, Words, read_bytes, write_text
 from cm_tools.explaining import (
     advice, command_of, explain_manifest, explain_refusal, explain_script, heading,
 )
@@ -26,14 +26,16 @@ def main(words: list[str]) -> int:
         return 0
     if options.file is None:
         raise Unusable("name the manifest or the script that the program was given")
+    if options.repo is not None and not os.path.isdir(options.repo):
+        raise Unusable(f"{options.repo} is no folder")
     said = _said_lines(options.said)
     data = read_bytes(options.file)
     write_text(None, _explained(options.file, data, said, options.repo) + "\n")
     return 0
 
 
-def _parser() -> argparse.ArgumentParser:
-    parser = argparse.ArgumentParser(
+def _parser() -> Words:
+    parser = Words(
         prog="explain",
         description="Explains what component_manager said of a manifest or a script.",
         epilog="Pipe both streams of the program into it: component_manager run < FILE 2>&1 |"
@@ -118,7 +120,8 @@ def _explain_run(script: Script, said: list[str], repo: str | None) -> list[list
         elif isinstance(fault, ScriptFault):
             parts.append(explain_script(script, fault))
         elif isinstance(fault, ManifestFault):
-            raise Unusable(f"{script.label} is a script; give the manifest that was checked")
+            told = f"{script.label} is a script, which `run` takes"
+            raise Unusable(f"{told}; give the manifest that was checked")
     if not parts and are_whole:
         parts.append([f"{script.label}: nothing was refused"])
     return parts

@@ -8,12 +8,18 @@ from cm_tools.numbers import NUMBERS, advice_words
 from cm_tools.pointing import Document
 from cm_tools.relaxed import SpellingFault, read_relaxed
 from cm_tools.said import ManifestFault, Refusal, ScriptFault
-from cm_tools.scripts import Command, Script, Sketch
+from cm_tools.scripts import Command, Script, Sketch, looks_like_script
 from cm_tools.tracing import Stop, trace, trace_exposed
 
 SPELLING = 31
 BYTES_LIMITS = frozenset({30, 41})
 LINE_SHOWN = 60
+# What stands behind a front of a line, and what it says.
+UNSEEN = {
+    "\r": "A carriage return stands there: save the file with line feeds alone.",
+    " ": "A space stands there: words are parted by exactly one, and a line has none at its end.",
+    "\t": "A tab stands there: words are parted by exactly one space.",
+}
 WEAK_FIELDS = {"rights-too-weak": "rights", "availability-too-weak": "availability"}
 
 # Which commands a refusal can come of, where it isn't all of them.
@@ -54,6 +60,8 @@ def advice(number: int, words: str = "") -> list[str]:
 
 def explain_manifest(document: Document, fault: ManifestFault) -> list[str]:
     """The lines that explain a manifest's fault."""
+    if fault.number not in NUMBERS:
+        raise Unusable(f"no fault of a manifest has the number {fault.number}")
     try:
         root = read_relaxed(document.text)
     except SpellingFault as spelling:
@@ -89,6 +97,8 @@ def _explain_spelling(document: Document, fault: ManifestFault, spelling: Spelli
 
 def explain_script(script: Script, fault: ScriptFault) -> list[str]:
     """The lines that explain a script's fault."""
+    if not looks_like_script(script.text) and _is_manifest(script.text):
+        raise Unusable(f"{script.label} is a manifest, which `check` takes; `run` takes a script")
     # Behind the last line feed stands no line.
     count = len(script.lines) - (not script.lines[-1])
     if fault.line > count + 1:
@@ -99,10 +109,23 @@ def explain_script(script: Script, fault: ScriptFault) -> list[str]:
             f"{fault.line:>5} | (the end of the script)",
         ] + advice(fault.number)
     text = script.lines[fault.line - 1]
+    length = len(text.encode("utf-8", "surrogateescape"))
+    if fault.at > length:
+        told = f"line {fault.line} of {script.label} has {length} bytes"
+        raise Unusable(f"{told}; is it the script that was run?")
     document = Document(script.label, text, fault.line)
     start, end = _script_stretch(text, fault)
     lines = [heading(fault.number, document.position(start)), document.pointed(start, end)]
-    return lines + _beside(script, text, fault) + advice(fault.number)
+    beside = _stopped_at(text, start) if fault.number == 70 and fault.at else _earlier(script, text, fault)
+    return lines + beside + advice(fault.number)
+
+
+def _is_manifest(text: str) -> bool:
+    """Whether the text is an object in the spelling of manifests."""
+    try:
+        return read_relaxed(text).kind == "object"
+    except SpellingFault:
+        return False
 
 
 def _script_stretch(text: str, fault: ScriptFault) -> tuple[int, int]:
@@ -116,9 +139,16 @@ def _script_stretch(text: str, fault: ScriptFault) -> tuple[int, int]:
     return 0, len(text.split(" ")[0]) or 1
 
 
-def _beside(script: Script, text: str, fault: ScriptFault) -> list[str]:
-    if fault.number == 70 and fault.at:
-        return [f"So far it could go on: {text[: fault.at][-LINE_SHOWN:]!r}"]
+def _stopped_at(text: str, place: int) -> list[str]:
+    """How far the line could go on, and what stands there where that can't be seen."""
+    there = text[place : place + 1]
+    told = [f"So far it could go on: {text[:place][-LINE_SHOWN:]!r}"]
+    if not there:
+        return told + ["The line ends there, and more is needed."]
+    return told + ([UNSEEN[there]] if there in UNSEEN else [])
+
+
+def _earlier(script: Script, text: str, fault: ScriptFault) -> list[str]:
     if fault.number == 78:
         earlier = script.lines.index(text) + 1
         return [f"The earlier one stands at line {earlier}."] if earlier != fault.line else []

@@ -25,7 +25,7 @@ def dot_text(world: World) -> str:
     """The graph for Graphviz: a box for each instance, dashed arrows from clients to providers."""
     lines = [
         "digraph realm {",
-        "  rankdir=LR;",
+        "  rankdir=LR; nodesep=0.5; ranksep=1.5;",
         '  node [shape=box, style="rounded,filled", fontname="sans-serif", fontsize=11];',
         '  edge [color="#71717a", fontname="sans-serif", fontsize=9];',
     ]

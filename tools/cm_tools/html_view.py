@@ -39,7 +39,7 @@ def page_data(journal: Journal, world: World) -> dict[str, Any]:
         "total": len(journal.entries),
         "callers": journal.callers(),
         "states": STATES,
-        "instances": [_instance(one) for one in world.instances.values()],
+        "instances": [_instance(one, world) for one in world.instances.values()],
         "declarations": {
             one.incarnation: one.declaration for one in world.instances.values() if one.declaration
         },
@@ -56,7 +56,7 @@ def page_data(journal: Journal, world: World) -> dict[str, Any]:
     }
 
 
-def _instance(one: Instance) -> dict[str, Any]:
+def _instance(one: Instance, world: World) -> dict[str, Any]:
     return {
         "incarnation": one.incarnation,
         "moniker": one.moniker,
@@ -67,6 +67,7 @@ def _instance(one: Instance) -> dict[str, Any]:
         "absolute": one.absolute,
         "runner": one.declared().get("program", {}).get("runner", ""),
         "collection": one.collection,
+        "once": world.runs_once(one),
         "eager": one.eager,
         "failure": one.failure,
         "born": one.born,

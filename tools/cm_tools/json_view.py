@@ -25,7 +25,7 @@ def json_text(journal: Journal, world: World) -> str:
     }
     lists = {
         "builtins": [_builtin_value(one) for one in journal.builtins],
-        "instances": [instance_value(one) for one in world.instances.values()],
+        "instances": [instance_value(one, world) for one in world.instances.values()],
         "actions": [_action_value(action) for action in world.actions.values()],
         "routes": [route_value(note, world) for note in world.routes.values()],
         "timeline": [_entry_value(entry, world) for entry in entries],
@@ -58,7 +58,7 @@ def _entry_value(entry: Entry, world: World) -> dict[str, Any]:
     }
 
 
-def instance_value(instance: Instance) -> dict[str, Any]:
+def instance_value(instance: Instance, world: World) -> dict[str, Any]:
     """One instance, with each state that it had and the entry that made it so."""
     return {
         "incarnation": instance.incarnation,
@@ -71,6 +71,7 @@ def instance_value(instance: Instance) -> dict[str, Any]:
         "closing": instance.is_closing,
         "eager": instance.eager,
         "collection": instance.collection or None,
+        "runs_once": world.runs_once(instance),
         "failure": instance.failure or None,
         "born": instance.born,
         "changes": [{"entry": entry, "state": state} for entry, state in instance.changes],

@@ -112,8 +112,8 @@ NUMBERS: dict[int, Number] = _table(
     ),
     Number(
         31, "not-json", "check",
-        "the manifest isn't JSON, in the relaxed spelling with comments, bare keys, single quotes"
-        " and trailing commas, or nests deeper than 127",
+        "the manifest isn't JSON, in the spelling that allows comments, keys without quotes, single"
+        " quotes and a comma behind the last item, or nests deeper than 127",
         "Mend the spelling at the place that is shown.",
     ),
     Number(
@@ -188,21 +188,21 @@ NUMBERS: dict[int, Number] = _table(
     ),
     Number(
         50, "repeated-name", "check",
-        "an earlier child or collection has the child's or collection's name, or an earlier "
-        "capability that of a capability",
+        "the name of a child or a collection is that of an earlier one of either, or a capability has "
+        "the name of an earlier capability",
         "Rename one of the two. Children and collections share their names, and so do protocols "
         "and directories.",
     ),
     Number(
-        51, "unknown-reference", "check",
+        51, "unknown-ref", "check",
         "`from` names a child that isn't declared, or `to` names neither a child nor a collection",
         "Declare it in `children` or `collections`, or mend the name behind `#`. A source that needn't be "
         'there has `source_availability: "unknown"`.',
     ),
     Number(
         52, "not-declared", "check",
-        "the source is `self` and no capability has that kind and name, or a directory is from "
-        "`framework`",
+        "something comes from `self` and isn't among the capabilities, by kind and name, or a directory "
+        "is from `framework`",
         "Declare it in `capabilities`, with the same kind and name, or take it from elsewhere.",
     ),
     Number(
@@ -421,7 +421,7 @@ NUMBERS: dict[int, Number] = _table(
         "Rename one of the two. The index counts the storage capabilities alone.",
     ),
     Number(
-        96, "unknown-storage-reference", "planned",
+        96, "unknown-storage-ref", "planned",
         "the child that backs a storage, or the target of a storage offer, isn't declared",
         "Declare it, or mend the name behind `#`. The index counts the storage rows alone.",
     ),

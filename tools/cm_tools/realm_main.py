@@ -2,9 +2,7 @@
 
 from __future__ import annotations
 
-import argparse
-
-from cm_tools.console import Unusable, read_bytes, write_text
+from cm_tools.console import Unusable, Words, read_bytes, write_text
 from cm_tools.entries import Journal
 from cm_tools.graph_views import dot_text, mermaid_text
 from cm_tools.html_view import html_text
@@ -36,8 +34,8 @@ def main(words: list[str]) -> int:
     return 0
 
 
-def _parser() -> argparse.ArgumentParser:
-    parser = argparse.ArgumentParser(
+def _parser() -> Words:
+    parser = Words(
         prog="realm",
         description="Shows the realm that a journal leaves: what `component_manager run --journal`"
         " prints, from a file or the standard input.",
@@ -53,7 +51,11 @@ def _parser() -> argparse.ArgumentParser:
 
 
 def _require_whole(journal: Journal, world: World) -> None:
-    """A run ends every action that it begins, so an action without an end says that lines are lost."""
+    """Refuses a journal of which lines are lost, as far as it shows that: a run that answered something
+    has entries, and ends every action that it begins.
+    """
+    if journal.replies and not journal.entries:
+        raise Unusable("the journal is cut behind its root line (--partial reads it all the same)")
     left = world.pending()
     if left:
         numbers = ", ".join(str(action.number) for action in left[:5])

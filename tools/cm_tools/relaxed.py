@@ -1,7 +1,7 @@
 """Manifests in the relaxed spelling, read into values that know their places.
 
-It reads JSON with comments, bare keys, single quotes and trailing commas, as the program does, and says
-where a text can't be read.
+It reads what the program reads: JSON in which comments may stand, keys need no quotes, strings may have
+single ones, and lists may end in a comma. It says where a text can't be read.
 """
 
 from __future__ import annotations

@@ -1,8 +1,7 @@
 """Which item of a manifest a row's index means.
 
 Numbers below 50 count the items of a section as they are written. From 50 on they count rows: an item
-with several names or targets makes several rows, in `offer` for the first name all targets, then for
-the next.
+makes one for each of its names, and an offer one for each target of each name, name by name.
 """
 
 from __future__ import annotations

@@ -24,9 +24,10 @@ class Command:
 
 @dataclass(slots=True)
 class Script:
-    """A script: its lines, the manifests by their URL as written, the root's URL and the commands."""
+    """A script: its text and lines, the manifests by their URL as written, the root's URL, the commands."""
 
     label: str
+    text: str
     lines: list[str]
     manifests: dict[str, Document] = field(default_factory=dict)
     root: str = ""
@@ -44,7 +45,7 @@ def looks_like_script(text: str) -> bool:
 
 def read_script(label: str, text: str) -> Script:
     """The script, leniently: lines that aren't understood are read over."""
-    script = Script(label, text.split("\n"))
+    script = Script(label, text, text.split("\n"))
     index = 0
     while index < len(script.lines):
         line = script.lines[index]

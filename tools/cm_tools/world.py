@@ -67,6 +67,11 @@ class World:
         found = self.instances.get(-1 if incarnation is None else incarnation)
         return found.moniker if found else f"@{incarnation}"
 
+    def runs_once(self, instance: Instance) -> bool:
+        """Whether it is in a collection that runs each child once."""
+        parent = self.instances.get(-1 if instance.parent is None else instance.parent)
+        return parent is not None and instance.collection in parent.once
+
     def _note_state(self, instance: Instance, number: int) -> None:
         state = instance.state
         if instance.changes[-1][1] != state:
@@ -188,9 +193,7 @@ class World:
         """
         if self._is_closed(instance):
             return []
-        parent = self.instances.get(-1 if instance.parent is None else instance.parent)
-        runs_once = parent is not None and instance.collection in parent.once
-        gone = [instance.incarnation] if runs_once else list(instance.passing)
+        gone = [instance.incarnation] if self.runs_once(instance) else list(instance.passing)
         for incarnation in gone:
             self._doom(self.instances[incarnation])
         if gone:

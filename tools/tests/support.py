@@ -14,13 +14,14 @@ from cm_tools.check_all_main import main as check_all
 from cm_tools.console import run_tool
 from cm_tools.explain_main import main as explain
 from cm_tools.realm_main import main as realm
+from cm_tools.session_main import main as session
 
 TESTS = Path(__file__).resolve().parent
 TOOLS = TESTS.parent
 ROOT = TOOLS.parent
 JOURNALS = TESTS / "journals"
 SECONDS = 100
-MAINS = {"realm": realm, "explain": explain, "check-all": check_all}
+MAINS = {"realm": realm, "explain": explain, "check-all": check_all, "session": session}
 
 
 @dataclass(frozen=True)

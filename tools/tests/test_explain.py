@@ -23,7 +23,7 @@ TABLES = ROOT / "crates" / "cm_reply" / "specs" / "Tables.antt"
 # A manifest below tests/manifests, what the program says of it, the place and the number that are
 # told, and what is pointed at.
 MANIFEST_CASES: list[tuple[str, str, str, str]] = [
-    ("rows.cml", "invalid 51 offer 4", "12:17: 51 unknown-reference", "row 4 of `offer`, which is item 1"),
+    ("rows.cml", "invalid 51 offer 4", "12:17: 51 unknown-ref", "row 4 of `offer`, which is item 1"),
     ("rows.cml", "invalid 53 offer 1", "10:56: 53 target-is-source", "row 1 of `offer`, which is item 0"),
     ("rows.cml", "invalid 54 offer 3 offer 2", "10:27: 54 repeated-target", "against row 2 of `offer`"),
     ("rows.cml", "invalid 55 use 2 use 0", "7:46: 55 repeated-path", "protocol p2"),
@@ -42,8 +42,8 @@ MANIFEST_CASES: list[tuple[str, str, str, str]] = [
     ("items.cml", "invalid 40 expose 0", "14:15: 40 kind-count", "item 0 of `expose`"),
     ("items.cml", "invalid 42 use 3 path", "11:39: 42 not-with-many", "'/svc/x'"),
     ("items.cml", "invalid 43 use 0", "7:5: 43 too-many-rows", "the section `use`"),
-    ("sources.cml", "invalid 51 offer 1", "9:77: 51 unknown-reference", "row 1 of `offer`"),
-    ("sources.cml", "invalid 51 offer 2", "11:32: 51 unknown-reference", "item 3"),
+    ("sources.cml", "invalid 51 offer 1", "9:77: 51 unknown-ref", "row 1 of `offer`"),
+    ("sources.cml", "invalid 51 offer 2", "11:32: 51 unknown-ref", "item 3"),
     ("sources.cml", "invalid 57 expose 0", "18:15: 57 required-void", "protocol p"),
     ("sources.cml", "invalid 50 capabilities 1 capabilities 0", "5:22: 50 repeated-name", "which is item 2"),
     ("cut.cml", "invalid 31 manifest 0", "3:18: 31 not-json", "this string isn't closed"),
@@ -138,6 +138,18 @@ class ExplainTests(unittest.TestCase):
             self.assertIn(told, ran.out)
         self.assertEqual(ran.out.count("Hint: "), 5)
 
+    def test_unseen(self) -> None:
+        """what can't be seen where a script's line can't go on: its end, a carriage return, a space, a tab"""
+        with tempfile.TemporaryDirectory() as folder:
+            path = Path(folder) / "script"
+            for line, place, told in (
+                ("0 show", 6, "The line ends there"), ("0 show .\r", 8, "A carriage return"),
+                ("0 show . ", 8, "A space stands there"), ("0 show\t.", 6, "A tab stands there"),
+            ):
+                path.write_bytes(f"root u\n{line}\n".encode())
+                ran = run("explain", str(path), f"line 2: 70 bad-command at {place}")
+                self.assertIn(told, ran.out, line)
+
     def test_one_refusal(self) -> None:
         """one refusal alone, whose command is told where only one can be meant"""
         one = run("explain", str(PRODUCT), "3 refused 87 no-offer at offer core/session")
@@ -152,8 +164,14 @@ class ExplainTests(unittest.TestCase):
             ((valid, "nonsense"), "nothing that is refused"),
             ((valid, "invalid 51 offer 99"), "is it the file that was checked?"),
             ((valid, "0 refused 85 client-off"), "is a manifest; give the script"),
-            ((str(PRODUCT), "invalid 51 offer 0"), "is a script; give the manifest"),
+            ((str(PRODUCT), "invalid 51 offer 0"), "is a script, which `run` takes"),
+            ((valid, "line 1: 71 bad-lane"), "is a manifest, which `check` takes"),
+            ((valid, "invalid 99 offer 0"), "no fault of a manifest has the number 99"),
             ((str(FAULTY), "line 99: 71 bad-lane"), "has 11 lines"),
+            ((str(FAULTY), "line 7: 70 bad-command at 15"), "line 7 of"),
+            (("--repo", valid, str(PRODUCT), "1 refused 85 client-off"), "is no folder"),
+            (("--number", "x"), "invalid int value"),
+            (("--colour", valid), "unrecognized arguments"),
             (("no-such-file", "invalid 31 manifest 0"), "No such file"),
             ((valid,), "the program said nothing"),
             ((), "name the manifest or the script"),
@@ -214,13 +232,24 @@ class NumberTests(unittest.TestCase):
         for number in (77, 78):
             self.assertIn(f'"{number} {NUMBERS[number].name}"', upper)
 
+    def test_numbers_of_the_reference(self) -> None:
+        """each number of the reference, with the name that it has there"""
+        text = (ROOT / "docs" / "REFERENCE.md").read_text("utf-8")
+        entries = re.findall(r"^- \*\*(\d+)\*\* ([^:\n]*):", text, re.M)
+        self.assertEqual({int(number) for number, _ in entries}, set(NUMBERS))
+        for number, named in entries:
+            words = re.findall(r"`(\w[\w-]*)", named)
+            names = {re.sub(r"(?<=[a-z0-9])(?=[A-Z])", "-", word).lower() for word in words}
+            if "WHY" not in named and "a hop" not in named:
+                self.assertIn(NUMBERS[int(number)].name, names, number)
+
     def test_hints(self) -> None:
         """each number has a name of its own kind, a reason and advice (--number)"""
         for number, known in NUMBERS.items():
             self.assertRegex(known.name, r"^[a-z0-9]+(-[a-z0-9]+)*$")
             self.assertTrue(known.comes and known.hint.endswith("."), number)
         shown = run("explain", "--number", "51").out
-        self.assertTrue(shown.startswith("51 unknown-reference\nIt comes where "))
+        self.assertTrue(shown.startswith("51 unknown-ref\nIt comes where "))
 
     def test_planned(self) -> None:
         """the numbers that aren't printed yet are those that the reference calls planned"""
@@ -252,8 +281,10 @@ class CheckAllTests(unittest.TestCase):
             self.assertEqual((ran.status, ran.err), (1, ""))
             self.assertEqual(ran.out, f"{below.parent}/b.cml: invalid 40 use 0\n{below}/a.cm: valid\n")
             self.assertEqual(run("check-all", str(below), *words[1:]).status, 0)
-            program.write_text("#!/bin/sh\necho broken >&2\nexit 6\n")
-            self.assertEqual(run("check-all", *words).status, 2)
+            for other in ("echo broken >&2; exit 6", "true", "echo hello", "exit 1", "echo valid; exit 1"):
+                program.write_text(f"#!/bin/sh\n{other}\n")
+                ran = run("check-all", *words)
+                self.assertEqual((ran.status, ran.out, ran.err.count("\n")), (2, "", 1), other)
 
     def test_bad_folders(self) -> None:
         """no folder, no manifests, no program: one line, status 2"""
@@ -279,7 +310,7 @@ class EditorTests(unittest.TestCase):
     def test_options_are_known(self) -> None:
         """each option of the tools is completed"""
         completion = (ROOT / "tools" / "completion.bash").read_text("utf-8")
-        for tool in ("realm", "explain", "check-all"):
+        for tool in ("realm", "explain", "check-all", "session"):
             shown = run(tool, "--help").out
             for option in set(re.findall(r"--[a-z]+", shown.partition("options:")[2])):
                 self.assertIn(option, completion)

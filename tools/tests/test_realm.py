@@ -130,6 +130,7 @@ BAD_JOURNALS: list[tuple[bytes, str]] = [
     (HEAD.encode() + b"1 0 dance 0 => found 0\n", "no entry of a journal"),
     (HEAD.encode() + b"1 0 find . => danced\n", "no entry of a journal"),
     (HEAD.encode() + b"2 0 find . => found 0\n", "1 should follow"),
+    (b"0 started . action 2\n" + HEAD.encode(), "cut behind its root line"),
     (HEAD.encode() + b"1 0 begin resolve 0 => begun 1\n", "no end of action 1"),
     (HEAD.encode() + b"1 0 begin resolve 7 => begun 1\n", "incarnation 7, which was never made"),
     (HEAD.encode() + b"1 0 end 3 started => ended started\n", "action 3, which was never begun"),
@@ -194,7 +195,9 @@ class RealmTests(unittest.TestCase):
         for incarnation, number, state in SWEEPS_STATES:
             shown = json.loads(run("realm", "--json", "--at", str(number), SWEEPS).out)
             self.assertEqual(shown["instances"][incarnation]["state"], state, (incarnation, number))
-        timeline = json.loads(run("realm", "--json", SWEEPS).out)["timeline"]
+        shown = json.loads(run("realm", "--json", SWEEPS).out)
+        self.assertEqual([one["runs_once"] for one in shown["instances"]], [False, False, False, True, True])
+        timeline = shown["timeline"]
         self.assertEqual([timeline[number - 1]["instances"] for number in (23, 24, 30, 31)],
                          [[3], [3], [0, 2], [0, 2]])
         self.assertIn("coll:x  doomed      @2     still runs\n", run("realm", "--at", "30", SWEEPS).out)

@@ -107,7 +107,12 @@ class Rows {
 function matches(instance) {
   const query = view.query;
   if (query.startsWith("@")) return "@" + instance.incarnation === query;
-  return instance.moniker.toLowerCase().includes(query);
+  return rooted(instance).includes(query);
+}
+
+// The moniker with a slash in front, as one may also write it.
+function rooted(instance) {
+  return "/" + instance.moniker.toLowerCase();
 }
 
 // The instances that are searched, with all above them; null where nothing is searched.
@@ -151,14 +156,16 @@ function tellFound(kept) {
 
 function named(instance) {
   const shown = element("span", "name");
-  const isSearched = view.query !== "" && !view.query.startsWith("@");
-  const place = isSearched ? instance.name.toLowerCase().indexOf(view.query) : -1;
-  if (place < 0) {
+  // The name stands at the end of the moniker; what is found may begin before it.
+  const before = instance.moniker.length + 1 - instance.name.length;
+  const place = view.query === "" ? -1 : rooted(instance).lastIndexOf(view.query);
+  const end = place < 0 ? 0 : place + view.query.length - before;
+  if (end <= 0) {
     shown.textContent = instance.name;
     return shown;
   }
-  const end = place + view.query.length;
-  shown.append(instance.name.slice(0, place), element("b", "", instance.name.slice(place, end)),
+  const start = Math.max(0, place - before);
+  shown.append(instance.name.slice(0, start), element("b", "", instance.name.slice(start, end)),
     instance.name.slice(end));
   return shown;
 }
@@ -221,7 +228,8 @@ function facts(instance, state) {
   fact(list, "incarnation", String(instance.incarnation));
   fact(list, "URL", element("code", "", instance.absolute || instance.url));
   if (instance.runner) fact(list, "runner", instance.runner);
-  if (instance.collection) fact(list, "collection", instance.collection);
+  const once = instance.once ? ", which runs each child once" : "";
+  if (instance.collection) fact(list, "collection", instance.collection + once);
   if (instance.eager) fact(list, "startup", "eager");
   if (instance.failure) fact(list, "failed", element("span", "bad", instance.failure));
   return list;
@@ -438,6 +446,7 @@ function begin() {
   }
   const chosen = data.instances.filter((one) => one.moniker === wish.get("m")).pop();
   if (chosen) choose(chosen.incarnation, true);
+  if (wish.has("n")) showEntry(view.now);
 }
 
 const tree = new Rows(at("tree"), drawInstance);
@@ -456,7 +465,10 @@ at("unfold").addEventListener("click", () => {
   view.folded.clear();
   drawTree();
 });
-at("slider").addEventListener("input", (event) => moveTo(Number(event.target.value)));
+at("slider").addEventListener("input", (event) => {
+  moveTo(Number(event.target.value));
+  showEntry(view.now);
+});
 at("theme").addEventListener("click", () => {
   setTheme(document.documentElement.dataset.theme === "dark" ? "light" : "dark");
 });

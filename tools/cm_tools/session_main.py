@@ -1,0 +1,141 @@
+"""The command line of `session`: a client of a component manager that serves a Unix socket."""
+
+from __future__ import annotations
+
+import re
+import socket
+import sys
+import threading
+import time
+from typing import Iterable
+
+from cm_tools.console import Unusable, Words
+
+QUIT = b"quit"
+REFUSED = b"refused "
+# What begins each further line of a reply.
+FURTHER = b"  "
+# What each first line of a reply begins with.
+REPLY = re.compile(
+    rb"(?:resolved|started|stopped|shut|created|destroyed|children|opened|route|shown|survey|doctor|exited"
+    rb"|refused) "
+)
+PIECE = 65536
+# Between two tries to connect, in seconds.
+PAUSE = 0.05
+
+
+def main(words: list[str]) -> int:
+    """Has one session; 0 where no command was refused, else 1."""
+    options = _parser().parse_args(words)
+    lines = [_line(command) for command in options.commands]
+    with _connected(options.socket, time.monotonic() + options.wait) as link:
+        sender = Sender(link, lines or sys.stdin.buffer)
+        sender.start()
+        replies = Replies()
+        replies.take_all(link)
+    if not sender.is_through or replies.count < sender.asked:
+        told = f"{replies.count} whole {'reply' if replies.count == 1 else 'replies'}"
+        raise Unusable(f"the session ended early, behind {told}")
+    return 1 if replies.refused else 0
+
+
+def _parser() -> Words:
+    parser = Words(
+        prog="session",
+        description="Sends commands to a component manager that serves SOCKET, and prints the replies. "
+        "Without COMMAND the commands are the lines of the standard input, each sent as it comes.",
+        epilog="The status is 0 where no command was refused, and 1 where one was.",
+    )
+    parser.add_argument("--wait", metavar="SECONDS", type=float, default=0.0,
+                        help="how long to wait for a server that isn't there yet; by default not at all")
+    parser.add_argument("socket", metavar="SOCKET", help="the path that it serves")
+    parser.add_argument("commands", metavar="COMMAND", nargs="*", help="a line each, as 'start .'")
+    return parser
+
+
+def _line(command: str) -> bytes:
+    if "\n" in command:
+        raise Unusable(f"a command is one line, and this one has a line end in it: {ascii(command)}")
+    return f"{command}\n".encode("utf-8", "surrogateescape")
+
+
+def _connected(path: str, until: float) -> socket.socket:
+    """A connection to the server at the path, for which it waits up to that time."""
+    while True:
+        link = socket.socket(socket.AF_UNIX, socket.SOCK_STREAM)
+        try:
+            link.connect(path)
+            return link
+        except (FileNotFoundError, ConnectionRefusedError) as fault:
+            link.close()
+            if not time.monotonic() < until:
+                raise Unusable(f"{path}: no server is there ({fault.strerror})") from None
+        except OSError as fault:
+            link.close()
+            raise Unusable(f"{path}: {fault.strerror or fault}") from None
+        time.sleep(PAUSE)
+
+
+class Sender(threading.Thread):
+    """Sends the lines beside the replies that come, and then tells that no more follow.
+
+    `asked` is how many of the lines so far have a reply to come: all but a `quit`. It `is_through` when no
+    further line is sent.
+    """
+
+    def __init__(self, link: socket.socket, lines: Iterable[bytes]) -> None:
+        super().__init__(daemon=True)
+        self.link = link
+        self.lines = lines
+        self.asked = 0
+        self.is_through = False
+
+    def run(self) -> None:
+        try:
+            for line in self.lines:
+                self.is_through = line.rstrip(b"\n") == QUIT
+                self.asked += not self.is_through
+                self.link.sendall(line)
+                if self.is_through:
+                    break
+            self.is_through = True
+            self.link.shutdown(socket.SHUT_WR)
+        except OSError:
+            # The session has ended. How many replies there were tells whether it was too early.
+            pass
+
+
+class Replies:
+    """What came of a session so far: the number of replies, and whether one is a refusal."""
+
+    def __init__(self) -> None:
+        self.count = 0
+        self.refused = False
+        self._behind = b""
+
+    def take_all(self, link: socket.socket) -> None:
+        """Prints what comes, until the session ends."""
+        while True:
+            try:
+                piece = link.recv(PIECE)
+            except ConnectionResetError:
+                # The other side went away with lines that it hadn't read.
+                return
+            except OSError as fault:
+                raise Unusable(f"the session broke off: {fault.strerror or fault}") from None
+            if not piece:
+                return
+            sys.stdout.buffer.write(piece)
+            sys.stdout.buffer.flush()
+            self._take(piece)
+
+    def _take(self, piece: bytes) -> None:
+        """Counts the lines that a piece ends. A reply that is cut has no line end, and isn't counted."""
+        *lines, self._behind = (self._behind + piece).split(b"\n")
+        firsts = [line for line in lines if not line.startswith(FURTHER)]
+        for line in firsts:
+            if not REPLY.match(line):
+                raise Unusable(f"what answers there is no component manager: {ascii(line[:60])[1:]}")
+        self.count += len(firsts)
+        self.refused = self.refused or any(line.startswith(REFUSED) for line in firsts)
