@@ -231,6 +231,11 @@ def try_all(shim, name, made):
 
 def main():
     wanted = sys.argv[2:] or list(runs())
+    unknown = [name for name in wanted if name not in runs()]
+    if unknown:
+        known = ", ".join(runs())
+        print("allocations.py: no run is named %s; there are %s" % (unknown[0], known), file=sys.stderr)
+        return 2
     with tempfile.TemporaryDirectory() as folder:
         source, shim = os.path.join(folder, "refuse.c"), os.path.join(folder, "refuse.so")
         with open(source, "w") as file:
