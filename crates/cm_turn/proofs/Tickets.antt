@@ -16,7 +16,7 @@ use Rattle.cm_turn.proofs.ViewLists.{each_set, set_at, total-set, total-le}
 use Rattle.cm_turn.proofs.Histories.{starts-refl}
 use Rattle.cm_turn.proofs.Moments.{off, one_holder, home_set, same_total, same_word, queue_set, queue_apart, away, only_turn, not_on}
 
-mod_suc : (a : ℕ) → (a % 2 ^ 64 + 1) % 2 ^ 64 ≡ (a + 1) % 2 ^ 64
+pub mod_suc : (a : ℕ) → (a % 2 ^ 64 + 1) % 2 ^ 64 ≡ (a + 1) % 2 ^ 64
 mod_suc a = omega arith
 
 -- the word of the next ticket, and of the one served, after one more
@@ -293,5 +293,5 @@ module _ {S E F : Type 0} (story : S → List E) (frame : S → F) (by : E → �
             );
           },
         ),
-        refl,
+        (ap (λ (ws : List ℕ). slice_index ws 1) h.words_are ∙ sym (ap ticket_word mine.0), refl),
       )

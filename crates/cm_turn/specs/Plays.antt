@@ -52,9 +52,9 @@ module _ {S E F : Type 0} where
   abbrev pub TakesEmpty : Step (Option S) → Me (Option S) (View E F) → ℕ → Me (Option S) (View E F) → Type 0
   TakesEmpty _ me n after = after ≡ (with_slot me.0, (0, None) ∷ [])
 
-  -- the slot goes home, and the next ticket is served
+  -- the slot goes home, and the ticket behind the seat's own is served
   abbrev pub PassesOn : Step (Option S) → Me (Option S) (View E F) → ℕ → Me (Option S) (View E F) → Type 0
-  PassesOn _ me n after = after ≡ (without_turn me.0, [])
+  PassesOn _ me n after = (n ≡ ticket_word me.0.ticket) × (after ≡ (without_turn me.0, []))
 
   -- a new seat knows nothing
   abbrev pub Arrives : Step (Option S) → Me (Option S) (View E F) → ℕ → Me (Option S) (View E F) → Type 0

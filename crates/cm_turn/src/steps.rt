@@ -1,8 +1,8 @@
 //! The single steps of a seat at the lock's table.
 //!
 //! Word 0 is the next ticket and word 1 the one that is served, both modulo 2^64. The one slot has the state.
-ghost use Rattle.std.specs.Prelude.{◌≡◌, ◌<◌, ◌%◌, ◌^◌, ◌++◌, ℕ, [], ◌∷◌, Some, None, IsSome, All, List};
-ghost use Rattle.std.specs.Prelude.{true, false};
+ghost use Rattle.std.specs.Prelude.{◌≡◌, ◌<◌, ◌+◌, ◌%◌, ◌^◌, ◌++◌, ℕ, [], ◌∷◌, Some, None};
+ghost use Rattle.std.specs.Prelude.{IsSome, All, List, true, false, MatchBool};
 ghost use Rattle.cm_turn.specs.History.{StartsWith, entries_by, longer};
 ghost use Rattle.cm_turn.specs.Views.{spent_view, with_ticket, with_turn, with_slot, with_entries};
 ghost use Rattle.cm_turn.specs.Views.{without_turn, with_longer, with_one_made, next_pass, note_of};
@@ -10,12 +10,14 @@ ghost use Rattle.cm_turn.specs.Views.{with_told, with_pass};
 ghost use Rattle.cm_turn.specs.Plays.{Found};
 ghost use Rattle.cm_turn.specs.Passes.{IsLockTable};
 
+use crate::bells::{AWAITED, Bells, bell_of};
 use crate::rule::{
     Arrive, Draw, Gather, InTurns, Learn, Look, Make, Note, PassOn, Record, TakeEmpty,
 };
 use crate::storied::Storied;
 use crate::view::View;
 use atomic_table::{Seat, Shared};
+use std::hint;
 use std::sync::Wait;
 
 /// The lock's table: two words and one slot.
@@ -28,6 +30,9 @@ pub(crate) type LockTable<S> = Shared<
 
 /// A seat at the lock's table.
 pub(crate) type LockSeat<S> = Seat<Option<S>, View<<S as Storied>::Entry, <S as Storied>::Frame>>;
+
+/// How many times a caller looks whether its turn has come before it parks.
+const LOOKS: u32 = 200;
 
 /// Draws a ticket, and gives its number modulo 2^64.
 pub(crate) fn draw_ticket<S: Storied>(table: &LockTable<S>, seat: &mut LockSeat<S>) -> u64
@@ -43,14 +48,51 @@ pub(crate) fn draw_ticket<S: Storied>(table: &LockTable<S>, seat: &mut LockSeat<
     table.fetch_add::<Draw>(seat, 0, 1)
 }
 
-/// Looks until the ticket is served, and then has the turn and the slot.
+/// One look at the ticket that is served: whether it is this one. Then the seat has the turn and the slot.
+fn is_served<S: Storied>(table: &LockTable<S>, seat: &mut LockSeat<S>, ticket: u64) -> bool
+    requires lock { IsLockTable table.now.table_id × (seat.old.table_id ≡ table.now.table_id) }
+    requires bare { seat.old.me.1 ≡ [] }
+    requires waits { (t : ℕ) × (ticket ≡ t % 2 ^ 64) × (seat.old.me.0.ticket ≡ Some t) }
+    requires idle { (seat.old.me.0.turn ≡ false) × (seat.old.me.0.fresh ≡ false) }
+    ensures lock { seat.new.table_id ≡ seat.old.table_id }
+    ensures found { MatchBool result
+        ((s : S)
+        × Found S.story S.frame S.by seat.old.me.0 s
+        × (seat.new.me ≡ (with_turn (S.story s) seat.old.me.0, (0, Some s) ∷ [])))
+        (seat.new.me ≡ seat.old.me) }
+{
+    table.load::<Look>(seat, 1) == ticket
+}
+
+/// Looks up to [`LOOKS`] times whether the ticket is served, and stops at the look that finds it.
+fn is_served_soon<S: Storied>(table: &LockTable<S>, seat: &mut LockSeat<S>, ticket: u64) -> bool
+    requires lock { IsLockTable table.now.table_id × (seat.old.table_id ≡ table.now.table_id) }
+    requires bare { seat.old.me.1 ≡ [] }
+    requires waits { (t : ℕ) × (ticket ≡ t % 2 ^ 64) × (seat.old.me.0.ticket ≡ Some t) }
+    requires idle { (seat.old.me.0.turn ≡ false) × (seat.old.me.0.fresh ≡ false) }
+    ensures lock { seat.new.table_id ≡ seat.old.table_id }
+    ensures found { MatchBool result
+        ((s : S)
+        × Found S.story S.frame S.by seat.old.me.0 s
+        × (seat.new.me ≡ (with_turn (S.story s) seat.old.me.0, (0, Some s) ∷ [])))
+        (seat.new.me ≡ seat.old.me) }
+{
+    for _ in 0..LOOKS {
+        if is_served(table, seat, ticket) {
+            return true;
+        }
+        hint::spin_loop();
+    }
+    false
+}
+
+/// Waits until the ticket is served, and then has the turn and the slot.
 ///
-/// Between two looks it is parked on the word of the served ticket, of which the low 32 bits are
-/// compared. A wake that comes between the look and the park isn't lost, as the word has changed by
-/// then.
+/// It looks [`LOOKS`] times, and once more when it has said at its bell that it is about to park.
 pub(crate) fn await_turn<S: Storied, R: Wait>(
     rt: &R,
     table: &LockTable<S>,
+    bells: &Bells,
     mut seat: LockSeat<S>,
     ticket: u64,
 ) -> LockSeat<S>
@@ -64,11 +106,14 @@ pub(crate) fn await_turn<S: Storied, R: Wait>(
         × (result.me ≡ (with_turn (S.story s) seat.me.0, (0, Some s) ∷ [])) }
 {
     for _ in rt.forever() {
-        let found = table.load::<Look>(&mut seat, 1);
-        if found == ticket {
+        if is_served_soon(table, &mut seat, ticket) {
             return seat;
         }
-        table.park(rt, 1, (found & 0xffff_ffff) as u32);
+        bells.announce(ticket);
+        if is_served(table, &mut seat, ticket) {
+            return seat;
+        }
+        bells.table.shared.park(rt, bell_of(ticket), AWAITED);
     }
     unreachable!()
 }
@@ -105,8 +150,26 @@ pub(crate) fn record_entries<S: Storied>(table: &LockTable<S>, seat: &mut LockSe
     table.load::<Record>(seat, 1);
 }
 
-/// Puts the slot home with the state in it, serves the next ticket, and wakes all that wait.
-pub(crate) fn pass_turn_on<S: Storied>(table: &LockTable<S>, seat: &mut LockSeat<S>)
+/// Puts the slot home with the state in it, and serves the next ticket. The result is the number of
+/// that one modulo 2^64.
+fn serve_next<S: Storied>(table: &LockTable<S>, seat: &mut LockSeat<S>) -> u64
+    requires lock { IsLockTable table.now.table_id × (seat.old.table_id ≡ table.now.table_id) }
+    requires turn { seat.old.me.0.turn ≡ true }
+    requires slot { (s : S)
+        × (seat.old.me.1 ≡ (0, Some s) ∷ [])
+        × (S.story s ≡ seat.old.me.0.seen)
+        × (seat.old.me.0.frame ≡ Some (S.frame s)) }
+    ensures lock { seat.new.table_id ≡ seat.old.table_id }
+    ensures view { seat.new.me ≡ (without_turn seat.old.me.0, []) }
+    ensures next { (t : ℕ) → seat.old.me.0.ticket ≡ Some t → result ≡ (t + 1) % 2 ^ 64 }
+{
+    let served = table.fetch_add::<PassOn>(seat, 1, 1);
+    served.wrapping_add(1)
+}
+
+/// Puts the slot home with the state in it, serves the next ticket, and wakes its caller if that one
+/// is parked.
+pub(crate) fn pass_turn_on<S: Storied>(table: &LockTable<S>, bells: &Bells, seat: &mut LockSeat<S>)
     requires lock { IsLockTable table.now.table_id × (seat.old.table_id ≡ table.now.table_id) }
     requires turn { seat.old.me.0.turn ≡ true }
     requires slot { (s : S)
@@ -116,8 +179,8 @@ pub(crate) fn pass_turn_on<S: Storied>(table: &LockTable<S>, seat: &mut LockSeat
     ensures lock { seat.new.table_id ≡ seat.old.table_id }
     ensures view { seat.new.me ≡ (without_turn seat.old.me.0, []) }
 {
-    table.fetch_add::<PassOn>(seat, 1, 1);
-    table.wake_all(1);
+    let next = serve_next(table, seat);
+    bells.ring(next);
 }
 
 /// Looks up what another seat has told: the longer of that and of what this one has seen is a

@@ -157,6 +157,7 @@ fn check_counts<R: Threads + Wait + Sync>(rt: &R, alloc: Global, callers: u32) -
 fn threads_count_in_turns(rt: HostRuntime) -> Result<(), Fail> {
     assert_eq!(rt; check_counts(&rt, rt.alloc(), 2), Some(true));
     assert_eq!(rt; check_counts(&rt, rt.alloc(), 4), Some(true));
+    assert_eq!(rt; check_counts(&rt, rt.alloc(), 16), Some(true));
     Ok(())
 }
 

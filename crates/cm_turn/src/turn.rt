@@ -6,6 +6,7 @@ ghost use Rattle.cm_turn.specs.Views.{with_longer, with_told, maker, gatherer, i
 ghost use Rattle.cm_turn.specs.Passes.{LockView, HeldView, pass_of, IsHolding, AreAll, new_passes};
 ghost use Rattle.cm_turn.specs.Passes.{seen_up_to, IsKnown, IsLockTable, HasCaller, known_as, IsOwn};
 
+use crate::bells::Bells;
 use crate::pass::Pass;
 use crate::rule::InTurns;
 use crate::steps::{
@@ -28,6 +29,7 @@ use std::sync::Wait;
 #[derive(Drop)]
 pub struct Turn<S: Storied> {
     table: Table<Option<S>, View<S::Entry, S::Frame>, (S, u32), InTurns, Global>,
+    bells: Bells,
     passes: u32,
 }
 
@@ -78,6 +80,10 @@ impl<S: Storied> Turn<S> {
         let Ok(list) = Vec::with_capacity(alloc, passes as usize) else {
             return Err(state);
         };
+        let Ok(bells) = Bells::new(alloc) else {
+            list.destroy_empty();
+            return Err(state);
+        };
         // The table's key keeps a ghost copy of the first state, from which the rule knows the frame.
         let about = (state, passes);
         let made = Table::vacant(alloc, &[1, 0], 1, &about);
@@ -86,9 +92,14 @@ impl<S: Storied> Turn<S> {
             list.destroy_empty();
             return Err(state);
         };
-        put_home(&table.shared, &mut seat, state);
+        put_home(&table.shared, &bells, &mut seat, state);
         let list = make_passes(&table.shared, seat, passes, list);
-        Ok((Turn { table, passes }, List::from_vec(list)))
+        let turn = Turn {
+            table,
+            bells,
+            passes,
+        };
+        Ok((turn, List::from_vec(list)))
     }
 
     /// Waits for the turn and takes it, for the caller of this pass, which is one of the lock's.
@@ -97,9 +108,10 @@ impl<S: Storied> Turn<S> {
     /// seen, and has those entries of the caller that the pass knows, and no others of it: all of
     /// these it had seen. The pass in the held turn has seen the whole history.
     ///
-    /// Turns come in the order in which callers ask. A caller that waits is parked until the next
-    /// turn is passed on: it uses no processor meanwhile. Each time all that wait are woken, and
-    /// those whose turn it isn't park again.
+    /// Turns come in the order in which callers ask. A caller that waits looks a few hundred times
+    /// whether its turn has come, and then parks: it uses no processor until its turn comes. Whoever
+    /// leaves wakes the next caller alone, and calls the system only where that one has said that it
+    /// parks.
     pub fn enter<R: Wait>(&self, rt: &R, pass: Pass<S::Entry, S::Frame>) -> Held<S>
         requires lock { pass.lock ≡ self.now.lock }
         ensures pass { result.pass ≡ seen_up_to (S.story result.state) pass }
@@ -112,7 +124,7 @@ impl<S: Storied> Turn<S> {
         let table = &self.table.shared;
         let mut seat = badge.into_seat();
         let ticket = draw_ticket(table, &mut seat);
-        let mut seat = await_turn(rt, table, seat, ticket);
+        let mut seat = await_turn(rt, table, &self.bells, seat, ticket);
         let Some(state) = table.exchange(&mut seat, 0, None) else {
             unreachable!()
         };
@@ -150,7 +162,7 @@ impl<S: Storied> Turn<S> {
         let out = table.exchange(&mut seat, 0, Some(state));
         let None = out else { unreachable!() };
         record_entries(table, &mut seat);
-        pass_turn_on(table, &mut seat);
+        pass_turn_on(table, &self.bells, &mut seat);
         Pass {
             badge: seat.into_badge(),
             number,
@@ -189,7 +201,11 @@ impl<S: Storied> Turn<S> {
         ensures known { All (IsKnown S.story S.frame S.by result) passes }
         ensures callers { All (λ e. HasCaller passes (S.by e)) (S.story result) }
     {
-        let Turn { table, passes: _ } = self;
+        let Turn {
+            table,
+            bells: _,
+            passes: _,
+        } = self;
         let seat = gather_passes(&table.shared, passes.into_vec());
         let mut closed = table.close_with(seat);
         let slot = closed.take(0);
@@ -246,7 +262,7 @@ fn gather_passes<S: Storied>(
 }
 
 // The maker puts the state home and passes the turn on.
-fn put_home<S: Storied>(table: &LockTable<S>, seat: &mut LockSeat<S>, state: S)
+fn put_home<S: Storied>(table: &LockTable<S>, bells: &Bells, seat: &mut LockSeat<S>, state: S)
     requires lock { IsLockTable table.now.table_id × (seat.old.table_id ≡ table.now.table_id) }
     requires maker { seat.old.me ≡ (maker (S.frame state) table.now.key.1, []) }
     requires empty { S.story state ≡ [] }
@@ -256,7 +272,7 @@ fn put_home<S: Storied>(table: &LockTable<S>, seat: &mut LockSeat<S>, state: S)
     take_empty_slot(table, seat);
     let out = table.exchange(seat, 0, Some(state));
     let None = out else { unreachable!() };
-    pass_turn_on(table, seat);
+    pass_turn_on(table, bells, seat);
 }
 
 // Makes all passes, in order.
