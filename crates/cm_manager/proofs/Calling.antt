@@ -1,7 +1,8 @@
 -- How a call is put together of its parts.
-use Rattle.std.proofs.Common.{◌≡◌, ℕ, List, Result, Ok, Err, refl, sym, ap, subst, inl}
+use Rattle.std.proofs.Common.{◌≡◌, ℕ, List, Option, None, Result, Ok, Err, IfOk, IsTrue, refl, sym, ap, subst, inl, ◌∙◌}
 use Rattle.cm_world.specs.declared.frame.Frame.{Frame}
 use Rattle.cm_world.specs.declared.action.ActKind.{ActKind}
+use Rattle.cm_world.specs.declared.action.ActKind.TheVariants as kind
 use Rattle.cm_world.specs.declared.event.Event.{Event}
 use Rattle.cm_world.specs.declared.event.Event.TheVariants as event
 use Rattle.cm_world.specs.declared.event.Target.{Target}
@@ -11,28 +12,26 @@ use Rattle.cm_world.specs.declared.reply.Reply.{Reply}
 use Rattle.cm_world.specs.declared.answer.Answer.{Answer}
 use Rattle.cm_world.specs.declared.answer.Refusal.{Refusal}
 use Rattle.cm_world.specs.declared.answer.Refusal.TheVariants as refusal
+use Rattle.cm_names.specs.declared.memory.Memory.{Memory}
 use Rattle.cm_names.specs.declared.moniker.Moniker.{Moniker}
 use Rattle.cm_command.specs.declared.command.Command.{Command}
 use Rattle.cm_manager.specs.declared.acted.Acted.{Acted}
+use Rattle.cm_manager.specs.declared.question.Question.{Question}
+use Rattle.cm_manager.specs.declared.question.Question.TheVariants as question
+use Rattle.cm_manager.specs.declared.question.Request.{Request}
+use Rattle.cm_manager.specs.declared.question.Request.TheVariants as request
 use Rattle.cm_manager.specs.Turns.{Later}
 use Rattle.cm_manager.specs.Runs.{Acts, Tries, cut_try}
-use Rattle.cm_manager.specs.Answers.{decided_by, found_by}
-use Rattle.cm_manager.specs.Calls.{Way, Finding, Behind, OnRow, ActedOn, Calls}
+use Rattle.cm_manager.specs.Answers.{decided_by, found_by, unless_ended}
+use Rattle.cm_manager.specs.Calls.{Way, Finding, Behind, OnRow, Nothing, Then, Tried, TriedThen, ActedOn, Calls}
+use Rattle.cm_manager.specs.Questions.{requested_by, asked_by, event_for, Requested, AnswersTo}
 use Rattle.cm_manager.specs.Work.{Shelf}
 use Rattle.cm_manager.specs.Contract.{RealmPass, GatesView, IsSamePass, Helps, Performs}
-use Rattle.cm_manager.specs.Asking.{frame_in, frame_of}
-use Rattle.cm_manager.specs.Parts.{Finds, Settles}
+use Rattle.cm_manager.specs.Asking.{frame_in, frame_of, is_asked, is_plain}
+use Rattle.cm_manager.specs.Parts.{Finds}
 use Rattle.cm_manager.proofs.Helping.{helps_then, helps_as, helps_nothing}
 
 -- ---- an event
-
--- the event that was tried, by what it is
-pub event_settles : (shelf : Shelf) (f : Frame) (c : ℕ) (e e' : Event) (p q : RealmPass) (g h : GatesView) (a : Result Answer Refusal) → e ≡ e' → Helps shelf f (λ x y. Settles f c e x y a) p q g h → Helps shelf f (λ x y. Settles f c e' x y a) p q g h
-event_settles shelf f c e e' p q g h a is help = subst (λ (e : Event). Helps shelf f (λ x y. Settles f c e x y a) p q g h) is help
-
--- its answer is the one that the reply decides
-pub try_settles : (shelf : Shelf) (f : Frame) (c : ℕ) (e : Event) (p q : RealmPass) (g h : GatesView) (went : Result Reply Refusal) (a : Result Answer Refusal) → Helps shelf f (λ x y. Tries f c e x y went) p q g h → a ≡ decided_by went → Helps shelf f (λ x y. Settles f c e x y a) p q g h
-try_settles shelf f c e p q g h went a help is = helps_as shelf f (λ x y. Tries f c e x y went) (λ x y. Settles f c e x y a) p q g h (λ way. (went, way, is)) help
 
 -- its row is the one that the reply gives
 pub try_finds : (shelf : Shelf) (f : Frame) (c : ℕ) (e : Event) (m : Moniker) (p q : RealmPass) (g h : GatesView) (went : Result Reply Refusal) (row : Result ℕ Refusal) → Helps shelf f (λ x y. Tries f c e x y went) p q g h → e ≡ event.Find m → row ≡ found_by went → Helps shelf f (λ x y. Finding f c (target.Named m) x y row) p q g h
@@ -42,14 +41,91 @@ try_finds shelf f c e m p q g h went row help is by =
 
 -- ---- memory is wanting before the event
 
-cut_settles : (f : Frame) (c : ℕ) (e : Event) (x y : List Entry) → Later c x y → Settles f c e x y (Err refusal.Memory)
-cut_settles f c e x y later = (Err refusal.Memory, cut_try later, refl)
+pub lost_event : (shelf : Shelf) (e : Event) (p q : RealmPass) (g : GatesView) → IsSamePass (frame_of p) p q → Later p.caller p.seen q.seen → q.mine ≡ p.mine → Helps shelf (frame_of p) (λ x y. Tries (frame_of p) p.caller e x y (Err refusal.Memory)) p q g g
+lost_event shelf e p q g same later mine = helps_nothing shelf (frame_of p) (λ x y. Tries (frame_of p) p.caller e x y (Err refusal.Memory)) p q g same (cut_try later) mine
 
-pub lost_settles : (shelf : Shelf) (f : Frame) (e : Event) (p q : RealmPass) (g : GatesView) → IsSamePass f p q → Later p.caller p.seen q.seen → q.mine ≡ p.mine → Helps shelf f (λ x y. Settles f p.caller e x y (Err refusal.Memory)) p q g g
-lost_settles shelf f e p q g same later mine = helps_nothing shelf f (λ x y. Settles f p.caller e x y (Err refusal.Memory)) p q g same (cut_settles f p.caller e p.seen q.seen later) mine
+-- an event that was made to find an instance
+pub find_asked : (made : Result Event Memory) (m : Moniker) → IfOk made (λ e. e ≡ event.Find m) → IfOk made (λ e. IsTrue (is_asked e))
+find_asked (Ok e) m is = subst (λ (e : Event). IsTrue (is_asked e)) (sym is) refl
+find_asked (Err x) m is = tt
 
-pub lost_finds : (shelf : Shelf) (f : Frame) (m : Moniker) (p q : RealmPass) (g : GatesView) → IsSamePass f p q → Later p.caller p.seen q.seen → q.mine ≡ p.mine → Helps shelf f (λ x y. Finding f p.caller (target.Named m) x y (Err refusal.Memory)) p q g g
-lost_finds shelf f m p q g same later mine = helps_nothing shelf f (λ x y. Finding f p.caller (target.Named m) x y (Err refusal.Memory)) p q g same (Err refusal.Memory, cut_try later, refl) mine
+pub find_plain : (made : Result Event Memory) (m : Moniker) → IfOk made (λ e. e ≡ event.Find m) → IfOk made (λ e. IsTrue (is_plain e))
+find_plain (Ok e) m is = subst (λ (e : Event). IsTrue (is_plain e)) (sym is) refl
+find_plain (Err x) m is = tt
+
+-- ---- a request
+
+request_asked : (r : Request) (i : ℕ) → IsTrue (is_asked (event_for r i))
+request_asked (request.Create coll name url gives) i = refl
+request_asked (request.List coll) i = refl
+request_asked (request.OpenUse path) i = refl
+request_asked (request.OpenExposed name) i = refl
+request_asked (request.Route path) i = refl
+request_asked request.Show i = refl
+request_asked request.Survey i = refl
+request_asked request.Exited i = refl
+
+request_plain : (r : Request) (i : ℕ) → IsTrue (is_plain (event_for r i))
+request_plain (request.Create coll name url gives) i = refl
+request_plain (request.List coll) i = refl
+request_plain (request.OpenUse path) i = refl
+request_plain (request.OpenExposed name) i = refl
+request_plain (request.Route path) i = refl
+request_plain request.Show i = refl
+request_plain request.Survey i = refl
+request_plain request.Exited i = refl
+
+-- an event that was made for a request
+pub made_asked : (made : Result Event Memory) (r : Request) (i : ℕ) → IfOk made (λ e. e ≡ event_for r i) → IfOk made (λ e. IsTrue (is_asked e))
+made_asked (Ok e) r i is = subst (λ (e : Event). IsTrue (is_asked e)) (sym is) (request_asked r i)
+made_asked (Err x) r i is = tt
+
+pub made_plain : (made : Result Event Memory) (r : Request) (i : ℕ) → IfOk made (λ e. e ≡ event_for r i) → IfOk made (λ e. IsTrue (is_plain e))
+made_plain (Ok e) r i is = subst (λ (e : Event). IsTrue (is_plain e)) (sym is) (request_plain r i)
+made_plain (Err x) r i is = tt
+
+-- ---- questions
+
+nothing_then : (went : Result Reply Refusal) (h k : List Entry) (end : Option Refusal) → Then (λ r. Nothing) went h k end → (k ≡ h) × (end ≡ None)
+nothing_then (Ok r) h k end is = is
+nothing_then (Err x) h k end is = is
+
+-- a call with one event, where nothing follows its reply
+only_tried : (f : Frame) (c : ℕ) (e : ℕ → Event) (i : ℕ) (h k : List Entry) (a : Result Answer Refusal) → TriedThen f c e (λ j r. Nothing) i h k a → Tried f c e i h k a
+only_tried f c e i h k a it =
+    let none = nothing_then it.went it.h₁ k it.end it.follows in
+    (it.went, subst (λ (l : List Entry). Tries f c (e i) h l it.went) (sym none.0) it.tries, it.answer ∙ ap (λ (o : Option Refusal). unless_ended o (decided_by it.went)) none.1)
+
+behind_tried : (f : Frame) (c : ℕ) (e : ℕ → Event) (row : Result ℕ Refusal) (h k : List Entry) (a : Result Answer Refusal) → Behind row (TriedThen f c e (λ j r. Nothing)) h k a → Behind row (Tried f c e) h k a
+behind_tried f c e (Ok i) h k a it = only_tried f c e i h k a it
+behind_tried f c e (Err x) h k a it = it
+
+on_row_tried : (f : Frame) (c : ℕ) (t : Target) (e : ℕ → Event) (x y : List Entry) (a : Result Answer Refusal) → OnRow f c t (TriedThen f c e (λ j r. Nothing)) x y a → OnRow f c t (Tried f c e) x y a
+on_row_tried f c t e x y a on = record { row = on.row; h₁ = on.h₁; finding = on.finding; behind = behind_tried f c e on.row on.h₁ y a on.behind }
+
+request_called : (f : Frame) (c : ℕ) (t : Target) (r : Request) (x y : List Entry) (a : Result Answer Refusal) → OnRow f c t (Requested f c r) x y a → Calls f c (requested_by t r) x y a
+request_called f c t (request.Create coll name url gives) x y a on = on
+request_called f c t (request.List coll) x y a on = on_row_tried f c t (λ i. event.Listing i coll.now) x y a on
+request_called f c t (request.OpenUse path) x y a on = on_row_tried f c t (λ i. event.OpenUse i path.now) x y a on
+request_called f c t (request.OpenExposed name) x y a on = on_row_tried f c t (λ i. event.OpenExposed i name.now) x y a on
+request_called f c t (request.Route path) x y a on = on_row_tried f c t (λ i. event.Route i path.now) x y a on
+request_called f c t request.Show x y a on = on_row_tried f c t event.Show x y a on
+request_called f c t request.Survey x y a on = on_row_tried f c t event.Survey x y a on
+request_called f c t request.Exited x y a on = on
+
+-- a question of a target is the call that its command names
+pub question_called : (f : Frame) (c : ℕ) (t : Target) (q : Question) (x y : List Entry) (a : Result Answer Refusal) → OnRow f c t (AnswersTo f c q) x y a → Calls f c (asked_by t q) x y a
+question_called f c t (question.Act kind.Resolve) x y a on = on
+question_called f c t (question.Act kind.Start) x y a on = on
+question_called f c t (question.Act kind.Stop) x y a on = on
+question_called f c t question.Shutdown x y a on = on
+question_called f c t question.Destroy x y a on = on
+question_called f c t question.Doctor x y a on = on
+question_called f c t (question.Event r) x y a on = request_called f c t r x y a on
+
+-- what was answered, by the question that it is
+pub answered_as : (shelf : Shelf) (q o : Question) (i : ℕ) (a : Result Answer Refusal) (p r : RealmPass) (g h : GatesView) → q ≡ o → Helps shelf (frame_of p) (λ x y. AnswersTo (frame_of p) p.caller o i x y a) p r g h → Helps shelf (frame_of p) (λ x y. AnswersTo (frame_of p) p.caller q i x y a) p r g h
+answered_as shelf q o i a p r g h is help = subst (λ (q : Question). Helps shelf (frame_of p) (λ x y. AnswersTo (frame_of p) p.caller q i x y a) p r g h) (sym is) help
 
 -- ---- a call behind the finding of its row
 

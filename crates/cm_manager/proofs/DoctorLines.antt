@@ -12,8 +12,7 @@ use Rattle.cm_world.specs.declared.reply.Entry.{Entry}
 use Rattle.cm_world.specs.declared.reply.Reply.{Reply}
 use Rattle.cm_world.specs.declared.report.SurveyRow.{SurveyRow}
 use Rattle.cm_world.specs.declared.route.Route.{Route}
-use Rattle.cm_manager.specs.Turns.{Later}
-use Rattle.cm_manager.specs.Runs.{Tries, cut_try}
+use Rattle.cm_manager.specs.Runs.{Tries}
 use Rattle.cm_manager.specs.Asking.{frame_of}
 use Rattle.cm_manager.specs.Contract.{RealmPass, GatesView, IsSamePass, Helps}
 use Rattle.cm_manager.specs.Doctor.{Checks, Each, OfPath, OfRow, Doctors, Adds, Adding, Gathering, Surveying, in_front, line_of, route_by, unresolved_line, doctored_by}
@@ -108,14 +107,6 @@ gathered_all {A} shelf Item xs lines p g none known =
     refl
 
 -- ---- paths
-
-later_itself : (c : ℕ) (h : List Entry) → Later c h h
-later_itself c h = record { grows = ([], sym (append-nil h)); own = refl }
-
--- memory is wanting before the event
-pub lost_route : (shelf : Shelf) (i : ℕ) (path : List ℕ) (p : RealmPass) (g : GatesView) → IsSamePass (frame_of p) p p → Helps shelf (frame_of p) (λ a b. Tries (frame_of p) p.caller (event.Route i path) a b (Err refusal.Memory)) p p g g
-lost_route shelf i path p g known =
-    helps_nothing shelf (frame_of p) (λ a b. Tries (frame_of p) p.caller (event.Route i path) a b (Err refusal.Memory)) p p g known (cut_try (later_itself p.caller p.seen)) refl
 
 -- a path has its line
 pub path_adds : (shelf : Shelf) (row : SurveyRow) (path : List ℕ) (lines : List Checked) (went : Result Reply Refusal) (found : Result Route Refusal) (end : Result (List Checked) Refusal) (p q : RealmPass) (g h : GatesView) → Helps shelf (frame_of p) (λ a b. Tries (frame_of p) p.caller (event.Route row.inc path) a b went) p q g h → found ≡ route_by went → Adds lines (line_of row.moniker path found) end → Helps shelf (frame_of p) (λ a b. Added (λ f c. OfPath f c row) path lines (frame_of p) p.caller end a b) p q g h

@@ -11,9 +11,13 @@ use Rattle.cm_world.specs.declared.reply.Reply.{Reply}
 use Rattle.cm_world.specs.declared.reply.Reply.TheVariants as reply
 use Rattle.cm_world.specs.Expiring.{runs_once}
 use Rattle.cm_manager.specs.declared.acted.Acted.{Acted}
+use Rattle.cm_manager.specs.declared.question.Follow.TheVariants as next
+use Rattle.cm_manager.specs.declared.question.Request.{Request}
+use Rattle.cm_manager.specs.declared.question.Request.TheVariants as request
 use Rattle.cm_manager.specs.Turns.{Later, world_after}
 use Rattle.cm_manager.specs.Answers.{unless_ended, decided_by, created_in, has_left}
 use Rattle.cm_manager.specs.Calls.{Way, Then, TriedThen, OnceCreated, SweptLeft}
+use Rattle.cm_manager.specs.Questions.{event_for, started_for, swept_for, follow_of, FollowsBy, Requested}
 use Rattle.cm_manager.specs.Runs.{Acts, Tries, Onces, ends_eager}
 use Rattle.cm_manager.specs.Sweeps.{Sweeps}
 use Rattle.cm_manager.specs.Asking.{frame_of}
@@ -46,14 +50,6 @@ something_follows shelf e follow Part i went end a p q r g h k name first second
 -- the event that was tried, by what it is
 pub tried_as : (shelf : Shelf) (f : Frame) (c : ℕ) (e e' : Event) (went : Result Reply Refusal) (p q : RealmPass) (g h : GatesView) → e ≡ e' → Helps shelf f (λ x y. Tries f c e x y went) p q g h → Helps shelf f (λ x y. Tries f c e' x y went) p q g h
 tried_as shelf f c e e' went p q g h is help = subst (λ (e : Event). Helps shelf f (λ x y. Tries f c e x y went) p q g h) is help
-
--- memory is wanting before the event
-pub lost_following : (shelf : Shelf) (e : ℕ → Event) (follow : Follow) (i : ℕ) (p q : RealmPass) (g : GatesView) → IsSamePass (frame_of p) p q → Later p.caller p.seen q.seen → q.mine ≡ p.mine → Helps shelf (frame_of p) (λ x y. TriedThen (frame_of p) p.caller e (follow (frame_of p) p.caller) i x y (Err refusal.Memory)) p q g g
-lost_following shelf e follow i p q g same later mine =
-    let f = frame_of p in
-    let c = p.caller in
-    helps_nothing shelf f (λ x y. TriedThen f c e (follow f c) i x y (Err refusal.Memory)) p q g same
-    (record { went = Err refusal.Memory; h₁ = q.seen; end = None; tries = Tries.cut_try later; follows = (refl, refl); answer = refl }) mine
 
 -- ---- a create
 
@@ -98,3 +94,50 @@ pub one_left : (f : Frame) (c i : ℕ) (went : Result Reply Refusal) (end : Opti
 one_left f c i (Err z) end x y one it = absurd (cc one)
 one_left f c i (Ok (reply.Left m)) end x y one it = it
 one_left f c i (Ok _) end x y one it = absurd (cc one)
+
+-- ---- a request
+
+no_start : (o : Option ℕ) → started_for o ≡ next.Nothing → o ≡ None
+no_start None is = refl
+no_start (Some i) is = absurd (cc is)
+
+some_start : (o : Option ℕ) (j : ℕ) → started_for o ≡ next.Start j → o ≡ Some j
+some_start None j is = absurd (cc is)
+some_start (Some i) j is = cc is
+
+no_sweep : (i : ℕ) (b : Bool) → swept_for i b ≡ next.Nothing → b ≡ false
+no_sweep i true is = absurd (cc is)
+no_sweep i false is = refl
+
+some_sweep : (i j : ℕ) (b : Bool) → swept_for i b ≡ next.Sweep j → (b ≡ true) × (i ≡ j)
+some_sweep i j true is = (refl, cc is)
+some_sweep i j false is = absurd (cc is)
+
+start_not_sweep : (o : Option ℕ) (j : ℕ) → started_for o ≡ next.Sweep j → ⊥
+start_not_sweep None j is = cc is
+start_not_sweep (Some i) j is = cc is
+
+sweep_not_start : (i j : ℕ) (b : Bool) → swept_for i b ≡ next.Start j → ⊥
+sweep_not_start i j true is = cc is
+sweep_not_start i j false is = cc is
+
+-- nothing follows the reply
+pub no_follow : (f : Frame) (c : ℕ) (r : Request) (i : ℕ) (went : Result Reply Refusal) (h : List Entry) → follow_of r i went ≡ next.Nothing → Then (FollowsBy f c r i) went h h None
+no_follow f c (request.Create coll name url gives) i went h is = none_created f c i went h (no_start (created_in went) is)
+no_follow f c request.Exited i went h is = none_left f c i went h (no_sweep i (has_left went) is)
+no_follow f c _ i (Ok r) h is = (refl, refl)
+no_follow f c _ i (Err x) h is = (refl, refl)
+
+-- a child was created, and is started where it runs once
+pub start_follows : (f : Frame) (c : ℕ) (r : Request) (i j : ℕ) (went : Result Reply Refusal) (end : Option Refusal) (x y : List Entry) → follow_of r i went ≡ next.Start j → Onces f c j x y end → Then (FollowsBy f c r i) went x y end
+start_follows f c (request.Create coll name url gives) i j went end x y is it = one_created f c i j went end x y (some_start (created_in went) j is) it
+start_follows f c request.Exited i j went end x y is it = absurd (sweep_not_start i j (has_left went) is)
+start_follows f c _ i j went end x y is it = absurd (cc is)
+
+-- an instance has ended by itself, and what went with it is removed
+pub sweep_follows : (f : Frame) (c : ℕ) (r : Request) (i j : ℕ) (went : Result Reply Refusal) (end : Option Refusal) (x y : List Entry) → follow_of r i went ≡ next.Sweep j → Sweeps f c j x y end → Then (FollowsBy f c r i) went x y end
+sweep_follows f c (request.Create coll name url gives) i j went end x y is it = absurd (start_not_sweep (created_in went) j is)
+sweep_follows f c request.Exited i j went end x y is it =
+    let left = some_sweep i j (has_left went) is in
+    one_left f c i went end x y left.0 (subst (λ (n : ℕ). Sweeps f c n x y end) (sym left.1) it)
+sweep_follows f c _ i j went end x y is it = absurd (cc is)

@@ -17,3 +17,4 @@ pub mod Gated
 pub mod Done
 pub mod Kept
 pub mod Laws
+pub mod Questions

@@ -1,17 +1,14 @@
--- What the parts of a call promise: the search for the row of its target, and its one event.
+-- What the parts of a call promise: the search for the row of its target, and what an action comes to.
 use Rattle.std.specs.Prelude.{◌≡◌, ℕ, Option, Result, Ok, Err}
 use Rattle.cm_world.specs.declared.action.Outcome.{Outcome}
 use Rattle.cm_world.specs.declared.frame.Frame.{Frame}
-use Rattle.cm_world.specs.declared.event.Event.{Event}
 use Rattle.cm_world.specs.declared.event.Target.{Target}
 use Rattle.cm_world.specs.declared.event.Target.TheVariants as target
-use Rattle.cm_world.specs.declared.reply.Reply.{Reply}
 use Rattle.cm_world.specs.declared.answer.Answer.{Answer}
 use Rattle.cm_world.specs.declared.answer.Refusal.{Refusal}
-use Rattle.cm_manager.specs.Runs.{Tries}
 use Rattle.cm_manager.specs.declared.acted.Acted.{Acted}
-use Rattle.cm_manager.specs.Answers.{decided_by, acted_answer}
-use Rattle.cm_manager.specs.Calls.{Way, Finding}
+use Rattle.cm_manager.specs.Answers.{acted_answer}
+use Rattle.cm_manager.specs.Calls.{Finding}
 use Rattle.cm_manager.specs.Work.{Shelf}
 use Rattle.cm_manager.specs.Contract.{RealmPass, GatesView, Helps}
 
@@ -21,10 +18,6 @@ abbrev pub Finds : Shelf → Frame → Target → RealmPass → RealmPass → Ga
 Finds shelf f (target.Inc n) old new gates₀ gates₁ row = (new ≡ old) × (gates₁ ≡ gates₀) × (row ≡ Ok n)
 Finds shelf f (target.Named m) old new gates₀ gates₁ row =
     Helps shelf f (λ h₀ h₁. Finding f old.caller (target.Named m) h₀ h₁ row) old new gates₀ gates₁
-
--- an event is made until a reply decides it, and the call answers so
-abbrev pub Settles : Frame → ℕ → Event → Way (Result Answer Refusal)
-Settles f c e h₀ h₁ a = (went : Result Reply Refusal) × Tries f c e h₀ h₁ went × (a ≡ decided_by went)
 
 -- the answer that is made of an action and its outcome
 abbrev pub answer_of : (Option ℕ → Outcome → Answer) → Result (Option ℕ × Outcome) Refusal

@@ -1,19 +1,12 @@
 //! What became of an action that a call needed.
 
-use cm_names::Plain;
 use cm_world::{ActKind, Outcome, Reply};
 
 /// What became of an action that a call asked for.
-#[derive(Debug, Drop, Clone)]
+#[derive(Drop)]
 pub enum Acted {
     /// An action of this kind and number was begun or joined, and has ended in this.
     Ended(ActKind, u64, Outcome),
     /// There was nothing to begin, as this reply says: `Already`, `Gone` or `Shut`.
     Quiet(Reply),
-}
-
-impl Plain for Acted {
-    ghost use Rattle.std.proofs.Common.{rules};
-
-    ghost exact = { Prim.search rules };
 }

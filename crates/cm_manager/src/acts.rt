@@ -1,10 +1,7 @@
 //! Actions: their begin, their work and their end.
 
 ghost use Rattle.std.specs.Prelude.{◌≡◌};
-ghost use Rattle.cm_world.specs.declared.event.Event.TheVariants as event;
-ghost use Rattle.cm_manager.specs.Asking.{Asked, frame_of};
 ghost use Rattle.cm_manager.specs.Acting.{BeginsBy};
-ghost use Rattle.cm_manager.specs.Contract.{IsSamePass};
 ghost use Rattle.cm_manager.specs.Runs.{Acts};
 ghost use Rattle.cm_manager.specs.Gated.{HelpsWith};
 
@@ -18,23 +15,6 @@ use std::sync::Wait;
 use std::thread::Threads;
 
 impl Manager {
-    /// Makes the begin of an action, in a later turn again while it has to wait.
-    fn ask_begin<R: Wait>(
-        &self,
-        rt: &R,
-        alloc: Global,
-        pass: Pass<Entry, Frame>,
-        kind: ActKind,
-        inc: u64,
-    ) -> (Pass<Entry, Frame>, Result<Reply, Refusal>)
-        requires lock { pass.lock ≡ self.now.turn.lock }
-        ensures same { IsSamePass (frame_of pass) pass result.0 }
-        ensures asked { Asked (event.Begin kind inc) pass result.0 result.1 }
-    {
-        let event = Event::Begin(kind, inc);
-        self.ask(rt, alloc, pass, &event)
-    }
-
     /// Begins an action, and sees it ended where it began it or joined it.
     pub(crate) fn begin<R: Threads + Wait + Sync, G: Gates>(
         &self,
@@ -50,7 +30,7 @@ impl Manager {
             (λ f c a b. BeginsBy f c kind inc result.1 a b)
             pass result.0 gates.old gates.new }
     {
-        let (pass, asked) = self.ask_begin(rt, alloc, pass, kind, inc);
+        let (pass, asked) = self.ask_for(rt, alloc, pass, Event::Begin(kind, inc));
         let reply = match asked {
             Ok(reply) => reply,
             Err(refusal) => return (pass, Err(refusal)),

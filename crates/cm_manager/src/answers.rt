@@ -77,7 +77,10 @@ pub(crate) fn unless_ended(answer: Answer, end: Option<Refusal>) -> Result<Answe
 {
     match end {
         None => Ok(answer),
-        Some(refusal) => Err(refusal),
+        Some(refusal) => {
+            drop(answer);
+            Err(refusal)
+        }
     }
 }
 
@@ -90,7 +93,10 @@ pub(crate) fn behind(
 {
     match end {
         None => answer,
-        Some(refusal) => Err(refusal),
+        Some(refusal) => {
+            drop(answer);
+            Err(refusal)
+        }
     }
 }
 
@@ -117,7 +123,10 @@ pub(crate) fn ending(went: Result<Acted, Refusal>) -> Option<Refusal>
 {
     match went {
         Err(refusal) => Some(refusal),
-        Ok(Acted::Quiet(_)) => None,
+        Ok(Acted::Quiet(reply)) => {
+            drop(reply);
+            None
+        }
         Ok(Acted::Ended(kind, action, outcome)) => failing(kind, action, outcome),
     }
 }

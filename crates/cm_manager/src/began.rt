@@ -5,7 +5,7 @@ use cm_names::List;
 use cm_world::{ActKind, Outcome, Refusal, Reply};
 
 /// What became of the begin of an action, in the turns of one caller.
-#[derive(Debug, Drop)]
+#[derive(Drop)]
 pub(crate) enum Began {
     /// The caller began the action of this number and has ended it in this; for a start with the
     /// instance's eager children.
@@ -19,7 +19,7 @@ pub(crate) enum Began {
 }
 
 /// What became of a start, before its eager children.
-#[derive(Debug, Drop)]
+#[derive(Drop)]
 pub(crate) enum Launch {
     /// It is over, and has no eager children to start.
     Settled(Result<Acted, Refusal>),
@@ -29,7 +29,7 @@ pub(crate) enum Launch {
 }
 
 /// What one pick of a shutdown came to.
-#[derive(Debug, Drop)]
+#[derive(Drop)]
 pub(crate) enum Picked {
     /// All at and below the target is shut.
     Done,
@@ -40,7 +40,7 @@ pub(crate) enum Picked {
 }
 
 /// What a reply asks of its caller.
-#[derive(Debug, Drop)]
+#[derive(Drop)]
 pub(crate) enum Demand {
     /// An action of this kind at this instance, and then the event again.
     Action(ActKind, u64),

@@ -14,24 +14,81 @@ ghost use Rattle.std.specs.Prelude.{◌≡◌, IfOk};
 ghost use Rattle.cm_command.specs.declared.command.Command.TheVariants as command;
 ghost use Rattle.cm_laws.specs.Shutdowns.{IsOver};
 ghost use Rattle.cm_manager.specs.Asking.{frame_of};
-ghost use Rattle.cm_manager.specs.Gated.{PerformsWith};
+ghost use Rattle.cm_manager.specs.Gated.{HelpsWith, PerformsWith};
 ghost use Rattle.cm_manager.specs.Laws.{IsRemoved, Leaves};
+ghost use Rattle.cm_manager.specs.Questions.{AnswersTo, asked_by};
 
 use crate::Manager;
 use crate::answers::unless_ended;
-use crate::ended::{resolved, started, stopped};
+use crate::ended::acted;
 use crate::laws::answers_hold;
+use crate::question::{Question, Request, question_of};
 use cm_command::Command;
 use cm_decl::Give;
 use cm_gate::Gates;
 use cm_names::{CapPath, List, Name, Text};
 use cm_turn::Pass;
-use cm_world::{ActKind, Answer, Entry, Event, Frame, Refusal, Target};
+use cm_world::{ActKind, Answer, Entry, Frame, Refusal, Target};
 use std::alloc::Global;
 use std::sync::Wait;
 use std::thread::Threads;
 
 impl Manager {
+    /// Answers a question of the instance of this incarnation.
+    fn answer<R: Threads + Wait + Sync, G: Gates>(
+        &self,
+        rt: &R,
+        alloc: Global,
+        pass: Pass<Entry, Frame>,
+        gates: &mut G,
+        inc: u64,
+        question: Question<'_>,
+    ) -> (Pass<Entry, Frame>, Result<Answer, Refusal>)
+        requires lock { pass.lock ≡ self.now.turn.lock }
+        ensures helps { HelpsWith G.log G.faults self.now.shelf
+            (λ f c a b. AnswersTo f c question.entry inc a b result.1)
+            pass result.0 gates.old gates.new }
+    {
+        match question {
+            Question::Act(kind) => {
+                let (pass, went) = self.act(rt, alloc, pass, gates, kind, inc);
+                (pass, acted(kind, went))
+            }
+            Question::Shutdown => {
+                let (pass, end) = self.shut_row(rt, alloc, pass, gates, false, inc);
+                (pass, unless_ended(Answer::Shut, end))
+            }
+            Question::Destroy => {
+                let (pass, end) = self.destroy_row(rt, alloc, pass, gates, inc);
+                (pass, unless_ended(Answer::Destroyed, end))
+            }
+            Question::Doctor => self.doctor_at(rt, alloc, pass, gates, inc),
+            Question::Event(request) => self.request(rt, alloc, pass, gates, inc, request),
+        }
+    }
+
+    /// Finds the instance that a target names, and answers a question of it.
+    pub(crate) fn call<R: Threads + Wait + Sync, G: Gates>(
+        &self,
+        rt: &R,
+        alloc: Global,
+        pass: Pass<Entry, Frame>,
+        gates: &mut G,
+        target: &Target,
+        question: Question<'_>,
+    ) -> (Pass<Entry, Frame>, Result<Answer, Refusal>)
+        requires lock { pass.lock ≡ self.now.turn.lock }
+        ensures performs { PerformsWith G.log G.faults self.now.shelf
+            (asked_by target.now question.entry)
+            pass result.0 gates.old gates.new result.1 }
+    {
+        let (pass, row) = self.find_row(rt, alloc, pass, gates, target);
+        match row {
+            Ok(inc) => self.answer(rt, alloc, pass, gates, inc, question),
+            Err(refusal) => (pass, Err(refusal)),
+        }
+    }
+
     /// Resolves an instance, as `ResolveInstance` of `fuchsia.sys2.LifecycleController` does:
     /// `Resolved` with the number of the action, or none where it was resolved before.
     ///
@@ -53,14 +110,14 @@ impl Manager {
             (command.Resolve target.now)
             pass result.0 gates.old gates.new result.1 }
     {
-        let (pass, row) = self.find_row(rt, alloc, pass, gates, target);
-        match row {
-            Ok(inc) => {
-                let (pass, went) = self.act(rt, alloc, pass, gates, ActKind::Resolve, inc);
-                (pass, resolved(went))
-            }
-            Err(refusal) => (pass, Err(refusal)),
-        }
+        self.call(
+            rt,
+            alloc,
+            pass,
+            gates,
+            target,
+            Question::Act(ActKind::Resolve),
+        )
     }
 
     /// Starts an instance, as `StartInstance` of `fuchsia.sys2.LifecycleController` does, with its
@@ -85,14 +142,14 @@ impl Manager {
             (command.Start target.now)
             pass result.0 gates.old gates.new result.1 }
     {
-        let (pass, row) = self.find_row(rt, alloc, pass, gates, target);
-        match row {
-            Ok(inc) => {
-                let (pass, went) = self.act(rt, alloc, pass, gates, ActKind::Start, inc);
-                (pass, started(went))
-            }
-            Err(refusal) => (pass, Err(refusal)),
-        }
+        self.call(
+            rt,
+            alloc,
+            pass,
+            gates,
+            target,
+            Question::Act(ActKind::Start),
+        )
     }
 
     /// Stops an instance, as `StopInstance` of `fuchsia.sys2.LifecycleController` does: `Stopped`
@@ -118,14 +175,7 @@ impl Manager {
             (command.Stop target.now)
             pass result.0 gates.old gates.new result.1 }
     {
-        let (pass, row) = self.find_row(rt, alloc, pass, gates, target);
-        match row {
-            Ok(inc) => {
-                let (pass, went) = self.act(rt, alloc, pass, gates, ActKind::Stop, inc);
-                (pass, stopped(went))
-            }
-            Err(refusal) => (pass, Err(refusal)),
-        }
+        self.call(rt, alloc, pass, gates, target, Question::Act(ActKind::Stop))
     }
 
     /// Shuts an instance down, with all below it: they are stopped one by one, each before what it
@@ -157,14 +207,7 @@ impl Manager {
             IfOk result.1 (λ _. Leaves f pass.caller target.now IsOver pass.seen result.0.seen) }
     {
         answers_hold();
-        let (pass, row) = self.find_row(rt, alloc, pass, gates, target);
-        match row {
-            Ok(inc) => {
-                let (pass, end) = self.shut_row(rt, alloc, pass, gates, false, inc);
-                (pass, unless_ended(Answer::Shut, end))
-            }
-            Err(refusal) => (pass, Err(refusal)),
-        }
+        self.call(rt, alloc, pass, gates, target, Question::Shutdown)
     }
 
     /// Creates a child of an instance in one of its collections, as `CreateChild` of
@@ -201,11 +244,8 @@ impl Manager {
             (command.Create parent.now coll.now name.now url.now gives.now)
             pass result.0 gates.old gates.new result.1 }
     {
-        let (pass, row) = self.find_row(rt, alloc, pass, gates, parent);
-        match row {
-            Ok(inc) => self.create_at(rt, alloc, pass, gates, inc, coll, name, url, gives),
-            Err(refusal) => (pass, Err(refusal)),
-        }
+        let question = Question::Event(Request::Create(coll, name, url, gives));
+        self.call(rt, alloc, pass, gates, parent, question)
     }
 
     /// Destroys a child in a collection, as `DestroyChild` of `fuchsia.component.Realm` does: it
@@ -238,14 +278,7 @@ impl Manager {
             IfOk result.1 (λ _. Leaves f pass.caller target.now IsRemoved pass.seen result.0.seen) }
     {
         answers_hold();
-        let (pass, row) = self.find_row(rt, alloc, pass, gates, target);
-        match row {
-            Ok(inc) => {
-                let (pass, end) = self.destroy_row(rt, alloc, pass, gates, inc);
-                (pass, unless_ended(Answer::Destroyed, end))
-            }
-            Err(refusal) => (pass, Err(refusal)),
-        }
+        self.call(rt, alloc, pass, gates, target, Question::Destroy)
     }
 
     /// Lists the children that an instance has in a collection and that aren't being destroyed,
@@ -271,11 +304,14 @@ impl Manager {
             (command.ListChildren target.now coll.now)
             pass result.0 gates.old gates.new result.1 }
     {
-        let (pass, row) = self.find_row(rt, alloc, pass, gates, target);
-        match row {
-            Ok(inc) => self.list_at(rt, alloc, pass, gates, inc, coll),
-            Err(refusal) => (pass, Err(refusal)),
-        }
+        self.call(
+            rt,
+            alloc,
+            pass,
+            gates,
+            target,
+            Question::Event(Request::List(coll)),
+        )
     }
 
     /// Opens what an instance uses at a path, and starts the provider first where it is off:
@@ -303,11 +339,14 @@ impl Manager {
             (command.OpenUse target.now path.now)
             pass result.0 gates.old gates.new result.1 }
     {
-        let (pass, row) = self.find_row(rt, alloc, pass, gates, target);
-        match row {
-            Ok(inc) => self.open_use_at(rt, alloc, pass, gates, inc, path),
-            Err(refusal) => (pass, Err(refusal)),
-        }
+        self.call(
+            rt,
+            alloc,
+            pass,
+            gates,
+            target,
+            Question::Event(Request::OpenUse(path)),
+        )
     }
 
     /// Opens what an instance exposes by a name, as `OpenExposedDir` of `fuchsia.component.Realm`
@@ -334,11 +373,14 @@ impl Manager {
             (command.OpenExposed target.now name.now)
             pass result.0 gates.old gates.new result.1 }
     {
-        let (pass, row) = self.find_row(rt, alloc, pass, gates, target);
-        match row {
-            Ok(inc) => self.open_exposed_at(rt, alloc, pass, gates, inc, name),
-            Err(refusal) => (pass, Err(refusal)),
-        }
+        self.call(
+            rt,
+            alloc,
+            pass,
+            gates,
+            target,
+            Question::Event(Request::OpenExposed(name)),
+        )
     }
 
     /// Tells where what an instance uses at a path comes from: `Routed` with the route.
@@ -365,11 +407,14 @@ impl Manager {
             (command.RouteOf target.now path.now)
             pass result.0 gates.old gates.new result.1 }
     {
-        let (pass, row) = self.find_row(rt, alloc, pass, gates, target);
-        match row {
-            Ok(inc) => self.route_at(rt, alloc, pass, gates, inc, path),
-            Err(refusal) => (pass, Err(refusal)),
-        }
+        self.call(
+            rt,
+            alloc,
+            pass,
+            gates,
+            target,
+            Question::Event(Request::Route(path)),
+        )
     }
 
     /// Tells how an instance is: `Shown`.
@@ -392,14 +437,14 @@ impl Manager {
             (command.Show target.now)
             pass result.0 gates.old gates.new result.1 }
     {
-        let (pass, row) = self.find_row(rt, alloc, pass, gates, target);
-        match row {
-            Ok(inc) => {
-                let event = Event::Show(inc);
-                self.settle(rt, alloc, pass, gates, &event)
-            }
-            Err(refusal) => (pass, Err(refusal)),
-        }
+        self.call(
+            rt,
+            alloc,
+            pass,
+            gates,
+            target,
+            Question::Event(Request::Show),
+        )
     }
 
     /// Tells how an instance and all below it are: `Surveyed` with those that aren't being
@@ -423,14 +468,14 @@ impl Manager {
             (command.Survey target.now)
             pass result.0 gates.old gates.new result.1 }
     {
-        let (pass, row) = self.find_row(rt, alloc, pass, gates, target);
-        match row {
-            Ok(inc) => {
-                let event = Event::Survey(inc);
-                self.settle(rt, alloc, pass, gates, &event)
-            }
-            Err(refusal) => (pass, Err(refusal)),
-        }
+        self.call(
+            rt,
+            alloc,
+            pass,
+            gates,
+            target,
+            Question::Event(Request::Survey),
+        )
     }
 
     /// Tells that the program of an instance has ended by itself: `Left`, and whether it was on.
@@ -455,11 +500,14 @@ impl Manager {
             (command.Exited target.now)
             pass result.0 gates.old gates.new result.1 }
     {
-        let (pass, row) = self.find_row(rt, alloc, pass, gates, target);
-        match row {
-            Ok(inc) => self.exited_at(rt, alloc, pass, gates, inc),
-            Err(refusal) => (pass, Err(refusal)),
-        }
+        self.call(
+            rt,
+            alloc,
+            pass,
+            gates,
+            target,
+            Question::Event(Request::Exited),
+        )
     }
 
     /// Makes the call that a command names, and answers so.
@@ -476,35 +524,7 @@ impl Manager {
             command.now
             pass result.0 gates.old gates.new result.1 }
     {
-        match command {
-            Command::Resolve(target) => self.resolve(rt, alloc, pass, gates, target),
-            Command::Start(target) => self.start(rt, alloc, pass, gates, target),
-            Command::Stop(target) => self.stop(rt, alloc, pass, gates, target),
-            Command::Shutdown(target) => self.shutdown(rt, alloc, pass, gates, target),
-            Command::Create {
-                parent,
-                coll,
-                name,
-                url,
-                gives,
-            } => self.create_child(rt, alloc, pass, gates, parent, coll, name, url, gives),
-            Command::Destroy(target) => self.destroy_child(rt, alloc, pass, gates, target),
-            Command::ListChildren { target, coll } => {
-                self.list_children(rt, alloc, pass, gates, target, coll)
-            }
-            Command::OpenUse { target, path } => {
-                self.open_use(rt, alloc, pass, gates, target, path)
-            }
-            Command::OpenExposed { target, name } => {
-                self.open_exposed(rt, alloc, pass, gates, target, name)
-            }
-            Command::RouteOf { target, path } => {
-                self.route(rt, alloc, pass, gates, target, path)
-            }
-            Command::Doctor(target) => self.doctor(rt, alloc, pass, gates, target),
-            Command::Show(target) => self.show(rt, alloc, pass, gates, target),
-            Command::Survey(target) => self.survey(rt, alloc, pass, gates, target),
-            Command::Exited(target) => self.exited(rt, alloc, pass, gates, target),
-        }
+        let (target, question) = question_of(command);
+        self.call(rt, alloc, pass, gates, target, question)
     }
 }

@@ -1,21 +1,20 @@
 //! The check of all routes at and below an instance.
 
 ghost use Rattle.std.specs.Prelude.{◌≡◌, ◌∷◌, ◌++◌, [], Some, Ok, Err, IfOk, IfErr};
-ghost use Rattle.cm_world.specs.declared.event.Event.TheVariants as event;
 ghost use Rattle.cm_command.specs.declared.command.Command.TheVariants as command;
 ghost use Rattle.cm_manager.specs.Asking.{frame_of};
 ghost use Rattle.cm_manager.specs.Contract.{IsSamePass};
 ghost use Rattle.cm_manager.specs.Doctor.{route_by, line_of, unresolved_line, surveyed_by, doctored_by};
 ghost use Rattle.cm_manager.specs.Doctor.{Each, OfPath, OfRow, Doctors, Adds, Adding, Gathering, Surveying};
-ghost use Rattle.cm_manager.specs.Runs.{Tries};
 ghost use Rattle.cm_manager.specs.Gated.{HelpsWith, PerformsWith};
 
 use crate::Manager;
 use crate::answers::refusing;
+use crate::question::{Question, Request};
 use cm_gate::Gates;
-use cm_names::{CapPath, List, Memory};
+use cm_names::{CapPath, List, Memory, Moniker};
 use cm_turn::Pass;
-use cm_world::{Answer, Checked, Entry, Event, Frame, Refusal, Reply, Route, SurveyRow, Target};
+use cm_world::{Answer, Checked, Entry, Frame, Refusal, Reply, Route, SurveyRow, Target};
 use std::alloc::Global;
 use std::sync::Wait;
 use std::thread::Threads;
@@ -52,6 +51,16 @@ fn doctored(lines: Result<List<Checked>, Refusal>) -> Result<Answer, Refusal>
     }
 }
 
+/// Where the line of a path stands: its moniker and the path. `Err` where memory runs out.
+fn place(row: &SurveyRow, path: &CapPath) -> Result<(Moniker, CapPath), Memory>
+    ensures moniker { IfOk result (λ made. made.0 ≡ row.now.moniker) }
+    ensures path { IfOk result (λ made. made.1 ≡ path.now) }
+{
+    let moniker = row.moniker.clone()?;
+    let path = path.clone()?;
+    Ok((moniker, path))
+}
+
 /// The lines with that of a path behind them. `Err` where memory runs out.
 fn with_path(
     lines: List<Checked>,
@@ -62,8 +71,13 @@ fn with_path(
     ensures { IfOk result (λ all. all ≡ lines ++
         record { moniker = row.now.moniker; path = Some path.now; result = found } ∷ []) }
 {
-    let moniker = row.moniker.clone()?;
-    let path = path.clone()?;
+    let (moniker, path) = match place(row, path) {
+        Ok(both) => both,
+        Err(memory) => {
+            drop(found);
+            return Err(memory);
+        }
+    };
     let mut all = lines;
     all.push(Checked {
         moniker,
@@ -119,31 +133,6 @@ fn found_at(
 }
 
 impl Manager {
-    /// Asks for the route of what the instance of this incarnation uses at the path.
-    fn try_route<R: Threads + Wait + Sync, G: Gates>(
-        &self,
-        rt: &R,
-        alloc: Global,
-        pass: Pass<Entry, Frame>,
-        gates: &mut G,
-        inc: u64,
-        path: &CapPath,
-    ) -> (Pass<Entry, Frame>, Result<Reply, Refusal>)
-        requires lock { pass.lock ≡ self.now.turn.lock }
-        requires known { IsSamePass (frame_of pass) pass pass }
-        ensures helps { HelpsWith G.log G.faults self.now.shelf
-            (λ f c a b. Tries f c (event.Route inc path.now) a b result.1)
-            pass result.0 gates.old gates.new }
-    {
-        match path.clone() {
-            Ok(path) => {
-                let event = Event::Route(inc, path);
-                self.try_event(rt, alloc, pass, gates, &event)
-            }
-            Err(_) => (pass, Err(Refusal::Memory)),
-        }
-    }
-
     /// Surveys the instance of this incarnation and all below it.
     fn try_survey<R: Threads + Wait + Sync, G: Gates>(
         &self,
@@ -158,8 +147,7 @@ impl Manager {
             (λ f c a b. Surveying f c inc a b result.1)
             pass result.0 gates.old gates.new }
     {
-        let event = Event::Survey(inc);
-        let (pass, went) = self.try_event(rt, alloc, pass, gates, &event);
+        let (pass, went) = self.try_request(rt, alloc, pass, gates, inc, Request::Survey);
         (pass, rows_in(went))
     }
 
@@ -175,12 +163,12 @@ impl Manager {
         lines: List<Checked>,
     ) -> (Pass<Entry, Frame>, Result<List<Checked>, Refusal>)
         requires lock { pass.lock ≡ self.now.turn.lock }
-        requires known { IsSamePass (frame_of pass) pass pass }
         ensures helps { HelpsWith G.log G.faults self.now.shelf
             (λ f c a b. Adding (OfPath f c row.now path.now) lines a b result.1)
             pass result.0 gates.old gates.new }
     {
-        let (pass, went) = self.try_route(rt, alloc, pass, gates, row.inc, path);
+        let request = Request::Route(path);
+        let (pass, went) = self.try_request(rt, alloc, pass, gates, row.inc, request);
         (pass, found_at(lines, row, path, route_in(went)))
     }
 
@@ -271,7 +259,7 @@ impl Manager {
     }
 
     /// Checks the routes of the instance of this incarnation, and of all below it.
-    fn doctor_at<R: Threads + Wait + Sync, G: Gates>(
+    pub(crate) fn doctor_at<R: Threads + Wait + Sync, G: Gates>(
         &self,
         rt: &R,
         alloc: Global,
@@ -327,10 +315,6 @@ impl Manager {
             (command.Doctor target.now)
             pass result.0 gates.old gates.new result.1 }
     {
-        let (pass, row) = self.find_row(rt, alloc, pass, gates, target);
-        match row {
-            Ok(inc) => self.doctor_at(rt, alloc, pass, gates, inc),
-            Err(refusal) => (pass, Err(refusal)),
-        }
+        self.call(rt, alloc, pass, gates, target, Question::Doctor)
     }
 }

@@ -1,12 +1,13 @@
 //! What the end of an action means for the call that asked for it.
 
 ghost use Rattle.std.specs.Prelude.{◌≡◌};
-ghost use Rattle.cm_manager.specs.Answers.{is_killed, resolved_answer, started_answer, stopped_answer};
+ghost use Rattle.cm_manager.specs.Answers.{is_killed};
 ghost use Rattle.cm_manager.specs.Parts.{EndsIn};
+ghost use Rattle.cm_manager.specs.Questions.{answer_by, made_by};
 
 use crate::Acted;
 use crate::answers::{ending, refusing};
-use cm_world::{Answer, Outcome, Refusal, Reply};
+use cm_world::{ActKind, Answer, Outcome, Refusal, Reply};
 
 /// The number of the action and its outcome; no number where the instance was so already.
 ///
@@ -27,26 +28,6 @@ fn outcome_of(went: Result<Acted, Refusal>) -> Result<(Option<u64>, Outcome), Re
     }
 }
 
-/// The answer of a call that resolves an instance.
-pub(crate) fn resolved(went: Result<Acted, Refusal>) -> Result<Answer, Refusal>
-    ensures { result ≡ resolved_answer went }
-{
-    match outcome_of(went) {
-        Ok((action, _)) => Ok(Answer::Resolved(action)),
-        Err(refusal) => Err(refusal),
-    }
-}
-
-/// The answer of a call that starts an instance.
-pub(crate) fn started(went: Result<Acted, Refusal>) -> Result<Answer, Refusal>
-    ensures { result ≡ started_answer went }
-{
-    match outcome_of(went) {
-        Ok((action, _)) => Ok(Answer::Started(action)),
-        Err(refusal) => Err(refusal),
-    }
-}
-
 /// Whether a stop had to be made by force.
 fn was_killed(outcome: Outcome) -> bool
     ensures { result ≡ is_killed outcome }
@@ -54,12 +35,23 @@ fn was_killed(outcome: Outcome) -> bool
     matches!(outcome, Outcome::Killed)
 }
 
-/// The answer of a call that stops an instance.
-pub(crate) fn stopped(went: Result<Acted, Refusal>) -> Result<Answer, Refusal>
-    ensures { result ≡ stopped_answer went }
+/// The answer of a call with an action of this kind and number that ended so.
+fn answer_for(kind: ActKind, action: Option<u64>, outcome: Outcome) -> Answer
+    ensures { result ≡ made_by kind action outcome }
+{
+    match kind {
+        ActKind::Resolve => Answer::Resolved(action),
+        ActKind::Start => Answer::Started(action),
+        ActKind::Stop => Answer::Stopped(action, was_killed(outcome)),
+    }
+}
+
+/// The answer of a call that acts on an instance.
+pub(crate) fn acted(kind: ActKind, went: Result<Acted, Refusal>) -> Result<Answer, Refusal>
+    ensures { result ≡ answer_by kind went }
 {
     match outcome_of(went) {
-        Ok((action, outcome)) => Ok(Answer::Stopped(action, was_killed(outcome))),
+        Ok((action, outcome)) => Ok(answer_for(kind, action, outcome)),
         Err(refusal) => Err(refusal),
     }
 }

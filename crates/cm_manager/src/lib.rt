@@ -15,6 +15,7 @@ mod ended;
 pub mod laws;
 pub mod manager;
 mod parts;
+mod question;
 mod shutting;
 mod starting;
 mod sweeping;

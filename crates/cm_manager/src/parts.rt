@@ -1,43 +1,34 @@
 //! The parts of a call: the search for the row of its target, and its one event.
 
 ghost use Rattle.std.specs.Prelude.{◌≡◌, IfOk, IsTrue};
+ghost use Rattle.cm_world.specs.declared.event.Event.{Event as TheEvent};
 ghost use Rattle.cm_world.specs.declared.event.Event.TheVariants as event;
 ghost use Rattle.cm_world.specs.declared.event.Target.TheVariants as target;
 ghost use Rattle.cm_manager.specs.Turns.{Later};
 ghost use Rattle.cm_manager.specs.Asking.{frame_of, is_asked, is_plain};
-ghost use Rattle.cm_manager.specs.Calls.{Finding, TriedThen, OnceCreated, SweptLeft};
+ghost use Rattle.cm_manager.specs.Calls.{Finding};
 ghost use Rattle.cm_manager.specs.Contract.{IsSamePass};
-ghost use Rattle.cm_manager.specs.Parts.{Settles};
+ghost use Rattle.cm_manager.specs.Questions.{event_for, Requested};
+ghost use Rattle.cm_manager.specs.Runs.{Tries};
 ghost use Rattle.cm_manager.specs.Gated.{HelpsWith, FindsWith};
 
 use crate::Manager;
-use crate::answers::{behind, created_in, decided, found, has_left};
+use crate::answers::{behind, decided, found};
 use crate::manager::check_history;
-use cm_decl::Give;
+use crate::question::{Follow, Request, event_at, following};
 use cm_gate::Gates;
-use cm_names::{CapPath, List, Memory, Moniker, Name, Text};
+use cm_names::{Memory, Moniker};
 use cm_turn::Pass;
-use cm_world::{Answer, Entry, Event, Frame, Refusal, Target};
+use cm_world::{Answer, Entry, Event, Frame, Refusal, Reply, Target};
 use std::alloc::Global;
 use std::sync::Wait;
 use std::thread::Threads;
 
-/// The event that creates a child of this parent. `Err` where memory runs out.
-fn creation(
-    parent: u64,
-    coll: &Name,
-    name: &Name,
-    url: &Text,
-    gives: &List<Give>,
-) -> Result<Event, Memory>
-    ensures { IfOk result (λ made.
-        made ≡ event.Create parent coll.now name.now url.now gives.now) }
+/// The event that looks for the instance at a moniker. `Err` where memory runs out.
+fn finding(moniker: &Moniker) -> Result<Event, Memory>
+    ensures { IfOk result (λ made. made ≡ event.Find moniker.now) }
 {
-    let coll = coll.clone()?;
-    let name = name.clone()?;
-    let url = url.clone()?;
-    let gives = gives.clone()?;
-    Ok(Event::Create(parent, coll, name, url, gives))
+    Ok(Event::Find(moniker.clone()?))
 }
 
 impl Manager {
@@ -51,6 +42,35 @@ impl Manager {
         let mut held = self.turn.enter(rt, pass);
         check_history(held.state());
         self.turn.leave(held)
+    }
+
+    /// Makes an event until a reply decides it, if there was memory to make it.
+    ///
+    /// `Err` is what ended the call, as for [`Manager::try_event`], or want of memory before it.
+    fn try_made<R: Threads + Wait + Sync, G: Gates>(
+        &self,
+        rt: &R,
+        alloc: Global,
+        pass: Pass<Entry, Frame>,
+        gates: &mut G,
+        made: Result<Event, Memory>,
+    ) -> (Pass<Entry, Frame>, Result<Reply, Refusal>)
+        requires lock { pass.lock ≡ self.now.turn.lock }
+        requires asked { IfOk made (λ e. IsTrue (is_asked e)) }
+        requires plain { IfOk made (λ e. IsTrue (is_plain e)) }
+        ensures helps { (e : TheEvent) → IfOk made (λ it. it ≡ e)
+            → HelpsWith G.log G.faults self.now.shelf
+            (λ f c a b. Tries f c e a b result.1)
+            pass result.0 gates.old gates.new }
+    {
+        match made {
+            Ok(event) => {
+                let tried = self.try_event(rt, alloc, pass, gates, &event);
+                drop(event);
+                tried
+            }
+            Err(_) => (self.catch_up(rt, pass), Err(Refusal::Memory)),
+        }
     }
 
     /// Looks for the row at a moniker: its incarnation, or why there is none.
@@ -67,14 +87,8 @@ impl Manager {
             (λ f c a b. Finding f c (target.Named moniker.now) a b result.1)
             pass result.0 gates.old gates.new }
     {
-        match moniker.clone() {
-            Ok(moniker) => {
-                let event = Event::Find(moniker);
-                let (pass, went) = self.try_event(rt, alloc, pass, gates, &event);
-                (pass, found(went))
-            }
-            Err(_) => (self.catch_up(rt, pass), Err(Refusal::Memory)),
-        }
+        let (pass, went) = self.try_made(rt, alloc, pass, gates, finding(moniker));
+        (pass, found(went))
     }
 
     /// The row that a target names: an incarnation is taken as it stands, a moniker is looked for.
@@ -97,182 +111,54 @@ impl Manager {
         }
     }
 
-    /// Makes the event of a call until a reply decides it, and answers so.
-    pub(crate) fn settle<R: Threads + Wait + Sync, G: Gates>(
-        &self,
-        rt: &R,
-        alloc: Global,
-        pass: Pass<Entry, Frame>,
-        gates: &mut G,
-        event: &Event,
-    ) -> (Pass<Entry, Frame>, Result<Answer, Refusal>)
-        requires lock { pass.lock ≡ self.now.turn.lock }
-        requires asked { IsTrue (is_asked event.now) }
-        requires plain { IsTrue (is_plain event.now) }
-        ensures helps { HelpsWith G.log G.faults self.now.shelf
-            (λ f c a b. Settles f c event.now a b result.1)
-            pass result.0 gates.old gates.new }
-    {
-        let (pass, went) = self.try_event(rt, alloc, pass, gates, event);
-        (pass, decided(went))
-    }
-
-    /// Opens what the instance of this incarnation uses at the path.
-    pub(crate) fn open_use_at<R: Threads + Wait + Sync, G: Gates>(
+    /// Makes the event of a request until a reply decides it.
+    pub(crate) fn try_request<R: Threads + Wait + Sync, G: Gates>(
         &self,
         rt: &R,
         alloc: Global,
         pass: Pass<Entry, Frame>,
         gates: &mut G,
         inc: u64,
-        path: &CapPath,
-    ) -> (Pass<Entry, Frame>, Result<Answer, Refusal>)
+        request: Request<'_>,
+    ) -> (Pass<Entry, Frame>, Result<Reply, Refusal>)
         requires lock { pass.lock ≡ self.now.turn.lock }
         ensures helps { HelpsWith G.log G.faults self.now.shelf
-            (λ f c a b. Settles f c (event.OpenUse inc path.now) a b result.1)
+            (λ f c a b. Tries f c (event_for request.entry inc) a b result.1)
             pass result.0 gates.old gates.new }
     {
-        match path.clone() {
-            Ok(path) => {
-                let event = Event::OpenUse(inc, path);
-                self.settle(rt, alloc, pass, gates, &event)
-            }
-            Err(_) => (self.catch_up(rt, pass), Err(Refusal::Memory)),
-        }
+        self.try_made(rt, alloc, pass, gates, event_at(request, inc))
     }
 
-    /// Tells where what the instance of this incarnation uses at the path comes from.
-    pub(crate) fn route_at<R: Threads + Wait + Sync, G: Gates>(
+    /// Makes a request of the instance of this incarnation, and does what follows its reply: a
+    /// child that was created is started where it runs once, and what went with an instance that
+    /// has ended by itself is removed.
+    pub(crate) fn request<R: Threads + Wait + Sync, G: Gates>(
         &self,
         rt: &R,
         alloc: Global,
         pass: Pass<Entry, Frame>,
         gates: &mut G,
         inc: u64,
-        path: &CapPath,
+        request: Request<'_>,
     ) -> (Pass<Entry, Frame>, Result<Answer, Refusal>)
         requires lock { pass.lock ≡ self.now.turn.lock }
         ensures helps { HelpsWith G.log G.faults self.now.shelf
-            (λ f c a b. Settles f c (event.Route inc path.now) a b result.1)
+            (λ f c a b. Requested f c request.entry inc a b result.1)
             pass result.0 gates.old gates.new }
     {
-        match path.clone() {
-            Ok(path) => {
-                let event = Event::Route(inc, path);
-                self.settle(rt, alloc, pass, gates, &event)
-            }
-            Err(_) => (self.catch_up(rt, pass), Err(Refusal::Memory)),
-        }
-    }
-
-    /// Opens what the instance of this incarnation exposes by the name.
-    pub(crate) fn open_exposed_at<R: Threads + Wait + Sync, G: Gates>(
-        &self,
-        rt: &R,
-        alloc: Global,
-        pass: Pass<Entry, Frame>,
-        gates: &mut G,
-        inc: u64,
-        name: &Name,
-    ) -> (Pass<Entry, Frame>, Result<Answer, Refusal>)
-        requires lock { pass.lock ≡ self.now.turn.lock }
-        ensures helps { HelpsWith G.log G.faults self.now.shelf
-            (λ f c a b. Settles f c (event.OpenExposed inc name.now) a b result.1)
-            pass result.0 gates.old gates.new }
-    {
-        match name.clone() {
-            Ok(name) => {
-                let event = Event::OpenExposed(inc, name);
-                self.settle(rt, alloc, pass, gates, &event)
-            }
-            Err(_) => (self.catch_up(rt, pass), Err(Refusal::Memory)),
-        }
-    }
-
-    /// Creates a child of the instance of this incarnation, in the collection, and starts it where
-    /// that collection runs each child once.
-    pub(crate) fn create_at<R: Threads + Wait + Sync, G: Gates>(
-        &self,
-        rt: &R,
-        alloc: Global,
-        pass: Pass<Entry, Frame>,
-        gates: &mut G,
-        parent: u64,
-        coll: &Name,
-        name: &Name,
-        url: &Text,
-        gives: &List<Give>,
-    ) -> (Pass<Entry, Frame>, Result<Answer, Refusal>)
-        requires lock { pass.lock ≡ self.now.turn.lock }
-        ensures helps { HelpsWith G.log G.faults self.now.shelf
-            (λ f c a b. TriedThen f c (λ p. event.Create p coll.now name.now url.now gives.now)
-            (OnceCreated f c) parent a b result.1)
-            pass result.0 gates.old gates.new }
-    {
-        match creation(parent, coll, name, url, gives) {
-            Ok(event) => {
-                let (pass, went) = self.try_event(rt, alloc, pass, gates, &event);
-                let child = created_in(&went);
-                let answer = decided(went);
-                match child {
-                    None => (pass, answer),
-                    Some(inc) => {
-                        let (pass, end) = self.start_once(rt, alloc, pass, gates, inc);
-                        (pass, behind(end, answer))
-                    }
-                }
-            }
-            Err(_) => (self.catch_up(rt, pass), Err(Refusal::Memory)),
-        }
-    }
-
-    /// Tells that the program of the instance of this incarnation has ended by itself, and removes
-    /// what went with it.
-    pub(crate) fn exited_at<R: Threads + Wait + Sync, G: Gates>(
-        &self,
-        rt: &R,
-        alloc: Global,
-        pass: Pass<Entry, Frame>,
-        gates: &mut G,
-        inc: u64,
-    ) -> (Pass<Entry, Frame>, Result<Answer, Refusal>)
-        requires lock { pass.lock ≡ self.now.turn.lock }
-        ensures helps { HelpsWith G.log G.faults self.now.shelf
-            (λ f c a b. TriedThen f c event.Exited (SweptLeft f c) inc a b result.1)
-            pass result.0 gates.old gates.new }
-    {
-        let event = Event::Exited(inc);
-        let (pass, went) = self.try_event(rt, alloc, pass, gates, &event);
-        let left = has_left(&went);
+        let (pass, went) = self.try_request(rt, alloc, pass, gates, inc, request);
+        let follow = following(request, inc, &went);
         let answer = decided(went);
-        if !left {
-            return (pass, answer);
-        }
-        let (pass, end) = self.sweep(rt, alloc, pass, gates, inc);
-        (pass, behind(end, answer))
-    }
-
-    /// Lists the children that the instance of this incarnation has in the collection.
-    pub(crate) fn list_at<R: Threads + Wait + Sync, G: Gates>(
-        &self,
-        rt: &R,
-        alloc: Global,
-        pass: Pass<Entry, Frame>,
-        gates: &mut G,
-        inc: u64,
-        coll: &Name,
-    ) -> (Pass<Entry, Frame>, Result<Answer, Refusal>)
-        requires lock { pass.lock ≡ self.now.turn.lock }
-        ensures helps { HelpsWith G.log G.faults self.now.shelf
-            (λ f c a b. Settles f c (event.Listing inc coll.now) a b result.1)
-            pass result.0 gates.old gates.new }
-    {
-        match coll.clone() {
-            Ok(coll) => {
-                let event = Event::Listing(inc, coll);
-                self.settle(rt, alloc, pass, gates, &event)
+        match follow {
+            Follow::Nothing => (pass, answer),
+            Follow::Start(child) => {
+                let (pass, end) = self.start_once(rt, alloc, pass, gates, child);
+                (pass, behind(end, answer))
             }
-            Err(_) => (self.catch_up(rt, pass), Err(Refusal::Memory)),
+            Follow::Sweep(left) => {
+                let (pass, end) = self.sweep(rt, alloc, pass, gates, left);
+                (pass, behind(end, answer))
+            }
         }
     }
 }

@@ -5,13 +5,11 @@
 //! component lifecycle, fuchsia.dev). Other calls may take turns between two picks, and several
 //! calls may shut one instance down side by side.
 
-ghost use Rattle.std.specs.Prelude.{◌≡◌, IfNone, true};
-ghost use Rattle.cm_world.specs.declared.event.Event.TheVariants as event;
+ghost use Rattle.std.specs.Prelude.{◌≡◌, IfNone};
 ghost use Rattle.cm_laws.specs.Shutdowns.{IsLeaving, IsMarked, IsOver};
 ghost use Rattle.cm_manager.specs.Turns.{world_after};
-ghost use Rattle.cm_manager.specs.Asking.{Asked, frame_of};
+ghost use Rattle.cm_manager.specs.Asking.{frame_of};
 ghost use Rattle.cm_manager.specs.Acting.{PicksBy};
-ghost use Rattle.cm_manager.specs.Contract.{IsSamePass};
 ghost use Rattle.cm_manager.specs.Shutdowns as spec;
 ghost use Rattle.cm_manager.specs.Shutdowns.{Shuts, Destroys};
 ghost use Rattle.cm_manager.specs.Sweeps.{Stops};
@@ -41,58 +39,6 @@ fn unmarked(asked: Result<Reply, Refusal>) -> Option<Refusal>
 }
 
 impl Manager {
-    /// Marks an instance: where `doom` is true to be destroyed, else to be shut down.
-    fn ask_mark<R: Wait>(
-        &self,
-        rt: &R,
-        alloc: Global,
-        pass: Pass<Entry, Frame>,
-        doom: bool,
-        inc: u64,
-    ) -> (Pass<Entry, Frame>, Result<Reply, Refusal>)
-        requires lock { pass.lock ≡ self.now.turn.lock }
-        ensures same { IsSamePass (frame_of pass) pass result.0 }
-        ensures asked { Asked (event.Mark doom inc) pass result.0 result.1 }
-    {
-        let event = Event::Mark(doom, inc);
-        self.ask(rt, alloc, pass, &event)
-    }
-
-    /// Picks the instance that stops next, in a later turn again while that has to wait.
-    fn ask_pick<R: Wait>(
-        &self,
-        rt: &R,
-        alloc: Global,
-        pass: Pass<Entry, Frame>,
-        target: u64,
-    ) -> (Pass<Entry, Frame>, Result<Reply, Refusal>)
-        requires lock { pass.lock ≡ self.now.turn.lock }
-        requires leaving { IsLeaving (world_after (frame_of pass) pass.seen) target }
-        ensures same { IsSamePass (frame_of pass) pass result.0 }
-        ensures asked { Asked (event.Pick target) pass result.0 result.1 }
-    {
-        let event = Event::Pick(target);
-        self.ask(rt, alloc, pass, &event)
-    }
-
-    /// Removes an instance that was marked to be destroyed, with all below it.
-    pub(crate) fn ask_purge<R: Wait>(
-        &self,
-        rt: &R,
-        alloc: Global,
-        pass: Pass<Entry, Frame>,
-        inc: u64,
-    ) -> (Pass<Entry, Frame>, Result<Reply, Refusal>)
-        requires lock { pass.lock ≡ self.now.turn.lock }
-        requires marked { IsMarked true (world_after (frame_of pass) pass.seen) inc }
-        requires over { IsOver (world_after (frame_of pass) pass.seen) inc }
-        ensures same { IsSamePass (frame_of pass) pass result.0 }
-        ensures asked { Asked (event.Purge inc) pass result.0 result.1 }
-    {
-        let event = Event::Purge(inc);
-        self.ask(rt, alloc, pass, &event)
-    }
-
     /// Makes one pick, and stops the instance where the pick asks for it, however that ends.
     fn pick_one<R: Threads + Wait + Sync, G: Gates>(
         &self,
@@ -109,7 +55,7 @@ impl Manager {
             pass result.0 gates.old gates.new }
     {
         pickers_end();
-        let (pass, asked) = self.ask_pick(rt, alloc, pass, target);
+        let (pass, asked) = self.ask_for(rt, alloc, pass, Event::Pick(target));
         let reply = match asked {
             Ok(reply) => reply,
             Err(refusal) => return (pass, Picked::Cut(refusal)),
@@ -181,7 +127,7 @@ impl Manager {
             IfNone result.1 (IsOver world inc) }
     {
         marks_stay();
-        let (pass, asked) = self.ask_mark(rt, alloc, pass, doom, inc);
+        let (pass, asked) = self.ask_for(rt, alloc, pass, Event::Mark(doom, inc));
         match unmarked(asked) {
             None => self.stop_all(rt, alloc, pass, gates, inc),
             Some(refusal) => (pass, Some(refusal)),
@@ -207,9 +153,12 @@ impl Manager {
         if let Some(refusal) = end {
             return (pass, Some(refusal));
         }
-        let (pass, asked) = self.ask_purge(rt, alloc, pass, inc);
+        let (pass, asked) = self.ask_for(rt, alloc, pass, Event::Purge(inc));
         match asked {
-            Ok(_reply) => (pass, None),
+            Ok(reply) => {
+                drop(reply);
+                (pass, None)
+            }
             Err(refusal) => (pass, Some(refusal)),
         }
     }

@@ -42,7 +42,10 @@ fn if_failed(went: Result<Acted, Refusal>) -> Option<Result<Acted, Refusal>>
                 Some(Ok(Acted::Ended(kind, action, outcome)))
             }
         }
-        Ok(Acted::Quiet(_reply)) => None,
+        Ok(Acted::Quiet(reply)) => {
+            drop(reply);
+            None
+        }
         Err(refusal) => Some(Err(refusal)),
     }
 }
@@ -53,7 +56,10 @@ pub(crate) fn ending_of_eager(went: Result<Acted, Refusal>) -> Option<Refusal>
 {
     match went {
         Ok(Acted::Ended(_, _, Outcome::NoMemory)) => Some(Refusal::Memory),
-        Ok(_) => None,
+        Ok(acted) => {
+            drop(acted);
+            None
+        }
         Err(refusal) => Some(refusal),
     }
 }

@@ -6,12 +6,11 @@
 //! them down and removes them, before it answers.
 
 ghost use Rattle.std.specs.Prelude.{◌≡◌, ℕ, true, Contains};
-ghost use Rattle.cm_world.specs.declared.event.Event.TheVariants as event;
 ghost use Rattle.cm_laws.specs.Shutdowns.{IsMarked};
 ghost use Rattle.cm_laws.specs.Story.{IsLegal, world_of};
 ghost use Rattle.cm_world.specs.Expiring.{runs_once};
 ghost use Rattle.cm_manager.specs.Turns.{Later, world_after};
-ghost use Rattle.cm_manager.specs.Asking.{Asked, frame_of};
+ghost use Rattle.cm_manager.specs.Asking.{frame_of};
 ghost use Rattle.cm_manager.specs.Contract.{IsSamePass};
 ghost use Rattle.cm_manager.specs.Runs.{Acts, Onces};
 ghost use Rattle.cm_manager.specs.Sweeps.{Removes, Clears, Sweeps};
@@ -41,22 +40,6 @@ fn once_in(realm: &Realm, inc: u64) -> bool
 }
 
 impl Manager {
-    /// Asks what is left to be removed of an instance that stopped.
-    fn ask_reap<R: Wait>(
-        &self,
-        rt: &R,
-        alloc: Global,
-        pass: Pass<Entry, Frame>,
-        inc: u64,
-    ) -> (Pass<Entry, Frame>, Result<Reply, Refusal>)
-        requires lock { pass.lock ≡ self.now.turn.lock }
-        ensures same { IsSamePass (frame_of pass) pass result.0 }
-        ensures asked { Asked (event.Reap inc) pass result.0 result.1 }
-    {
-        let event = Event::Reap(inc);
-        self.ask(rt, alloc, pass, &event)
-    }
-
     /// Stops an instance that is marked to be destroyed, with all below it, and removes these.
     /// `Some` tells what ended the call before that.
     fn remove_row<R: Threads + Wait + Sync, G: Gates>(
@@ -78,9 +61,12 @@ impl Manager {
         if let Some(refusal) = end {
             return (pass, Some(refusal));
         }
-        let (pass, asked) = self.ask_purge(rt, alloc, pass, inc);
+        let (pass, asked) = self.ask_for(rt, alloc, pass, Event::Purge(inc));
         match asked {
-            Ok(_reply) => (pass, None),
+            Ok(reply) => {
+                drop(reply);
+                (pass, None)
+            }
             Err(refusal) => (pass, Some(refusal)),
         }
     }
@@ -130,7 +116,7 @@ impl Manager {
             pass result.0 gates.old gates.new }
     {
         reaps_marked();
-        let (pass, asked) = self.ask_reap(rt, alloc, pass, inc);
+        let (pass, asked) = self.ask_for(rt, alloc, pass, Event::Reap(inc));
         let reply = match asked {
             Ok(reply) => reply,
             Err(refusal) => return (pass, Some(refusal)),

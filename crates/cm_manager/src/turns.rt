@@ -121,9 +121,12 @@ fn outcome_at(realm: &mut Realm, caller: u32, action: u64) -> Option<Outcome>
     ensures awaits { AwaitsBy realm.old realm.new caller action result }
 {
     check_history(realm);
-    match realm.await_end(caller, action) {
-        Some(Reply::Ended(outcome)) => Some(outcome),
-        None => None,
+    let reply = match realm.await_end(caller, action) {
+        Some(reply) => reply,
+        None => return None,
+    };
+    match reply {
+        Reply::Ended(outcome) => Some(outcome),
         _ => unreachable!(),
     }
 }
@@ -177,6 +180,25 @@ impl Manager {
             }
         }
         unreachable!()
+    }
+
+    /// The same for an event that was made for this alone.
+    pub(crate) fn ask_for<R: Wait>(
+        &self,
+        rt: &R,
+        alloc: Global,
+        pass: Pass<Entry, Frame>,
+        event: Event,
+    ) -> (Pass<Entry, Frame>, Result<Reply, Refusal>)
+        requires lock { pass.lock ≡ self.now.turn.lock }
+        requires asked { IsTrue (is_asked event) }
+        requires due { IsDue (world_after (frame_of pass) pass.seen) event }
+        ensures same { IsSamePass (frame_of pass) pass result.0 }
+        ensures asked { asking.Asked event pass result.0 result.1 }
+    {
+        let asked = self.ask(rt, alloc, pass, &event);
+        drop(event);
+        asked
     }
 
     /// Ends an action that this caller has begun, and answers what became of it.

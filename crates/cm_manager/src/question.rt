@@ -1,0 +1,145 @@
+//! What a call asks of the instance that its target names.
+
+ghost use Rattle.std.specs.Prelude.{◌≡◌, IfOk};
+ghost use Rattle.cm_world.specs.declared.event.Event.TheVariants as event;
+ghost use Rattle.cm_manager.specs.Questions.{asked_by, event_for, follow_of};
+
+use crate::answers::{created_in, has_left};
+use cm_command::Command;
+use cm_decl::Give;
+use cm_names::{CapPath, List, Memory, Name, Text};
+use cm_world::{ActKind, Event, Refusal, Reply, Target};
+
+/// What a call asks of an instance.
+#[derive(Clone, Copy)]
+pub(crate) enum Question<'a> {
+    /// An action of this kind, with what follows it.
+    Act(ActKind),
+    /// To shut it down with all below it.
+    Shutdown,
+    /// To shut it down likewise, and to remove it.
+    Destroy,
+    /// Where all that it and those below it use comes from.
+    Doctor,
+    /// What one event asks, with what follows it.
+    Event(Request<'a>),
+}
+
+/// What one event asks of an instance.
+#[derive(Clone, Copy)]
+pub(crate) enum Request<'a> {
+    /// To create a child in this collection, of this name and URL, that is offered this alone.
+    Create(&'a Name, &'a Name, &'a Text, &'a List<Give>),
+    /// Which children it has in this collection.
+    List(&'a Name),
+    /// To open what it uses at this path.
+    OpenUse(&'a CapPath),
+    /// To open what it exposes by this name.
+    OpenExposed(&'a Name),
+    /// Where what it uses at this path comes from.
+    Route(&'a CapPath),
+    /// How it is.
+    Show,
+    /// How it and all below it are.
+    Survey,
+    /// That its program has ended by itself.
+    Exited,
+}
+
+/// What follows a reply.
+#[derive(Clone, Copy)]
+pub(crate) enum Follow {
+    /// Nothing.
+    Nothing,
+    /// The start of this child, where it runs once.
+    Start(u64),
+    /// The removal of what went with this instance.
+    Sweep(u64),
+}
+
+/// The target of a command, and what the command asks of it.
+pub(crate) fn question_of(command: &Command) -> (&Target, Question<'_>)
+    ensures { asked_by result.0.now result.1 ≡ command.now }
+{
+    match command {
+        Command::Resolve(target) => (target, Question::Act(ActKind::Resolve)),
+        Command::Start(target) => (target, Question::Act(ActKind::Start)),
+        Command::Stop(target) => (target, Question::Act(ActKind::Stop)),
+        Command::Shutdown(target) => (target, Question::Shutdown),
+        Command::Create {
+            parent,
+            coll,
+            name,
+            url,
+            gives,
+        } => (
+            parent,
+            Question::Event(Request::Create(coll, name, url, gives)),
+        ),
+        Command::Destroy(target) => (target, Question::Destroy),
+        Command::ListChildren { target, coll } => (target, Question::Event(Request::List(coll))),
+        Command::OpenUse { target, path } => (target, Question::Event(Request::OpenUse(path))),
+        Command::OpenExposed { target, name } => {
+            (target, Question::Event(Request::OpenExposed(name)))
+        }
+        Command::RouteOf { target, path } => (target, Question::Event(Request::Route(path))),
+        Command::Doctor(target) => (target, Question::Doctor),
+        Command::Show(target) => (target, Question::Event(Request::Show)),
+        Command::Survey(target) => (target, Question::Event(Request::Survey)),
+        Command::Exited(target) => (target, Question::Event(Request::Exited)),
+    }
+}
+
+/// The event that creates a child of this parent. `Err` where memory runs out.
+fn creation(
+    parent: u64,
+    coll: &Name,
+    name: &Name,
+    url: &Text,
+    gives: &List<Give>,
+) -> Result<Event, Memory>
+    ensures { IfOk result (λ made.
+        made ≡ event.Create parent coll.now name.now url.now gives.now) }
+{
+    let coll = coll.clone()?;
+    let name = name.clone()?;
+    let url = url.clone()?;
+    let gives = gives.clone()?;
+    Ok(Event::Create(parent, coll, name, url, gives))
+}
+
+/// The event that asks this of the instance of this incarnation. `Err` where memory runs out.
+pub(crate) fn event_at(request: Request<'_>, inc: u64) -> Result<Event, Memory>
+    ensures { IfOk result (λ made. made ≡ event_for request.entry inc) }
+{
+    match request {
+        Request::Create(coll, name, url, gives) => creation(inc, coll, name, url, gives),
+        Request::List(coll) => Ok(Event::Listing(inc, coll.clone()?)),
+        Request::OpenUse(path) => Ok(Event::OpenUse(inc, path.clone()?)),
+        Request::OpenExposed(name) => Ok(Event::OpenExposed(inc, name.clone()?)),
+        Request::Route(path) => Ok(Event::Route(inc, path.clone()?)),
+        Request::Show => Ok(Event::Show(inc)),
+        Request::Survey => Ok(Event::Survey(inc)),
+        Request::Exited => Ok(Event::Exited(inc)),
+    }
+}
+
+/// What follows the reply to such a request.
+pub(crate) fn following(request: Request<'_>, inc: u64, went: &Result<Reply, Refusal>) -> Follow
+    ensures { result ≡ follow_of request.entry inc went.now }
+{
+    match request {
+        Request::Create(_, _, _, _) => match created_in(went) {
+            Some(child) => Follow::Start(child),
+            None => Follow::Nothing,
+        },
+        Request::Exited => {
+            if has_left(went) {
+                Follow::Sweep(inc)
+            } else {
+                Follow::Nothing
+            }
+        }
+        _ => Follow::Nothing,
+    }
+}
