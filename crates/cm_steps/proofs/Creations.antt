@@ -1,4 +1,4 @@
--- What a create comes to, and the row that it adds.
+-- What a create comes to.
 use Rattle.std.proofs.Common.{◌≡◌, ℕ, List, [], ◌∷◌, ◌++◌, ◌+◌, Bool, true, false, cond, not, ◌&&◌, Option, Some, None, is_some, flat_map, option_and_then, refl, sym, ◌∙◌, ap, subst, arith}
 use Rattle.std.specs.List.{cons_option}
 use Rattle.cm_names.specs.declared.child.ChildName.{ChildName}
@@ -16,8 +16,8 @@ use Rattle.cm_order.specs.Kids.{kids}
 use Rattle.cm_order.specs.Names as names
 use Rattle.cm_order.specs.Names.{dynamic_child}
 use Rattle.cm_order.proofs.Edges.{names_acyclic}
-use Rattle.cm_world.specs.World.{new_row, rows_fit}
-use Rattle.cm_world.specs.Create.{refused_create, CreatesUnder, CreatesUnless, IsCreateReply, dynamic_name, dynamic_children, dynamic_with, created_row}
+use Rattle.cm_world.specs.World.{rows_fit}
+use Rattle.cm_world.specs.Create.{refused_create, CreatesUnder, CreatesUnless, IsCreateReply, dynamic_name, dynamic_children, dynamic_with}
 use Rattle.cm_dynamic.specs.declared.create.MayCreate.{MayCreate}
 use Rattle.cm_dynamic.specs.declared.create.MayCreate.TheVariants.{Yes}
 use Rattle.cm_dynamic.specs.Replies.{TellsRoom, AnswersCreate}
@@ -34,13 +34,6 @@ creates_by limit next free p rows coll name gives may Creates law room says is =
     (yes limit next room, law rows free p coll name gives yes)
 creates_by limit next free p rows coll name gives may (Quiet r) law room says is =
     (subst (IsCreateReply limit rows next p coll name gives) (is.0 next) (says limit next room), is.1)
-
--- the row that was made of copies
-pub child_made : (next p : ℕ) (child : ChildName) (coll name url copied : List ℕ) (gives given : List Give) → child ≡ dynamic_name coll name → copied ≡ url → given ≡ gives → new_row next (Some p) (Some child) copied given ≡ created_row next p coll name url gives
-child_made next p child coll name url copied gives given named same_url same_gives =
-    ap (λ k. new_row next (Some p) (Some k) copied given) named
-    ∙ ap (λ u. new_row next (Some p) (Some (dynamic_name coll name)) u given) same_url
-    ∙ ap (new_row next (Some p) (Some (dynamic_name coll name)) url) same_gives
 
 module _ (rows : List Row) (limit next p : ℕ) (coll name : List ℕ) (gives : List Give) (i : ℕ) where
   under_fits : (o : Option Decl) (dynamic : List DynChild) → CreatesUnder limit rows next o dynamic (Created i) → rows_fit limit rows next 1 ≡ true

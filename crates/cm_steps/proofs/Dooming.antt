@@ -200,6 +200,11 @@ module _ (p : ℕ) where
       (find (λ r. has_parent p r && is_behind after r.inc) (doomed_up_to p k xs)) (find (λ r. has_parent p r && is_behind after r.inc) xs)
       (same_test k after x) (next_same k after xs)
 
+  -- the next child among the rows so far is the next one among those at first
+  pub next_before : (after : Option ℕ) (rows now : List Row) (o : Option ℕ) → now ≡ doomed_up_to p after rows → o ≡ next_of (has_parent p) after now → next_of (has_parent p) after rows ≡ o
+  next_before after rows now o is found =
+      sym (next_same after after rows) ∙ ap (next_of (has_parent p) after) (sym is) ∙ sym found
+
   -- one more
   later_row : (t : Bool) (r : Row) (y : Row) (ys zs : List Row) → (y.inc == r.inc) ≡ t → y.inc < r.inc → changed r.inc doomed_if_dynamic ys ≡ zs → cond t (doomed_if_dynamic y ∷ ys) (y ∷ changed r.inc doomed_if_dynamic ys) ≡ y ∷ zs
   later_row true r y ys zs same low e =

@@ -31,7 +31,8 @@ lives_at p (x ∷ xs) next i d rising low = by (p x) refl i low (λ k within. li
 
 -- ---- a loop over the rows below one
 
-one_told : {B : Type 0} (o : Option B) (h : Row → Option B) (r : Row) → h r ≡ o → filter_map h (r ∷ []) ≡ option_to_list o
+-- what is told of one item
+pub one_told : {A B : Type 0} (o : Option B) (h : A → Option B) (r : A) → h r ≡ o → filter_map h (r ∷ []) ≡ option_to_list o
 one_told None h r e = rw e refl
 one_told (Some b) h r e = rw e refl
 

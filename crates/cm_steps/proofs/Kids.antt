@@ -1,5 +1,5 @@
 -- The children that start together with their parent, one by one.
-use Rattle.std.proofs.Common.{◌≡◌, ℕ, ◌+◌, ◌<◌, List, [], ◌∷◌, ◌++◌, Bool, true, false, cond, Option, Some, None, length, take, get_or, filter, option_to_list, refl, sym, ◌∙◌, ap}
+use Rattle.std.proofs.Common.{◌≡◌, ℕ, ◌+◌, ◌<◌, List, [], ◌∷◌, ◌++◌, Bool, true, false, cond, Option, None, length, take, get_or, filter, option_to_list, refl, sym, ◌∙◌, ap}
 use Rattle.std.specs.List.{filter_map}
 use Rattle.std.proofs.lemmas.List.Elements.{filter_map-append, filter_more}
 use Rattle.cm_decl.specs.declared.rows.Child.{Child}
@@ -7,13 +7,10 @@ use Rattle.cm_decl.specs.Graph.{static_name}
 use Rattle.cm_world.specs.declared.row.Row.{Row}
 use Rattle.cm_world.specs.Rows.{child_of}
 use Rattle.cm_steps.specs.Eager.{eager_child, eager_kids}
-
-one_found : (o : Option ℕ) (h : Child → Option ℕ) (k : Child) → h k ≡ o → filter_map h (k ∷ []) ≡ option_to_list o
-one_found None h k e = rw e refl
-one_found (Some j) h k e = rw e refl
+use Rattle.cm_steps.proofs.Gathered.{one_told}
 
 one_kid : (b : Bool) (h : Child → Option ℕ) (k : Child) → filter_map h (cond b (k ∷ []) []) ≡ option_to_list (cond b (h k) None)
-one_kid true h k = one_found (h k) h k refl
+one_kid true h k = one_told (h k) h k refl
 one_kid false h k = refl
 
 -- one child more

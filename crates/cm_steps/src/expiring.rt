@@ -8,7 +8,7 @@
 
 ghost use Rattle.std.specs.Prelude.{◌≡◌, ◌&&◌, not, false, Some};
 ghost use Rattle.std.specs.Option.{option_map_or};
-ghost use Rattle.cm_world.specs.Rows.{row_of, is_closed};
+ghost use Rattle.cm_world.specs.Rows.{row_of};
 ghost use Rattle.cm_world.specs.Marks.{is_dynamic};
 ghost use Rattle.cm_world.specs.Expiring as spec;
 ghost use Rattle.cm_world.specs.Sound.{IsOrderly};

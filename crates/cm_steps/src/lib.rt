@@ -9,6 +9,7 @@
 //! legal history is said by `cm_laws`.
 #![tactic(auto)]
 
+mod copies;
 pub mod ending;
 mod expiring;
 pub mod nostep;

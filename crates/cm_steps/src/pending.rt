@@ -71,7 +71,7 @@ pub fn settle(acts: &mut Vec<Act>, action: u64, outcome: Outcome)
 }
 
 /// The place of the caller's join of the action.
-fn join_place(joins: &[Join], caller: u32, action: u64) -> Option<usize>
+pub fn join_place(joins: &[Join], caller: u32, action: u64) -> Option<usize>
     ensures place { result ≡ position (is_join caller action) joins.now }
     ensures none { IfNone result (All (λ j. is_join caller action j ≡ false) joins.now) }
 {

@@ -6,6 +6,7 @@ ghost use Rattle.cm_world.specs.Begin.{begin_reply};
 ghost use Rattle.cm_world.specs.Reports.{exit_reply};
 ghost use Rattle.cm_world.specs.Legal.{Legal, IsStep};
 ghost use Rattle.cm_world.specs.After.{moves, moved, with_action};
+ghost use Rattle.cm_table.specs.Tree.{first_tree};
 ghost use Rattle.cm_laws.specs.Story.{world_of, Tells, entry_of};
 ghost use Rattle.cm_steps.specs.Tasks.{IsIdleAt};
 ghost use Rattle.cm_steps.specs.Answers.{BeginsBy, ExitsBy};
@@ -16,6 +17,7 @@ mod ends;
 mod marks;
 mod picking;
 
+use crate::copies::{copied, let_go};
 use crate::expiring::expire;
 use crate::nostep::NoStep;
 use crate::replies::beginning::{BeginAnswer, begin_answer};
@@ -24,9 +26,9 @@ use crate::replies::listing::listed;
 use crate::replies::opening::{open_exposed_reply, open_use_reply, route_reply};
 use crate::replies::showing::{ExitAnswer, exit_answer, shown, tailed};
 use crate::replies::surveying::surveyed;
-use crate::rooms::{add_join, make_room, next_action};
+use crate::rooms::{add_join, copy_in_room, make_room, next_action};
 use cm_book::Book;
-use cm_names::{CapPath, List, Memory, Moniker, Name, Plain, Text};
+use cm_names::{CapPath, List, Memory, Moniker, Name, Text};
 use cm_table::Table;
 use cm_turn::Storied;
 use cm_world::{Act, ActKind, Builtin, Entry, Event, Frame, Join, Limits, Reply};
@@ -83,9 +85,7 @@ impl Realm {
           entries = [];
         }) }
     {
-        let url = copied(&root)?;
-        let above = copied(&builtins)?;
-        let table = Table::new(alloc, url, above, limits.rows)?;
+        let table = first_table(alloc, &root, &builtins, limits.rows)?;
         Ok(Realm {
             frame: Frame {
                 root,
@@ -132,26 +132,7 @@ impl Realm {
         self.book.fits(need)
     }
 
-    /// Puts down an event that changes no row, no action and no join.
-    fn note(&mut self, caller: u32, event: Event, reply: Reply) -> Result<(), NoStep>
-        requires quiet { moves event reply ≡ false }
-        requires step { IsStep (world_of self.old) (entry_of caller event reply) }
-        ensures step { OnOk result (Tells self.old self.new caller event reply) }
-        ensures room { OnOk result (HasRoom self.old 1) }
-        ensures refused { IfErr result (RefusesQuiet self.old) }
-        ensures err { OnErr result (self.new ≡ self.old) }
-    {
-        let entry = Entry {
-            caller,
-            event,
-            reply,
-        };
-        self.book.reserve(1)?;
-        self.book.push_reserved(entry);
-        Ok(())
-    }
-
-    /// Puts down such an event, and hands its reply back.
+    /// Puts down an event that changes no row, no action and no join, and hands its reply back.
     fn tell(&mut self, caller: u32, event: Event, reply: Reply) -> Result<Reply, NoStep>
         requires quiet { moves event reply ≡ false }
         requires step { IsStep (world_of self.old) (entry_of caller event reply) }
@@ -160,9 +141,21 @@ impl Realm {
         ensures refused { IfErr result (RefusesQuiet self.old) }
         ensures err { OnErr result (self.new ≡ self.old) }
     {
-        let kept = copied(&reply)?;
-        self.note(caller, event, kept)?;
-        Ok(reply)
+        match copy_in_room(&mut self.book, &reply) {
+            Ok(told) => {
+                self.book.push_reserved(Entry {
+                    caller,
+                    event,
+                    reply,
+                });
+                Ok(told)
+            }
+            Err(fault) => {
+                let_go(event);
+                let_go(reply);
+                Err(fault)
+            }
+        }
     }
 
     /// Which instance stands at the moniker: `Found` with its incarnation; `NotFound` with the
@@ -350,16 +343,9 @@ impl Realm {
         if !self.has_room(2) {
             return Err(NoStep::HistoryFull);
         }
-        let answer = self.answer_to_begin(alloc, kind, inc)?;
-        self.begin_by(caller, kind, inc, answer)
-    }
-
-    /// What a begin comes to.
-    fn answer_to_begin(&self, alloc: Global, kind: ActKind, inc: u64) -> Result<BeginAnswer, Memory>
-        ensures { IfOk result (BeginsBy (world_of self.now) kind inc) }
-    {
         let next = next_action(self.acts.as_slice());
-        begin_answer(alloc, &self.table, next, kind, inc)
+        let answer = begin_answer(alloc, &self.table, next, kind, inc)?;
+        self.begin_by(caller, kind, inc, answer)
     }
 
     /// Takes the step that a begin comes to, where there is room.
@@ -381,25 +367,25 @@ impl Realm {
         match answer {
             BeginAnswer::Busy(action) => Err(NoStep::Busy(action)),
             BeginAnswer::Quiet(reply) => self.tell(caller, Event::Begin(kind, inc), reply),
-            BeginAnswer::Joins(action) => {
-                self.join(caller, kind, inc, action)?;
-                Ok(Reply::Joined(action))
-            }
+            BeginAnswer::Joins(action) => self.join(caller, kind, inc, action),
             BeginAnswer::Begins(work) => {
-                let kept = copied(&work)?;
-                let event = Event::Begin(kind, inc);
-                self.begin_action(caller, kind, inc, event, Reply::Begun(kept))?;
-                Ok(Reply::Begun(work))
+                self.begin_action(
+                    caller,
+                    kind,
+                    inc,
+                    Event::Begin(kind, inc),
+                    Reply::Begun(work),
+                )
             }
         }
     }
 
     /// Puts down that a caller joins an action, with room for the entry of its await.
-    fn join(&mut self, caller: u32, kind: ActKind, inc: u64, action: u64) -> Result<(), NoStep>
+    fn join(&mut self, caller: u32, kind: ActKind, inc: u64, action: u64) -> Result<Reply, NoStep>
         requires { let w = world_of self.old in
             begin_reply w.rows w.next_action kind inc ≡ Some (Reply.Joined action) }
-        ensures step { let event = Event.Begin kind inc in
-            OnOk result (Tells self.old self.new caller event (Reply.Joined action)) }
+        ensures step { IfOk result (λ reply.
+            Tells self.old self.new caller (Event.Begin kind inc) reply) }
         ensures refused { IfErr result (Refuses self.old 2 (λ a. ⊥)) }
         ensures err { OnErr result (self.new ≡ self.old) }
     {
@@ -409,11 +395,11 @@ impl Realm {
             event: Event::Begin(kind, inc),
             reply: Reply::Joined(action),
         });
-        Ok(())
+        Ok(Reply::Joined(action))
     }
 
     /// Puts down an event by which an action begins at an instance, with room for the entry of
-    /// its end.
+    /// its end, and hands its reply back.
     fn begin_action(
         &mut self,
         caller: u32,
@@ -421,38 +407,53 @@ impl Realm {
         inc: u64,
         event: Event,
         reply: Reply,
-    ) -> Result<(), NoStep>
+    ) -> Result<Reply, NoStep>
         requires step { IsStep (world_of self.old) (entry_of caller event reply) }
         requires begins { let w = world_of self.old in
             moved w caller event reply ≡ with_action w caller kind inc }
         requires idle { IsIdleAt (world_of self.old).rows kind inc }
-        ensures step { OnOk result (Tells self.old self.new caller event reply) }
+        ensures step { IfOk result (λ told. Tells self.old self.new caller event told) }
         ensures refused { IfErr result (Refuses self.old 2 (λ a. ⊥)) }
         ensures err { OnErr result (self.new ≡ self.old) }
     {
-        let resolves = make_room(
+        let Ok(told) = copied(&reply) else {
+            let_go(event);
+            let_go(reply);
+            return Err(NoStep::Memory);
+        };
+        let room = make_room(
             &mut self.acts,
             self.resolves,
             &mut self.table,
             &mut self.book,
             kind,
-        )?;
-        let action = next_action(self.acts.as_slice());
-        self.resolves = resolves;
-        self.table.set_pending(inc, Some((kind, action)));
-        self.acts.push_reserved(Act {
-            action,
-            kind,
-            inc,
-            by: caller,
-            outcome: None,
-        });
-        self.book.push_reserved(Entry {
-            caller,
-            event,
-            reply,
-        });
-        Ok(())
+        );
+        match room {
+            Ok(resolves) => {
+                let action = next_action(self.acts.as_slice());
+                self.resolves = resolves;
+                self.table.set_pending(inc, Some((kind, action)));
+                self.acts.push_reserved(Act {
+                    action,
+                    kind,
+                    inc,
+                    by: caller,
+                    outcome: None,
+                });
+                self.book.push_reserved(Entry {
+                    caller,
+                    event,
+                    reply,
+                });
+                Ok(told)
+            }
+            Err(fault) => {
+                let_go(told);
+                let_go(event);
+                let_go(reply);
+                Err(fault)
+            }
+        }
     }
 
     /// The program of an instance has ended by itself: `Left` with where the instance stands,
@@ -474,15 +475,8 @@ impl Realm {
         if !self.has_room(1) {
             return Err(NoStep::HistoryFull);
         }
-        let answer = self.answer_to_exit(alloc, inc)?;
+        let answer = exit_answer(alloc, &self.table, inc)?;
         self.exit_by(caller, inc, answer)
-    }
-
-    /// What the exit of a program comes to.
-    fn answer_to_exit(&self, alloc: Global, inc: u64) -> Result<ExitAnswer, Memory>
-        ensures { IfOk result (ExitsBy (world_of self.now) inc) }
-    {
-        exit_answer(alloc, &self.table, inc)
     }
 
     /// Takes the step that an exit comes to, where there is room.
@@ -498,23 +492,19 @@ impl Realm {
         match answer {
             ExitAnswer::Busy(action) => Err(NoStep::Busy(action)),
             ExitAnswer::Quiet(reply) => self.tell(caller, Event::Exited(inc), reply),
-            ExitAnswer::Leaves(moniker) => {
-                let kept = copied(&moniker)?;
-                self.leave(caller, inc, kept)?;
-                Ok(Reply::Left(moniker))
-            }
+            ExitAnswer::Leaves(moniker) => self.leave(caller, inc, moniker),
         }
     }
 
     /// Puts down that the program of an instance has ended by itself.
-    fn leave(&mut self, caller: u32, inc: u64, moniker: Moniker) -> Result<(), NoStep>
+    fn leave(&mut self, caller: u32, inc: u64, moniker: Moniker) -> Result<Reply, NoStep>
         requires { exit_reply (world_of self.old).rows inc ≡ Some (Reply.Left moniker) }
-        ensures step { let event = Event.Exited inc in
-            OnOk result (Tells self.old self.new caller event (Reply.Left moniker)) }
+        ensures step { IfOk result (λ reply.
+            Tells self.old self.new caller (Event.Exited inc) reply) }
         ensures refused { IfErr result (RefusesQuiet self.old) }
         ensures err { OnErr result (self.new ≡ self.old) }
     {
-        self.book.reserve(1)?;
+        let told = copy_in_room(&mut self.book, &moniker)?;
         self.table.set_on(inc, false);
         expire(&mut self.table, inc);
         self.book.push_reserved(Entry {
@@ -522,13 +512,20 @@ impl Realm {
             event: Event::Exited(inc),
             reply: Reply::Left(moniker),
         });
-        Ok(())
+        Ok(Reply::Left(told))
     }
 }
 
-/// A copy of the value.
-fn copied<T: Plain>(value: &T) -> Result<T, Memory>
-    ensures { IfOk result (λ copy. copy ≡ value.now) }
+/// The table of the root alone, with copies of its URL and of what stands above it.
+fn first_table(
+    alloc: Global,
+    root: &Text,
+    builtins: &List<Builtin>,
+    limit: u32,
+) -> Result<Table, Memory>
+    ensures { IfOk result (λ made. made ≡ first_tree root.now builtins.now limit) }
 {
-    Ok(value.clone()?)
+    let url = copied(root)?;
+    let builtins = copied(builtins)?;
+    Table::new(alloc, url, builtins, limit)
 }

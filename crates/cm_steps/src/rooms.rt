@@ -1,12 +1,12 @@
 //! Room for what a step needs and leaves to come: entries, also those of ends and awaits, and rows.
 
 ghost use Rattle.std.specs.Prelude.{◌≡◌, ◌+◌, ◌-◌, ◌≤◌, ◌<◌, ◌^◌, length, cond, count_by};
-ghost use Rattle.std.specs.Prelude.{Some, None, IsTrue, IfOk, OnOk, OnErr, IfErr, false};
+ghost use Rattle.std.specs.Prelude.{IsTrue, IfOk, OnOk, OnErr, IfErr, false};
 ghost use Rattle.std.specs.Option.{option_map_or};
 ghost use Rattle.std.specs.List.{list_any};
 ghost use Rattle.std.specs.Vec.{vec_len, vec_capacity};
-ghost use Rattle.cm_world.specs.Rows.{is_resolved, child_of};
-ghost use Rattle.cm_world.specs.World.{new_row, act_of};
+ghost use Rattle.cm_world.specs.World.{act_of};
+ghost use Rattle.cm_world.specs.Create.{created_row};
 ghost use Rattle.cm_world.specs.End.{ended};
 ghost use Rattle.cm_world.specs.declared.action.Outcome.{Outcome};
 ghost use Rattle.cm_laws.specs.Tasks.{IsNumbered};
@@ -16,14 +16,17 @@ ghost use Rattle.cm_world.specs.After.{joined};
 ghost use Rattle.cm_book.specs.Refusal.{Fits};
 ghost use Rattle.cm_table.specs.Change.{with_row};
 ghost use Rattle.cm_table.specs.Tree.{fit};
+ghost use Rattle.cm_dynamic.specs.Laws.{CanTake};
 ghost use Rattle.cm_steps.specs.Tasks as tasks;
 ghost use Rattle.cm_steps.specs.Rooms.{Lacks};
 
+use crate::copies::copied;
 use crate::nostep::NoStep;
-use crate::pending::act_at;
+use crate::pending::{act_at, join_place};
+use crate::replies::creating::child_name;
 use cm_book::Book;
 use cm_decl::Give;
-use cm_names::{ChildName, List, Text};
+use cm_names::{List, Memory, Name, Plain, Text};
 use cm_table::{Table, TableFault};
 use cm_world::{Act, ActKind, Join};
 use std::alloc::Global;
@@ -33,6 +36,20 @@ pub fn next_action(acts: &[Act]) -> u64
     ensures { result ≡ length acts.now + 1 }
 {
     acts.len() as u64 + 1
+}
+
+/// A copy of the value, with room for one entry more.
+pub fn copy_in_room<T: Plain>(book: &mut Book, value: &T) -> Result<T, NoStep>
+    ensures copy { IfOk result (λ copy. copy ≡ value.now) }
+    ensures book { let reserved = book.old.reserved + 1 in
+        OnOk result (book.new ≡ record book.old { reserved = reserved }) }
+    ensures fits { OnOk result (Fits book.old 1) }
+    ensures err { OnErr result (book.new ≡ book.old) }
+    ensures refused { IfErr result (Lacks book.old 1) }
+{
+    let copy = copied(value)?;
+    book.reserve(1)?;
+    Ok(copy)
 }
 
 /// Makes room for an action more: for itself, for the entries of its begin and its end, and,
@@ -150,13 +167,10 @@ pub fn add_join(
 fn waits(joins: &[Join], caller: u32, action: u64) -> bool
     ensures { result ≡ list_any (step.is_join caller action) joins.now }
 {
-    joins.iter().any(|join| is_join(join, caller, action))
-}
-
-fn is_join(join: &Join, caller: u32, action: u64) -> bool
-    ensures { result ≡ step.is_join caller action join.now }
-{
-    join.caller == caller && join.action == action
+    match join_place(joins, caller, action) {
+        None => false,
+        Some(_place) => true,
+    }
 }
 
 /// Puts a new child into the tree, with room for the entry that says so, and answers its
@@ -166,16 +180,17 @@ pub fn add_row(
     table: &mut Table,
     book: &mut Book,
     parent: u64,
-    name: ChildName,
-    url: Text,
-    gives: List<Give>,
+    coll: &Name,
+    name: &Name,
+    url: &Text,
+    gives: &List<Give>,
 ) -> Result<u64, NoStep>
-    requires resolved { IsTrue (is_resolved table.old.rows parent) }
-    requires unused { child_of table.old.rows parent name ≡ None }
+    requires takes { CanTake table.old.rows parent coll.now name.now }
     requires room { IsTrue (fit table.old 1) }
     ensures inc { IfOk result (λ inc. inc ≡ table.old.next_inc) }
-    ensures table { let row = new_row table.old.next_inc (Some parent) (Some name) url gives in
-        OnOk result (table.new ≡ with_row row table.old) }
+    ensures table { let t = table.old in
+        let row = created_row t.next_inc parent coll.now name.now url.now gives.now in
+        OnOk result (table.new ≡ with_row row t) }
     ensures book { let reserved = book.old.reserved + 1 in
         OnOk result (book.new ≡ record book.old { reserved = reserved }) }
     ensures fits { OnOk result (Fits book.old 1) }
@@ -184,12 +199,40 @@ pub fn add_row(
     ensures refused { IfErr result (Lacks book.old 1) }
 {
     book.reserve(1)?;
-    match table.add(alloc, parent, name, url, gives) {
+    match put_row(alloc, table, parent, coll, name, url, gives) {
         Ok(inc) => Ok(inc),
-        Err(TableFault::Full) => unreachable!(),
-        Err(TableFault::Memory) => {
+        Err(Memory) => {
             book.release(1);
             Err(NoStep::Memory)
         }
+    }
+}
+
+/// Puts a new child into the tree, made of copies, and answers its incarnation. There is room for
+/// its row.
+fn put_row(
+    alloc: Global,
+    table: &mut Table,
+    parent: u64,
+    coll: &Name,
+    name: &Name,
+    url: &Text,
+    gives: &List<Give>,
+) -> Result<u64, Memory>
+    requires takes { CanTake table.old.rows parent coll.now name.now }
+    requires room { IsTrue (fit table.old 1) }
+    ensures inc { IfOk result (λ inc. inc ≡ table.old.next_inc) }
+    ensures table { let t = table.old in
+        let row = created_row t.next_inc parent coll.now name.now url.now gives.now in
+        OnOk result (table.new ≡ with_row row t) }
+    ensures same { OnErr result (table.new ≡ table.old) }
+{
+    let child = child_name(coll, name)?;
+    let url = copied(url)?;
+    let gives = copied(gives)?;
+    match table.add(alloc, parent, child, url, gives) {
+        Ok(inc) => Ok(inc),
+        Err(TableFault::Full) => unreachable!(),
+        Err(TableFault::Memory) => Err(Memory),
     }
 }

@@ -8,13 +8,13 @@ ghost use Rattle.cm_laws.specs.Story.{world_of, Tells};
 ghost use Rattle.cm_steps.specs.Steps.{HasRoom, RefusesQuiet};
 ghost use Rattle.cm_steps.specs.Answers.{CreatesBy};
 
-use super::{Realm, copied};
+use super::Realm;
 use crate::nostep::NoStep;
-use crate::replies::creating::{CreateAnswer, child_name, create_answer};
+use crate::replies::creating::{CreateAnswer, create_answer};
 use crate::rooms::add_row;
 use cm_decl::Give;
 use cm_laws::trees_stay_sound;
-use cm_names::{List, Memory, Name, Text};
+use cm_names::{List, Name, Text};
 use cm_world::{Entry, Event, Reply};
 use std::alloc::Global;
 
@@ -49,25 +49,10 @@ impl Realm {
         ensures refused { IfErr result (RefusesQuiet self.old) }
         ensures err { OnErr result (self.new ≡ self.old) }
     {
-        let answer = self.answer_to_create(alloc, parent, &coll, &name, gives.as_slice())?;
-        self.create_by(alloc, caller, parent, coll, name, url, gives, answer)
-    }
-
-    /// What a create comes to.
-    fn answer_to_create(
-        &self,
-        alloc: Global,
-        parent: u64,
-        coll: &Name,
-        name: &Name,
-        gives: &[Give],
-    ) -> Result<CreateAnswer, Memory>
-        ensures { let w = world_of self.now in
-            IfOk result (CreatesBy w.frame.limits.rows w.rows w.next_inc parent coll.now name.now
-            gives.now) }
-    {
         trees_stay_sound();
-        create_answer(alloc, &self.table, parent, coll, name, gives)
+        let offered = gives.as_slice();
+        let answer = create_answer(alloc, &self.table, parent, &coll, &name, offered)?;
+        self.create_by(alloc, caller, parent, coll, name, url, gives, answer)
     }
 
     /// Takes the step that a create comes to.
@@ -121,17 +106,15 @@ impl Realm {
         ensures refused { IfErr result (RefusesQuiet self.old) }
         ensures err { OnErr result (self.new ≡ self.old) }
     {
-        let child = child_name(&coll, &name)?;
-        let own_url = copied(&url)?;
-        let own_gives = copied(&gives)?;
         let inc = add_row(
             alloc,
             &mut self.table,
             &mut self.book,
             parent,
-            child,
-            own_url,
-            own_gives,
+            &coll,
+            &name,
+            &url,
+            &gives,
         )?;
         self.book.push_reserved(Entry {
             caller,

@@ -15,14 +15,15 @@ ghost use Rattle.cm_laws.specs.Story.{world_of, Tells};
 ghost use Rattle.cm_steps.specs.Steps.{HasRoom, RefusesQuiet};
 ghost use Rattle.cm_steps.specs.Answers.{AnswersMark, AnswersPurge};
 
-use super::{Realm, copied};
+use super::Realm;
 use crate::expiring;
 use crate::nostep::NoStep;
 use crate::replies::marking::{MarkAnswer, mark_answer};
 use crate::replies::purging::{PurgeAnswer, purge_answer};
 use crate::replies::reaping::reap_reply;
+use crate::rooms::copy_in_room;
 use cm_laws::trees_stay_sound;
-use cm_names::{List, Memory};
+use cm_names::List;
 use cm_table::Table;
 use cm_world::{Entry, Event, Lost, Reply};
 use std::alloc::Global;
@@ -47,16 +48,8 @@ impl Realm {
         ensures refused { IfErr result (RefusesQuiet self.old) }
         ensures err { OnErr result (self.new ≡ self.old) }
     {
-        let answer = self.answer_to_mark(doom, inc);
+        let answer = mark_answer(&self.table, doom, inc);
         self.mark_by(caller, doom, inc, answer)
-    }
-
-    /// What a mark comes to.
-    fn answer_to_mark(&self, doom: bool, inc: u64) -> MarkAnswer
-        ensures { AnswersMark (world_of self.now).rows doom inc result }
-    {
-        let _acts = &self.acts;
-        mark_answer(&self.table, doom, inc)
     }
 
     /// Takes the step that a mark comes to.
@@ -76,18 +69,15 @@ impl Realm {
     {
         match answer {
             MarkAnswer::Quiet(reply) => self.tell(caller, Event::Mark(doom, inc), reply),
-            MarkAnswer::Marks => {
-                self.put_mark(caller, doom, inc)?;
-                Ok(Reply::Marked)
-            }
+            MarkAnswer::Marks => self.put_mark(caller, doom, inc),
         }
     }
 
     /// Puts down that an instance is marked.
-    fn put_mark(&mut self, caller: u32, doom: bool, inc: u64) -> Result<(), NoStep>
+    fn put_mark(&mut self, caller: u32, doom: bool, inc: u64) -> Result<Reply, NoStep>
         requires { mark_reply (world_of self.old).rows doom inc ≡ Reply.Marked }
-        ensures step { let event = Event.Mark doom inc in
-            OnOk result (Tells self.old self.new caller event Reply.Marked) }
+        ensures step { IfOk result (λ reply.
+            Tells self.old self.new caller (Event.Mark doom inc) reply) }
         ensures room { OnOk result (HasRoom self.old 1) }
         ensures refused { IfErr result (RefusesQuiet self.old) }
         ensures err { OnErr result (self.new ≡ self.old) }
@@ -99,7 +89,7 @@ impl Realm {
             event: Event::Mark(doom, inc),
             reply: Reply::Marked,
         });
-        Ok(())
+        Ok(Reply::Marked)
     }
 
     /// What is left to be removed of an instance that stopped: `Reaping` with the instance alone
@@ -143,16 +133,8 @@ impl Realm {
         ensures refused { IfErr result (RefusesQuiet self.old) }
         ensures err { OnErr result (self.new ≡ self.old) }
     {
-        let answer = self.answer_to_purge(alloc, inc)?;
+        let answer = purge_answer(alloc, &self.table, inc)?;
         self.purge_by(caller, inc, answer)
-    }
-
-    /// What a purge comes to.
-    fn answer_to_purge(&self, alloc: Global, inc: u64) -> Result<PurgeAnswer, Memory>
-        ensures { IfOk result (AnswersPurge (world_of self.now).rows inc) }
-    {
-        let _acts = &self.acts;
-        purge_answer(alloc, &self.table, inc)
     }
 
     /// Takes the step that a purge comes to.
@@ -167,35 +149,31 @@ impl Realm {
     {
         match answer {
             PurgeAnswer::Before => self.tell(caller, Event::Purge(inc), Reply::PurgedBefore),
-            PurgeAnswer::Removes(lost) => {
-                let kept = copied(&lost)?;
-                self.remove(caller, inc, kept)?;
-                Ok(Reply::Purged(lost))
-            }
+            PurgeAnswer::Removes(lost) => self.remove(caller, inc, lost),
         }
     }
 
     /// Puts down that an instance is removed with all below it.
-    fn remove(&mut self, caller: u32, inc: u64, lost: List<Lost>) -> Result<(), NoStep>
+    fn remove(&mut self, caller: u32, inc: u64, lost: List<Lost>) -> Result<Reply, NoStep>
         requires purgeable { IsTrue (may_purge (world_of self.old).rows inc) }
         requires lives { IsTrue (is_live (world_of self.old).rows inc) }
         requires lost { let rows = (world_of self.old).rows in
             lost ≡ map (lost_of rows) (subtree rows inc) }
-        ensures step { let event = Event.Purge inc in
-            OnOk result (Tells self.old self.new caller event (Reply.Purged lost)) }
+        ensures step { IfOk result (λ reply.
+            Tells self.old self.new caller (Event.Purge inc) reply) }
         ensures room { OnOk result (HasRoom self.old 1) }
         ensures refused { IfErr result (RefusesQuiet self.old) }
         ensures err { OnErr result (self.new ≡ self.old) }
     {
         trees_stay_sound();
-        self.book.reserve(1)?;
+        let told = copy_in_room(&mut self.book, &lost)?;
         self.table.remove_below(inc);
         self.book.push_reserved(Entry {
             caller,
             event: Event::Purge(inc),
             reply: Reply::Purged(lost),
         });
-        Ok(())
+        Ok(Reply::Purged(told))
     }
 }
 

@@ -9,12 +9,11 @@ ghost use Rattle.cm_laws.specs.Story.{world_of, Tells};
 ghost use Rattle.cm_steps.specs.Steps.{HasRoom, Refuses, RefusesQuiet, WaitsToPick};
 ghost use Rattle.cm_steps.specs.Answers.{PicksBy};
 
-use super::{Realm, copied};
+use super::Realm;
 use crate::nostep::NoStep;
 use crate::replies::picking::{PickAnswer, pick_answer};
 use crate::rooms::next_action;
 use cm_laws::trees_stay_sound;
-use cm_names::Memory;
 use cm_world::{ActKind, Entry, Event, Reply};
 use std::alloc::Global;
 
@@ -44,18 +43,10 @@ impl Realm {
         if !self.has_room(2) {
             return Err(NoStep::HistoryFull);
         }
-        let answer = self.answer_to_pick(alloc, target)?;
-        self.pick_by(caller, target, answer)
-    }
-
-    /// What a pick comes to.
-    fn answer_to_pick(&self, alloc: Global, target: u64) -> Result<PickAnswer, Memory>
-        requires { IsTrue (may_close (world_of self.now).rows target) }
-        ensures { IfOk result (PicksBy (world_of self.now) target) }
-    {
         trees_stay_sound();
         let next = next_action(self.acts.as_slice());
-        pick_answer(alloc, &self.table, next, target)
+        let answer = pick_answer(alloc, &self.table, next, target)?;
+        self.pick_by(caller, target, answer)
     }
 
     /// Takes the step that a pick comes to, where there is room.
@@ -72,26 +63,21 @@ impl Realm {
         match answer {
             PickAnswer::Busy(action) => Err(NoStep::Busy(action)),
             PickAnswer::Done => self.tell(caller, Event::Pick(target), Reply::Done),
-            PickAnswer::Shuts(inc) => {
-                self.shut(caller, target, inc)?;
-                Ok(Reply::ShutDown(inc))
-            }
+            PickAnswer::Shuts(inc) => self.shut(caller, target, inc),
             PickAnswer::Stops(work) => {
-                let kept = copied(&work)?;
                 let inc = work.inc;
                 let event = Event::Pick(target);
-                self.begin_action(caller, ActKind::Stop, inc, event, Reply::Stopping(kept))?;
-                Ok(Reply::Stopping(work))
+                self.begin_action(caller, ActKind::Stop, inc, event, Reply::Stopping(work))
             }
         }
     }
 
     /// Puts down that an instance whose program doesn't run is shut.
-    fn shut(&mut self, caller: u32, target: u64, inc: u64) -> Result<(), NoStep>
+    fn shut(&mut self, caller: u32, target: u64, inc: u64) -> Result<Reply, NoStep>
         requires closing { IsTrue (may_close (world_of self.old).rows target) }
         requires picks { PicksOff (world_of self.old).rows target inc }
-        ensures step { let event = Event.Pick target in
-            OnOk result (Tells self.old self.new caller event (Reply.ShutDown inc)) }
+        ensures step { IfOk result (λ reply.
+            Tells self.old self.new caller (Event.Pick target) reply) }
         ensures refused { IfErr result (RefusesQuiet self.old) }
         ensures err { OnErr result (self.new ≡ self.old) }
     {
@@ -102,6 +88,6 @@ impl Realm {
             event: Event::Pick(target),
             reply: Reply::ShutDown(inc),
         });
-        Ok(())
+        Ok(Reply::ShutDown(inc))
     }
 }

@@ -4,6 +4,7 @@ ghost use Rattle.std.specs.Prelude.{◌≡◌, [], IfOk, if◌then◌else◌};
 ghost use Rattle.cm_world.specs.Rows.{is_closed};
 ghost use Rattle.cm_world.specs.Find.{found_from};
 
+use crate::copies::push_copy;
 use cm_names::{ChildName, List, Memory, Moniker};
 use cm_walk::above::{closed, resolved};
 use cm_world::{Reply, View};
@@ -23,7 +24,7 @@ pub fn found<V: View>(alloc: Global, view: &V, parts: &[ChildName]) -> Result<Re
             None => return Ok(Reply::NotFound(Moniker { parts: front })),
             Some(next) => {
                 at = next;
-                front.push(name.clone()?)?;
+                push_copy(&mut front, name)?;
             }
         }
     }

@@ -2,6 +2,7 @@
 
 ghost use Rattle.std.specs.Prelude.{◌≡◌, IfOk};
 ghost use Rattle.cm_world.specs.Openings as openings;
+ghost use Rattle.cm_world.specs.Route.{IsWalked};
 
 use crate::replies::finding::unresolved;
 use cm_names::{CapPath, Memory, Name};
@@ -89,6 +90,15 @@ pub fn opened<V: View>(view: &V, walked: Walked) -> Reply
     }
 }
 
+/// Where what an instance uses at the path comes from.
+fn walk_use<V: View>(alloc: Global, view: &V, inc: u64, path: &CapPath) -> Result<Walked, Memory>
+    ensures { let rows = V.rows view.now in
+        IfOk result (IsWalked rows (V.builtins view.now) (Start.UseAt inc path.now)) }
+{
+    let path = path.clone()?;
+    walk(alloc, view, Start::UseAt(inc, path))
+}
+
 /// The reply to who asks for the route of a use.
 pub fn route_reply<V: View>(
     alloc: Global,
@@ -103,7 +113,7 @@ pub fn route_reply<V: View>(
     match unready(view, inc) {
         Some(refusal) => Ok(refusal),
         None => {
-            let walked = walk(alloc, view, Start::UseAt(inc, path.clone()?))?;
+            let walked = walk_use(alloc, view, inc, path)?;
             Ok(routed(view, walked))
         }
     }
@@ -123,7 +133,7 @@ pub fn open_use_reply<V: View>(
     match unopened(view, inc) {
         Some(refusal) => Ok(refusal),
         None => {
-            let walked = walk(alloc, view, Start::UseAt(inc, path.clone()?))?;
+            let walked = walk_use(alloc, view, inc, path)?;
             Ok(opened(view, walked))
         }
     }
@@ -143,7 +153,8 @@ pub fn open_exposed_reply<V: View>(
     match unready(view, inc) {
         Some(refusal) => Ok(refusal),
         None => {
-            let walked = walk(alloc, view, Start::ExposeAt(inc, name.clone()?))?;
+            let name = name.clone()?;
+            let walked = walk(alloc, view, Start::ExposeAt(inc, name))?;
             Ok(opened(view, walked))
         }
     }

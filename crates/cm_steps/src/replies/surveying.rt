@@ -6,6 +6,7 @@ ghost use Rattle.cm_world.specs.Rows.{row_of, decl_of};
 ghost use Rattle.cm_world.specs.Reports as reports;
 ghost use Rattle.cm_steps.specs.Reporting as spec;
 
+use crate::copies::push_copy;
 use crate::replies::telling::{Told, told_below};
 use cm_decl::Usage;
 use cm_names::{CapPath, List, Memory};
@@ -75,7 +76,7 @@ fn paths_of(alloc: Global, uses: &[Usage]) -> Result<List<CapPath>, Memory>
 {
     let mut paths = List::new(alloc);
     for usage in uses {
-        paths.push(usage.path.clone()?)?;
+        push_copy(&mut paths, &usage.path)?;
     }
     Ok(paths)
 }

@@ -1,5 +1,4 @@
 use Rattle.std.proofs.Common.{◌≡◌, ◌+◌, ◌++◌, ◌∷◌, [], true, refl, sym, ◌∙◌, ap, subst}
-use Rattle.cm_table.specs.Change as table
 use Rattle.cm_world.specs.declared.row.Row.{Row}
 use Rattle.cm_world.specs.declared.reply.Entry.{Entry}
 use Rattle.cm_world.specs.declared.event.Event.TheVariants as event
@@ -7,11 +6,12 @@ use Rattle.cm_world.specs.declared.reply.Reply.TheVariants as reply
 use Rattle.cm_world.specs.World.{World, rows_fit}
 use Rattle.cm_world.specs.Create.{IsCreateReply, created_row}
 use Rattle.cm_world.specs.After.{with_row}
+use Rattle.cm_dynamic.specs.Laws.{CanTake}
 use Rattle.cm_laws.specs.Story.{world_of, entry_of}
 use Rattle.cm_steps.specs.Inside.{world_in}
 use Rattle.cm_steps.proofs.Stepping.{one_pushed, kept_rows}
 use Rattle.cm_steps.proofs.Removing.{tasked_added}
-use Rattle.cm_steps.proofs.Creations.{child_made, created_fits}
+use Rattle.cm_steps.proofs.Creations.{created_fits}
 use Rattle.cm_steps.proofs.realm.Realm.add_child.Goals as goal
 
 pub add_row-requires-clause-room : goal.add_row-requires-clause-room
@@ -23,6 +23,10 @@ add_row-requires-clause-room c =
     created_fits old.rows old.frame.limits.rows old.next_inc c.args.parent c.args.coll c.args.name c.args.gives old.next_inc c.requires.creates in
     subst (λ n. rows_fit n w.rows w.next_inc 1 ≡ true) (sym c.self.invariant.rows)
     (subst (λ (v : World). rows_fit v.frame.limits.rows v.rows v.next_inc 1 ≡ true) here fits)
+
+pub add_row-requires-clause-takes : goal.add_row-requires-clause-takes
+add_row-requires-clause-takes c =
+    subst (λ (v : World). CanTake v.rows c.args.parent c.args.coll c.args.name) (ap world_of (sym c.self.view_is) ∙ c.self.invariant.stands.world) c.requires.takes
 
 pub invariant_of-self-2 : goal.invariant_of-self-2
 invariant_of-self-2 c =
@@ -42,10 +46,7 @@ invariant_of-self-2 c =
     (tasked_added w.rows w.acts row refl c.self.invariant.tasks)
     (record {
       frame = refl;
-      table =
-          c.in_ok-inc.ensures.table
-          ∙ ap (λ r. table.with_row r c.self.inside.table)
-          (child_made w.next_inc c.args.parent c.in_ok-child.child c.args.coll c.args.name c.args.url c.in_ok-own_url.own_url c.args.gives c.in_ok-own_gives.own_gives c.in_ok-child.ensures c.in_ok-own_url.ensures c.in_ok-own_gives.ensures);
+      table = c.in_ok-inc.ensures.table;
       acts = refl;
       resolves = refl;
       joins = refl;

@@ -19,12 +19,9 @@ use Rattle.cm_steps.proofs.Begun.{new_resolve}
 use Rattle.cm_laws.proofs.actions.Tasks.{numbered_more, tasked_begun}
 use Rattle.cm_steps.proofs.realm.Realm.begin_action.Goals as goal
 
-pub make_room-requires : goal.make_room-requires
-make_room-requires c = omega (arith, c.self.invariant.counted, c.self.invariant.spare)
-
-pub invariant_of-self-2 : goal.invariant_of-self-2
+pub invariant_of-self : goal.invariant_of-self
 unfolding after
-invariant_of-self-2 c =
+invariant_of-self c =
     let w : World = world_in c.self.inside in
     let xs : List Act = c.self.inside.acts.items in
     let next : ℕ = length xs + 1 in
@@ -32,14 +29,14 @@ invariant_of-self-2 c =
     let act : ℕ → Act = λ n. new_act n c.args.kind c.args.inc c.args.caller in
     let all : List Act = xs ++ act next ∷ [] in
     let pushed : History → History = λ t. record { entries = t.entries ++ e ∷ []; reserved = t.reserved - 1; limit = t.limit } in
-    let book = c.push_reserved-2.ensures ∙ ap pushed c.in_ok-resolves.ensures.book in
+    let book = c.push_reserved-in-Ok-room.ensures ∙ ap pushed c.in-Ok-room.ensures.book in
     let more = ap (λ (t : History). t.entries) book in
-    let number : c.next_action-action.result ≡ next = c.next_action-action.ensures ∙ ap (λ ys. length ys + 1) (c.as_slice.ensures.value ∙ c.make_room.ensures.acts) in
+    let number : c.next_action-action.result ≡ next = c.next_action-action.ensures ∙ ap (λ ys. length ys + 1) (c.as_slice.ensures.value ∙ c.make_room-room.ensures.acts) in
     let pended : ℕ → Tree → Tree = λ n t. with_changed c.args.inc (set_pending (Some (c.args.kind, n))) t in
-    let table = c.set_pending.ensures ∙ ap (λ n. pended n c.make_room.new.table) number ∙ ap (pended next) c.make_room.ensures.table in
-    let acts : c.push_reserved.new.self.items ≡ all = c.push_reserved.ensures.items ∙ ap (λ n. c.make_room.new.acts.items ++ act n ∷ []) number ∙ ap (λ ys. ys ++ act next ∷ []) c.make_room.ensures.acts in
+    let table = c.set_pending.ensures ∙ ap (λ n. pended n c.make_room-room.new.table) number ∙ ap (pended next) c.make_room-room.ensures.table in
+    let acts : c.push_reserved.new.self.items ≡ all = c.push_reserved.ensures.items ∙ ap (λ n. c.make_room-room.new.acts.items ++ act n ∷ []) number ∙ ap (λ ys. ys ++ act next ∷ []) c.make_room-room.ensures.acts in
     let left : Tree → List Act → ℕ → World = λ t ys n. record w { rows = t.rows; next_inc = t.next_inc; next_action = length ys + 1; acts = ys; entries = n } in
-    let roomy : Tree = record c.self.inside.table { spare = c.make_room.new.table.spare } in
+    let roomy : Tree = record c.self.inside.table { spare = c.make_room-room.new.table.spare } in
     let long : next ≡ length all = sym (length-append xs (act next ∷ [])) in
     let here : world_of c.args.self.now ≡ w = ap world_of (sym c.self.view_is) ∙ c.self.invariant.stands.world in
     let begins = subst (λ (v : World). moved v c.args.caller c.args.event c.args.reply ≡ with_action v c.args.caller c.args.kind c.args.inc) here c.requires.begins in
@@ -63,7 +60,7 @@ invariant_of-self-2 c =
           let one = count_more is_open_resolve xs (act next) in
           let same = ap (count_by is_open_resolve) acts in
           let kind = ap (λ b. cond {A = ℕ} b 1 0) (new_resolve next c.args.inc c.args.caller c.args.kind) in
-          let begun = c.in_ok-resolves.ensures.count in
+          let begun = c.in-Ok-room.ensures.count in
           let was = c.self.invariant.counted in
           omega arith;
       spare =
@@ -71,9 +68,9 @@ invariant_of-self-2 c =
           let one = count_more is_open_resolve xs (act next) in
           let same = ap (count_by is_open_resolve) acts in
           let kind = ap (λ b. cond {A = ℕ} b 1 0) (new_resolve next c.args.inc c.args.caller c.args.kind) in
-          let begun = c.in_ok-resolves.ensures.count in
+          let begun = c.in-Ok-room.ensures.count in
           let was = c.self.invariant.counted in
-          let room = c.in_ok-resolves.ensures.spare in
+          let room = c.in-Ok-room.ensures.spare in
           omega arith;
       rows = ap (λ (t : Tree). t.limit) table ∙ c.self.invariant.rows;
       entries = ap (λ (t : History). t.limit) book ∙ c.self.invariant.entries;

@@ -33,5 +33,5 @@ invariant_of-self-2 c =
       acts = refl;
       resolves = refl;
       joins = refl;
-      book = one_pushed _ _ _ e c.in_ok-reserve.ensures.ok c.push_reserved.ensures;
+      book = one_pushed _ _ _ e c.in_ok-told.ensures.book c.push_reserved.ensures;
     })

@@ -1,12 +1,7 @@
-use Rattle.std.proofs.Common.{sym, ap, subst, inl, inr}
-use Rattle.cm_world.specs.declared.action.ActKind.TheVariants.{Stop}
-use Rattle.cm_world.specs.declared.event.Event.TheVariants.{Pick}
-use Rattle.cm_world.specs.declared.reply.Reply.TheVariants.{Stopping}
+use Rattle.std.proofs.Common.{subst, inl, inr}
 use Rattle.cm_world.specs.World.{World}
 use Rattle.cm_world.specs.Step.{PicksOn}
-use Rattle.cm_world.specs.After.{with_action}
-use Rattle.cm_world.specs.Legal.{IsStep}
-use Rattle.cm_laws.specs.Story.{world_of, entry_of}
+use Rattle.cm_laws.specs.Story.{world_of}
 use Rattle.cm_steps.specs.Answers.{PicksBy}
 use Rattle.cm_steps.proofs.Begun.{idle_picked}
 use Rattle.cm_steps.proofs.realm.Realm.pick_by.Goals as goal
@@ -20,12 +15,7 @@ pub begin_action-requires-clause-step : goal.begin_action-requires-clause-step
 begin_action-requires-clause-step c =
     let w : World = world_of c.args.self.now in
     let picks : PicksOn w.rows w.next_action c.args.target c.in-Stops.work = subst (PicksBy w c.args.target) c.in-Stops.is c.requires.answer in
-    subst (λ v. IsStep w (entry_of c.args.caller (Pick c.args.target) (Stopping v))) (sym c.in_ok-kept-in-Stops.ensures)
-    (record { enabled = (c.requires.closing, inr (record { inc = c.in-Stops.work.inc; row = picks.row; may = picks.may })); allowed = picks })
-
-pub begin_action-requires-clause-begins : goal.begin_action-requires-clause-begins
-begin_action-requires-clause-begins c =
-    ap (λ v. with_action (world_of c.args.self.now) c.args.caller Stop v.inc) c.in_ok-kept-in-Stops.ensures
+    record { enabled = (c.requires.closing, inr (record { inc = c.in-Stops.work.inc; row = picks.row; may = picks.may })); allowed = picks }
 
 pub begin_action-requires-clause-idle : goal.begin_action-requires-clause-idle
 begin_action-requires-clause-idle c =

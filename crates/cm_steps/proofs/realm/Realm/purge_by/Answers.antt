@@ -1,4 +1,4 @@
-use Rattle.std.proofs.Common.{◌≡◌, List, cond, false, map, sym, ◌∙◌, ap, subst}
+use Rattle.std.proofs.Common.{◌≡◌, List, cond, false, map, sym, ap, subst}
 use Rattle.cm_world.specs.declared.row.Row.{Row}
 use Rattle.cm_world.specs.declared.reply.Reply.TheVariants as reply
 use Rattle.cm_world.specs.Rows.{is_live, subtree}
@@ -22,4 +22,4 @@ remove-requires-clause-lives c =
 
 pub remove-requires-clause-lost : goal.remove-requires-clause-lost
 remove-requires-clause-lost c =
-    c.in_ok-kept-in-Removes.ensures ∙ (subst (AnswersPurge (world_of c.args.self.now).rows c.args.inc) c.in-Removes.is c.requires.answer).1
+    (subst (AnswersPurge (world_of c.args.self.now).rows c.args.inc) c.in-Removes.is c.requires.answer).1

@@ -30,4 +30,4 @@ invariant_of-self-2 c =
     })
     refl
     (tasked_purged w.rows w.next_inc i w.acts (sound_in c.trees_stay_sound.ensures.sound c.self.inside c.self.invariant) (purge_shut (is_live w.rows i) (has_doomed w.rows i) (is_subtree_shut w.rows i) lives may) c.self.invariant.tasks)
-    (record { frame = refl; table = c.remove_below.ensures; acts = refl; resolves = refl; joins = refl; book = one_pushed _ _ _ e c.in_ok-reserve.ensures.ok c.push_reserved.ensures })
+    (record { frame = refl; table = c.remove_below.ensures; acts = refl; resolves = refl; joins = refl; book = one_pushed _ _ _ e c.in_ok-told.ensures.book c.push_reserved.ensures })

@@ -5,13 +5,13 @@ use Rattle.cm_world.specs.Legal.{IsStep}
 use Rattle.cm_laws.specs.Story.{world_of, entry_of}
 use Rattle.cm_steps.specs.Inside.{world_in}
 use Rattle.cm_steps.proofs.Going.{goes_on, one_longer, after-quiet}
-use Rattle.cm_steps.proofs.realm.Realm.note.Goals as goal
+use Rattle.cm_steps.proofs.realm.Realm.tell.Goals as goal
 
-pub invariant_of-self-2 : goal.invariant_of-self-2
-invariant_of-self-2 c =
+pub invariant_of-self : goal.invariant_of-self
+invariant_of-self c =
     let e : Entry = entry_of c.args.caller c.args.event c.args.reply in
     let pushed : History → History = λ t. record { entries = t.entries ++ e ∷ []; reserved = t.reserved - 1; limit = t.limit } in
-    let book = c.push_reserved.ensures ∙ ap pushed c.in_ok-reserve.ensures.ok in
+    let book = c.push_reserved.ensures ∙ ap pushed c.in-Ok.ensures.book in
     let more = ap (λ (t : History). t.entries) book in
     record {
       stands =

@@ -1,9 +1,0 @@
-use Rattle.std.proofs.Common.{sym, ◌∙◌, ap, subst}
-use Rattle.cm_world.specs.World.{World}
-use Rattle.cm_laws.specs.Story.{world_of}
-use Rattle.cm_steps.specs.Answers.{AnswersMark}
-use Rattle.cm_steps.proofs.realm.Realm.answer_to_mark.Goals as goal
-
-pub returns : goal.returns
-returns c =
-    subst (λ (v : World). AnswersMark v.rows c.args.doom c.args.inc c.mark_answer.result) (sym (ap world_of (sym c.self.view_is) ∙ c.self.invariant.stands.world)) c.mark_answer.ensures
