@@ -2,7 +2,8 @@
 use Rattle.std.proofs.Common.{◌≡◌, ℕ, zero, suc, ◌+◌, ◌-◌, ◌≤◌, List, [], ◌∷◌, take, codes, refl, sym, subst, arith, All, true}
 use Rattle.std.proofs.lemmas.List.Elements.{All-cons, All-nil}
 use Rattle.cm_names.specs.Fronts.{Begins, IsLongestFront}
-use Rattle.cm_command.specs.Words.{IsUrlText, is_url_byte}
+use Rattle.cm_names.specs.Urls.{is_url_byte}
+use Rattle.cm_command.specs.Words.{IsUrlText}
 use Rattle.cm_command.specs.Counts.{CountsFronts}
 
 pub take_none : (t : List ℕ) → take 0 t ≡ []

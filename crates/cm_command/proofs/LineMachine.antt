@@ -33,7 +33,8 @@ use Rattle.cm_command.specs.declared.place.Creation.{Creation}
 use Rattle.cm_command.specs.declared.place.Place.{Place}
 use Rattle.cm_command.specs.declared.place.Place.TheVariants as place
 use Rattle.cm_command.specs.Numbers.{value_behind}
-use Rattle.cm_command.specs.Words.{IsUrlText, IsTargetText, IsOriginText, IsRightsText, is_url_byte}
+use Rattle.cm_names.specs.Urls.{is_url_byte}
+use Rattle.cm_command.specs.Words.{IsUrlText, IsTargetText, IsOriginText, IsRightsText}
 use Rattle.cm_command.specs.Grammar.{Text, Adds, plain_give}
 use Rattle.cm_command.specs.Places.{verb_word, verbs, behind_target, behind_builtin, directory_of, provides, with_give, Steps, Ends, created}
 use Rattle.cm_command.proofs.Pieces.{Lacks}

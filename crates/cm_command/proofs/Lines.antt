@@ -10,16 +10,7 @@ use Rattle.cm_command.specs.declared.script_reader.Draft.{Draft}
 use Rattle.cm_command.specs.declared.script_reader.LineFault.{LineFault as Refused}
 use Rattle.cm_command.specs.declared.script_reader.LineFault.TheVariants as refused
 use Rattle.cm_command.specs.Grammar.{Text}
-use Rattle.cm_command.specs.Scripts.{Takes, IsLineFault, Reads, Faults, Fits, Fault, ExceedsLimit, IsLastFault, IsWhole, IsScript, IsScriptFault, lines_of, no_draft, end_of, line_limit, script_limit, fault_at}
-
--- what the rest of the bytes gives from here is what they all give
-pub record Onward (bytes : Text) (n : ℕ) (d : Draft) (rest : Text) : Type 0 where
-  pub place : ℕ
-  pub whole : place + length rest ≡ length bytes
-  pub within : place ≤ script_limit
-  pub early : n ≤ place + 1
-  pub reads : (e : Draft) → Reads (length bytes) place n d (lines_of rest) e → Reads (length bytes) 0 1 no_draft (lines_of bytes) e
-  pub faults : (m : ℕ) (number : ScriptNumber) (at : ℕ) → Faults (length bytes) place n d (lines_of rest) m number at → Fault bytes m number at
+use Rattle.cm_command.specs.Scripts.{Takes, IsLineFault, Reads, Faults, Fits, Fault, ExceedsLimit, IsLastFault, IsWhole, IsScript, IsScriptFault, Onward, lines_of, no_draft, end_of, line_limit, script_limit, fault_at}
 
 pub at_start : (bytes : Text) (d : Draft) → d ≡ no_draft → Onward bytes 1 d bytes
 at_start bytes d same = subst (λ e. Onward bytes 1 e bytes) (sym same) start
@@ -74,7 +65,7 @@ faulty h line behind refused.Memory same cut short small bad told = absurd (told
 
 -- ---- the end
 
-no_lines : {bytes rest : Text} {n : ℕ} {d : Draft} → Onward bytes n d rest → length rest ≡ 0 → Onward bytes n d []
+pub no_lines : {bytes rest : Text} {n : ℕ} {d : Draft} → Onward bytes n d rest → length rest ≡ 0 → Onward bytes n d []
 no_lines {rest = []} h e = h
 no_lines {rest = b ∷ bs} h e = absurd (omega arith)
 

@@ -14,7 +14,8 @@ use Rattle.cm_world.specs.declared.event.Target.{Target}
 use Rattle.cm_world.specs.declared.event.Target.TheVariants as target
 use Rattle.cm_command.specs.declared.place.Verb.{Verb}
 use Rattle.cm_command.specs.declared.place.Verb.TheVariants as verb
-use Rattle.cm_command.specs.Words.{IsUrlText, IsTargetText, IsOriginText, IsRightsText, is_url_byte, right_words}
+use Rattle.cm_names.specs.Urls.{is_url_byte}
+use Rattle.cm_command.specs.Words.{IsUrlText, IsTargetText, IsOriginText, IsRightsText, right_words}
 use Rattle.cm_command.specs.Grammar.{Text}
 use Rattle.cm_command.specs.Places.{verb_word}
 use Rattle.cm_command.proofs.Pieces.{Lacks}

@@ -7,7 +7,8 @@ use Rattle.std.proofs.lemmas.List.{length-take-le, get_or-take, get_or_append_le
 use Rattle.std.proofs.lemmas.List.Folds.{length-prefix_len}
 use Rattle.std.proofs.lemmas.List.Sums.{prefix_len-le-length, prefix_len_passes, prefix_len_stops}
 use Rattle.cm_names.specs.Fronts.{Begins}
-use Rattle.cm_command.specs.Words.{IsUrlText, is_url_byte}
+use Rattle.cm_names.specs.Urls.{is_url_byte}
+use Rattle.cm_command.specs.Words.{IsUrlText}
 use Rattle.cm_command.specs.Counts.{CountsFronts}
 use Rattle.cm_command.proofs.CountLemmas.{take_none, url_begins}
 

@@ -257,3 +257,14 @@ Fault bytes line number at = Faults (length bytes) 0 1 no_draft (lines_of bytes)
 abbrev pub IsScriptFault : Text → ScriptFault → Type 0
 IsScriptFault bytes (script_fault.Bad line number at) = Fault bytes line number at
 IsScriptFault bytes script_fault.Memory = ⊥
+
+-- what the rest of the bytes gives from here is what they all give
+pub record Onward (bytes : Text) (n : ℕ) (d : Draft) (rest : Text) : Type 0 where
+  pub place : ℕ
+  pub whole : place + length rest ≡ length bytes
+  pub within : place ≤ script_limit
+  pub early : n ≤ place + 1
+  pub reads : (e : Draft) → Reads (length bytes) place n d (lines_of rest) e
+      → Reads (length bytes) 0 1 no_draft (lines_of bytes) e
+  pub faults : (m : ℕ) (number : ScriptNumber) (at : ℕ)
+      → Faults (length bytes) place n d (lines_of rest) m number at → Fault bytes m number at

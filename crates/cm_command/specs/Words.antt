@@ -1,12 +1,13 @@
 -- The words of a command, and what they stand for.
-use Rattle.std.specs.Prelude.{◌≡◌, ℕ, ◌<◌, ◌≤◌, ◌^◌, List, [], ◌∷◌, length, codes, Bool, false, ◌&&◌, ◌==◌}
-use Rattle.std.specs.Prelude.{nat_le, All, Contains, IsTrue, Ok}
+use Rattle.std.specs.Prelude.{◌≡◌, ℕ, ◌<◌, ◌≤◌, ◌^◌, List, [], ◌∷◌, length, codes, false, ◌==◌}
+use Rattle.std.specs.Prelude.{All, Contains, IsTrue, Ok}
 use Rattle.std.specs.List.{slice_split, list_any}
 use Rattle.std.specs.Str.{bytes_eq}
 use Rattle.cm_names.specs.declared.child.ChildName.{ChildName}
 use Rattle.cm_names.specs.Child.{child_text}
 use Rattle.cm_names.specs.Moniker.{IsChild, IsMonikerTextOf}
 use Rattle.cm_names.specs.Rights.{RightSet, rights_of}
+use Rattle.cm_names.specs.Urls.{is_url_byte}
 use Rattle.cm_decl.specs.declared.origin.Origin.{Origin}
 use Rattle.cm_decl.specs.declared.origin.Origin.TheVariants.{Parent, Own, Framework, Child, Void}
 use Rattle.cm_world.specs.declared.event.Target.{Target}
@@ -17,11 +18,7 @@ use Rattle.cm_command.specs.Numbers.{IsNumberText}
 abbrev pub words_of : List ℕ → List (List ℕ)
 words_of t = slice_split (λ b. b == 32) t
 
--- a printing ASCII byte other than the space
-abbrev pub is_url_byte : ℕ → Bool
-is_url_byte b = nat_le 33 b && nat_le b 126
-
--- 1 to 4,096 of these bytes
+-- the text of a URL: 1 to 4,096 of the bytes that may stand in one
 pub record IsUrlText (t : List ℕ) : Type 0 where
   pub some : 1 ≤ length t
   pub short : length t ≤ 4096

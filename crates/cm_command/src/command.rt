@@ -1,11 +1,11 @@
 //! Commands.
 
 use cm_decl::Give;
-use cm_names::{CapPath, List, Memory, Name, Plain, Text};
+use cm_names::{CapPath, List, Memory, Name, Text};
 use cm_world::Target;
 
 /// One call of the component manager, which a line asks for.
-#[derive(Debug, Drop, Clone, PartialEq, Eq)]
+#[derive(Drop)]
 pub enum Command {
     /// `resolve T`: fetch the instance's manifest. `ResolveInstance` of
     /// `fuchsia.sys2.LifecycleController`.
@@ -71,14 +71,8 @@ pub enum Command {
     Exited(Target),
 }
 
-impl Plain for Command {
-    ghost use Rattle.std.proofs.Common.{rules};
-
-    ghost exact = { Prim.search rules };
-}
-
 /// Why a line is no command.
-#[derive(Debug, Clone, Copy, PartialEq, Eq)]
+#[derive(Clone, Copy)]
 pub enum CommandFault {
     /// Number 70: the line is not in the grammar. So many bytes are the longest front of the line
     /// that some command begins with.

@@ -3,7 +3,7 @@
 ghost use Rattle.std.specs.Prelude.{◌≡◌};
 ghost use Rattle.cm_command.specs.FaultText.{number_of, fault_word};
 
-use cm_names::{Memory, Plain};
+use cm_names::Memory;
 use std::fmt;
 
 /// Which fault a line has.
@@ -58,14 +58,8 @@ impl ScriptNumber {
     }
 }
 
-impl Plain for ScriptNumber {
-    ghost use Rattle.std.proofs.Common.{rules};
-
-    ghost exact = { Prim.search rules };
-}
-
 /// Why a text is no script.
-#[derive(Debug, Clone, Copy, PartialEq, Eq)]
+#[derive(Clone, Copy)]
 pub enum ScriptFault {
     /// The first fault of the text.
     Bad {

@@ -10,7 +10,7 @@ pub fn texts_are_one_script()
     ensures { TextsAreOneScript }
 {}
 
-/// A script has no fault: a text is a script, or it has a fault, and not both.
+/// A script has no fault: no text is a script and has a fault as well.
 pub fn scripts_have_no_fault()
     ensures { ScriptsHaveNoFault }
 {}

@@ -1,12 +1,12 @@
 //! Scripts.
 
 use crate::Command;
-use cm_names::{Bytes, List, Plain, Text};
+use cm_names::{Bytes, List, Text};
 use cm_world::Builtin;
 
 /// A manifest that a script brings along: the lines between a line `manifest URL` and the next
 /// line `%%`.
-#[derive(Debug, Drop, Clone, PartialEq, Eq)]
+#[derive(Drop)]
 pub struct Block {
     /// The number of the line that opens it, counted from 1.
     pub line: u32,
@@ -16,14 +16,8 @@ pub struct Block {
     pub bytes: Bytes,
 }
 
-impl Plain for Block {
-    ghost use Rattle.std.proofs.Common.{rules};
-
-    ghost exact = { Prim.search rules };
-}
-
 /// A line that asks for a command.
-#[derive(Debug, Drop, Clone, PartialEq, Eq)]
+#[derive(Drop)]
 pub struct Line {
     /// The line's number, counted from 1.
     pub line: u32,
@@ -33,16 +27,10 @@ pub struct Line {
     pub command: Command,
 }
 
-impl Plain for Line {
-    ghost use Rattle.std.proofs.Common.{rules};
-
-    ghost exact = { Prim.search rules };
-}
-
 /// A script: what the component manager is made with, and what it is to do.
 ///
 /// Each list stands in the order of the lines.
-#[derive(Debug, Drop, Clone, PartialEq, Eq)]
+#[derive(Drop)]
 pub struct Script {
     /// The manifests.
     pub manifests: List<Block>,
@@ -52,10 +40,4 @@ pub struct Script {
     pub root: Text,
     /// The lines of each phase. A line `sync` ends one, so there is one phase at least.
     pub phases: List<List<Line>>,
-}
-
-impl Plain for Script {
-    ghost use Rattle.std.proofs.Common.{rules};
-
-    ghost exact = { Prim.search rules };
 }

@@ -1,6 +1,6 @@
 //! Reading scripts.
 
-ghost use Rattle.std.specs.Prelude.{◌≡◌, ◌≢◌, ◌<◌, ◌≤◌, ◌^◌, ◌+◌, ◌*◌, ◌++◌, ◌∷◌, ℕ, List as Seq, None};
+ghost use Rattle.std.specs.Prelude.{◌≡◌, ◌≢◌, ◌<◌, ◌≤◌, ◌^◌, ◌+◌, ◌*◌, ◌++◌, ◌∷◌, [], ℕ, List as Seq, None};
 ghost use Rattle.std.specs.Prelude.{length, codes, IfOk, IfErr, OnOk, min, IsTrue, ◌↔◌, MatchOption};
 ghost use Rattle.std.specs.Prelude.{MatchResult};
 ghost use Rattle.cm_command.specs.Scripts as spec;
@@ -45,7 +45,7 @@ pub struct Draft {
 }
 
 /// The fault of a line, and its position.
-#[derive(Clone, Copy, Debug)]
+#[derive(Clone, Copy)]
 pub enum LineFault {
     /// The fault and its position.
     Bad(ScriptNumber, u32),
@@ -83,20 +83,7 @@ pub fn read_script(alloc: Global, bytes: &[u8]) -> Result<Script, ScriptFault>
     ensures fault { IfErr result (λ e. e ≢ ScriptFault.Memory → spec.IsScriptFault bytes.now e) }
 {
     let mut draft = Draft::new(alloc);
-    let mut number: u32 = 1;
-    let mut rest = bytes;
-    'lines: while !rest.is_empty() {
-        let (line, behind) = cut_line(rest);
-        if let Some(fault) = exceeded(line.len(), bytes.len() - behind.len()) {
-            return Err(bad(number, fault, 0));
-        }
-        match draft.take(alloc, number, line) {
-            Ok(()) => {}
-            Err(fault) => return Err(fault_at(number, fault)),
-        }
-        number += 1;
-        rest = behind;
-    }
+    let number = draft.take_lines(alloc, bytes)?;
     draft.finish(number)
 }
 
@@ -247,6 +234,29 @@ impl Draft {
             begun: false,
             block: None,
         }
+    }
+
+    /// Takes all lines of a script, and gives the number that the next line would have.
+    fn take_lines(&mut self, alloc: Global, bytes: &[u8]) -> Result<u32, ScriptFault>
+        requires { self.old ≡ spec.no_draft }
+        ensures ok { IfOk result (λ number. spec.Onward bytes.now number self.new []) }
+        ensures fault { IfErr result (λ e. e ≢ ScriptFault.Memory → spec.IsScriptFault bytes.now e) }
+    {
+        let mut number: u32 = 1;
+        let mut rest = bytes;
+        'lines: while !rest.is_empty() {
+            let (line, behind) = cut_line(rest);
+            if let Some(fault) = exceeded(line.len(), bytes.len() - behind.len()) {
+                return Err(bad(number, fault, 0));
+            }
+            match self.take(alloc, number, line) {
+                Ok(()) => {}
+                Err(fault) => return Err(fault_at(number, fault)),
+            }
+            number += 1;
+            rest = behind;
+        }
+        Ok(number)
     }
 
     /// Takes one line more.

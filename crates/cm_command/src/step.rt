@@ -51,7 +51,10 @@ pub fn step(alloc: Global, place: Place, word: &[u8]) -> Result<Place, WordFault
         Place::BuiltinName(kind) => take_builtin_name(alloc, kind, word),
         Place::BuiltinPath(name) => take_builtin_path(alloc, name, word),
         Place::BuiltinRights(name, path) => take_builtin_rights(alloc, name, path, word),
-        Place::Whole(_sentence) => Err(WordFault::Bad(0)),
+        Place::Whole(sentence) => {
+            drop(sentence);
+            Err(WordFault::Bad(0))
+        }
     }
 }
 
@@ -372,16 +375,13 @@ fn give(creation: Creation, kind: Kind, name: Name, from: Origin) -> Result<Plac
 }
 
 /// The place behind an addition.
-fn add(mut creation: Creation, mut give: Give, addition: Addition) -> Result<Place, Memory>
+fn add(creation: Creation, mut give: Give, addition: Addition) -> Result<Place, Memory>
     ensures { IfOk result
         (λ next. (n : ℕ) (t : Seq ℕ) → IsAddition n give.kind t addition
         → Steps (place.Additions creation give n) t next) }
 {
     match addition {
-        Addition::Group => {
-            creation.gives.push(give)?;
-            Ok(Place::GroupKind(creation))
-        }
+        Addition::Group => Ok(Place::GroupKind(with_give(creation, give)?)),
         Addition::Target(name) => {
             give.target_name = name;
             Ok(Place::Additions(creation, give, 1))
@@ -451,13 +451,24 @@ pub fn end(place: Place) -> Result<Option<Sentence>, Memory>
 {
     match place {
         Place::Groups(creation) => Ok(Some(created(creation))),
-        Place::Additions(mut creation, give, _from) => {
-            creation.gives.push(give)?;
+        Place::Additions(creation, give, _from) => {
+            let creation = with_give(creation, give)?;
             Ok(Some(created(creation)))
         }
         Place::Whole(sentence) => Ok(Some(sentence)),
-        _ => Ok(None),
+        other => {
+            drop(other);
+            Ok(None)
+        }
     }
+}
+
+/// The creation with one give more.
+fn with_give(mut creation: Creation, give: Give) -> Result<Creation, Memory>
+    ensures { IfOk result (λ made. made ≡ spec.with_give creation give) }
+{
+    creation.gives.push(give)?;
+    Ok(creation)
 }
 
 fn created(creation: Creation) -> Sentence

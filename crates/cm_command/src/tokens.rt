@@ -18,6 +18,7 @@ ghost use Rattle.cm_names.specs.Name.{IsName, continues_name};
 ghost use Rattle.cm_names.specs.Path.{is_path, is_subdir, is_relative};
 ghost use Rattle.cm_names.specs.Moniker.{IsChild, IsChildText, IsMonikerText};
 ghost use Rattle.cm_names.specs.Child.{child_text};
+ghost use Rattle.cm_names.specs.Urls.{is_url_byte};
 ghost use Rattle.cm_decl.specs.declared.origin.Origin.{Origin as OneOrigin};
 ghost use Rattle.cm_world.specs.declared.event.Target.{Target as OneTarget};
 ghost use Rattle.cm_command.specs.Counts.{CountsFronts, IsWordFault, IsSureFault, Fits, fault_behind};
@@ -31,6 +32,7 @@ use crate::words::{cut, is_digit, is_same, strip};
 use cm_decl::Origin;
 use cm_names::grammar::bad_place;
 use cm_names::name::{begins, continues};
+use cm_names::url::is_url_byte;
 use cm_names::{
     CapPath, ChildName, Memory, Moniker, MonikerFault, Name, NameFault, PathFault, SubDir, Text,
 };
@@ -115,16 +117,9 @@ pub fn read_name(alloc: Global, word: &[u8]) -> Result<Name, WordFault>
     }
 }
 
-/// Whether the byte may stand in a URL: a printing one of ASCII other than the space.
-fn is_url_byte(byte: u8) -> bool
-    ensures { result ≡ spec.is_url_byte byte }
-{
-    byte >= 33 && byte <= 126
-}
-
 /// How many bytes of a URL the word begins with.
 fn url_bytes(word: &[u8]) -> usize
-    ensures { result ≡ length (take_while spec.is_url_byte word.now) }
+    ensures { result ≡ length (take_while is_url_byte word.now) }
 {
     word.iter().take_while(|b| is_url_byte(**b)).count()
 }
@@ -216,7 +211,7 @@ pub fn literal_fronts(literals: &[&str], word: &[u8]) -> usize
 }
 
 /// Where the text of a path stands behind some of its bytes.
-#[derive(Clone, Copy, Debug)]
+#[derive(Clone, Copy)]
 enum PathPlace {
     /// At the beginning of a part.
     Slash,

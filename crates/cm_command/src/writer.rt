@@ -2,11 +2,12 @@
 
 ghost use Rattle.std.specs.Prelude.{◌≡◌, ◌++◌, ◌∷◌, codes, flat_map, IfOk, OnOk};
 ghost use Rattle.std.specs.List.{join_with_byte};
+ghost use Rattle.cm_command.specs.declared.command.Command.TheVariants as asked;
 ghost use Rattle.cm_command.specs.Written as spec;
 
 use crate::Command;
 use cm_decl::{Give, Origin};
-use cm_names::{Availability, Dependency, List, Memory, Text};
+use cm_names::{Availability, Dependency, List, Memory, Name, Text};
 use cm_world::Target;
 use std::alloc::Global;
 
@@ -28,13 +29,7 @@ pub fn write_command(alloc: Global, command: &Command) -> Result<Text, Memory>
             name,
             url,
             gives,
-        } => {
-            let mut text = with_word(alloc, "create", parent, coll.as_str())?;
-            push_word(&mut text, name.as_str())?;
-            push_word(&mut text, url.as_str())?;
-            push_gives(alloc, &mut text, gives)?;
-            Ok(text)
-        }
+        } => write_create(alloc, parent, coll, name, url, gives),
         Command::Destroy(target) => with_target(alloc, "destroy", target),
         Command::ListChildren { target, coll } => with_word(alloc, "list", target, coll.as_str()),
         Command::OpenUse { target, path } => with_word(alloc, "open", target, path.as_str()),
@@ -47,6 +42,25 @@ pub fn write_command(alloc: Global, command: &Command) -> Result<Text, Memory>
         Command::Survey(target) => with_target(alloc, "survey", target),
         Command::Exited(target) => with_target(alloc, "exited", target),
     }
+}
+
+/// The line of a `create`.
+fn write_create(
+    alloc: Global,
+    parent: &Target,
+    coll: &Name,
+    name: &Name,
+    url: &Text,
+    gives: &List<Give>,
+) -> Result<Text, Memory>
+    ensures { IfOk result (λ text. text ≡ spec.command_text
+        (asked.Create parent.now coll.now name.now url.now gives.now)) }
+{
+    let mut text = with_word(alloc, "create", parent, coll.as_str())?;
+    push_word(&mut text, name.as_str())?;
+    push_word(&mut text, url.as_str())?;
+    push_gives(alloc, &mut text, gives)?;
+    Ok(text)
 }
 
 /// A space and the word.
@@ -108,36 +122,33 @@ pub fn push_gives(alloc: Global, text: &mut Text, gives: &List<Give>) -> Result<
 fn push_give(alloc: Global, text: &mut Text, give: &Give) -> Result<(), Memory>
     ensures { OnOk result (text.new ≡ text.old ++ flat_map spec.spaced (spec.give_words give.now)) }
 {
-    let from = origin_text(alloc, &give.from)?;
-    let mut kind = Text::new(alloc);
-    kind.push(give.kind)?;
     push_word(text, "+")?;
-    push_word(text, kind.as_str())?;
+    text.push_str(" ")?;
+    text.push(give.kind)?;
     push_word(text, give.source_name.as_str())?;
-    push_word(text, from.as_str())?;
+    push_origin(text, &give.from)?;
     push_target(text, give)?;
     push_parts(alloc, text, give)?;
     push_words(text, give)?;
     Ok(())
 }
 
-/// The text of an origin.
-fn origin_text(alloc: Global, origin: &Origin) -> Result<Text, Memory>
-    ensures { IfOk result (λ text. text ≡ spec.origin_text origin.now) }
+/// A space and the text of an origin.
+fn push_origin(text: &mut Text, origin: &Origin) -> Result<(), Memory>
+    ensures { OnOk result (text.new ≡ text.old ++ codes " " ++ spec.origin_text origin.now) }
 {
     match origin {
-        Origin::Parent => Text::from_str(alloc, "parent"),
-        Origin::Own => Text::from_str(alloc, "self"),
-        Origin::Framework => Text::from_str(alloc, "framework"),
-        Origin::Void => Text::from_str(alloc, "void"),
+        Origin::Parent => text.push_str(" parent"),
+        Origin::Own => text.push_str(" self"),
+        Origin::Framework => text.push_str(" framework"),
+        Origin::Void => text.push_str(" void"),
         Origin::Child(child) => {
-            let mut text = Text::from_str(alloc, "#")?;
+            text.push_str(" #")?;
             if let Some(coll) = &child.coll {
                 text.push_str(coll.as_str())?;
                 text.push_str(":")?;
             }
-            text.push_str(child.name.as_str())?;
-            Ok(text)
+            text.push_str(child.name.as_str())
         }
     }
 }
@@ -161,8 +172,8 @@ fn push_parts(alloc: Global, text: &mut Text, give: &Give) -> Result<(), Memory>
         (spec.subdir_word give.now.subdir)) }
 {
     if let Some(rights) = give.rights {
-        let rights = rights.text(alloc)?;
         text.push_str(" rights=")?;
+        let rights = rights.text(alloc)?;
         text.push_str(rights.as_str())?;
     }
     if let Some(subdir) = &give.subdir {

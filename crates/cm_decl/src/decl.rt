@@ -1,10 +1,12 @@
 //! Declarations.
 
+use crate::copies::four;
 use crate::{
     Capability, Child, Collection, DebugUse, Environment, Give, Offer, Storage, StorageOffer,
     StorageUse, Usage,
 };
 use cm_names::{List, Name, Plain};
+use std::alloc::AllocError;
 
 /// What a component manifest declares.
 ///
@@ -13,7 +15,7 @@ use cm_names::{List, Name, Plain};
 ///
 /// This is the component declaration of Fuchsia's component framework documentation
 /// (fuchsia.dev), with the sections that this project serves.
-#[derive(Debug, Drop, Clone, PartialEq, Eq)]
+#[derive(Debug, Drop, PartialEq, Eq)]
 pub struct Decl {
     /// The runner of the component's program, if it has a program.
     pub runner: Option<Name>,
@@ -41,8 +43,44 @@ pub struct Decl {
     pub storage_offers: List<StorageOffer>,
 }
 
-impl Plain for Decl {
-    ghost use Rattle.std.proofs.Common.{rules};
+impl Clone for Decl {
+    ghost use Rattle.std.specs.Prelude.{◌≡◌};
 
-    ghost exact = { Prim.search rules };
+    ghost is_clone = { λ a b. b ≡ a };
+
+    fn clone(&self) -> Result<Decl, AllocError> {
+        let parts = four(
+            &self.runner,
+            &self.children,
+            &self.collections,
+            &self.capabilities,
+        )?;
+        let routes = four(&self.uses, &self.offers, &self.exposes, &self.environments)?;
+        let (debug_uses, storages, storage_uses, storage_offers) = four(
+            &self.debug_uses,
+            &self.storages,
+            &self.storage_uses,
+            &self.storage_offers,
+        )?;
+        let (runner, children, collections, capabilities) = parts;
+        let (uses, offers, exposes, environments) = routes;
+        Ok(Decl {
+            runner,
+            children,
+            collections,
+            capabilities,
+            uses,
+            offers,
+            exposes,
+            environments,
+            debug_uses,
+            storages,
+            storage_uses,
+            storage_offers,
+        })
+    }
+}
+
+impl Plain for Decl {
+    ghost exact = { λ a b same. same };
 }

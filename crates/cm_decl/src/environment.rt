@@ -1,10 +1,12 @@
 //! Environments, in which runners and debug protocols are registered.
 
 use crate::Origin;
+use crate::copies::three;
 use cm_names::{CapPath, List, Name, Plain};
+use std::alloc::AllocError;
 
 /// A runner or a debug protocol that an environment knows: an item of `runners` or of `debug`.
-#[derive(Debug, Drop, Clone, PartialEq, Eq)]
+#[derive(Debug, Drop, PartialEq, Eq)]
 pub struct Registration {
     /// The name that it has at its source.
     pub name: Name,
@@ -15,14 +17,23 @@ pub struct Registration {
     pub target: Name,
 }
 
-impl Plain for Registration {
-    ghost use Rattle.std.proofs.Common.{rules};
+impl Clone for Registration {
+    ghost use Rattle.std.specs.Prelude.{◌≡◌};
 
-    ghost exact = { Prim.search rules };
+    ghost is_clone = { λ a b. b ≡ a };
+
+    fn clone(&self) -> Result<Registration, AllocError> {
+        let (name, from, target) = three(&self.name, &self.from, &self.target)?;
+        Ok(Registration { name, from, target })
+    }
+}
+
+impl Plain for Registration {
+    ghost exact = { λ a b same. same };
 }
 
 /// What children and the instances of collections find registered: a row of `environments`.
-#[derive(Debug, Drop, Clone, PartialEq, Eq)]
+#[derive(Debug, Drop, PartialEq, Eq)]
 pub struct Environment {
     /// Its name among the environments of this component.
     pub name: Name,
@@ -35,10 +46,24 @@ pub struct Environment {
     pub debug: List<Registration>,
 }
 
-impl Plain for Environment {
-    ghost use Rattle.std.proofs.Common.{rules};
+impl Clone for Environment {
+    ghost use Rattle.std.specs.Prelude.{◌≡◌};
 
-    ghost exact = { Prim.search rules };
+    ghost is_clone = { λ a b. b ≡ a };
+
+    fn clone(&self) -> Result<Environment, AllocError> {
+        let (name, runners, debug) = three(&self.name, &self.runners, &self.debug)?;
+        Ok(Environment {
+            name,
+            extends: self.extends,
+            runners,
+            debug,
+        })
+    }
+}
+
+impl Plain for Environment {
+    ghost exact = { λ a b same. same };
 }
 
 /// A protocol that the component uses from the debug registrations of its environment: a row of

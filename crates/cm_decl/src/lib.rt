@@ -7,6 +7,7 @@
 //! The rows are those of Fuchsia's component manifest reference (fuchsia.dev).
 #![tactic(auto)]
 
+pub mod copies;
 pub mod decl;
 pub mod environment;
 pub mod kind;

@@ -3,11 +3,13 @@
 //! Each type is a row of one section of Fuchsia's component manifest reference (fuchsia.dev),
 //! with every default filled in.
 
+use crate::copies::{four, three, two};
 use crate::{Kind, Origin};
 use cm_names::{Availability, CapPath, Dependency, Name, Plain, Rights, SubDir, Text};
+use std::alloc::AllocError;
 
 /// A child that the manifest declares: a row of `children`.
-#[derive(Debug, Drop, Clone, PartialEq, Eq)]
+#[derive(Debug, Drop, PartialEq, Eq)]
 pub struct Child {
     /// Its name among the children and collections of this component.
     pub name: Name,
@@ -20,10 +22,24 @@ pub struct Child {
     pub environment: Option<Name>,
 }
 
-impl Plain for Child {
-    ghost use Rattle.std.proofs.Common.{rules};
+impl Clone for Child {
+    ghost use Rattle.std.specs.Prelude.{◌≡◌};
 
-    ghost exact = { Prim.search rules };
+    ghost is_clone = { λ a b. b ≡ a };
+
+    fn clone(&self) -> Result<Child, AllocError> {
+        let (name, url, environment) = three(&self.name, &self.url, &self.environment)?;
+        Ok(Child {
+            name,
+            url,
+            eager: self.eager,
+            environment,
+        })
+    }
+}
+
+impl Plain for Child {
+    ghost exact = { λ a b same. same };
 }
 
 /// How long an instance in a collection stays: `durability` of a collection.
@@ -42,7 +58,7 @@ impl Plain for Durability {
 }
 
 /// A place for children that are created while the component runs: a row of `collections`.
-#[derive(Debug, Drop, Clone, PartialEq, Eq)]
+#[derive(Debug, Drop, PartialEq, Eq)]
 pub struct Collection {
     /// Its name among the children and collections of this component.
     pub name: Name,
@@ -55,14 +71,28 @@ pub struct Collection {
     pub environment: Option<Name>,
 }
 
-impl Plain for Collection {
-    ghost use Rattle.std.proofs.Common.{rules};
+impl Clone for Collection {
+    ghost use Rattle.std.specs.Prelude.{◌≡◌};
 
-    ghost exact = { Prim.search rules };
+    ghost is_clone = { λ a b. b ≡ a };
+
+    fn clone(&self) -> Result<Collection, AllocError> {
+        let (name, environment) = two(&self.name, &self.environment)?;
+        Ok(Collection {
+            name,
+            durability: self.durability,
+            dynamic_offers: self.dynamic_offers,
+            environment,
+        })
+    }
+}
+
+impl Plain for Collection {
+    ghost exact = { λ a b same. same };
 }
 
 /// A capability that the component itself provides: a row of `capabilities`.
-#[derive(Debug, Drop, Clone, PartialEq, Eq)]
+#[derive(Debug, Drop, PartialEq, Eq)]
 pub struct Capability {
     /// What it is.
     pub kind: Kind,
@@ -74,14 +104,28 @@ pub struct Capability {
     pub rights: Option<Rights>,
 }
 
-impl Plain for Capability {
-    ghost use Rattle.std.proofs.Common.{rules};
+impl Clone for Capability {
+    ghost use Rattle.std.specs.Prelude.{◌≡◌};
 
-    ghost exact = { Prim.search rules };
+    ghost is_clone = { λ a b. b ≡ a };
+
+    fn clone(&self) -> Result<Capability, AllocError> {
+        let (name, path) = two(&self.name, &self.path)?;
+        Ok(Capability {
+            kind: self.kind,
+            name,
+            path,
+            rights: self.rights,
+        })
+    }
+}
+
+impl Plain for Capability {
+    ghost exact = { λ a b same. same };
 }
 
 /// A capability that the component uses: a row of `use`. A valid declaration has none from `void`.
-#[derive(Debug, Drop, Clone, PartialEq, Eq)]
+#[derive(Debug, Drop, PartialEq, Eq)]
 pub struct Usage {
     /// What is used.
     pub kind: Kind,
@@ -101,15 +145,33 @@ pub struct Usage {
     pub availability: Availability,
 }
 
-impl Plain for Usage {
-    ghost use Rattle.std.proofs.Common.{rules};
+impl Clone for Usage {
+    ghost use Rattle.std.specs.Prelude.{◌≡◌};
 
-    ghost exact = { Prim.search rules };
+    ghost is_clone = { λ a b. b ≡ a };
+
+    fn clone(&self) -> Result<Usage, AllocError> {
+        let (name, from, path, subdir) = four(&self.name, &self.from, &self.path, &self.subdir)?;
+        Ok(Usage {
+            kind: self.kind,
+            name,
+            from,
+            path,
+            rights: self.rights,
+            subdir,
+            dependency: self.dependency,
+            availability: self.availability,
+        })
+    }
+}
+
+impl Plain for Usage {
+    ghost exact = { λ a b same. same };
 }
 
 /// A capability that is passed on: what a row of `offer` and a row of `expose` have in common,
 /// and what a child that is created is offered.
-#[derive(Debug, Drop, Clone, PartialEq, Eq)]
+#[derive(Debug, Drop, PartialEq, Eq)]
 pub struct Give {
     /// What is given.
     pub kind: Kind,
@@ -130,10 +192,33 @@ pub struct Give {
     pub availability: Availability,
 }
 
-impl Plain for Give {
-    ghost use Rattle.std.proofs.Common.{rules};
+impl Clone for Give {
+    ghost use Rattle.std.specs.Prelude.{◌≡◌};
 
-    ghost exact = { Prim.search rules };
+    ghost is_clone = { λ a b. b ≡ a };
+
+    fn clone(&self) -> Result<Give, AllocError> {
+        let (source_name, from, target_name, subdir) = four(
+            &self.source_name,
+            &self.from,
+            &self.target_name,
+            &self.subdir,
+        )?;
+        Ok(Give {
+            kind: self.kind,
+            source_name,
+            from,
+            target_name,
+            rights: self.rights,
+            subdir,
+            dependency: self.dependency,
+            availability: self.availability,
+        })
+    }
+}
+
+impl Plain for Give {
+    ghost exact = { λ a b same. same };
 }
 
 /// A capability that is passed on to a child or to all children in a collection: a row of

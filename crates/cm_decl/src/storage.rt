@@ -1,10 +1,12 @@
 //! Storage: a place of its own for each instance that uses it.
 
 use crate::Origin;
+use crate::copies::four;
 use cm_names::{CapPath, Name, Plain, SubDir};
+use std::alloc::AllocError;
 
 /// A storage that the component provides from a directory: a row of `capabilities`.
-#[derive(Debug, Drop, Clone, PartialEq, Eq)]
+#[derive(Debug, Drop, PartialEq, Eq)]
 pub struct Storage {
     /// Its name among the storages of this component.
     pub name: Name,
@@ -20,10 +22,30 @@ pub struct Storage {
     pub by_moniker: bool,
 }
 
-impl Plain for Storage {
-    ghost use Rattle.std.proofs.Common.{rules};
+impl Clone for Storage {
+    ghost use Rattle.std.specs.Prelude.{◌≡◌};
 
-    ghost exact = { Prim.search rules };
+    ghost is_clone = { λ a b. b ≡ a };
+
+    fn clone(&self) -> Result<Storage, AllocError> {
+        let (name, from, backing, subdir) = four(
+            &self.name,
+            &self.from,
+            &self.backing,
+            &self.subdir,
+        )?;
+        Ok(Storage {
+            name,
+            from,
+            backing,
+            subdir,
+            by_moniker: self.by_moniker,
+        })
+    }
+}
+
+impl Plain for Storage {
+    ghost exact = { λ a b same. same };
 }
 
 /// A storage that the component uses, always from its parent: a row of `use`.
@@ -42,7 +64,7 @@ impl Plain for StorageUse {
 }
 
 /// A storage that is passed on to a child or to all children in a collection: a row of `offer`.
-#[derive(Debug, Drop, Clone, PartialEq, Eq)]
+#[derive(Debug, Drop, PartialEq, Eq)]
 pub struct StorageOffer {
     /// The name of the child or the collection.
     pub to: Name,
@@ -54,8 +76,27 @@ pub struct StorageOffer {
     pub target_name: Name,
 }
 
-impl Plain for StorageOffer {
-    ghost use Rattle.std.proofs.Common.{rules};
+impl Clone for StorageOffer {
+    ghost use Rattle.std.specs.Prelude.{◌≡◌};
 
-    ghost exact = { Prim.search rules };
+    ghost is_clone = { λ a b. b ≡ a };
+
+    fn clone(&self) -> Result<StorageOffer, AllocError> {
+        let (to, source_name, from, target_name) = four(
+            &self.to,
+            &self.source_name,
+            &self.from,
+            &self.target_name,
+        )?;
+        Ok(StorageOffer {
+            to,
+            source_name,
+            from,
+            target_name,
+        })
+    }
+}
+
+impl Plain for StorageOffer {
+    ghost exact = { λ a b same. same };
 }

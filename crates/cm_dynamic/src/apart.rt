@@ -5,52 +5,17 @@
 //! only offers that were made to children alone can close a ring: where a new child has none of
 //! that kind, it stands in no ring, and no realm graph has to be made.
 
-ghost use Rattle.std.specs.Prelude.{◌≡◌, ℕ, List as Seq, not, IsTrue, Some, option_and_then};
-ghost use Rattle.std.specs.Prelude.{option_to_list};
+ghost use Rattle.std.specs.Prelude.{◌≡◌, not, IsTrue};
 ghost use Rattle.std.specs.List.{list_all};
-ghost use Rattle.cm_decl.specs.Graph.{StrongOn, is_strong as passes_strong};
-ghost use Rattle.cm_decl.specs.Reach.{NoCycle};
-ghost use Rattle.cm_world.specs.Create as spec;
-ghost use Rattle.cm_world.specs.Rows.{row_of, decl_of};
-ghost use Rattle.cm_world.specs.Sound.{IsOrderly};
+ghost use Rattle.cm_decl.specs.Graph.{is_strong as passes_strong};
 ghost use Rattle.cm_dynamic.specs.Apart as apart;
-ghost use Rattle.cm_dynamic.specs.Siblings.{sibling_of};
 
 use cm_decl::{Decl, Give, Offer, Origin, Usage};
 use cm_names::Dependency;
-use cm_world::View;
-
-/// Whether a further child of the instance with these offers, in any of its collections, closes no
-/// ring, by tests that cost little: nothing that the instance declares and nothing of these offers
-/// comes strongly from a child of a collection. Unless it is known that its children make no ring
-/// now, nothing that one of them was given may come so either; then each of them is looked at, up
-/// to the first that does. `false` says nothing.
-pub(crate) fn closes_no_ring<V: View>(
-    view: &V,
-    decl: &Decl,
-    parent: u64,
-    gives: &[Give],
-    acyclic: bool,
-) -> bool
-    requires orderly { IsOrderly (V.rows view.now) (V.next_inc view.now) }
-    requires decl { Some decl.now ≡ decl_of (V.rows view.now) parent }
-    requires acyclic { IsTrue acyclic →
-        NoCycle (StrongOn decl.now (spec.dynamic_children (V.rows view.now) parent)) }
-    ensures { IsTrue result → (coll name : Seq ℕ) → NoCycle (StrongOn decl.now
-        (spec.dynamic_with (V.rows view.now) parent (spec.dynamic_name coll name) gives.now)) }
-{
-    if !is_apart(decl, gives) {
-        return false;
-    }
-    if acyclic {
-        return true;
-    }
-    are_children_plain(view, parent)
-}
 
 /// Whether nothing that the instance declares and nothing of these offers comes strongly from a
 /// child of a collection.
-fn is_apart(decl: &Decl, gives: &[Give]) -> bool
+pub(crate) fn is_apart(decl: &Decl, gives: &[Give]) -> bool
     ensures given { IsTrue result → IsTrue (list_all apart.is_plain_give gives.now) }
     ensures offers { IsTrue result → IsTrue (list_all apart.is_plain_offer decl.now.offers) }
     ensures usages { IsTrue result → IsTrue (list_all apart.is_plain_use decl.now.uses) }
@@ -58,34 +23,6 @@ fn is_apart(decl: &Decl, gives: &[Give]) -> bool
     is_plain(gives)
         && are_offers_plain(decl.offers.as_slice())
         && are_uses_plain(decl.uses.as_slice())
-}
-
-/// Whether no child of the instance was given anything of a child of a collection strongly.
-fn are_children_plain<V: View>(view: &V, parent: u64) -> bool
-    requires { IsOrderly (V.rows view.now) (V.next_inc view.now) }
-    ensures { IsTrue result → IsTrue (list_all apart.is_plain_child
-        (spec.dynamic_children (V.rows view.now) parent)) }
-{
-    let mut after = None;
-    'children: while let Some(inc) = view.next_child(parent, after) {
-        if !is_child_plain(view, inc) {
-            return false;
-        }
-        after = Some(inc);
-    }
-    true
-}
-
-/// Whether the instance, if it was created in a collection, was given nothing of a child of a
-/// collection strongly.
-fn is_child_plain<V: View>(view: &V, inc: u64) -> bool
-    ensures { IsTrue result → IsTrue (list_all apart.is_plain_child
-        (option_to_list (option_and_then sibling_of (row_of (V.rows view.now) inc)))) }
-{
-    match view.gives(inc) {
-        None => true,
-        Some(gives) => is_plain(gives.as_slice()),
-    }
 }
 
 /// Whether none of these offers comes strongly from a child of a collection.

@@ -1,6 +1,6 @@
 //! Whether a child may be created.
 
-ghost use Rattle.std.specs.Prelude.{◌≡◌, IfOk, IsTrue, Some, List as Seq};
+ghost use Rattle.std.specs.Prelude.{◌≡◌, IfOk, Some, List as Seq};
 ghost use Rattle.std.specs.Option.{option_copied};
 ghost use Rattle.cm_decl.specs.declared.decl.Decl.{Decl as Declaration};
 ghost use Rattle.cm_decl.specs.declared.node.DynChild.{DynChild as Dynamic};
@@ -10,7 +10,7 @@ ghost use Rattle.cm_world.specs.Create as spec;
 ghost use Rattle.cm_world.specs.Rows.{decl_of};
 ghost use Rattle.cm_dynamic.specs.Replies.{AnswersCreate, AnswersGraph, Refuses};
 
-use crate::apart::closes_no_ring;
+use crate::apart::is_apart;
 use crate::offers::bad_give;
 use crate::siblings::siblings_with;
 use cm_decl::{Collection, Decl, DynChild, Give, Node};
@@ -22,7 +22,7 @@ use std::alloc::Global;
 
 /// Whether a child may be created, and else the first thing that refuses it. The refusals stand in
 /// the order in which they are tried. A number is the incarnation of an instance, unless the
-/// variant says otherwise. [`may_create`] says which rules are Fuchsia's.
+/// variant says otherwise. [`may_create_acyclic`] says which rules are Fuchsia's.
 #[derive(Debug, Drop, PartialEq, Eq)]
 pub enum MayCreate {
     /// It may be created now.
@@ -66,33 +66,16 @@ pub enum MayCreate {
 /// and nothing else refuses the child. `Err` comes where memory runs out, and where the first bad
 /// offer has an index that doesn't fit into 32 bits.
 ///
-/// The children of the parent are gone through once. The realm graph is made only where one of
-/// them, or the new one, is given something of a child of a collection strongly: else there is no
-/// ring.
+/// The children of the parent in its collections have to make no ring as they are, as in every
+/// sound tree. Then only a child that is itself offered something of a child of a collection
+/// strongly can close one: for any other the children of the parent aren't gone through, and no
+/// realm graph is made.
 ///
 /// This is what `CreateChild` of `fuchsia.component.Realm` (fuchsia.dev) is refused for:
 /// `NoCollection` stands for `COLLECTION_NOT_FOUND` and `Exists` for `INSTANCE_ALREADY_EXISTS`
 /// there, and dynamic offers are allowed or not by "Collections" of the component manifest
 /// reference. The order of the refusals, the numbers of the rules, the ring that is picked and the
 /// limit of instances are this project's own.
-pub fn may_create<V: View>(
-    alloc: Global,
-    view: &V,
-    free: u32,
-    parent: u64,
-    coll: &Name,
-    child: &Name,
-    gives: &[Give],
-) -> Result<MayCreate, Memory>
-    ensures { IfOk result (AnswersCreate (V.rows view.now) free parent coll.now child.now
-        gives.now) }
-{
-    may_create_by(alloc, view, free, false, parent, coll, child, gives)
-}
-
-/// The same where the children of the parent in its collections make no ring as they are, as in
-/// every sound tree. Then only a child that is itself offered something of a child of a collection
-/// strongly can close one, and for any other the children of the parent aren't gone through.
 pub fn may_create_acyclic<V: View>(
     alloc: Global,
     view: &V,
@@ -107,32 +90,13 @@ pub fn may_create_acyclic<V: View>(
     ensures { IfOk result (AnswersCreate (V.rows view.now) free parent coll.now child.now
         gives.now) }
 {
-    may_create_by(alloc, view, free, true, parent, coll, child, gives)
-}
-
-/// The same, by whether it is known that the children of the parent make no ring.
-fn may_create_by<V: View>(
-    alloc: Global,
-    view: &V,
-    free: u32,
-    acyclic: bool,
-    parent: u64,
-    coll: &Name,
-    child: &Name,
-    gives: &[Give],
-) -> Result<MayCreate, Memory>
-    requires { IsTrue acyclic → (d : Declaration) → Some d ≡ decl_of (V.rows view.now) parent →
-        NoCycle (StrongOn d (spec.dynamic_children (V.rows view.now) parent)) }
-    ensures { IfOk result (AnswersCreate (V.rows view.now) free parent coll.now child.now
-        gives.now) }
-{
     if let Some(refusal) = refusal(view, parent, coll, child, gives)? {
         return Ok(refusal);
     }
     let Some(decl) = view.decl(parent) else {
         return Ok(MayCreate::Need(parent));
     };
-    if closes_no_ring(view, decl, parent, gives, acyclic) {
+    if is_apart(decl, gives) {
         return Ok(by_room(free));
     }
     let name = name_in(coll, child)?;

@@ -6,13 +6,13 @@
 ghost use Rattle.cm_dynamic.specs.Laws as laws;
 
 /// Each number of free instances is the room of a tree in some limit, so the contract of
-/// [`may_create`](crate::may_create) says something of each call.
+/// [`may_create_acyclic`](crate::may_create_acyclic) says something of each call.
 pub fn each_room_is_of_some_limit()
     ensures { laws.EachRoomIsOfSomeLimit }
 {}
 
-/// Where [`may_create`](crate::may_create) answers `Yes`, the parent is resolved and has no child
-/// of that name that isn't being destroyed: so the tree can take the child's row.
+/// Where [`may_create_acyclic`](crate::may_create_acyclic) answers `Yes`, the parent is resolved and
+/// has no child of that name that isn't being destroyed: so the tree can take the child's row.
 pub fn parents_can_take()
     ensures { laws.ParentsCanTake }
 {}

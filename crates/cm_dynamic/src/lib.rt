@@ -1,7 +1,7 @@
 //! Children that are created and destroyed while a realm tree lives: whether one may be, and
 //! else why not.
 //!
-//! [`may_create`] and [`may_destroy`] read a tree and change nothing. Which refusal comes first,
+//! [`may_create_acyclic`] and [`may_destroy`] read a tree and change nothing. Which refusal comes first,
 //! and when each comes, is what `cm_world` defines of the events by which children are created
 //! and marked to be destroyed.
 //!
@@ -17,5 +17,5 @@ pub mod laws;
 pub(crate) mod offers;
 pub(crate) mod siblings;
 
-pub use create::{MayCreate, may_create, may_create_acyclic};
+pub use create::{MayCreate, may_create_acyclic};
 pub use destroy::{MayDestroy, may_destroy};

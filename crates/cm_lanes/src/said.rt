@@ -5,7 +5,7 @@ use cm_turn::Pass;
 use cm_world::{Answer, Entry, Frame, Refusal};
 
 /// A line and what was answered to it.
-#[derive(Debug, Drop)]
+#[derive(Drop)]
 pub struct Said {
     /// The number of the line, as the script counts it.
     pub line: u32,

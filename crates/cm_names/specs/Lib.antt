@@ -7,3 +7,4 @@ pub mod Moniker
 pub mod MonikerPlaces
 pub mod RightBits
 pub mod Rights
+pub mod Urls

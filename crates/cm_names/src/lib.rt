@@ -1,5 +1,5 @@
 //! The small types that every other part of the component manager is made of: texts, lists,
-//! names, paths, monikers, rights and the words of a manifest.
+//! names, paths, monikers, rights, the texts of URLs and the words of a manifest.
 //!
 //! Contracts see [`Text`] as the list of its bytes, [`List`] as the list of its items, and a
 //! name or a path as the bytes of its text, so that definitions speak of plain lists.
@@ -18,12 +18,13 @@ pub mod path;
 pub mod plain;
 pub mod rights;
 pub mod text;
+pub mod url;
 
 pub use availability::Availability;
 pub use child::ChildName;
 pub use dependency::Dependency;
 pub use grammar::MonikerPlace;
-pub use limits::{MAX_NAME_BYTES, MAX_PATH_BYTES};
+pub use limits::{MAX_NAME_BYTES, MAX_PATH_BYTES, MAX_URL_BYTES};
 pub use list::{Bytes, List};
 pub use memory::Memory;
 pub use moniker::{Moniker, MonikerFault};

@@ -17,10 +17,11 @@ use Rattle.cm_decl.specs.declared.origin.Origin.TheVariants as origin
 use Rattle.cm_read.specs.declared.fault.Place.{Place}
 use Rattle.cm_read.specs.Numbers.{wrong_type, bad_name, bad_path, unknown_word}
 use Rattle.cm_read.specs.Reading.{bad, ◌>>=◌}
-use Rattle.cm_read.specs.Fields.{needed_at, text_at, name_from, is_url, name_in_at, name_at, url_at, path_in_at, path_at, subdir_in_at, subdir_at, texts_in_at, texts_at, names_at, behind_mark, reference_from, references_at, rights_from, rights_in_at, rights_at}
+use Rattle.cm_read.specs.Fields.{needed_at, text_at, name_from, name_in_at, name_at, url_at, path_in_at, path_at, subdir_in_at, subdir_at, texts_in_at, texts_at, names_at, behind_mark, reference_from, references_at, rights_from, rights_in_at, rights_at}
 use Rattle.std.specs.Prelude.{◌≢◌, not, ◌&&◌, if◌then◌else◌}
 use Rattle.cm_names.specs.declared.availability.Availability.TheVariants.{Required, Optional, Transitional}
 use Rattle.cm_names.specs.declared.availability.Availability.TheVariants.{SameAsTarget}
+use Rattle.cm_names.specs.Urls.{is_url_text}
 use Rattle.cm_decl.specs.declared.rows.Child.{Child}
 use Rattle.cm_read.specs.declared.rows.UseSource.{UseSource}
 use Rattle.cm_read.specs.declared.rows.UseSource.TheVariants as source
@@ -48,12 +49,12 @@ unfolding name_at
 name_reads at key d = next (any (needed_at at key d)) (λ value _. name_in_reads at key value)
 
 abbrev pub IsUrl : List ℕ → Type 0
-IsUrl t = IsTrue (is_url t)
+IsUrl t = IsTrue (is_url_text t)
 
 pub url_reads : (at : Place) (key : List ℕ) (d : Data) → Reads IsUrl (url_at at key d)
 unfolding url_at
 url_reads at key d =
-    next (any (needed_at at key d)) (λ value _. next (any (text_at at key value)) (λ text _. tested (is_url text) text (bad at bad_name key) (λ e. e)))
+    next (any (needed_at at key d)) (λ value _. next (any (text_at at key value)) (λ text _. tested (is_url_text text) text (bad at bad_name key) (λ e. e)))
 
 abbrev pub IsPath : List ℕ → Type 0
 IsPath t = IsTrue (is_path t)

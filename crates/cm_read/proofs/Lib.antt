@@ -15,4 +15,5 @@ pub mod FieldsRead
 pub mod RowsRead
 pub mod EnvironmentsRead
 pub mod Inside
+pub mod Parts
 pub mod DeclRead

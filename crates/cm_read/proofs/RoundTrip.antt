@@ -13,7 +13,7 @@ use Rattle.cm_decl.specs.declared.rows.Collection.{Collection}
 use Rattle.cm_decl.specs.declared.rows.Durability.TheVariants.{Transient, SingleRun}
 use Rattle.cm_read.specs.declared.fault.Place.{Place}
 use Rattle.cm_read.specs.Numbers.{max_rows}
-use Rattle.cm_read.specs.Fields.{is_url}
+use Rattle.cm_names.specs.Urls.{is_url_text}
 use Rattle.cm_read.specs.Sections.{next, rows_at, section_at}
 use Rattle.cm_read.specs.Reading.{Read, start}
 use Rattle.cm_read.specs.Items.{child_at, collection_at}
@@ -43,7 +43,7 @@ name_has_no_fault [] h = absurd h
 name_has_no_fault (b ∷ bs) h = rw (not_empty b bs) (rw (not_long (b ∷ bs) h.0) (rw h.1 (rw (no_bad_rest bs h.2) refl)))
 
 child_parts : (at : Place) (name url : List ℕ) (eager : Bool) (environment : Option (List ℕ)) → IsName name
-    → IsTrue (is_url url) → ForSomeOf environment IsName
+    → IsTrue (is_url_text url) → ForSomeOf environment IsName
     → child_at at (child_data (record { name = name; url = url; eager = eager; environment = environment }))
     ≡ Ok (record { name = name; url = url; eager = eager; environment = environment } ∷ [])
 unfolding read_on_literals

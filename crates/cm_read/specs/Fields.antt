@@ -1,19 +1,20 @@
 -- What the fields of an item are read as.
-use Rattle.std.specs.Prelude.{ℕ, ◌&&◌, Bool, not, List, [], ◌∷◌, length, map, Option, Some, None, ok_or}
-use Rattle.std.specs.Prelude.{Result, Ok, Err, nat_le, ◌==◌, if◌then◌else◌}
+use Rattle.std.specs.Prelude.{ℕ, List, [], ◌∷◌, length, map, Option, Some, None, ok_or}
+use Rattle.std.specs.Prelude.{Result, Ok, Err, ◌==◌, if◌then◌else◌}
 use Rattle.std.specs.Str.{bytes_eq}
 use Rattle.std.specs.Borrow.{Bor}
-use Rattle.std.specs.List.{list_any, list_all}
+use Rattle.std.specs.List.{list_any}
 use Rattle.serde_json.specs.Data.{Data, array, Items, no_items, item, Members, no_members, member}
 use Rattle.serde_json.specs.Find.{get, as_str, as_array, as_object}
 use Rattle.cm_names.specs.Name.{name_fault}
 use Rattle.cm_names.specs.Path.{path_fault, subdir_fault}
 use Rattle.cm_names.specs.Rights.{RightSet, rights_of}
+use Rattle.cm_names.specs.Urls.{is_url_text}
 use Rattle.cm_names.specs.declared.rights.RightsFault.{RightsFault}
 use Rattle.cm_read.specs.declared.fault.Place.{Place}
 use Rattle.cm_read.specs.declared.fault.ReadFault.{ReadFault}
 use Rattle.cm_read.specs.Numbers.{unknown_field, missing, wrong_type, bad_name, bad_path, bad_rights}
-use Rattle.cm_read.specs.Numbers.{unknown_word, max_url}
+use Rattle.cm_read.specs.Numbers.{unknown_word}
 use Rattle.cm_read.specs.Reading.{Read, ◌>>=◌, bad}
 
 -- ---- whether a field is there
@@ -55,17 +56,9 @@ path_from at key text = unless_fault (path_fault text) (bad at bad_path key) tex
 abbrev pub subdir_from : Place → List ℕ → List ℕ → Read (List ℕ)
 subdir_from at key text = unless_fault (subdir_fault text) (bad at bad_path key) text
 
--- a printing ASCII byte other than the space
-abbrev pub is_url_byte : ℕ → Bool
-is_url_byte b = nat_le 33 b && nat_le b 126
-
--- 1 to 4,096 of these bytes
-abbrev pub is_url : List ℕ → Bool
-is_url text = not (length text == 0) && nat_le (length text) max_url && list_all is_url_byte text
-
 -- the URL text that a text is
 abbrev pub url_from : Place → List ℕ → List ℕ → Read (List ℕ)
-url_from at key text = if is_url text then Ok text else Err (bad at bad_name key)
+url_from at key text = if is_url_text text then Ok text else Err (bad at bad_name key)
 
 -- what one of a field's listed words means
 abbrev pub listed_at : {A : Type 0} → (List ℕ → Option A) → Place → List ℕ → Data → Read A

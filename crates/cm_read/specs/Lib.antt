@@ -4,6 +4,7 @@ pub mod Fields
 pub mod Words
 pub mod Items
 pub mod Environments
+pub mod Parts
 pub mod Sections
 pub mod Manifest
 pub mod Texts

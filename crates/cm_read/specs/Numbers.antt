@@ -70,7 +70,3 @@ max_bytes = 1048576
 -- the most rows of a section
 abbrev pub max_rows : ℕ
 max_rows = 16384
-
--- the most bytes of a URL text
-abbrev pub max_url : ℕ
-max_url = 4096

@@ -25,7 +25,7 @@ use Rattle.cm_decl.specs.declared.storage.StorageOffer.{StorageOffer}
 use Rattle.cm_decl.specs.declared.decl.Decl.{Decl}
 use Rattle.cm_decl.specs.Valid.{is_well_formed}
 use Rattle.cm_read.specs.Numbers.{max_rows}
-use Rattle.cm_read.specs.Fields.{is_url}
+use Rattle.cm_names.specs.Urls.{is_url_text}
 use Rattle.cm_read.specs.Manifest.{decl_of_json}
 use Rattle.cm_read.specs.Writing.{decl_text}
 
@@ -82,7 +82,7 @@ MustHave kind.Directory (Some x) P = P x
 -- a row of `children`
 pub record IsChild (c : Child) : Type 0 where
   pub name : IsName c.name
-  pub url : IsTrue (is_url c.url)
+  pub url : IsTrue (is_url_text c.url)
   pub environment : ForSomeOf c.environment IsName
 
 -- a row of `collections`

@@ -27,7 +27,7 @@ fn put_capability(
 
 /// The rows of `capabilities`: what is routed, and the storages.
 #[tactic(auto, using(crate::proofs::RowLemmas::part_more, crate::proofs::RowLemmas::part_all))]
-pub fn part_capabilities(
+fn part_capabilities(
     alloc: Global,
     rows: List<CapabilityRow>,
 ) -> Result<(List<Capability>, List<Storage>), Memory>
@@ -76,7 +76,7 @@ fn put_use(
 
 /// The rows of `use` by their kinds.
 #[tactic(auto, using(crate::proofs::RowLemmas::part_more, crate::proofs::RowLemmas::part_all))]
-pub fn part_uses(alloc: Global, rows: List<UseRow>) -> Result<Uses, Memory>
+fn part_uses(alloc: Global, rows: List<UseRow>) -> Result<Uses, Memory>
     ensures routed { IfOk result (λ made. made.routed ≡ filter_map spec.usage_in rows) }
     ensures debug { IfOk result (λ made. made.debug ≡ filter_map spec.debug_use_in rows) }
     ensures storages { IfOk result (λ made. made.storages ≡ filter_map spec.storage_use_in rows) }
@@ -113,7 +113,7 @@ fn put_offer(
 
 /// The rows of `offer`: of what is routed, and of storages.
 #[tactic(auto, using(crate::proofs::RowLemmas::part_more, crate::proofs::RowLemmas::part_all))]
-pub fn part_offers(
+fn part_offers(
     alloc: Global,
     rows: List<OfferRow>,
 ) -> Result<(List<Offer>, List<StorageOffer>), Memory>
@@ -126,4 +126,50 @@ pub fn part_offers(
         put_offer(&mut routed, &mut storages, row)?;
     }
     Ok((routed, storages))
+}
+
+/// The rows of the sections with several kinds of them, each kind in a list of its own.
+#[derive(Drop)]
+pub struct Parted {
+    /// What is routed of `capabilities`.
+    pub capabilities: List<Capability>,
+    /// The storages of `capabilities`.
+    pub storages: List<Storage>,
+    /// The rows of `use`.
+    pub uses: Uses,
+    /// What is routed of `offer`.
+    pub offers: List<Offer>,
+    /// The storages of `offer`.
+    pub storage_offers: List<StorageOffer>,
+}
+
+/// The rows of `capabilities`, `use` and `offer` by their kinds.
+pub fn part_rows(
+    alloc: Global,
+    capabilities: List<CapabilityRow>,
+    uses: List<UseRow>,
+    offers: List<OfferRow>,
+) -> Result<Parted, Memory>
+    ensures capabilities { IfOk result
+        (λ made. made.capabilities ≡ filter_map spec.capability_in capabilities) }
+    ensures storages { IfOk result
+        (λ made. made.storages ≡ filter_map spec.storage_in capabilities) }
+    ensures routed { IfOk result (λ made. made.uses.routed ≡ filter_map spec.usage_in uses) }
+    ensures debug { IfOk result (λ made. made.uses.debug ≡ filter_map spec.debug_use_in uses) }
+    ensures storage_uses { IfOk result
+        (λ made. made.uses.storages ≡ filter_map spec.storage_use_in uses) }
+    ensures offers { IfOk result (λ made. made.offers ≡ filter_map spec.offer_in offers) }
+    ensures storage_offers { IfOk result
+        (λ made. made.storage_offers ≡ filter_map spec.storage_offer_in offers) }
+{
+    let (capabilities, storages) = part_capabilities(alloc, capabilities)?;
+    let uses = part_uses(alloc, uses)?;
+    let (offers, storage_offers) = part_offers(alloc, offers)?;
+    Ok(Parted {
+        capabilities,
+        storages,
+        uses,
+        offers,
+        storage_offers,
+    })
 }

@@ -3,6 +3,7 @@
 ghost use Rattle.std.specs.Prelude.{◌≡◌, [], ◌∷◌, IfOk, OnOk};
 ghost use Rattle.serde_json.specs.View.{view, items_view};
 ghost use Rattle.cm_read.specs.Environments as spec;
+ghost use Rattle.cm_read.specs.Parts as parts;
 ghost use Rattle.cm_read.specs.Reading.{Gives, IsFault};
 ghost use Rattle.cm_read.specs.Writing as writing;
 ghost use Rattle.cm_read.specs.Writing.{Puts};
@@ -13,8 +14,8 @@ use crate::gives::as_of;
 use crate::items::item_names_of;
 use crate::known::{environment_known, registration_known};
 use crate::number::WRONG_TYPE;
-use crate::puts::{Row, extends_word, origin_text, put_text};
-use crate::rows::{Registry, registration_rows};
+use crate::puts::{Row, extends_word, put_from, put_text};
+use crate::rows::{Registry, one_row, registrations_from};
 use crate::sections::Item;
 use crate::words::{extends_of, static_from_of};
 use cm_decl::{Child, Environment, Kind, Registration};
@@ -38,9 +39,7 @@ fn runner_names_of(alloc: Global, at: Place, item: &Value) -> Result<List<Name>,
     ensures { Gives result (spec.runner_names_at at (view item.now)) }
 {
     let name = name_of(alloc, at, item, "runner")?;
-    let mut names = List::new(alloc);
-    names.push(name)?;
-    Ok(names)
+    Ok(one_row(alloc, name)?)
 }
 
 /// The names of a registration: one runner, or one or more protocols.
@@ -58,8 +57,23 @@ fn registration_names_of(
     }
 }
 
+/// The registrations that an item with these names gives, one for each of them.
+#[tactic(auto, unfolding(crate::specs::Parts::registered_at))]
+fn registered(
+    alloc: Global,
+    at: Place,
+    names: &[Name],
+    item: &Value,
+) -> Result<List<Registration>, ReadFault>
+    ensures { Gives result (parts.registered_at at names.now (view item.now)) }
+{
+    let from = static_from_of(alloc, at, item)?;
+    let target = as_of(alloc, at, names, item)?;
+    Ok(registrations_from(alloc, from, target, names)?)
+}
+
 /// The registrations that an item gives, one for each name.
-#[tactic(auto, unfolding(crate::specs::Environments::registration_at))]
+#[tactic(auto, unfolding(crate::specs::Environments::registration_at, crate::specs::Parts::registered_at))]
 fn registration_of(
     alloc: Global,
     which: Registry,
@@ -71,9 +85,7 @@ fn registration_of(
     let members = object_of(alloc, at, item)?;
     registration_known(alloc, at, which, members)?;
     let names = registration_names_of(alloc, which, at, item)?;
-    let from = static_from_of(alloc, at, item)?;
-    let target = as_of(alloc, at, names.as_slice(), item)?;
-    Ok(registration_rows(alloc, &from, &target, names.as_slice())?)
+    registered(alloc, at, names.as_slice(), item)
 }
 
 /// The registrations of the items, one item after another.
@@ -142,6 +154,23 @@ fn registry_of(
     registry_in(alloc, which, at, value)
 }
 
+/// The row of an item of `environments`, whose fields are known.
+fn environment_row(alloc: Global, at: Place, item: &Value) -> Result<List<Environment>, ReadFault>
+    ensures { Gives result (parts.environment_row_at at (view item.now)) }
+{
+    let name = name_of(alloc, at, item, "name")?;
+    let extends = extends_of(alloc, at, item)?;
+    let runners = registry_of(alloc, Registry::Runners, at, item)?;
+    let debug = registry_of(alloc, Registry::Debug, at, item)?;
+    let row = Environment {
+        name,
+        extends,
+        runners,
+        debug,
+    };
+    Ok(one_row(alloc, row)?)
+}
+
 impl Item for Environment {
     ghost use Rattle.cm_read.specs.Environments.{environment_item_at};
 
@@ -156,18 +185,7 @@ impl Item for Environment {
     ) -> Result<List<Environment>, ReadFault> {
         let members = object_of(alloc, at, item)?;
         environment_known(alloc, at, members)?;
-        let name = name_of(alloc, at, item, "name")?;
-        let extends = extends_of(alloc, at, item)?;
-        let runners = registry_of(alloc, Registry::Runners, at, item)?;
-        let debug = registry_of(alloc, Registry::Debug, at, item)?;
-        let mut rows = List::new(alloc);
-        rows.push(Environment {
-            name,
-            extends,
-            runners,
-            debug,
-        })?;
-        Ok(rows)
+        environment_row(alloc, at, item)
     }
 }
 
@@ -175,10 +193,9 @@ impl Item for Environment {
 fn registration_value(alloc: Global, key: &str, row: &Registration) -> Result<Value, Memory>
     ensures { IfOk result (λ v. view v ≡ writing.registration_data key.now row.now) }
 {
-    let from = origin_text(alloc, &row.from)?;
     let mut members = Map::new(alloc);
     put_text(alloc, &mut members, key, row.name.as_str())?;
-    put_text(alloc, &mut members, "from", from.as_str())?;
+    put_from(alloc, &mut members, &row.from)?;
     put_text(alloc, &mut members, "as", row.target.as_str())?;
     Ok(Value::from(members))
 }

@@ -12,7 +12,7 @@ use std::error::Error;
 use std::fmt;
 
 /// Where an item stands: its section, and its index there, counted from 0.
-#[derive(Clone, Copy, Debug, PartialEq, Eq)]
+#[derive(Clone, Copy)]
 pub struct Place {
     /// The section.
     pub section: Section,
@@ -68,7 +68,7 @@ pub struct Place {
 ///
 /// A registration in an environment is looked at in the same way, without 40. Its fault has the
 /// environment's index and the field `runners` or `debug`, also at 33 and where it is no object.
-#[derive(Debug, Drop, Clone, PartialEq, Eq)]
+#[derive(Debug, Drop)]
 pub enum ReadFault {
     /// The manifest has a fault.
     Bad {

@@ -1,7 +1,7 @@
 //! The fields of an item.
 
 ghost use Rattle.std.specs.Prelude.{◌≡◌, option_map};
-ghost use Rattle.std.specs.List.{list_any, list_all};
+ghost use Rattle.std.specs.List.{list_any};
 ghost use Rattle.std.specs.Str.{bytes_eq};
 ghost use Rattle.serde_json.specs.View.{view, members_view, items_view};
 ghost use Rattle.cm_read.specs.Fields as spec;
@@ -12,12 +12,10 @@ use crate::fault::{Place, ReadFault, fault};
 use crate::number::{
     BAD_NAME, BAD_PATH, BAD_RIGHTS, MISSING, UNKNOWN_FIELD, UNKNOWN_WORD, WRONG_TYPE,
 };
+use cm_names::url::is_url_text;
 use cm_names::{CapPath, List, Name, NameFault, PathFault, Rights, SubDir, Text};
 use serde_json::{Map, Value};
 use std::alloc::Global;
-
-/// The most bytes of a URL text.
-const MAX_URL: usize = 4096;
 
 /// The value of a field that has to be there.
 pub fn needed<'a>(
@@ -58,20 +56,6 @@ pub fn name_from(alloc: Global, at: Place, key: &str, text: &str) -> Result<Name
         Err(NameFault::Memory) => Err(ReadFault::Memory),
         Err(_) => Err(fault(alloc, at, BAD_NAME, key)),
     }
-}
-
-/// Whether each byte is a printing ASCII byte other than the space.
-fn has_url_bytes(text: &str) -> bool
-    ensures { result ≡ list_all spec.is_url_byte text.now }
-{
-    text.as_bytes().iter().all(|b| *b >= 33 && *b <= 126)
-}
-
-/// Whether the text is a URL text.
-fn is_url(text: &str) -> bool
-    ensures { result ≡ spec.is_url text.now }
-{
-    !text.is_empty() && text.len() <= MAX_URL && has_url_bytes(text)
 }
 
 /// The path that a text is.
@@ -121,7 +105,7 @@ pub fn url_of(alloc: Global, at: Place, item: &Value, key: &str) -> Result<Text,
 {
     let value = needed(alloc, at, item, key)?;
     let text = text_of(alloc, at, value, key)?;
-    if !is_url(text) {
+    if !is_url_text(text) {
         return Err(fault(alloc, at, BAD_NAME, key));
     }
     Ok(Text::from_str(alloc, text)?)

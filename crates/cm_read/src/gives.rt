@@ -1,7 +1,10 @@
 //! The items of `offer` and `expose`.
 
+ghost use Rattle.std.specs.Prelude.{◌≡◌, map, IfOk};
+ghost use Rattle.std.specs.List.{flat_map};
 ghost use Rattle.serde_json.specs.View.{view};
 ghost use Rattle.cm_read.specs.Items as spec;
+ghost use Rattle.cm_read.specs.Parts as parts;
 ghost use Rattle.cm_read.specs.Reading.{Gives};
 
 use crate::fault::{Place, ReadFault, fault};
@@ -9,15 +12,15 @@ use crate::fields::{name_in, needed, object_of, references_of, rights_in, subdir
 use crate::items::{item_names_of, kind_of, sort_of};
 use crate::known::{expose_known, offer_known};
 use crate::number::NOT_WITH_MANY;
-use crate::rows::{OfferRow, Sort, Terms, give_rows, offer_rows, storage_offer_rows};
+use crate::rows::{Asked, OfferRow, Sort, Terms, give_rows, offer_rows, storage_offers_from};
 use crate::sections::Item;
 use crate::storage::storage_names_of;
 use crate::words::{
     dependency_of, expose_from_of, expose_to_of, given_availability_of, offer_from_of, settle,
     source_unknown_of, storage_from_of,
 };
-use cm_decl::{Child, Give, Kind};
-use cm_names::{Dependency, List, Name, Rights};
+use cm_decl::{Child, Give, Kind, Origin};
+use cm_names::{Dependency, List, Memory, Name, Rights};
 use serde_json::Value;
 use std::alloc::Global;
 
@@ -71,8 +74,109 @@ fn targets_of(alloc: Global, at: Place, item: &Value) -> Result<List<Name>, Read
     references_of(alloc, at, value, "to")
 }
 
+/// What an offer asks of what it gives.
+#[tactic(auto, unfolding(crate::specs::Parts::offer_asked_at))]
+fn offer_asked(alloc: Global, at: Place, names: &[Name], item: &Value) -> Result<Asked, ReadFault>
+    ensures { Gives result (parts.offer_asked_at at names.now (view item.now)) }
+{
+    let target = as_of(alloc, at, names, item)?;
+    let rights = given_rights_of(alloc, at, item)?;
+    let subdir = subdir_of(alloc, at, item, "subdir")?;
+    let dependency = dependency_of(alloc, at, item)?;
+    let availability = given_availability_of(alloc, at, item)?;
+    let unknown = source_unknown_of(alloc, at, item)?;
+    Ok(Asked {
+        target,
+        rights,
+        subdir,
+        dependency,
+        availability,
+        unknown,
+    })
+}
+
+/// What an expose asks of what it gives.
+#[tactic(auto, unfolding(crate::specs::Parts::expose_asked_at))]
+fn expose_asked(alloc: Global, at: Place, names: &[Name], item: &Value) -> Result<Asked, ReadFault>
+    ensures { Gives result (parts.expose_asked_at at names.now (view item.now)) }
+{
+    let target = as_of(alloc, at, names, item)?;
+    let rights = given_rights_of(alloc, at, item)?;
+    let subdir = subdir_of(alloc, at, item, "subdir")?;
+    let availability = given_availability_of(alloc, at, item)?;
+    let unknown = source_unknown_of(alloc, at, item)?;
+    Ok(Asked {
+        target,
+        rights,
+        subdir,
+        dependency: Dependency::Strong,
+        availability,
+        unknown,
+    })
+}
+
+/// The terms of an item of that kind from that source, beside these declared children.
+fn terms_by(kind: Kind, from: Origin, children: &[Child], asked: Asked) -> Terms
+    ensures { result ≡ parts.terms_by kind children.now from asked }
+{
+    Terms {
+        kind,
+        from: settle(from, asked.unknown, children),
+        target: asked.target,
+        rights: asked.rights,
+        subdir: asked.subdir,
+        dependency: asked.dependency,
+        availability: asked.availability,
+    }
+}
+
+/// For each name in turn a row for each target.
+fn offer_each(
+    alloc: Global,
+    terms: &Terms,
+    names: &[Name],
+    targets: &[Name],
+) -> Result<List<OfferRow>, Memory>
+    ensures { IfOk result (λ rows. rows
+        ≡ flat_map (spec.offer_rows targets.now) (map (spec.give_row terms.now) names.now)) }
+{
+    let gives = give_rows(alloc, terms, names)?;
+    offer_rows(alloc, targets, gives.as_slice())
+}
+
+/// The same of terms, names and targets that are handed over.
+fn offered(
+    alloc: Global,
+    terms: Terms,
+    names: List<Name>,
+    targets: List<Name>,
+) -> Result<List<OfferRow>, Memory>
+    ensures { IfOk result (λ rows. rows
+        ≡ flat_map (spec.offer_rows targets) (map (spec.give_row terms) names)) }
+{
+    offer_each(alloc, &terms, names.as_slice(), targets.as_slice())
+}
+
+/// The rows of a protocol or a directory that is offered, by its parts.
+#[tactic(auto, unfolding(crate::specs::Parts::routed_offer_by_parts_at))]
+fn routed_offer_by_parts(
+    alloc: Global,
+    kind: Kind,
+    at: Place,
+    children: &[Child],
+    item: &Value,
+) -> Result<List<OfferRow>, ReadFault>
+    ensures { Gives result (parts.routed_offer_by_parts_at kind children.now at (view item.now)) }
+{
+    let names = item_names_of(alloc, kind, at, item)?;
+    let from = offer_from_of(alloc, at, item)?;
+    let targets = targets_of(alloc, at, item)?;
+    let asked = offer_asked(alloc, at, names.as_slice(), item)?;
+    let terms = terms_by(kind, from, children, asked);
+    Ok(offered(alloc, terms, names, targets)?)
+}
+
 /// The rows of a protocol or a directory that is offered: for each name in turn one for each target.
-#[tactic(auto, unfolding(crate::specs::Items::routed_offer_at))]
 fn routed_offer(
     alloc: Global,
     kind: Kind,
@@ -82,39 +186,33 @@ fn routed_offer(
 ) -> Result<List<OfferRow>, ReadFault>
     ensures { Gives result (spec.routed_offer_at kind children.now at (view item.now)) }
 {
-    let names = item_names_of(alloc, kind, at, item)?;
-    let from = offer_from_of(alloc, at, item)?;
+    routed_offer_by_parts(alloc, kind, at, children, item)
+}
+
+/// The rows of storages with these names that are offered; their availability isn't kept.
+#[tactic(auto, unfolding(crate::specs::Parts::storages_offered_at))]
+fn storages_offered(
+    alloc: Global,
+    at: Place,
+    names: &[Name],
+    item: &Value,
+) -> Result<List<OfferRow>, ReadFault>
+    ensures { Gives result (parts.storages_offered_at at names.now (view item.now)) }
+{
+    let from = storage_from_of(alloc, at, item)?;
     let targets = targets_of(alloc, at, item)?;
-    let target = as_of(alloc, at, names.as_slice(), item)?;
-    let rights = given_rights_of(alloc, at, item)?;
-    let subdir = subdir_of(alloc, at, item, "subdir")?;
-    let dependency = dependency_of(alloc, at, item)?;
-    let availability = given_availability_of(alloc, at, item)?;
-    let unknown = source_unknown_of(alloc, at, item)?;
-    let terms = Terms {
-        kind,
-        from: settle(from, unknown, children),
-        target,
-        rights,
-        subdir,
-        dependency,
-        availability,
-    };
-    let gives = give_rows(alloc, &terms, names.as_slice())?;
-    Ok(offer_rows(alloc, targets.as_slice(), gives.as_slice())?)
+    let target = as_of(alloc, at, names, item)?;
+    given_availability_of(alloc, at, item)?;
+    Ok(storage_offers_from(alloc, from, target, targets, names)?)
 }
 
 /// The rows of a storage that is offered; its availability isn't kept.
-#[tactic(auto, unfolding(crate::specs::Items::storage_offer_at))]
+#[tactic(auto, unfolding(crate::specs::Items::storage_offer_at, crate::specs::Parts::storages_offered_at))]
 fn storage_offer(alloc: Global, at: Place, item: &Value) -> Result<List<OfferRow>, ReadFault>
     ensures { Gives result (spec.storage_offer_at at (view item.now)) }
 {
     let names = storage_names_of(alloc, at, item)?;
-    let from = storage_from_of(alloc, at, item)?;
-    let targets = targets_of(alloc, at, item)?;
-    let target = as_of(alloc, at, names.as_slice(), item)?;
-    given_availability_of(alloc, at, item)?;
-    Ok(storage_offer_rows(alloc, &from, &target, targets.as_slice(), names.as_slice())?)
+    storages_offered(alloc, at, names.as_slice(), item)
 }
 
 impl Item for OfferRow {
@@ -139,12 +237,51 @@ impl Item for OfferRow {
     }
 }
 
+/// A row for each name, of terms and names that are handed over.
+fn exposed_each(alloc: Global, terms: Terms, names: List<Name>) -> Result<List<Give>, Memory>
+    ensures { IfOk result (λ rows. rows ≡ map (spec.give_row terms) names) }
+{
+    give_rows(alloc, &terms, names.as_slice())
+}
+
+/// The rows of a protocol or a directory that is exposed, by its parts.
+#[tactic(auto, unfolding(crate::specs::Parts::exposed_by_parts_at))]
+fn exposed_by_parts(
+    alloc: Global,
+    kind: Kind,
+    at: Place,
+    children: &[Child],
+    item: &Value,
+) -> Result<List<Give>, ReadFault>
+    ensures { Gives result (parts.exposed_by_parts_at kind children.now at (view item.now)) }
+{
+    let names = item_names_of(alloc, kind, at, item)?;
+    let from = expose_from_of(alloc, at, item)?;
+    expose_to_of(alloc, at, item)?;
+    let asked = expose_asked(alloc, at, names.as_slice(), item)?;
+    let terms = terms_by(kind, from, children, asked);
+    Ok(exposed_each(alloc, terms, names)?)
+}
+
+/// The rows of a protocol or a directory that is exposed, one for each name.
+fn exposed(
+    alloc: Global,
+    kind: Kind,
+    at: Place,
+    children: &[Child],
+    item: &Value,
+) -> Result<List<Give>, ReadFault>
+    ensures { Gives result (parts.exposed_at kind children.now at (view item.now)) }
+{
+    exposed_by_parts(alloc, kind, at, children, item)
+}
+
 impl Item for Give {
     ghost use Rattle.cm_read.specs.Items.{expose_at};
 
     ghost reads = { expose_at };
 
-    #[tactic(auto, unfolding(crate::specs::Items::expose_at))]
+    #[tactic(auto, unfolding(crate::specs::Items::expose_at, crate::specs::Parts::exposed_at))]
     fn read(
         alloc: Global,
         at: Place,
@@ -154,23 +291,6 @@ impl Item for Give {
         let members = object_of(alloc, at, item)?;
         let kind = kind_of(alloc, at, item)?;
         expose_known(alloc, at, kind, members)?;
-        let names = item_names_of(alloc, kind, at, item)?;
-        let from = expose_from_of(alloc, at, item)?;
-        expose_to_of(alloc, at, item)?;
-        let target = as_of(alloc, at, names.as_slice(), item)?;
-        let rights = given_rights_of(alloc, at, item)?;
-        let subdir = subdir_of(alloc, at, item, "subdir")?;
-        let availability = given_availability_of(alloc, at, item)?;
-        let unknown = source_unknown_of(alloc, at, item)?;
-        let terms = Terms {
-            kind,
-            from: settle(from, unknown, children),
-            target,
-            rights,
-            subdir,
-            dependency: Dependency::Strong,
-            availability,
-        };
-        Ok(give_rows(alloc, &terms, names.as_slice())?)
+        exposed(alloc, kind, at, children, item)
     }
 }

@@ -4,6 +4,7 @@ ghost use Rattle.std.specs.Prelude.{◌≡◌};
 ghost use Rattle.serde_json.specs.View.{view};
 ghost use Rattle.cm_decl.specs.Words.{kind_word};
 ghost use Rattle.cm_read.specs.Items as spec;
+ghost use Rattle.cm_read.specs.Parts as parts;
 ghost use Rattle.cm_read.specs.Reading.{Gives};
 
 use crate::fault::{Place, ReadFault, fault};
@@ -12,7 +13,7 @@ use crate::fields::{
 };
 use crate::known::{capability_known, child_known, collection_known, use_known};
 use crate::number::{KIND_COUNT, NOT_WITH_MANY};
-use crate::rows::{CapabilityRow, Sort, UseRow, protocol_rows, protocol_use_rows};
+use crate::rows::{CapabilityRow, Reach, Sort, UseRow, one_row, protocol_rows, uses_from};
 use crate::sections::Item;
 use crate::storage::{storage_capability, storage_use};
 use crate::words::{
@@ -24,12 +25,30 @@ use cm_names::{CapPath, List, Name};
 use serde_json::Value;
 use std::alloc::Global;
 
+/// The row of an item of `children`, whose fields are known.
+#[tactic(auto, unfolding(crate::specs::Parts::child_row_at))]
+fn child_row(alloc: Global, at: Place, item: &Value) -> Result<List<Child>, ReadFault>
+    ensures { Gives result (parts.child_row_at at (view item.now)) }
+{
+    let name = name_of(alloc, at, item, "name")?;
+    let url = url_of(alloc, at, item, "url")?;
+    let eager = startup_of(alloc, at, item)?;
+    let environment = environment_of(alloc, at, item)?;
+    let row = Child {
+        name,
+        url,
+        eager,
+        environment,
+    };
+    Ok(one_row(alloc, row)?)
+}
+
 impl Item for Child {
     ghost use Rattle.cm_read.specs.Items.{child_at};
 
     ghost reads = { λ _. child_at };
 
-    #[tactic(auto, unfolding(crate::specs::Items::child_at))]
+    #[tactic(auto, unfolding(crate::specs::Items::child_at, crate::specs::Parts::child_row_at))]
     fn read(
         alloc: Global,
         at: Place,
@@ -38,19 +57,26 @@ impl Item for Child {
     ) -> Result<List<Child>, ReadFault> {
         let members = object_of(alloc, at, item)?;
         child_known(alloc, at, members)?;
-        let name = name_of(alloc, at, item, "name")?;
-        let url = url_of(alloc, at, item, "url")?;
-        let eager = startup_of(alloc, at, item)?;
-        let environment = environment_of(alloc, at, item)?;
-        let mut rows = List::new(alloc);
-        rows.push(Child {
-            name,
-            url,
-            eager,
-            environment,
-        })?;
-        Ok(rows)
+        child_row(alloc, at, item)
     }
+}
+
+/// The row of an item of `collections`, whose fields are known.
+#[tactic(auto, unfolding(crate::specs::Parts::collection_row_at))]
+fn collection_row(alloc: Global, at: Place, item: &Value) -> Result<List<Collection>, ReadFault>
+    ensures { Gives result (parts.collection_row_at at (view item.now)) }
+{
+    let name = name_of(alloc, at, item, "name")?;
+    let durability = durability_of(alloc, at, item)?;
+    let dynamic_offers = allowed_offers_of(alloc, at, item)?;
+    let environment = environment_of(alloc, at, item)?;
+    let row = Collection {
+        name,
+        durability,
+        dynamic_offers,
+        environment,
+    };
+    Ok(one_row(alloc, row)?)
 }
 
 impl Item for Collection {
@@ -58,7 +84,7 @@ impl Item for Collection {
 
     ghost reads = { λ _. collection_at };
 
-    #[tactic(auto, unfolding(crate::specs::Items::collection_at))]
+    #[tactic(auto, unfolding(crate::specs::Items::collection_at, crate::specs::Parts::collection_row_at))]
     fn read(
         alloc: Global,
         at: Place,
@@ -67,18 +93,7 @@ impl Item for Collection {
     ) -> Result<List<Collection>, ReadFault> {
         let members = object_of(alloc, at, item)?;
         collection_known(alloc, at, members)?;
-        let name = name_of(alloc, at, item, "name")?;
-        let durability = durability_of(alloc, at, item)?;
-        let dynamic_offers = allowed_offers_of(alloc, at, item)?;
-        let environment = environment_of(alloc, at, item)?;
-        let mut rows = List::new(alloc);
-        rows.push(Collection {
-            name,
-            durability,
-            dynamic_offers,
-            environment,
-        })?;
-        Ok(rows)
+        collection_row(alloc, at, item)
     }
 }
 
@@ -203,14 +218,13 @@ fn directory_capability(
     let name = directory_name_of(alloc, at, item)?;
     let path = path_of(alloc, at, item, "path")?;
     let rights = rights_of(alloc, at, item, "rights")?;
-    let mut rows = List::new(alloc);
-    rows.push(CapabilityRow::Capability(Capability {
+    let row = CapabilityRow::Capability(Capability {
         kind: Kind::Directory,
         name,
         path,
         rights: Some(rights),
-    }))?;
-    Ok(rows)
+    });
+    Ok(one_row(alloc, row)?)
 }
 
 impl Item for CapabilityRow {
@@ -236,50 +250,77 @@ impl Item for CapabilityRow {
     }
 }
 
+/// The rows of protocols with these names that are used, one for each.
+#[tactic(auto, unfolding(crate::specs::Parts::protocols_used_at))]
+fn protocols_used(
+    alloc: Global,
+    at: Place,
+    names: &[Name],
+    item: &Value,
+) -> Result<List<UseRow>, ReadFault>
+    ensures { Gives result (parts.protocols_used_at at names.now (view item.now)) }
+{
+    let from = use_source_of(alloc, at, item)?;
+    let path = protocol_path_of(alloc, at, names, item)?;
+    let dependency = dependency_of(alloc, at, item)?;
+    let availability = availability_of(alloc, at, item)?;
+    Ok(uses_from(alloc, from, path, dependency, availability, names)?)
+}
+
 /// The rows of a protocol that is used, one for each name.
-#[tactic(auto, unfolding(crate::specs::Items::protocol_use_at))]
+#[tactic(auto, unfolding(crate::specs::Items::protocol_use_at, crate::specs::Parts::protocols_used_at))]
 fn protocol_use(alloc: Global, at: Place, item: &Value) -> Result<List<UseRow>, ReadFault>
     ensures { Gives result (spec.protocol_use_at at (view item.now)) }
 {
     let names = item_names_of(alloc, Kind::Protocol, at, item)?;
-    let from = use_source_of(alloc, at, item)?;
-    let path = protocol_path_of(alloc, at, names.as_slice(), item)?;
-    let dependency = dependency_of(alloc, at, item)?;
-    let availability = availability_of(alloc, at, item)?;
-    Ok(protocol_use_rows(
-        alloc,
-        &from,
-        &path,
-        dependency,
-        availability,
-        names.as_slice(),
-    )?)
+    protocols_used(alloc, at, names.as_slice(), item)
 }
 
-/// The row of a directory that is used.
-#[tactic(auto, unfolding(crate::specs::Items::directory_use_at))]
-fn directory_use(alloc: Global, at: Place, item: &Value) -> Result<List<UseRow>, ReadFault>
-    ensures { Gives result (spec.directory_use_at at (view item.now)) }
+/// Where a directory is used, and how.
+#[tactic(auto, unfolding(crate::specs::Parts::reach_at))]
+fn reach_of(alloc: Global, at: Place, item: &Value) -> Result<Reach, ReadFault>
+    ensures { Gives result (parts.reach_at at (view item.now)) }
 {
-    let name = directory_name_of(alloc, at, item)?;
-    let from = use_from_of(alloc, at, item)?;
     let path = path_of(alloc, at, item, "path")?;
     let rights = rights_of(alloc, at, item, "rights")?;
     let subdir = subdir_of(alloc, at, item, "subdir")?;
     let dependency = dependency_of(alloc, at, item)?;
     let availability = availability_of(alloc, at, item)?;
-    let mut rows = List::new(alloc);
-    rows.push(UseRow::Usage(Usage {
-        kind: Kind::Directory,
-        name,
-        from,
+    Ok(Reach {
         path,
-        rights: Some(rights),
+        rights,
         subdir,
         dependency,
         availability,
-    }))?;
-    Ok(rows)
+    })
+}
+
+/// The row of a directory that is used, by its parts.
+#[tactic(auto, unfolding(crate::specs::Parts::directory_use_by_parts_at))]
+fn directory_use_by_parts(alloc: Global, at: Place, item: &Value) -> Result<List<UseRow>, ReadFault>
+    ensures { Gives result (parts.directory_use_by_parts_at at (view item.now)) }
+{
+    let name = directory_name_of(alloc, at, item)?;
+    let from = use_from_of(alloc, at, item)?;
+    let reach = reach_of(alloc, at, item)?;
+    let row = UseRow::Usage(Usage {
+        kind: Kind::Directory,
+        name,
+        from,
+        path: reach.path,
+        rights: Some(reach.rights),
+        subdir: reach.subdir,
+        dependency: reach.dependency,
+        availability: reach.availability,
+    });
+    Ok(one_row(alloc, row)?)
+}
+
+/// The row of a directory that is used.
+fn directory_use(alloc: Global, at: Place, item: &Value) -> Result<List<UseRow>, ReadFault>
+    ensures { Gives result (spec.directory_use_at at (view item.now)) }
+{
+    directory_use_by_parts(alloc, at, item)
 }
 
 impl Item for UseRow {

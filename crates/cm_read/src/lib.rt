@@ -5,9 +5,10 @@
 //! [`write_decl`] gives the one text of a declaration, which reads as that declaration.
 //!
 //! `specs/` defines what a manifest declares, as functions from JSON values: `Fields` for single
-//! fields, `Words` for listed words, `Items` and `Environments` for the items of each section,
-//! `Sections` for the rows of a section and `Manifest` for the whole. `Writing` defines the text of
-//! a declaration, and `Readable` which declarations are read back from their text.
+//! fields, `Words` for listed words, `Items` and `Environments` for the items of each section (and
+//! `Parts` for those that are read in steps), `Sections` for the rows of a section and `Manifest` for
+//! the whole. `Writing` defines the text of a declaration, and `Readable` which declarations are read
+//! back from their text.
 #![tactic(auto)]
 
 mod apart;

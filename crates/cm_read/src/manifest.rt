@@ -10,7 +10,7 @@ ghost use Rattle.cm_read.specs.Readable.{IsReadable};
 ghost use Rattle.cm_read.specs.Reading.{Gives, GivesBy};
 ghost use Rattle.cm_read.specs.Sections.{section_at};
 
-use crate::apart::{Uses, part_capabilities, part_offers, part_uses};
+use crate::apart::{Parted, Uses, part_rows};
 use crate::fault::{ReadFault, start, whole};
 use crate::fields::{name_of, object_of};
 use crate::known::section_known;
@@ -140,13 +140,18 @@ fn declared_by(alloc: Global, runner: Option<Name>, rows: SectionRows) -> Result
         exposes,
         environments,
     } = rows;
-    let (capabilities, storages) = part_capabilities(alloc, capabilities)?;
+    let Parted {
+        capabilities,
+        storages,
+        uses,
+        offers,
+        storage_offers,
+    } = part_rows(alloc, capabilities, uses, offers)?;
     let Uses {
         routed: uses,
         debug: debug_uses,
         storages: storage_uses,
-    } = part_uses(alloc, uses)?;
-    let (offers, storage_offers) = part_offers(alloc, offers)?;
+    } = uses;
     Ok(Decl {
         runner,
         children,

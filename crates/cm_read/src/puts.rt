@@ -1,6 +1,6 @@
 //! What the written items have in common: the words, and the members of an object.
 
-ghost use Rattle.std.specs.Prelude.{◌≡◌, [], ◌∷◌, ◌++◌, map, IfOk, OnOk};
+ghost use Rattle.std.specs.Prelude.{◌≡◌, [], ◌∷◌, ◌++◌, map, codes, IfOk, OnOk};
 ghost use Rattle.serde_json.specs.Data.{string, array};
 ghost use Rattle.serde_json.specs.View.{view, items_of};
 ghost use Rattle.cm_names.specs.Availability as names;
@@ -122,7 +122,7 @@ pub fn extends_word(extends: bool) -> &'static str
 }
 
 /// `#` and the name.
-pub fn reference(alloc: Global, name: &Name) -> Result<Text, Memory>
+fn reference(alloc: Global, name: &Name) -> Result<Text, Memory>
     ensures { IfOk result (λ text. text ≡ spec.reference name.now) }
 {
     let mut text = Text::from_str(alloc, "#")?;
@@ -131,7 +131,7 @@ pub fn reference(alloc: Global, name: &Name) -> Result<Text, Memory>
 }
 
 /// The word of an origin, or a reference.
-pub fn origin_text(alloc: Global, origin: &Origin) -> Result<Text, Memory>
+fn origin_text(alloc: Global, origin: &Origin) -> Result<Text, Memory>
     ensures { IfOk result (λ text. text ≡ spec.origin_text origin.now) }
 {
     match origin {
@@ -159,6 +159,30 @@ pub fn put_text(
 {
     let value = Value::try_from_str(alloc, text)?;
     serde_json::put(members, alloc, key, value)
+}
+
+/// Puts `from` among the members.
+pub fn put_from(
+    alloc: Global,
+    members: &mut Map<String, Value>,
+    from: &Origin,
+) -> Result<(), Memory>
+    ensures { OnOk result
+        (Puts members.old.entries members.new.entries
+        ((codes "from", string (spec.origin_text from.now)) ∷ [])) }
+{
+    let text = origin_text(alloc, from)?;
+    Ok(put_text(alloc, members, "from", text.as_str())?)
+}
+
+/// Puts `to` among the members, a reference.
+pub fn put_to(alloc: Global, members: &mut Map<String, Value>, to: &Name) -> Result<(), Memory>
+    ensures { OnOk result
+        (Puts members.old.entries members.new.entries
+        ((codes "to", string (spec.reference to.now)) ∷ [])) }
+{
+    let text = reference(alloc, to)?;
+    Ok(put_text(alloc, members, "to", text.as_str())?)
 }
 
 /// Puts a list among the members.

@@ -1,10 +1,11 @@
 //! The rows that an item gives.
 
-ghost use Rattle.std.specs.Prelude.{◌≡◌, ◌++◌, map, IfOk, OnOk, unwrap_or};
+ghost use Rattle.std.specs.Prelude.{◌≡◌, [], ◌∷◌, ◌++◌, map, IfOk, OnOk, unwrap_or};
 ghost use Rattle.std.specs.List.{flat_map};
 ghost use Rattle.cm_read.specs.Environments as environments;
 ghost use Rattle.cm_read.specs.Items as spec;
 
+use cm_decl::copies::{three, two};
 use cm_decl::{
     Capability, Child, Collection, DebugUse, Environment, Give, Kind, Offer, Origin, Registration,
     Storage, StorageOffer, StorageUse, Usage,
@@ -13,7 +14,7 @@ use cm_names::{Availability, CapPath, Dependency, List, Memory, Name, Rights, Su
 use std::alloc::Global;
 
 /// What an item of a section with storage is about.
-#[derive(Debug, Clone, Copy, PartialEq, Eq)]
+#[derive(Clone, Copy)]
 pub enum Sort {
     /// A capability that is routed, of this kind.
     Routed(Kind),
@@ -60,12 +61,38 @@ pub enum UseSource {
 }
 
 /// What an environment registers.
-#[derive(Debug, Clone, Copy, PartialEq, Eq)]
+#[derive(Clone, Copy)]
 pub enum Registry {
     /// Runners: `runners`.
     Runners,
     /// Debug protocols: `debug`.
     Debug,
+}
+
+/// What a storage says of its directory.
+#[derive(Drop)]
+pub struct Backing {
+    /// The name that the directory has at its source.
+    pub backing: Name,
+    /// `subdir`, if it is there.
+    pub subdir: Option<SubDir>,
+    /// Whether an instance without an id gets a place by its moniker.
+    pub by_moniker: bool,
+}
+
+/// Where a directory is used, and how.
+#[derive(Drop)]
+pub struct Reach {
+    /// `path`.
+    pub path: CapPath,
+    /// `rights`.
+    pub rights: Rights,
+    /// `subdir`, if it is there.
+    pub subdir: Option<SubDir>,
+    /// `dependency`.
+    pub dependency: Dependency,
+    /// `availability`.
+    pub availability: Availability,
 }
 
 /// The rows of all sections that list them.
@@ -85,6 +112,15 @@ pub struct SectionRows {
     pub exposes: List<Give>,
     /// The rows of `environments`.
     pub environments: List<Environment>,
+}
+
+/// The list of one row.
+pub fn one_row<T: Drop>(alloc: Global, row: T) -> Result<List<T>, Memory>
+    ensures { IfOk result (λ rows. rows ≡ row ∷ []) }
+{
+    let mut rows = List::new(alloc);
+    rows.push(row)?;
+    Ok(rows)
 }
 
 /// The given path, or the default one of the name.
@@ -137,11 +173,13 @@ fn protocol_usage(
     ensures { IfOk result
         (λ row. row ≡ spec.protocol_usage from.now path.now dependency availability name.now) }
 {
+    let path = path_for(alloc, path, name)?;
+    let (name, from) = two(name, from)?;
     Ok(Usage {
         kind: Kind::Protocol,
-        name: name.clone()?,
-        from: from.clone()?,
-        path: path_for(alloc, path, name)?,
+        name,
+        from,
+        path,
         rights: None,
         subdir: None,
         dependency,
@@ -185,7 +223,7 @@ fn protocol_use_row(
 }
 
 /// A row for each name.
-pub fn protocol_use_rows(
+fn protocol_use_rows(
     alloc: Global,
     from: &UseSource,
     path: &Option<CapPath>,
@@ -202,6 +240,21 @@ pub fn protocol_use_rows(
         rows.push(protocol_use_row(alloc, from, path, dependency, availability, name)?)?;
     }
     Ok(rows)
+}
+
+/// The same of a source and a path that are handed over.
+pub fn uses_from(
+    alloc: Global,
+    from: UseSource,
+    path: Option<CapPath>,
+    dependency: Dependency,
+    availability: Availability,
+    names: &[Name],
+) -> Result<List<UseRow>, Memory>
+    ensures { IfOk result (λ rows. rows
+        ≡ map (spec.protocol_use_row from path dependency availability) names.now) }
+{
+    protocol_use_rows(alloc, &from, &path, dependency, availability, names)
 }
 
 /// The given target name, or the name itself.
@@ -233,17 +286,36 @@ pub struct Terms {
     pub availability: Availability,
 }
 
+/// What an item of `offer` or `expose` asks of what it gives.
+#[derive(Drop)]
+pub struct Asked {
+    /// `as`, if it is there.
+    pub target: Option<Name>,
+    /// `rights`, if they are there.
+    pub rights: Option<Rights>,
+    /// `subdir`, if it is there.
+    pub subdir: Option<SubDir>,
+    /// `dependency`, which an expose has not: there it is `Strong`.
+    pub dependency: Dependency,
+    /// `availability`.
+    pub availability: Availability,
+    /// Whether the source may be missing.
+    pub unknown: bool,
+}
+
 /// The row of a name.
 fn give_row(terms: &Terms, name: &Name) -> Result<Give, Memory>
     ensures { IfOk result (λ row. row ≡ spec.give_row terms.now name.now) }
 {
+    let target_name = target_for(&terms.target, name)?;
+    let (source_name, from, subdir) = three(name, &terms.from, &terms.subdir)?;
     Ok(Give {
         kind: terms.kind,
-        source_name: name.clone()?,
-        from: terms.from.clone()?,
-        target_name: target_for(&terms.target, name)?,
+        source_name,
+        from,
+        target_name,
         rights: terms.rights,
-        subdir: terms.subdir.clone()?,
+        subdir,
         dependency: terms.dependency,
         availability: terms.availability,
     })
@@ -264,8 +336,7 @@ pub fn give_rows(alloc: Global, terms: &Terms, names: &[Name]) -> Result<List<Gi
 fn offer_row(give: &Give, to: &Name) -> Result<Offer, Memory>
     ensures { IfOk result (λ row. row ≡ spec.offer_row give.now to.now) }
 {
-    let give = give.clone()?;
-    let to = to.clone()?;
+    let (to, give) = two(to, give)?;
     Ok(Offer { to, give })
 }
 
@@ -300,11 +371,13 @@ fn storage_offer(
 ) -> Result<StorageOffer, Memory>
     ensures { IfOk result (λ row. row ≡ spec.storage_offer from.now target.now name.now to.now) }
 {
+    let target_name = target_for(target, name)?;
+    let (to, source_name, from) = three(to, name, from)?;
     Ok(StorageOffer {
-        to: to.clone()?,
-        source_name: name.clone()?,
-        from: from.clone()?,
-        target_name: target_for(target, name)?,
+        to,
+        source_name,
+        from,
+        target_name,
     })
 }
 
@@ -327,7 +400,7 @@ fn push_storage_offers(
 }
 
 /// For each name in turn, a row for each target.
-pub fn storage_offer_rows(
+fn storage_offer_rows(
     alloc: Global,
     from: &Origin,
     target: &Option<Name>,
@@ -344,6 +417,20 @@ pub fn storage_offer_rows(
     Ok(rows)
 }
 
+/// The same of a source and a target name that are handed over.
+pub fn storage_offers_from(
+    alloc: Global,
+    from: Origin,
+    target: Option<Name>,
+    targets: List<Name>,
+    names: &[Name],
+) -> Result<List<OfferRow>, Memory>
+    ensures { IfOk result (λ rows. rows
+        ≡ flat_map (spec.storage_offer_rows from target targets) names.now) }
+{
+    storage_offer_rows(alloc, &from, &target, targets.as_slice(), names)
+}
+
 /// The registration of a name.
 fn registration_row(
     from: &Origin,
@@ -353,15 +440,13 @@ fn registration_row(
     ensures { IfOk result
         (λ row. row ≡ environments.registration from.now target.now name.now) }
 {
-    Ok(Registration {
-        name: name.clone()?,
-        from: from.clone()?,
-        target: target_for(target, name)?,
-    })
+    let target = target_for(target, name)?;
+    let (name, from) = two(name, from)?;
+    Ok(Registration { name, from, target })
 }
 
 /// A registration for each name.
-pub fn registration_rows(
+fn registration_rows(
     alloc: Global,
     from: &Origin,
     target: &Option<Name>,
@@ -375,4 +460,17 @@ pub fn registration_rows(
         rows.push(registration_row(from, target, name)?)?;
     }
     Ok(rows)
+}
+
+/// The same of a source and a target name that are handed over.
+pub fn registrations_from(
+    alloc: Global,
+    from: Origin,
+    target: Option<Name>,
+    names: &[Name],
+) -> Result<List<Registration>, Memory>
+    ensures { IfOk result
+        (λ rows. rows ≡ map (environments.registration from target) names.now) }
+{
+    registration_rows(alloc, &from, &target, names)
 }

@@ -2,12 +2,13 @@
 
 ghost use Rattle.serde_json.specs.View.{view};
 ghost use Rattle.cm_read.specs.Items as spec;
+ghost use Rattle.cm_read.specs.Parts as parts;
 ghost use Rattle.cm_read.specs.Reading.{Gives};
 
 use crate::fault::{Place, ReadFault};
 use crate::fields::{name_of, names_of, needed, path_of, subdir_of};
-use crate::puts::{Row, origin_text, put_subdir, put_text, reference, storage_id_word};
-use crate::rows::{CapabilityRow, UseRow};
+use crate::puts::{Row, put_from, put_subdir, put_text, put_to, storage_id_word};
+use crate::rows::{Backing, CapabilityRow, UseRow, one_row};
 use crate::words::{availability_of, static_from_of, storage_id_of, storage_use_from_of};
 use cm_decl::{Storage, StorageOffer, StorageUse};
 use cm_names::{List, Memory, Name};
@@ -30,8 +31,44 @@ fn backing_of(alloc: Global, at: Place, item: &Value) -> Result<Name, ReadFault>
     name_of(alloc, at, item, "backing_dir")
 }
 
+/// What a storage says of its directory.
+#[tactic(auto, unfolding(crate::specs::Parts::backing_part_at))]
+fn backing_part(alloc: Global, at: Place, item: &Value) -> Result<Backing, ReadFault>
+    ensures { Gives result (parts.backing_part_at at (view item.now)) }
+{
+    let backing = backing_of(alloc, at, item)?;
+    let subdir = subdir_of(alloc, at, item, "subdir")?;
+    let by_moniker = storage_id_of(alloc, at, item)?;
+    Ok(Backing {
+        backing,
+        subdir,
+        by_moniker,
+    })
+}
+
+/// The row of a storage that is provided, by its parts.
+#[tactic(auto, unfolding(crate::specs::Parts::storage_by_parts_at))]
+fn storage_by_parts(
+    alloc: Global,
+    at: Place,
+    item: &Value,
+) -> Result<List<CapabilityRow>, ReadFault>
+    ensures { Gives result (parts.storage_by_parts_at at (view item.now)) }
+{
+    let name = storage_name_of(alloc, at, item)?;
+    let from = static_from_of(alloc, at, item)?;
+    let part = backing_part(alloc, at, item)?;
+    let row = CapabilityRow::Storage(Storage {
+        name,
+        from,
+        backing: part.backing,
+        subdir: part.subdir,
+        by_moniker: part.by_moniker,
+    });
+    Ok(one_row(alloc, row)?)
+}
+
 /// The row of a storage that is provided.
-#[tactic(auto, unfolding(crate::specs::Items::storage_at))]
 pub fn storage_capability(
     alloc: Global,
     at: Place,
@@ -39,20 +76,7 @@ pub fn storage_capability(
 ) -> Result<List<CapabilityRow>, ReadFault>
     ensures { Gives result (spec.storage_at at (view item.now)) }
 {
-    let name = storage_name_of(alloc, at, item)?;
-    let from = static_from_of(alloc, at, item)?;
-    let backing = backing_of(alloc, at, item)?;
-    let subdir = subdir_of(alloc, at, item, "subdir")?;
-    let by_moniker = storage_id_of(alloc, at, item)?;
-    let mut rows = List::new(alloc);
-    rows.push(CapabilityRow::Storage(Storage {
-        name,
-        from,
-        backing,
-        subdir,
-        by_moniker,
-    }))?;
-    Ok(rows)
+    storage_by_parts(alloc, at, item)
 }
 
 /// The row of a storage that is used; its availability isn't kept.
@@ -64,9 +88,7 @@ pub fn storage_use(alloc: Global, at: Place, item: &Value) -> Result<List<UseRow
     storage_use_from_of(alloc, at, item)?;
     let path = path_of(alloc, at, item, "path")?;
     availability_of(alloc, at, item)?;
-    let mut rows = List::new(alloc);
-    rows.push(UseRow::Storage(StorageUse { name, path }))?;
-    Ok(rows)
+    Ok(one_row(alloc, UseRow::Storage(StorageUse { name, path }))?)
 }
 
 /// The names of storages that are offered, one or more.
@@ -84,10 +106,9 @@ impl Row for Storage {
     ghost writes = { storage_data };
 
     fn write(&self, alloc: Global) -> Result<Value, Memory> {
-        let from = origin_text(alloc, &self.from)?;
         let mut members = Map::new(alloc);
         put_text(alloc, &mut members, "storage", self.name.as_str())?;
-        put_text(alloc, &mut members, "from", from.as_str())?;
+        put_from(alloc, &mut members, &self.from)?;
         put_text(alloc, &mut members, "backing_dir", self.backing.as_str())?;
         put_text(
             alloc,
@@ -120,12 +141,10 @@ impl Row for StorageOffer {
     ghost writes = { storage_offer_data };
 
     fn write(&self, alloc: Global) -> Result<Value, Memory> {
-        let from = origin_text(alloc, &self.from)?;
-        let to = reference(alloc, &self.to)?;
         let mut members = Map::new(alloc);
         put_text(alloc, &mut members, "storage", self.source_name.as_str())?;
-        put_text(alloc, &mut members, "from", from.as_str())?;
-        put_text(alloc, &mut members, "to", to.as_str())?;
+        put_from(alloc, &mut members, &self.from)?;
+        put_to(alloc, &mut members, &self.to)?;
         put_text(alloc, &mut members, "as", self.target_name.as_str())?;
         Ok(Value::from(members))
     }

@@ -1,10 +1,11 @@
 //! Fields with listed words, and where a capability comes from.
 
-ghost use Rattle.std.specs.Prelude.{◌≡◌};
+ghost use Rattle.std.specs.Prelude.{◌≡◌, ok_or};
 ghost use Rattle.serde_json.specs.View.{view};
 ghost use Rattle.cm_read.specs.Fields as fields;
+ghost use Rattle.cm_read.specs.Numbers.{unknown_word};
 ghost use Rattle.cm_read.specs.Words as spec;
-ghost use Rattle.cm_read.specs.Reading.{Gives};
+ghost use Rattle.cm_read.specs.Reading.{Gives, bad};
 
 use crate::fault::{Place, ReadFault, fault};
 use crate::fields::{behind_mark, name_from, needed, text_of};
@@ -194,6 +195,16 @@ fn expose_target_named(text: &str) -> Option<()>
     }
 }
 
+/// What a listed word means; a word that isn't listed is a fault.
+fn listed<T: Drop>(alloc: Global, at: Place, key: &str, named: Option<T>) -> Result<T, ReadFault>
+    ensures { Gives result (ok_or named (bad at unknown_word key.now)) }
+{
+    match named {
+        Some(meaning) => Ok(meaning),
+        None => Err(fault(alloc, at, UNKNOWN_WORD, key)),
+    }
+}
+
 /// `startup`, by default `lazy`.
 #[tactic(auto, unfolding(crate::specs::Words::startup_at))]
 pub fn startup_of(alloc: Global, at: Place, item: &Value) -> Result<bool, ReadFault>
@@ -203,10 +214,7 @@ pub fn startup_of(alloc: Global, at: Place, item: &Value) -> Result<bool, ReadFa
         return Ok(false);
     };
     let text = text_of(alloc, at, value, "startup")?;
-    match startup_named(text) {
-        Some(word) => Ok(word),
-        None => Err(fault(alloc, at, UNKNOWN_WORD, "startup")),
-    }
+    listed(alloc, at, "startup", startup_named(text))
 }
 
 /// `durability`, which has to be there.
@@ -216,10 +224,7 @@ pub fn durability_of(alloc: Global, at: Place, item: &Value) -> Result<Durabilit
 {
     let value = needed(alloc, at, item, "durability")?;
     let text = text_of(alloc, at, value, "durability")?;
-    match durability_named(text) {
-        Some(word) => Ok(word),
-        None => Err(fault(alloc, at, UNKNOWN_WORD, "durability")),
-    }
+    listed(alloc, at, "durability", durability_named(text))
 }
 
 /// `allowed_offers`, by default `static_only`.
@@ -231,10 +236,7 @@ pub fn allowed_offers_of(alloc: Global, at: Place, item: &Value) -> Result<bool,
         return Ok(false);
     };
     let text = text_of(alloc, at, value, "allowed_offers")?;
-    match offers_named(text) {
-        Some(word) => Ok(word),
-        None => Err(fault(alloc, at, UNKNOWN_WORD, "allowed_offers")),
-    }
+    listed(alloc, at, "allowed_offers", offers_named(text))
 }
 
 /// `dependency`, by default `strong`.
@@ -246,10 +248,7 @@ pub fn dependency_of(alloc: Global, at: Place, item: &Value) -> Result<Dependenc
         return Ok(Dependency::Strong);
     };
     let text = text_of(alloc, at, value, "dependency")?;
-    match dependency_named(text) {
-        Some(word) => Ok(word),
-        None => Err(fault(alloc, at, UNKNOWN_WORD, "dependency")),
-    }
+    listed(alloc, at, "dependency", dependency_named(text))
 }
 
 /// `availability` of a use, by default `required`.
@@ -261,10 +260,7 @@ pub fn availability_of(alloc: Global, at: Place, item: &Value) -> Result<Availab
         return Ok(Availability::Required);
     };
     let text = text_of(alloc, at, value, "availability")?;
-    match availability_named(text) {
-        Some(word) => Ok(word),
-        None => Err(fault(alloc, at, UNKNOWN_WORD, "availability")),
-    }
+    listed(alloc, at, "availability", availability_named(text))
 }
 
 /// `availability` of an offer or an expose, by default `required`.
@@ -280,10 +276,7 @@ pub fn given_availability_of(
         return Ok(Availability::Required);
     };
     let text = text_of(alloc, at, value, "availability")?;
-    match given_availability_named(text) {
-        Some(word) => Ok(word),
-        None => Err(fault(alloc, at, UNKNOWN_WORD, "availability")),
-    }
+    listed(alloc, at, "availability", given_availability_named(text))
 }
 
 /// `source_availability`, by default `required`.
@@ -295,10 +288,7 @@ pub fn source_unknown_of(alloc: Global, at: Place, item: &Value) -> Result<bool,
         return Ok(false);
     };
     let text = text_of(alloc, at, value, "source_availability")?;
-    match source_named(text) {
-        Some(word) => Ok(word),
-        None => Err(fault(alloc, at, UNKNOWN_WORD, "source_availability")),
-    }
+    listed(alloc, at, "source_availability", source_named(text))
 }
 
 /// `to` of an expose, by default `parent`.
@@ -310,10 +300,7 @@ pub fn expose_to_of(alloc: Global, at: Place, item: &Value) -> Result<(), ReadFa
         return Ok(());
     };
     let text = text_of(alloc, at, value, "to")?;
-    match expose_target_named(text) {
-        Some(word) => Ok(word),
-        None => Err(fault(alloc, at, UNKNOWN_WORD, "to")),
-    }
+    listed(alloc, at, "to", expose_target_named(text))
 }
 
 /// Whether a child of that name is declared.
@@ -359,10 +346,7 @@ fn origin_from(
             let name = name_from(alloc, at, "from", name)?;
             Ok(Origin::Child(ChildName { coll: None, name }))
         }
-        None => match named {
-            Some(origin) => Ok(origin),
-            None => Err(fault(alloc, at, UNKNOWN_WORD, "from")),
-        },
+        None => listed(alloc, at, "from", named),
     }
 }
 
@@ -480,10 +464,7 @@ pub fn storage_from_of(alloc: Global, at: Place, item: &Value) -> Result<Origin,
 {
     let value = needed(alloc, at, item, "from")?;
     let text = text_of(alloc, at, value, "from")?;
-    match storage_origin_named(text) {
-        Some(origin) => Ok(origin),
-        None => Err(fault(alloc, at, UNKNOWN_WORD, "from")),
-    }
+    listed(alloc, at, "from", storage_origin_named(text))
 }
 
 /// `from` of a use of a storage: the parent alone, by default.
@@ -495,10 +476,7 @@ pub fn storage_use_from_of(alloc: Global, at: Place, item: &Value) -> Result<(),
         return Ok(());
     };
     let text = text_of(alloc, at, value, "from")?;
-    match expose_target_named(text) {
-        Some(word) => Ok(word),
-        None => Err(fault(alloc, at, UNKNOWN_WORD, "from")),
-    }
+    listed(alloc, at, "from", expose_target_named(text))
 }
 
 /// `extends`, by default `none`.
@@ -510,10 +488,7 @@ pub fn extends_of(alloc: Global, at: Place, item: &Value) -> Result<bool, ReadFa
         return Ok(false);
     };
     let text = text_of(alloc, at, value, "extends")?;
-    match extends_named(text) {
-        Some(word) => Ok(word),
-        None => Err(fault(alloc, at, UNKNOWN_WORD, "extends")),
-    }
+    listed(alloc, at, "extends", extends_named(text))
 }
 
 /// `storage_id`, which has to be there.
@@ -523,10 +498,7 @@ pub fn storage_id_of(alloc: Global, at: Place, item: &Value) -> Result<bool, Rea
 {
     let value = needed(alloc, at, item, "storage_id")?;
     let text = text_of(alloc, at, value, "storage_id")?;
-    match storage_id_named(text) {
-        Some(word) => Ok(word),
-        None => Err(fault(alloc, at, UNKNOWN_WORD, "storage_id")),
-    }
+    listed(alloc, at, "storage_id", storage_id_named(text))
 }
 
 /// The name behind the `#` of a reference; a text without one is no name.

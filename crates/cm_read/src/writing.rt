@@ -10,8 +10,8 @@ ghost use Rattle.cm_read.specs.Writing.{Puts};
 
 use crate::items::word_of;
 use crate::puts::{
-    Row, availability_word, dependency_word, durability_word, offers_word, origin_text, push_each,
-    put_environment, put_limits, put_list, put_rights, put_text, put_values, reference,
+    Row, availability_word, dependency_word, durability_word, offers_word, push_each,
+    put_environment, put_from, put_limits, put_list, put_rights, put_text, put_to, put_values,
     startup_word,
 };
 use cm_decl::{Capability, Child, Collection, DebugUse, Decl, Environment, Give, Offer, Usage};
@@ -73,30 +73,37 @@ impl Row for Capability {
     }
 }
 
+/// Puts what a row of `use` has among the members.
+fn put_use(alloc: Global, members: &mut Map<String, Value>, usage: &Usage) -> Result<(), Memory>
+    ensures { OnOk result
+        (Puts members.old.entries members.new.entries (spec.use_pairs usage.now)) }
+{
+    put_text(alloc, members, word_of(usage.kind), usage.name.as_str())?;
+    put_from(alloc, members, &usage.from)?;
+    put_text(alloc, members, "path", usage.path.as_str())?;
+    put_text(
+        alloc,
+        members,
+        "dependency",
+        dependency_word(usage.dependency),
+    )?;
+    put_text(
+        alloc,
+        members,
+        "availability",
+        availability_word(usage.availability),
+    )?;
+    put_limits(alloc, members, usage.rights, &usage.subdir)
+}
+
 impl Row for Usage {
     ghost use Rattle.cm_read.specs.Writing.{use_data};
 
     ghost writes = { use_data };
 
     fn write(&self, alloc: Global) -> Result<Value, Memory> {
-        let from = origin_text(alloc, &self.from)?;
         let mut members = Map::new(alloc);
-        put_text(alloc, &mut members, word_of(self.kind), self.name.as_str())?;
-        put_text(alloc, &mut members, "from", from.as_str())?;
-        put_text(alloc, &mut members, "path", self.path.as_str())?;
-        put_text(
-            alloc,
-            &mut members,
-            "dependency",
-            dependency_word(self.dependency),
-        )?;
-        put_text(
-            alloc,
-            &mut members,
-            "availability",
-            availability_word(self.availability),
-        )?;
-        put_limits(alloc, &mut members, self.rights, &self.subdir)?;
+        put_use(alloc, &mut members, self)?;
         Ok(Value::from(members))
     }
 }
@@ -106,14 +113,13 @@ fn put_give(alloc: Global, members: &mut Map<String, Value>, give: &Give) -> Res
     ensures { OnOk result
         (Puts members.old.entries members.new.entries (spec.give_pairs give.now)) }
 {
-    let from = origin_text(alloc, &give.from)?;
     put_text(
         alloc,
         members,
         word_of(give.kind),
         give.source_name.as_str(),
     )?;
-    put_text(alloc, members, "from", from.as_str())?;
+    put_from(alloc, members, &give.from)?;
     put_text(alloc, members, "as", give.target_name.as_str())?;
     put_text(
         alloc,
@@ -144,9 +150,8 @@ impl Row for Offer {
     ghost writes = { offer_data };
 
     fn write(&self, alloc: Global) -> Result<Value, Memory> {
-        let to = reference(alloc, &self.to)?;
         let mut members = Map::new(alloc);
-        put_text(alloc, &mut members, "to", to.as_str())?;
+        put_to(alloc, &mut members, &self.to)?;
         put_text(
             alloc,
             &mut members,

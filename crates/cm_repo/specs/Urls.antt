@@ -1,9 +1,9 @@
 -- Which text a URL has, alone and on a base. How a URL is read and written is the URL Standard's.
-use Rattle.std.specs.Prelude.{ℕ, Bool, true, false, not, ◌&&◌, List, [], ◌∷◌, length, Option, Some, None}
-use Rattle.std.specs.Prelude.{Result, Ok, Err, nat_le, ◌==◌, if◌then◌else◌}
-use Rattle.std.specs.List.{list_all}
+use Rattle.std.specs.Prelude.{ℕ, Bool, true, false, List, [], ◌∷◌, Option, Some, None}
+use Rattle.std.specs.Prelude.{Result, Ok, Err, ◌==◌, if◌then◌else◌}
 use Rattle.url.specs.Parser.{parse_url, Parsed}
 use Rattle.url.specs.Parts.{Parts, serialize}
+use Rattle.cm_names.specs.Urls.{is_url_text}
 use Rattle.cm_repo.specs.Answers.{◌>>=◌}
 use Rattle.cm_repo.specs.declared.fault.UrlFault.{UrlFault}
 use Rattle.cm_repo.specs.declared.fault.UrlFault.TheVariants.{BadUrl, NoFragment}
@@ -22,14 +22,6 @@ abbrev pub has_fragment : Option (List ℕ) → Bool
 has_fragment None = false
 has_fragment (Some []) = false
 has_fragment (Some (byte ∷ bytes)) = true
-
--- a printing ASCII byte other than the space
-abbrev pub is_url_byte : ℕ → Bool
-is_url_byte b = nat_le 33 b && nat_le b 126
-
--- 1 to 4,096 of these bytes
-abbrev pub is_url_text : List ℕ → Bool
-is_url_text text = not (length text == 0) && nat_le (length text) 4096 && list_all is_url_byte text
 
 -- the text of a URL that a manifest or a command can have too, and that names a manifest by its fragment
 abbrev pub text_of : Parts → Result (List ℕ) UrlFault

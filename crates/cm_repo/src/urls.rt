@@ -1,22 +1,18 @@
 //! Absolute URLs.
 
 ghost use Rattle.std.specs.Prelude.{◌≡◌, None};
-ghost use Rattle.std.specs.List.{list_all};
 ghost use Rattle.url.specs.Parser.{Parsed};
 ghost use Rattle.url.specs.Parser as url;
 ghost use Rattle.url.specs.Parts.{Parts};
 ghost use Rattle.cm_repo.specs.Answers.{GivesUnless};
 ghost use Rattle.cm_repo.specs.Urls.{accepted, text_of, key_of, begins_with_hash, absolute_of};
-ghost use Rattle.cm_repo.specs.Urls.{is_url_byte, is_url_text};
 ghost use Rattle.cm_repo.specs.declared.fault.UrlFault.TheVariants.{Memory};
 
 use crate::UrlFault;
 use cm_names::Text;
+use cm_names::url::is_url_text;
 use std::alloc::Global;
 use url::{ParseError, ParseResult, Url};
-
-/// The most bytes that the text of a URL has.
-const LONGEST_URL: usize = 4096;
 
 /// The URL that was read, or why there is none: a URL of 4 GB counts as want of memory.
 fn accepted(given: ParseResult<Url>) -> Result<Url, UrlFault>
@@ -29,20 +25,6 @@ fn accepted(given: ParseResult<Url>) -> Result<Url, UrlFault>
         Err(ParseError::Overflow) => Err(UrlFault::Memory),
         Err(_) => Err(UrlFault::BadUrl),
     }
-}
-
-/// Whether the text is 1 to 4,096 printing bytes of ASCII other than the space.
-fn is_url_text(text: &str) -> bool
-    ensures { result ≡ is_url_text text.now }
-{
-    !text.is_empty() && text.len() <= LONGEST_URL && has_url_bytes(text)
-}
-
-/// Whether each byte is a printing one of ASCII other than the space.
-fn has_url_bytes(text: &str) -> bool
-    ensures { result ≡ list_all is_url_byte text.now }
-{
-    text.as_bytes().iter().all(|b| *b >= 33 && *b <= 126)
 }
 
 /// The text of a URL that a manifest or a command can have too, and that names a manifest.

@@ -1,5 +1,5 @@
 -- What an index tells of the rows.
-use Rattle.std.proofs.Common.{◌≡◌, ℕ, suc, ◌<◌, ◌-◌, ◌==◌, List, [], ◌∷◌, ◌++◌, length, Option, Some, None, find, refl, sym, ap, ◌∙◌, subst, arith, Bool, true, false, cond, Bor}
+use Rattle.std.proofs.Common.{◌≡◌, ℕ, suc, ◌<◌, ◌-◌, ◌==◌, List, [], ◌∷◌, length, Option, Some, None, find, refl, sym, ap, ◌∙◌, subst, arith, Bor}
 use Rattle.std.specs.Prelude.{option_map, IfSome, IfNone}
 use Rattle.std.specs.Option.{option_copied}
 use Rattle.cm_names.specs.declared.child.ChildName.{ChildName}
@@ -8,9 +8,8 @@ use Rattle.cm_world.specs.Rows.{row_of, is_behind, child_of, child_behind}
 use Rattle.cm_world.specs.Sound.{IsOrderly}
 use Rattle.cm_world.proofs.Finding.{none_some, row_of-inc}
 use Rattle.cm_table.specs.declared.slot.Slot.{Slot}
-use Rattle.cm_table.specs.declared.block.Block.{Block}
-use Rattle.cm_table.specs.Keys.{Each, Filled, nth, first_in}
-use Rattle.cm_table.specs.Slots.{slot_of, slots_in, flat, rows_in, kids_of, named_in, IsIndexed}
+use Rattle.cm_table.specs.Keys.{Each, nth}
+use Rattle.cm_table.specs.Slots.{slot_of, kids_of, named_in, IsIndexed}
 use Rattle.cm_table.specs.Links.{Rises}
 use Rattle.cm_table.specs.Leaf.{IsChildOf}
 use Rattle.cm_table.proofs.Each.{each_map, each_find, each_nth}
@@ -76,24 +75,6 @@ child_none rows next p c o none = ap (option_map (λ r. r.inc)) (sym (find_none 
 pub next_none : (rows : List Row) (next p : ℕ) (after : Option ℕ) → IsOrderly rows next → None ≡ row_of rows p → None ≡ child_behind rows p after
 next_none rows next p after o none =
     ap (find (is_behind after)) (ap incs (sym (filter_none p rows (no_child rows next p o (sym none))))) ∙ sym (next_kid rows p after)
-
--- ---- the first row behind another
-
-row_by : (t : Bool) (s : Slot) (o : Option Row) (p : Option Slot) → o ≡ option_map (λ s. s.row) p → cond t (Some s.row) o ≡ option_map (λ s. s.row) (cond t (Some s) p)
-row_by true s o p e = refl
-row_by false s o p e = e
-
-pub find_rows : (t : Row → Bool) (ss : List Slot) → find t (rows_in ss) ≡ option_map (λ s. s.row) (find (λ s. t s.row) ss)
-find_rows t [] = refl
-find_rows t (s ∷ ss) = row_by (t s.row) s (find t (rows_in ss)) (find (λ z. t z.row) ss) (find_rows t ss)
-
-first_by : (l rest : List Slot) → 0 < length l → option_map (λ s. s.row) (nth l 0) ≡ find (λ r. is_behind None r.inc) (rows_in (l ++ rest))
-first_by [] rest h = absurd (omega arith)
-first_by (s ∷ ss) rest h = refl
-
-pub first_row : (bs : List Block) → Filled slots_in bs → option_map (λ s. s.row) (first_in slots_in bs 0) ≡ find (λ r. is_behind None r.inc) (rows_in (flat bs))
-first_row [] filled = refl
-first_row (b ∷ bs) filled = first_by b.slots.items (flat bs) filled.0
 
 -- ---- the last child, by cases
 

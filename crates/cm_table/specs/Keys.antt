@@ -35,12 +35,6 @@ AreFilledBut f k [] = Unit {0}
 AreFilledBut f zero (x ∷ xs) = Filled f xs
 AreFilledBut f (suc k) (x ∷ xs) = (0 < length (f x)) × AreFilledBut f k xs
 
--- the first item of the part at a place
-abbrev pub first_in : {X Y : Type 0} → (X → List Y) → List X → ℕ → Option Y
-first_in f [] k = None
-first_in f (x ∷ xs) zero = nth (f x) 0
-first_in f (x ∷ xs) (suc k) = first_in f xs k
-
 module _ {Y : Type 0} (key : Y → ℕ) where
   -- the item of a key
   abbrev pub item_of : List Y → ℕ → Option Y

@@ -1,12 +1,11 @@
 //! Slots that came together.
 
-ghost use Rattle.std.specs.Prelude.{◌≡◌, ◌≤◌, ◌<◌, ◌+◌, ◌==◌, ◌++◌, length, find, Some};
+ghost use Rattle.std.specs.Prelude.{◌≡◌, ◌≤◌, ◌<◌, ◌+◌, ◌==◌, ◌++◌, length, Some};
 ghost use Rattle.std.specs.Option.{option_copied};
 ghost use Rattle.std.specs.Vec.{vec_capacity};
 ghost use Rattle.cm_world.specs.Edits.{edit_first, drop_first};
-ghost use Rattle.cm_world.specs.Rows.{is_behind};
 ghost use Rattle.cm_table.specs.Change.{change_row};
-ghost use Rattle.cm_table.specs.Keys.{IsPlace, Filled, Rising, alone, first_key, nth, first_in, AreFilledBut};
+ghost use Rattle.cm_table.specs.Keys.{IsPlace, Filled, Rising, alone, first_key, AreFilledBut};
 ghost use Rattle.cm_table.specs.Slots.{inc_of, slot_of, flat, slots_in, indexed_by, with_row_by};
 ghost use Rattle.cm_table.specs.declared.slot.Slot.{Slot as OneSlot};
 
@@ -80,50 +79,6 @@ pub fn slot_in(blocks: &[Block], inc: u64) -> Option<&Slot>
     }
     let block = &blocks[count - 1];
     slot_at(block.slots.as_slice(), inc)
-}
-
-/// The slot at a place.
-fn nth_of(slots: &[Slot], place: usize) -> Option<&Slot>
-    ensures { option_copied result ≡ nth slots.now place }
-{
-    if place >= slots.len() {
-        return None;
-    }
-    Some(&slots[place])
-}
-
-/// The first slot with a higher incarnation, among slots by rising ones.
-fn slot_behind(slots: &[Slot], inc: u64) -> Option<&Slot>
-    requires { Rising inc_of slots.now }
-    ensures { option_copied result ≡ find (λ s. is_behind (Some inc) s.row.inc) slots.now }
-{
-    nth_of(slots, slots_upto(slots, inc))
-}
-
-/// The first slot of the block at a place.
-pub fn first_at(blocks: &[Block], place: usize) -> Option<&Slot>
-    ensures { option_copied result ≡ first_in slots_in blocks.now place }
-{
-    if place >= blocks.len() {
-        return None;
-    }
-    nth_of(blocks[place].slots.as_slice(), 0)
-}
-
-/// The first slot with a higher incarnation.
-pub fn behind_in(blocks: &[Block], inc: u64) -> Option<&Slot>
-    requires filled { Filled slots_in blocks.now }
-    requires rising { Rising inc_of (flat blocks.now) }
-    ensures { option_copied result ≡ find (λ s. is_behind (Some inc) s.row.inc) (flat blocks.now) }
-{
-    let count = blocks_upto(blocks, inc);
-    if count == 0 {
-        return first_at(blocks, 0);
-    }
-    match slot_behind(blocks[count - 1].slots.as_slice(), inc) {
-        None => first_at(blocks, count),
-        Some(slot) => Some(slot),
-    }
 }
 
 // ---- changes of rows

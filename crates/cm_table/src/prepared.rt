@@ -64,10 +64,13 @@ impl Prepared {
         requires { IsValid decl }
         ensures { IfOk result (λ made. made ≡ record { absolute = absolute; decl = decl }) }
     {
-        let children = slots_of(alloc, decl.children.as_slice())?;
-        let index = index_of(alloc, &decl)?;
-        let kept_absolute = absolute.clone()?;
-        let kept_decl = decl.clone()?;
+        let made = made_for(alloc, &absolute, &decl)?;
+        let Made {
+            kept_absolute,
+            kept_decl,
+            index,
+            children,
+        } = made;
         Ok(Prepared {
             absolute,
             decl,
@@ -148,6 +151,41 @@ impl Prepared {
             children,
         }
     }
+}
+
+/// What a declaration gets beside it.
+#[derive(Drop)]
+struct Made {
+    kept_absolute: Text,
+    kept_decl: Decl,
+    index: Index,
+    children: Vec<Slot>,
+}
+
+/// What a valid declaration gets beside it: the copies for the history, and the rows of its
+/// children with their index.
+fn made_for(alloc: Global, absolute: &Text, decl: &Decl) -> Result<Made, Memory>
+    requires { IsValid decl.now }
+    ensures absolute { IfOk result (λ made. made.kept_absolute ≡ absolute.now) }
+    ensures decl { IfOk result (λ made. made.kept_decl ≡ decl.now) }
+    ensures kids { IfOk result (λ made. made.index.kids.items
+        ≡ map (λ r. r.inc) (child_rows 0 0 decl.now.children)) }
+    ensures names { IfOk result (λ made. (c : Name) → get child_cmp made.index.names c
+        ≡ child_of (child_rows 0 0 decl.now.children) 0 c) }
+    ensures rows { IfOk result (λ made. rows_in made.children.items
+        ≡ map (child_row 0 0) decl.now.children) }
+    ensures bare { IfOk result (λ made. Each IsBare made.children.items) }
+{
+    let children = slots_of(alloc, decl.children.as_slice())?;
+    let index = index_of(alloc, decl)?;
+    let kept_absolute = absolute.clone()?;
+    let kept_decl = decl.clone()?;
+    Ok(Made {
+        kept_absolute,
+        kept_decl,
+        index,
+        children,
+    })
 }
 
 /// The row of a declared child, but for its number and its parent's.

@@ -2,12 +2,12 @@
 
 ghost use Rattle.std.specs.Prelude.{◌≡◌, ◌+◌, ◌-◌, ◌≤◌, ◌<◌, ◌^◌, ◌==◌, ◌∷◌, ◌++◌, ◌↔◌, [], ℕ};
 ghost use Rattle.std.specs.Prelude.{length, true, false};
-ghost use Rattle.std.specs.Prelude.{IfOk, IfErr, IfSome, IfNone, OnOk, OnErr, IsTrue, find, option_map};
+ghost use Rattle.std.specs.Prelude.{IfOk, IfErr, IfSome, IfNone, OnOk, OnErr, IsTrue, option_map};
 ghost use Rattle.std.specs.Prelude.{option_and_then};
 ghost use Rattle.std.specs.Option.{option_copied};
 ghost use Rattle.std.specs.Vec.{vec_capacity};
 ghost use Rattle.cm_world.specs.Edits.{drop_first};
-ghost use Rattle.cm_world.specs.Rows.{row_of, is_live, is_resolved, is_behind, decl_of, child_of};
+ghost use Rattle.cm_world.specs.Rows.{row_of, is_live, is_resolved, decl_of, child_of};
 ghost use Rattle.cm_world.specs.Rows.{child_behind};
 ghost use Rattle.cm_world.specs.Sound.{IsOrderly};
 ghost use Rattle.cm_world.specs.World.{root_row, new_row};
@@ -22,9 +22,7 @@ ghost use Rattle.cm_table.specs.Numbering.{bare_slot};
 ghost use Rattle.cm_table.specs.Leaf.{IsWithin, IsLeaf, IsChildOf, Continues, HaveSameOthers};
 ghost use Rattle.cm_table.specs.Refusal.{RefusesRow};
 
-use crate::block::{
-    Block, behind_in, change_in, first_at, push_block, remove_in, slot_in, swap_in,
-};
+use crate::block::{Block, change_in, push_block, remove_in, slot_in, swap_in};
 use crate::change::Change;
 use crate::links::{link, parent_in, unlink, unname};
 use crate::prepared::{Parts, Prepared};
@@ -45,7 +43,7 @@ pub enum TableFault {
 }
 
 /// What became of a resolve, for its entry in the history.
-#[derive(Debug, Drop)]
+#[derive(Drop)]
 pub struct Settled {
     /// The end as it was brought.
     pub finish: Finish,
@@ -125,19 +123,6 @@ impl Table {
         match self.slot(inc) {
             None => None,
             Some(slot) => slot.row.absolute.as_ref(),
-        }
-    }
-
-    /// The first instance, or the one that was made next after the given one, or `None` where
-    /// there is no other. Instances that are being destroyed are among them.
-    pub fn next_instance(&self, after: Option<u64>) -> Option<u64>
-        ensures next { let later = find (λ r. is_behind after r.inc) self.now.rows in
-            result ≡ option_map (λ r. r.inc) later }
-        ensures orderly { IsOrderly self.now.rows self.now.next_inc }
-    {
-        match self.slot_after(after) {
-            None => None,
-            Some(slot) => Some(slot.row.inc),
         }
     }
 
@@ -448,18 +433,6 @@ impl Table {
     {
         slot_in(self.blocks.as_slice(), inc)
     }
-
-    /// The first slot, or the one that was made next after the given one.
-    fn slot_after(&self, after: Option<u64>) -> Option<&Slot>
-        ensures next { let later = find (λ r. is_behind after r.inc) self.now.rows in
-            option_map (λ s. s.row) (option_copied result) ≡ later }
-        ensures orderly { IsOrderly self.now.rows self.now.next_inc }
-    {
-        match after {
-            None => first_at(self.blocks.as_slice(), 0),
-            Some(inc) => behind_in(self.blocks.as_slice(), inc),
-        }
-    }
 }
 
 /// The slots of one row, which has no index.
@@ -483,8 +456,9 @@ fn room_for(
     ensures room { OnOk result (length blocks.new.items + spare + 1 ≤ vec_capacity blocks.new) }
     ensures later { vec_capacity blocks.old ≤ vec_capacity blocks.new }
 {
+    let slots = slots_of(alloc, row)?;
     blocks.reserve(spare as usize + 1)?;
-    slots_of(alloc, row)
+    Ok(slots)
 }
 
 /// The row of a new child, which isn't resolved.

@@ -9,7 +9,7 @@ use Rattle.cm_world.specs.declared.route.Walked.{Walked}
 use Rattle.cm_world.specs.declared.route.Walked.TheVariants.{Failed}
 use Rattle.cm_world.specs.Stations as world
 use Rattle.cm_world.specs.Next.{Next, To, Ends, Needs, FromVoid, NoChild, Misses, next_of}
-use Rattle.cm_world.specs.Route.{IsChain, IsDecided, IsVerdict, trial, trial_by, said_by, weak_availability, weak_rights}
+use Rattle.cm_world.specs.Route.{IsChain, IsDecided, IsVerdict, trial_by, said_by, weak_availability, weak_rights}
 use Rattle.cm_world.specs.Sound.{IsOrderly}
 use Rattle.cm_world.specs.Ending.{steps_left, KeepsDown}
 use Rattle.cm_world.proofs.Walks.{steps_fall}
@@ -17,46 +17,57 @@ use Rattle.cm_walk.specs.declared.station.Station.{Station}
 use Rattle.cm_walk.specs.declared.trail.Trail.{Trail}
 use Rattle.cm_walk.specs.declared.walking.Step.{Step}
 use Rattle.cm_walk.specs.declared.walking.Step.TheVariants.{On, Done}
-use Rattle.cm_walk.specs.Walking.{as_station, is_no_child, IsBehind, Leads, Steps}
+use Rattle.cm_walk.specs.Walking.{as_station, is_no_child, IsBehind, refused, Leads, Decides, Steps}
 
 -- ---- what is decided at a station
-
--- a child that isn't there comes before all else
-pub at_no_child : (rows : List Row) (builtins : List Builtin) (front : List world.Station) (s : world.Station) (n : Next) → n ≡ next_of rows builtins s → is_no_child n ≡ true → trial rows builtins front s ≡ Some (Failed s.hop NoInstance)
-at_no_child rows builtins front s n next none = ap (trial_by front s) (sym next) ∙ by_next n none where
-  by_next : (m : Next) → is_no_child m ≡ true → trial_by front s m ≡ Some (Failed s.hop NoInstance)
-  by_next NoChild e = refl
-  by_next (To t) e = absurd (true≢false (sym e))
-  by_next Ends e = absurd (true≢false (sym e))
-  by_next (Needs j) e = absurd (true≢false (sym e))
-  by_next FromVoid e = absurd (true≢false (sym e))
-  by_next (Misses hop why) e = absurd (true≢false (sym e))
 
 grouped : (a b c : Option Walked) → or_else a (or_else b c) ≡ or_else (or_else a b) c
 grouped None b c = refl
 grouped (Some v) b c = refl
 
--- else what is too weak comes before what the next says
-other_trial : (front : List world.Station) (s : world.Station) (n : Next) → is_no_child n ≡ false → trial_by front s n ≡ or_else (or_else (weak_availability front s) (weak_rights front s)) (said_by front s n)
-other_trial front s NoChild e = absurd (true≢false e)
-other_trial front s (To t) e = grouped (weak_availability front s) (weak_rights front s) _
-other_trial front s Ends e = grouped (weak_availability front s) (weak_rights front s) _
-other_trial front s (Needs j) e = grouped (weak_availability front s) (weak_rights front s) _
-other_trial front s FromVoid e = grouped (weak_availability front s) (weak_rights front s) _
-other_trial front s (Misses hop why) e = grouped (weak_availability front s) (weak_rights front s) _
+-- what refuses a station comes before what its next says
+tried_by : (front : List world.Station) (s : world.Station) (n : Next) → trial_by front s n ≡ or_else (refused front s n) (said_by front s n)
+tried_by front s NoChild = refl
+tried_by front s (To t) = grouped (weak_availability front s) (weak_rights front s) _
+tried_by front s Ends = grouped (weak_availability front s) (weak_rights front s) _
+tried_by front s (Needs j) = grouped (weak_availability front s) (weak_rights front s) _
+tried_by front s FromVoid = grouped (weak_availability front s) (weak_rights front s) _
+tried_by front s (Misses hop why) = grouped (weak_availability front s) (weak_rights front s) _
 
-trial_is : (rows : List Row) (builtins : List Builtin) (front : List world.Station) (s : world.Station) (n : Next) (weak : Option Walked) → n ≡ next_of rows builtins s → is_no_child n ≡ false → weak ≡ or_else (weak_availability front s) (weak_rights front s) → trial rows builtins front s ≡ or_else weak (said_by front s n)
-trial_is rows builtins front s n weak next some is =
-    ap (trial_by front s) (sym next) ∙ other_trial front s n some ∙ ap (λ o. or_else o (said_by front s n)) (sym is)
+-- a child that isn't there refuses it
+pub refused_child : (front : List world.Station) (s : world.Station) (n : Next) → is_no_child n ≡ true → Some (Failed s.hop NoInstance) ≡ refused front s n
+refused_child front s NoChild e = refl
+refused_child front s (To t) e = absurd (true≢false (sym e))
+refused_child front s Ends e = absurd (true≢false (sym e))
+refused_child front s (Needs j) e = absurd (true≢false (sym e))
+refused_child front s FromVoid e = absurd (true≢false (sym e))
+refused_child front s (Misses hop why) e = absurd (true≢false (sym e))
 
--- a hop that is too weak
-pub at_weak : (rows : List Row) (builtins : List Builtin) (front : List world.Station) (s : world.Station) (n : Next) (why : Why) → n ≡ next_of rows builtins s → is_no_child n ≡ false → Some (Failed s.hop why) ≡ or_else (weak_availability front s) (weak_rights front s) → trial rows builtins front s ≡ Some (Failed s.hop why)
-at_weak rows builtins front s n why next some is = trial_is rows builtins front s n (Some (Failed s.hop why)) next some is
+-- else its hop, where that is too weak
+pub refused_weak : (front : List world.Station) (s : world.Station) (n : Next) → is_no_child n ≡ false → or_else (weak_availability front s) (weak_rights front s) ≡ refused front s n
+refused_weak front s NoChild e = absurd (true≢false e)
+refused_weak front s (To t) e = refl
+refused_weak front s Ends e = refl
+refused_weak front s (Needs j) e = refl
+refused_weak front s FromVoid e = refl
+refused_weak front s (Misses hop why) e = refl
 
--- a hop that does
-pub at_fitting : (rows : List Row) (builtins : List Builtin) (front : List world.Station) (s : world.Station) (n : Next) (step : Step) → n ≡ next_of rows builtins s → is_no_child n ≡ false → None ≡ or_else (weak_availability front s) (weak_rights front s) → Leads front s n step → Steps rows builtins front s step
-at_fitting rows builtins front s n (On t u) next some is leads = (trial_is rows builtins front s n None next some is ∙ ap (said_by front s) leads.0, sym next ∙ leads.0, leads.1)
-at_fitting rows builtins front s n (Done v) next some is leads = trial_is rows builtins front s n None next some is ∙ leads
+tried_is : (front : List world.Station) (s : world.Station) (n : Next) (weak : Option Walked) → weak ≡ refused front s n → trial_by front s n ≡ or_else weak (said_by front s n)
+tried_is front s n weak is = tried_by front s n ∙ ap (λ o. or_else o (said_by front s n)) (sym is)
+
+-- a station that is refused
+pub at_refused : (front : List world.Station) (s : world.Station) (n : Next) (why : Why) → Some (Failed s.hop why) ≡ refused front s n → Decides front s n (Done (Failed s.hop why))
+at_refused front s n why is = tried_is front s n (Some (Failed s.hop why)) is
+
+-- one that isn't
+pub at_fitting : (front : List world.Station) (s : world.Station) (n : Next) (step : Step) → None ≡ refused front s n → Leads front s n step → Decides front s n step
+at_fitting front s n (On t u) is leads = (tried_is front s n None is ∙ ap (said_by front s) leads.0, leads.0, leads.1)
+at_fitting front s n (Done v) is leads = tried_is front s n None is ∙ leads
+
+-- one whose next is that of the tree
+pub tries : (rows : List Row) (builtins : List Builtin) (front : List world.Station) (s : world.Station) (n : Next) (step : Step) → n ≡ next_of rows builtins s → Decides front s n step → Steps rows builtins front s step
+tries rows builtins front s n (On t u) next found = (ap (trial_by front s) (sym next) ∙ found.0, sym next ∙ found.1, found.2)
+tries rows builtins front s n (Done v) next found = ap (trial_by front s) (sym next) ∙ found
 
 -- ---- the whole walk
 

@@ -10,10 +10,13 @@ use Rattle.cm_world.specs.declared.row.Row.{Row}
 use Rattle.cm_world.specs.declared.frame.Builtin.{Builtin}
 use Rattle.cm_world.specs.declared.route.StepKind.{StepKind}
 use Rattle.cm_world.specs.declared.route.StepKind.TheVariants.{FrameworkHop}
+use Rattle.cm_world.specs.declared.route.Walked.{Walked}
+use Rattle.cm_world.specs.declared.route.Walked.TheVariants.{Failed}
+use Rattle.cm_world.specs.declared.route.Why.TheVariants.{NoInstance}
 use Rattle.cm_world.specs.Stations as world
 use Rattle.cm_world.specs.Next as spec
-use Rattle.cm_world.specs.Route.{Named, First, NoUse, NoneExposed, trial, said_by, standing}
-use Rattle.cm_world.specs.Route.{asked_rights, is_use}
+use Rattle.cm_world.specs.Route.{Named, First, NoUse, NoneExposed, trial, trial_by, said_by, standing}
+use Rattle.cm_world.specs.Route.{asked_rights, is_use, weak_availability, weak_rights}
 use Rattle.cm_walk.specs.declared.station.Station.{Station}
 use Rattle.cm_walk.specs.declared.station.Source.{Source}
 use Rattle.cm_walk.specs.declared.station.Source.TheVariants.{Row as FromRow, End}
@@ -106,6 +109,18 @@ pub record IsBehind (front : List world.Station) (s : world.Station) (t : Trail)
 abbrev pub Leads : List world.Station → world.Station → spec.Next → Step → Type 0
 Leads front s next (On t u) = (next ≡ spec.To (as_station u)) × IsBehind (front ++ s ∷ []) (as_station u) t
 Leads front s next (Done v) = said_by front s next ≡ Some v
+
+-- what refuses a station before its next is looked at: a child that isn't there, or a hop that is too weak
+abbrev pub refused : List world.Station → world.Station → spec.Next → Option Walked
+refused front s spec.NoChild = Some (Failed s.hop NoInstance)
+refused front s _ = or_else (weak_availability front s) (weak_rights front s)
+
+-- what is decided at a station whose next this is
+abbrev pub Decides : List world.Station → world.Station → spec.Next → Step → Type 0
+Decides front s next (On t u) =
+    (trial_by front s next ≡ None) × (next ≡ spec.To (as_station u))
+    × IsBehind (front ++ s ∷ []) (as_station u) t
+Decides front s next (Done v) = trial_by front s next ≡ Some v
 
 -- what is decided at a station: nothing, and the walk goes on to the next one, or an answer
 abbrev pub Steps : List Row → List Builtin → List world.Station → world.Station → Step → Type 0

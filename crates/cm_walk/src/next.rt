@@ -19,7 +19,7 @@ use cm_world::{Hop, StepKind, View, Why};
 use std::alloc::Global;
 
 /// What comes behind a station.
-#[derive(Debug, Drop)]
+#[derive(Drop)]
 pub(crate) enum Next {
     /// Another station.
     To(Station),

@@ -1,25 +1,35 @@
 //! The stations of a route: its hops, each with the source that the declaration's row names.
 
-ghost use Rattle.std.specs.Prelude.{◌≡◌, IfOk};
+ghost use Rattle.std.specs.Prelude.{◌≡◌, IfOk, Some};
 ghost use Rattle.cm_decl.specs.Graph as graph;
 ghost use Rattle.cm_world.specs.Stations as spec;
+ghost use Rattle.cm_walk.specs.declared.station.Source.TheVariants as source;
 ghost use Rattle.cm_walk.specs.Walking.{as_station};
 
 use crate::hop::bare_hop;
 use cm_decl::{Capability, Give, Kind, Origin, Usage};
-use cm_names::{CapPath, Dependency, Memory, Name, SubDir};
+use cm_names::{Availability, CapPath, Dependency, Memory, Name, Rights, SubDir};
 use cm_world::{Builtin, Hop, StepKind, View};
 use std::alloc::Global;
 
 /// A hop, with what leads on from it.
-#[derive(Debug, Drop)]
+#[derive(Drop)]
 pub(crate) struct Station {
     pub hop: Hop,
     pub source: Source,
 }
 
+impl Station {
+    /// The hop alone.
+    pub(crate) fn into_hop(self) -> Hop
+        ensures { result ≡ self.hop }
+    {
+        self.hop
+    }
+}
+
 /// What leads on from a hop.
-#[derive(Debug, Drop)]
+#[derive(Drop)]
 pub(crate) enum Source {
     /// The row of a declaration: where it says that the capability comes from, the name there,
     /// and the part of the directory that it passes on, if it isn't the whole.
@@ -39,19 +49,37 @@ pub(crate) fn use_station<V: View>(
         ≡ spec.use_station (V.rows view.now) inc usage.now) }
 {
     let bare = bare_hop(alloc, view, StepKind::UseHop, inc, usage.kind, &usage.name)?;
-    let hop = Hop {
-        rights: usage.rights,
-        availability: Some(usage.availability),
-        strong: is_strong(usage.dependency),
-        ..bare
-    };
-    let from = usage.from.clone()?;
-    let name = usage.name.clone()?;
-    let subdir = usage.subdir.clone()?;
+    let source = source_of(&usage.from, &usage.name, &usage.subdir)?;
+    let strong = is_strong(usage.dependency);
     Ok(Station {
-        hop,
-        source: Source::Row(from, name, subdir),
+        hop: stating(bare, usage.rights, usage.availability, strong),
+        source,
     })
+}
+
+/// What the row of a declaration names as its source.
+fn source_of(from: &Origin, name: &Name, subdir: &Option<SubDir>) -> Result<Source, Memory>
+    ensures { IfOk result (λ made. made ≡ source.Row from.now name.now subdir.now) }
+{
+    let name = name.clone()?;
+    let subdir = subdir.clone()?;
+    Ok(Source::Row(from.clone()?, name, subdir))
+}
+
+/// The hop with what its row states.
+fn stating(bare: Hop, rights: Option<Rights>, availability: Availability, strong: bool) -> Hop
+    ensures { result ≡ record bare {
+      rights = rights;
+      availability = Some availability;
+      strong = strong;
+    } }
+{
+    Hop {
+        rights,
+        availability: Some(availability),
+        strong,
+        ..bare
+    }
 }
 
 /// Whether the dependency is strong.
@@ -77,18 +105,10 @@ fn give_station<V: View>(
         ≡ spec.give_station (V.rows view.now) step inc give.now strong) }
 {
     let bare = bare_hop(alloc, view, step, inc, give.kind, &give.target_name)?;
-    let hop = Hop {
-        rights: give.rights,
-        availability: Some(give.availability),
-        strong,
-        ..bare
-    };
-    let from = give.from.clone()?;
-    let name = give.source_name.clone()?;
-    let subdir = give.subdir.clone()?;
+    let source = source_of(&give.from, &give.source_name, &give.subdir)?;
     Ok(Station {
-        hop,
-        source: Source::Row(from, name, subdir),
+        hop: stating(bare, give.rights, give.availability, strong),
+        source,
     })
 }
 

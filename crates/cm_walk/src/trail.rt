@@ -15,7 +15,7 @@ use cm_world::{Hop, Provider, Route, StepKind, Why};
 use std::alloc::Global;
 
 /// What is kept of the stations behind the one that is tried.
-#[derive(Debug, Drop)]
+#[derive(Drop)]
 pub(crate) struct Trail {
     /// Their hops, from the start on.
     hops: List<Hop>,

@@ -1,12 +1,14 @@
 //! The walk from hop to hop.
 
-ghost use Rattle.std.specs.Prelude.{◌≡◌, List as Seq, IfOk};
+ghost use Rattle.std.specs.Prelude.{◌≡◌, List as Seq, IfOk, option_map};
+ghost use Rattle.cm_world.specs.declared.route.Walked.TheVariants as walked;
+ghost use Rattle.cm_world.specs.Next as to;
 ghost use Rattle.cm_world.specs.Route as spec;
 ghost use Rattle.cm_world.specs.Stations.{Station as Place};
 ghost use Rattle.cm_world.specs.Sound.{IsOrderly};
 ghost use Rattle.cm_world.specs.Ending.{KeepsDown};
 ghost use Rattle.cm_walk.specs.Walking.{as_station, as_next, as_named};
-ghost use Rattle.cm_walk.specs.Walking.{EndsAt, IsBehind, Leads, Steps};
+ghost use Rattle.cm_walk.specs.Walking.{EndsAt, IsBehind, refused, Leads, Decides, Steps};
 
 use crate::find;
 use crate::hop::bare_hop;
@@ -19,7 +21,7 @@ use cm_world::{Hop, Start, StepKind, View, Walked, Why};
 use std::alloc::Global;
 
 /// What one step of a walk comes to.
-#[derive(Debug, Drop)]
+#[derive(Drop)]
 pub(crate) enum Step {
     /// Nothing is decided at the station, and the walk goes on to this one.
     On(Trail, Station),
@@ -28,7 +30,7 @@ pub(crate) enum Step {
 }
 
 /// What a start names.
-#[derive(Debug, Drop)]
+#[derive(Drop)]
 pub(crate) enum Begun {
     /// A use, an expose or an offer.
     At(Station),
@@ -170,13 +172,29 @@ fn try_station<V: View>(
         → Steps (V.rows view.now) (V.builtins view.now) front (as_station here) step) }
 {
     let next = next_of(alloc, view, &here)?;
-    if next.is_no_child() {
-        return Ok(Step::Done(Walked::Failed(here.hop, Why::NoInstance)));
-    }
-    match trail.too_weak(&here.hop) {
-        Some(why) => Ok(Step::Done(Walked::Failed(here.hop, why))),
+    decide(alloc, trail, here, next)
+}
+
+/// Does what is decided at the station whose next this is.
+fn decide(alloc: Global, trail: Trail, here: Station, next: Next) -> Result<Step, Memory>
+    ensures { IfOk result (λ step. (front : Seq Place) → IsBehind front (as_station here) trail
+        → EndsAt (as_station here) next → Decides front (as_station here) (as_next next) step) }
+{
+    match refusal(&trail, &here.hop, &next) {
+        Some(why) => Ok(Step::Done(Walked::Failed(here.into_hop(), why))),
         None => go(alloc, trail, here, next),
     }
+}
+
+/// Why the walk ends at the hop, if it does by the hop itself or by a child that isn't there.
+fn refusal(trail: &Trail, hop: &Hop, next: &Next) -> Option<Why>
+    ensures { (front : Seq Place) (s : Place) → s.hop ≡ hop.now → IsBehind front s trail.now
+        → option_map (walked.Failed hop.now) result ≡ refused front s (as_next next.now) }
+{
+    if next.is_no_child() {
+        return Some(Why::NoInstance);
+    }
+    trail.too_weak(hop)
 }
 
 /// Does what the next of the station says by itself.
@@ -185,17 +203,29 @@ fn go(alloc: Global, trail: Trail, here: Station, next: Next) -> Result<Step, Me
         → EndsAt (as_station here) next → Leads front (as_station here) (as_next next) step) }
 {
     match next {
-        Next::To(station) => {
-            let trail = trail.with(here, &station.hop)?;
-            Ok(Step::On(trail, station))
-        }
-        Next::Ends(path) => {
-            let route = trail.into_route(alloc, here.hop, &path)?;
-            Ok(Step::Done(Walked::Given(route)))
-        }
+        Next::To(station) => go_on(trail, here, station),
+        Next::Ends(path) => arrive(alloc, trail, here, path),
         Next::Needs(inc) => Ok(Step::Done(Walked::Need(inc))),
-        Next::FromVoid => Ok(Step::Done(Walked::Void(here.hop))),
-        Next::NoChild => Ok(Step::Done(Walked::Failed(here.hop, Why::NoInstance))),
+        Next::FromVoid => Ok(Step::Done(Walked::Void(here.into_hop()))),
+        Next::NoChild => Ok(Step::Done(Walked::Failed(here.into_hop(), Why::NoInstance))),
         Next::Misses(hop, why) => Ok(Step::Done(Walked::Failed(hop, why))),
     }
+}
+
+/// Goes on to the next station.
+fn go_on(trail: Trail, here: Station, next: Station) -> Result<Step, Memory>
+    ensures { IfOk result (λ step. (front : Seq Place) → IsBehind front (as_station here) trail
+        → Leads front (as_station here) (to.To (as_station next)) step) }
+{
+    let trail = trail.with(here, &next.hop)?;
+    Ok(Step::On(trail, next))
+}
+
+/// Gives the route that ends at this station, which provides the capability at this path.
+fn arrive(alloc: Global, trail: Trail, here: Station, path: CapPath) -> Result<Step, Memory>
+    ensures { IfOk result (λ step. (front : Seq Place) → IsBehind front (as_station here) trail
+        → path ≡ (as_station here).path → Leads front (as_station here) to.Ends step) }
+{
+    let route = trail.into_route(alloc, here.into_hop(), &path)?;
+    Ok(Step::Done(Walked::Given(route)))
 }

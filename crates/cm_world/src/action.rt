@@ -10,7 +10,7 @@ use cm_names::{List, Moniker, Name, Plain, Text};
 ///
 /// These are the operations of `fuchsia.sys2.LifecycleController`: `ResolveInstance`,
 /// `StartInstance` and `StopInstance`.
-#[derive(Debug, Clone, Copy, PartialEq, Eq)]
+#[derive(Clone, Copy, PartialEq, Eq)]
 pub enum ActKind {
     /// The instance gets its declaration, and its children become instances.
     Resolve,
@@ -27,7 +27,7 @@ impl Plain for ActKind {
 }
 
 /// The fault of a manifest that couldn't be used, as the checker of manifests reports it.
-#[derive(Debug, Clone, Copy, PartialEq, Eq)]
+#[derive(Clone, Copy)]
 pub struct FaultNote {
     /// The number of the fault.
     pub number: u8,
@@ -44,7 +44,7 @@ impl Plain for FaultNote {
 }
 
 /// What became of an action.
-#[derive(Debug, Clone, Copy, PartialEq, Eq)]
+#[derive(Clone, Copy)]
 pub enum Outcome {
     /// A resolve: the instance has its declaration.
     Resolved,
@@ -77,7 +77,7 @@ impl Plain for Outcome {
 }
 
 /// What the beginner of an action reports at its end.
-#[derive(Debug, Drop, Clone, PartialEq, Eq)]
+#[derive(Drop)]
 pub enum Finish {
     /// A resolve found this absolute URL and this declaration.
     Resolved(Text, Decl),
@@ -85,14 +85,8 @@ pub enum Finish {
     Other(Outcome),
 }
 
-impl Plain for Finish {
-    ghost use Rattle.std.proofs.Common.{rules};
-
-    ghost exact = { Prim.search rules };
-}
-
 /// What the beginner of an action has to do.
-#[derive(Debug, Drop, Clone, PartialEq, Eq)]
+#[derive(Drop, Clone)]
 pub struct Work {
     /// The number of the action.
     pub action: u64,
@@ -118,7 +112,7 @@ impl Plain for Work {
 }
 
 /// An action that was begun. It is kept when it has ended.
-#[derive(Debug, Clone, Copy, PartialEq, Eq)]
+#[derive(Clone, Copy)]
 pub struct Act {
     /// Its number; the first action is 1.
     pub action: u64,
@@ -132,23 +126,11 @@ pub struct Act {
     pub outcome: Option<Outcome>,
 }
 
-impl Plain for Act {
-    ghost use Rattle.std.proofs.Common.{rules};
-
-    ghost exact = { Prim.search rules };
-}
-
 /// A caller that joined an action of another and hasn't had its outcome yet.
-#[derive(Debug, Clone, Copy, PartialEq, Eq)]
+#[derive(Clone, Copy)]
 pub struct Join {
     /// The caller that waits.
     pub caller: u32,
     /// The action.
     pub action: u64,
-}
-
-impl Plain for Join {
-    ghost use Rattle.std.proofs.Common.{rules};
-
-    ghost exact = { Prim.search rules };
 }

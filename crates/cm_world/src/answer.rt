@@ -2,7 +2,7 @@
 
 use crate::{Hop, Kid, Look, Outcome, Route, SurveyRow, Why};
 use cm_decl::Node;
-use cm_names::{CapPath, List, Moniker, Plain};
+use cm_names::{CapPath, List, Moniker};
 
 /// Why a command was refused. The number in front is the one that is printed; a number inside is
 /// the incarnation of an instance, unless the variant says otherwise.
@@ -10,7 +10,7 @@ use cm_names::{CapPath, List, Moniker, Plain};
 /// Five of them stand for errors of `fuchsia.component.Error`: 60 for `COLLECTION_NOT_FOUND`,
 /// 61 for `INSTANCE_ALREADY_EXISTS`, 80 for `INSTANCE_NOT_FOUND`, 83 for
 /// `INSTANCE_CANNOT_RESOLVE` and 84 for `INSTANCE_CANNOT_START`.
-#[derive(Debug, Drop, Clone)]
+#[derive(Drop)]
 pub enum Refusal {
     /// 60: the instance has no such collection.
     CollectionNotFound,
@@ -56,14 +56,8 @@ pub enum Refusal {
     Memory,
 }
 
-impl Plain for Refusal {
-    ghost use Rattle.std.proofs.Common.{rules};
-
-    ghost exact = { Prim.search rules };
-}
-
 /// What a check of all routes found out of one use, or of an instance that isn't resolved.
-#[derive(Debug, Drop, Clone)]
+#[derive(Drop)]
 pub struct Checked {
     /// Where the instance stands.
     pub moniker: Moniker,
@@ -74,14 +68,8 @@ pub struct Checked {
     pub result: Result<Route, Refusal>,
 }
 
-impl Plain for Checked {
-    ghost use Rattle.std.proofs.Common.{rules};
-
-    ghost exact = { Prim.search rules };
-}
-
 /// What a command is answered where it isn't refused.
-#[derive(Debug, Drop, Clone)]
+#[derive(Drop)]
 pub enum Answer {
     /// The instance is resolved: by the action of this number, or since before.
     Resolved(Option<u64>),
@@ -110,10 +98,4 @@ pub enum Answer {
     Doctored(List<Checked>),
     /// The program is off, and whether it was on before.
     Left(bool),
-}
-
-impl Plain for Answer {
-    ghost use Rattle.std.proofs.Common.{rules};
-
-    ghost exact = { Prim.search rules };
 }

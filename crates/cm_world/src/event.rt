@@ -2,10 +2,10 @@
 
 use crate::{ActKind, Finish};
 use cm_decl::Give;
-use cm_names::{CapPath, List, Moniker, Name, Plain, Text};
+use cm_names::{CapPath, List, Moniker, Name, Text};
 
 /// Which instance a command means.
-#[derive(Debug, Drop, Clone, PartialEq, Eq)]
+#[derive(Drop)]
 pub enum Target {
     /// The one that stands there.
     Named(Moniker),
@@ -13,15 +13,9 @@ pub enum Target {
     Inc(u64),
 }
 
-impl Plain for Target {
-    ghost use Rattle.std.proofs.Common.{rules};
-
-    ghost exact = { Prim.search rules };
-}
-
 /// One event of a realm tree, which is made as a whole or not at all. A number is the
 /// incarnation of an instance, unless the variant says otherwise.
-#[derive(Debug, Drop, Clone)]
+#[derive(Drop)]
 pub enum Event {
     /// Which instance stands there?
     Find(Moniker),
@@ -61,10 +55,4 @@ pub enum Event {
     Tail(u64, u64),
     /// What is left to be removed of an instance that stopped: it itself, or children of it?
     Reap(u64),
-}
-
-impl Plain for Event {
-    ghost use Rattle.std.proofs.Common.{rules};
-
-    ghost exact = { Prim.search rules };
 }

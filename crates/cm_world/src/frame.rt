@@ -8,7 +8,7 @@ use cm_names::{CapPath, List, Name, Plain, Rights, Text};
 ///
 /// Fuchsia's component manager has such capabilities from its own namespace ("Component manager
 /// configuration", fuchsia.dev).
-#[derive(Debug, Drop, Clone, PartialEq, Eq)]
+#[derive(Drop, Clone)]
 pub struct Builtin {
     /// What it is.
     pub kind: Kind,
@@ -27,7 +27,7 @@ impl Plain for Builtin {
 }
 
 /// How large a tree and its history may grow.
-#[derive(Debug, Clone, Copy, PartialEq, Eq)]
+#[derive(Clone, Copy)]
 pub struct Limits {
     /// The most instances that may live at once.
     pub rows: u32,
@@ -35,14 +35,8 @@ pub struct Limits {
     pub entries: u64,
 }
 
-impl Plain for Limits {
-    ghost use Rattle.std.proofs.Common.{rules};
-
-    ghost exact = { Prim.search rules };
-}
-
 /// What a tree is made with.
-#[derive(Debug, Drop, Clone, PartialEq, Eq)]
+#[derive(Drop)]
 pub struct Frame {
     /// The URL of the root component.
     pub root: Text,
@@ -50,10 +44,4 @@ pub struct Frame {
     pub builtins: List<Builtin>,
     /// How large it may grow.
     pub limits: Limits,
-}
-
-impl Plain for Frame {
-    ghost use Rattle.std.proofs.Common.{rules};
-
-    ghost exact = { Prim.search rules };
 }

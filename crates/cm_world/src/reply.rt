@@ -3,11 +3,10 @@
 use crate::{Event, Hop, Kid, Look, Lost, Outcome, Route, SurveyRow, Why, Work};
 use cm_decl::Node;
 use cm_names::{List, Moniker, Plain};
-use std::alloc::AllocError;
 
 /// The reply to an event. A number is the incarnation of an instance, unless the variant says
 /// otherwise.
-#[derive(Debug, Drop, Clone)]
+#[derive(Drop, Clone)]
 pub enum Reply {
     /// This instance stands there.
     Found(u64),
@@ -94,7 +93,7 @@ impl Plain for Reply {
 }
 
 /// One entry of a history: who made which event, and what it was replied.
-#[derive(Debug, Drop)]
+#[derive(Drop)]
 pub struct Entry {
     /// The number of the caller.
     pub caller: u32,
@@ -102,24 +101,4 @@ pub struct Entry {
     pub event: Event,
     /// Its reply.
     pub reply: Reply,
-}
-
-impl Clone for Entry {
-    ghost use Rattle.std.specs.Prelude.{◌≡◌};
-
-    ghost is_clone = { λ a b. b ≡ a };
-
-    fn clone(&self) -> Result<Entry, AllocError> {
-        let event = self.event.clone()?;
-        let reply = self.reply.clone()?;
-        Ok(Entry {
-            caller: self.caller,
-            event,
-            reply,
-        })
-    }
-}
-
-impl Plain for Entry {
-    ghost exact = { λ a b same. same };
 }

@@ -4,7 +4,7 @@ use crate::ActKind;
 use cm_names::{CapPath, List, Moniker, Name, Plain, Text};
 
 /// A child in a collection.
-#[derive(Debug, Drop, Clone, PartialEq, Eq)]
+#[derive(Drop, Clone)]
 pub struct Kid {
     /// Its name in the collection.
     pub name: Name,
@@ -19,7 +19,7 @@ impl Plain for Kid {
 }
 
 /// How an instance is.
-#[derive(Debug, Drop, Clone, PartialEq, Eq)]
+#[derive(Drop, Clone)]
 pub struct Look {
     /// Its incarnation.
     pub inc: u64,
@@ -44,7 +44,7 @@ impl Plain for Look {
 }
 
 /// How one instance of a survey is.
-#[derive(Debug, Drop, Clone, PartialEq, Eq)]
+#[derive(Drop, Clone)]
 pub struct SurveyRow {
     /// Its incarnation.
     pub inc: u64,
@@ -67,7 +67,7 @@ impl Plain for SurveyRow {
 }
 
 /// An instance that was removed.
-#[derive(Debug, Drop, Clone, PartialEq, Eq)]
+#[derive(Drop, Clone)]
 pub struct Lost {
     /// Its incarnation.
     pub inc: u64,

@@ -7,7 +7,7 @@ use cm_decl::Kind;
 use cm_names::{Availability, CapPath, List, Moniker, Name, Plain, Rights, Text};
 
 /// What a hop of a route is.
-#[derive(Debug, Clone, Copy, PartialEq, Eq)]
+#[derive(Clone, Copy, PartialEq, Eq)]
 pub enum StepKind {
     /// A use of the client, written `use`.
     UseHop,
@@ -30,7 +30,7 @@ impl Plain for StepKind {
 }
 
 /// A hop of a route: one row of one declaration, or what stands in the place of one.
-#[derive(Debug, Drop, Clone, PartialEq, Eq)]
+#[derive(Drop, Clone)]
 pub struct Hop {
     /// What it is.
     pub step: StepKind,
@@ -57,7 +57,7 @@ impl Plain for Hop {
 }
 
 /// Who provides the capability at the end of a route.
-#[derive(Debug, Drop, Clone, PartialEq, Eq)]
+#[derive(Drop, Clone)]
 pub enum Provider {
     /// An instance: its incarnation, and where it stands.
     Instance(u64, Moniker),
@@ -74,7 +74,7 @@ impl Plain for Provider {
 }
 
 /// A whole route, from the client to the provider.
-#[derive(Debug, Drop, Clone, PartialEq, Eq)]
+#[derive(Drop, Clone)]
 pub struct Route {
     /// Its hops, from the use, the expose or the offer that it begins with to the provider's.
     pub hops: List<Hop>,
@@ -94,7 +94,7 @@ impl Plain for Route {
 }
 
 /// Why there is no route.
-#[derive(Debug, Clone, Copy, PartialEq, Eq)]
+#[derive(Clone, Copy)]
 pub enum Why {
     /// The parent offers no such capability.
     NoOffer,
@@ -117,7 +117,7 @@ impl Plain for Why {
 }
 
 /// Where a route begins.
-#[derive(Debug, Drop, Clone, PartialEq, Eq)]
+#[derive(Drop)]
 pub enum Start {
     /// At the use of an instance that has this path.
     UseAt(u64, CapPath),
@@ -127,14 +127,8 @@ pub enum Start {
     OfferAt(u64, u32),
 }
 
-impl Plain for Start {
-    ghost use Rattle.std.proofs.Common.{rules};
-
-    ghost exact = { Prim.search rules };
-}
-
 /// What a walk along a route comes to.
-#[derive(Debug, Drop, Clone)]
+#[derive(Drop, Clone)]
 pub enum Walked {
     /// The capability is given by this route.
     Given(Route),

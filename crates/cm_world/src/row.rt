@@ -9,7 +9,7 @@ use cm_names::{ChildName, List, Text};
 /// The life of an instance is that of Fuchsia's component framework ("Component lifecycle",
 /// fuchsia.dev): it is created, resolved, started, stopped and destroyed. Before it is destroyed
 /// it is shut down: from then on it never runs again.
-#[derive(Debug, Drop)]
+#[derive(Drop)]
 pub struct Row {
     /// Its incarnation, which no other instance of the history has, before or after.
     pub inc: u64,

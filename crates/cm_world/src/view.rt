@@ -2,10 +2,10 @@
 
 use crate::{ActKind, Builtin};
 use cm_decl::{Decl, Give, Kind};
-use cm_names::{ChildName, List, Name, Plain};
+use cm_names::{ChildName, List, Name};
 
 /// What an instance is, but for its name, its declaration and what it was given.
-#[derive(Debug, Clone, Copy, PartialEq, Eq)]
+#[derive(Clone, Copy)]
 pub struct Facts {
     /// The incarnation of its parent; `None` for the root.
     pub parent: Option<u64>,
@@ -19,12 +19,6 @@ pub struct Facts {
     pub doomed: bool,
     /// Whether it is shut down.
     pub shut: bool,
-}
-
-impl Plain for Facts {
-    ghost use Rattle.std.proofs.Common.{rules};
-
-    ghost exact = { Prim.search rules };
 }
 
 /// A realm tree that can be read: the rows and the builtins of an orderly world.

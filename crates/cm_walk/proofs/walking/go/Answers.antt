@@ -1,7 +1,12 @@
-use Rattle.std.proofs.Common.{ap, refl}
-use Rattle.cm_walk.specs.Walking.{as_station, as_next}
+use Rattle.std.proofs.Common.{List, sym, subst}
+use Rattle.cm_world.specs.Stations.{Station as Place}
+use Rattle.cm_world.specs.Next as to
+use Rattle.cm_walk.specs.Walking.{as_station, as_next, EndsAt, IsBehind, Leads}
+use Rattle.cm_walk.proofs.Steps.{if_ok}
 use Rattle.cm_walk.proofs.walking.go.Goals as goal
 
-pub returns-in_ok-trail-in-To : goal.returns-in_ok-trail-in-To
-returns-in_ok-trail-in-To c = λ front behind ends.
-    (ap as_next c.in-To.is, c.in_ok-trail-in-To.ensures front (as_station c.in-To.station) behind refl)
+pub returns-in-To : goal.returns-in-To
+returns-in-To c =
+    if_ok (λ step. (front : List Place) → IsBehind front (as_station c.args.here) c.args.trail → Leads front (as_station c.args.here) (to.To (as_station c.in-To.station)) step)
+    (λ step. (front : List Place) → IsBehind front (as_station c.args.here) c.args.trail → EndsAt (as_station c.args.here) c.args.next → Leads front (as_station c.args.here) (as_next c.args.next) step) c.go_on.result
+    (λ step leads. λ front behind ends. subst (λ n. Leads front (as_station c.args.here) (as_next n) step) (sym c.in-To.is) (leads front behind)) c.go_on.ensures

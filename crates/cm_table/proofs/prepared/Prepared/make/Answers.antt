@@ -1,14 +1,12 @@
-use Rattle.std.proofs.Common.{rules, ◌∙◌, ap, map}
-use Rattle.cm_world.specs.End.{child_row}
 use Rattle.cm_table.proofs.prepared.Prepared.make.Goals as goal
 
 pub invariant_of-result : goal.invariant_of-result
 invariant_of-result c = record {
   valid = c.requires;
-  absolute = search rules;
-  decl = search rules;
-  children = c.in_ok-children.ensures.rows ∙ ap (map (child_row 0 0)) c.as_slice.ensures;
-  bare = c.in_ok-children.ensures.bare;
-  kids = c.in_ok-index.ensures.kids;
-  names = c.in_ok-index.ensures.names;
+  absolute = c.in_ok-made.ensures.absolute;
+  decl = c.in_ok-made.ensures.decl;
+  children = c.in_ok-made.ensures.rows;
+  bare = c.in_ok-made.ensures.bare;
+  kids = c.in_ok-made.ensures.kids;
+  names = c.in_ok-made.ensures.names;
 }
