@@ -4,3 +4,5 @@ pub mod Staying
 pub mod Folding
 pub mod Putting
 pub mod Caching
+pub mod Dooming
+pub mod Going

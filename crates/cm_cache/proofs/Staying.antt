@@ -28,11 +28,11 @@ use Rattle.cm_cache.proofs.Reading.{walks_read_bare_rows}
 
 -- ---- tests
 
-or_first : (a b : Bool) → (a || b) ≡ false → a ≡ false
+pub or_first : (a b : Bool) → (a || b) ≡ false → a ≡ false
 or_first false b e = refl
 or_first true b e = e
 
-or_second : (a b : Bool) → (a || b) ≡ false → b ≡ false
+pub or_second : (a b : Bool) → (a || b) ≡ false → b ≡ false
 or_second false b e = e
 or_second true b e = absurd (true≢false e)
 
@@ -66,7 +66,7 @@ module _ (f : Row → Row) (inc : (r : Row) → (f r).inc ≡ r.inc) (read : Row
       ap (λ n. option_map_or read (cond (n == j) (Some (f x)) (row_of xs j)) false) (inc x) ∙ read_here (x.inc == j) x (row_of xs j)
   read_by false i j x xs later = read_later (x.inc == j) x (row_of xs j) (row_of (changed i f xs) j) later
 
-  read_changed : (i j : ℕ) (rows : List Row) → option_map_or read (row_of (changed i f rows) j) false ≡ option_map_or read (row_of rows j) false
+  pub read_changed : (i j : ℕ) (rows : List Row) → option_map_or read (row_of (changed i f rows) j) false ≡ option_map_or read (row_of rows j) false
   read_changed i j [] = refl
   read_changed i j (x ∷ xs) = read_by (x.inc == i) i j x xs (read_changed i j xs)
 
@@ -93,14 +93,14 @@ module _ (f : Row → Row) (inc : (r : Row) → (f r).inc ≡ r.inc) where
     later,
   )
 
-  rising_changed : (next i : ℕ) (rows : List Row) → IsRising next rows → IsRising next (changed i f rows)
+  pub rising_changed : (next i : ℕ) (rows : List Row) → IsRising next rows → IsRising next (changed i f rows)
   rising_changed next i [] up = up
   rising_changed next i (x ∷ xs) up = rising_by (x.inc == i) next i x xs up (rising_changed next i xs up.1)
 
 -- ---- rows that are each changed
 
 -- each of these rows is the one of its incarnation
-AllLive : List Row → List Row → Type 0
+unfoldable pub AllLive : List Row → List Row → Type 0
 AllLive rows [] = Unit {0}
 AllLive rows (x ∷ xs) = (row_of rows x.inc ≡ Some x) × AllLive rows xs
 
@@ -117,7 +117,7 @@ live_later y ys (x ∷ xs) low live = (
   live_later y ys xs low live.1,
 )
 
-all_live : (next : ℕ) (rows : List Row) → IsRising next rows → AllLive rows rows
+pub all_live : (next : ℕ) (rows : List Row) → IsRising next rows → AllLive rows rows
 unfolding AllLive
 all_live next [] up = tt
 all_live next (y ∷ ys) up = (
@@ -136,22 +136,22 @@ none_passes d (x ∷ xs) j r none e =
     none_passes_by (x.inc == j) d j x r (row_of xs j) refl (or_first (d x.inc) (list_any (λ y. d y.inc) xs) none)
     (none_passes d xs j r (or_second (d x.inc) (list_any (λ y. d y.inc) xs) none)) e
 
-doom_inc : (t : Bool) (r : Row) → (cond t (set_doomed r) r).inc ≡ r.inc
+pub doom_inc : (t : Bool) (r : Row) → (cond t (set_doomed r) r).inc ≡ r.inc
 doom_inc true r = refl
 doom_inc false r = refl
 
 module _ (rows : List Row) (i : ℕ) where
-  abbrev goes : Row → Bool
+  abbrev pub goes : Row → Bool
   goes r = goes_with rows i r && not r.doomed
 
-  abbrev going : Row → Row
+  abbrev pub going : Row → Row
   going r = cond (goes r) (set_doomed r) r
 
   mapped_by : (t : Bool) (x : Row) (o p : Option Row) → p ≡ option_map going o → cond t (Some (going x)) p ≡ option_map going (cond t (Some x) o)
   mapped_by true x o p later = refl
   mapped_by false x o p later = later
 
-  row_of-going : (xs : List Row) (j : ℕ) → row_of (map going xs) j ≡ option_map going (row_of xs j)
+  pub row_of-going : (xs : List Row) (j : ℕ) → row_of (map going xs) j ≡ option_map going (row_of xs j)
   row_of-going [] j = refl
   row_of-going (x ∷ xs) j =
       ap (λ n. cond (n == j) (Some (going x)) (row_of (map going xs) j)) (doom_inc (goes x) x)
@@ -212,7 +212,7 @@ module _ (f : Row → Row) (bares : (r : Row) → bare (f r) ≡ bare r) where
   bare_stopped true next i rows up none = bare_expired next i rows up none
   bare_stopped false next i rows up none = bare_changed f bares i rows
 
-end_bare : (o : Outcome) (r : Row) → bare (end_row o r) ≡ bare r
+pub end_bare : (o : Outcome) (r : Row) → bare (end_row o r) ≡ bare r
 end_bare outcome.Started r = refl
 end_bare outcome.Stopped r = refl
 end_bare outcome.Killed r = refl
@@ -240,7 +240,7 @@ module _ (old : List Row) (i : ℕ) where
   mark_found (x ∷ xs) r e = found_by (x.inc == i) x xs r refl (mark_found xs r) e
 
   -- the row was doomed before, if it lives
-  was_doomed_by : (t : Bool) (r : Row) → r.doomed ≡ t → row_of old i ≡ Some r → list_any (λ x. marks x.inc) marked ≡ false → t ≡ true
+  pub was_doomed_by : (t : Bool) (r : Row) → r.doomed ≡ t → row_of old i ≡ Some r → list_any (λ x. marks x.inc) marked ≡ false → t ≡ true
   was_doomed_by true r is lives none = refl
   was_doomed_by false r is lives none =
       let there : row_of marked i ≡ Some (set_doomed r) = mark_found old r lives in

@@ -2,4 +2,6 @@ pub mod Answers
 pub mod Places
 pub mod Keeping
 pub mod Right
+pub mod Beside
 pub mod Laws
+pub mod Steps

@@ -1,6 +1,8 @@
 //! Answers that are kept.
 
-use cm_names::CapPath;
+ghost use Rattle.std.specs.Prelude.{◌≡◌, IfOk};
+
+use cm_names::{CapPath, Memory};
 use cm_world::Walked;
 
 /// What the walk from a use came to.
@@ -12,4 +14,11 @@ pub struct Answer {
     pub path: CapPath,
     /// What the walk came to.
     pub walked: Walked,
+}
+
+/// A copy of what a walk came to. `Err` where memory runs out.
+pub fn copy_of(walked: &Walked) -> Result<Walked, Memory>
+    ensures { IfOk result (λ copy. copy ≡ walked.now) }
+{
+    Ok(walked.clone()?)
 }

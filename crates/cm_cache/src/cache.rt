@@ -1,6 +1,6 @@
 //! Caches.
 
-ghost use Rattle.std.specs.Prelude.{◌≡◌, [], ◌++◌, ◌∷◌, ◌<◌, length, None, IfOk, OnOk, OnErr};
+ghost use Rattle.std.specs.Prelude.{◌≡◌, [], ◌++◌, ◌∷◌, ◌<◌, length, None, IsOk, IfOk, OnOk, OnErr};
 ghost use Rattle.std.specs.Option.{option_copied};
 ghost use Rattle.cm_cache.specs.Answers.{kept_at, put_in, answer_of, most};
 
@@ -41,7 +41,8 @@ impl Model for Cache {
 impl Cache {
     /// The cache without an answer. It keeps the allocator, and takes no memory yet.
     pub fn new(alloc: Global) -> Result<Cache, Memory>
-        ensures { IfOk result (λ made. made ≡ []) }
+        ensures ok { IsOk result }
+        ensures empty { IfOk result (λ made. made ≡ []) }
     {
         Ok(Cache {
             alloc,

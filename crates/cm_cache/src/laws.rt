@@ -4,6 +4,7 @@
 //! `specs/`, which its proof shows.
 
 ghost use Rattle.cm_cache.specs.Laws as laws;
+ghost use Rattle.cm_cache.specs.Steps as steps;
 
 /// Behind a put a cache keeps the answer that was put for its use, and for each other use what it
 /// kept before, or nothing where it was emptied first.
@@ -59,4 +60,30 @@ pub fn answers_stay_right()
     ensures answers { laws.RightAnswers }
     ensures puts { laws.PutsStayRight }
     ensures stays { laws.AnswersStayRight }
+{}
+
+/// What is kept beside a history: nothing beside the empty one; each answer is that of its walk in
+/// the tree that the history leaves; and the number is the history's, at most that of its entries.
+pub fn kept_beside()
+    ensures first { steps.NothingAtFirst }
+    ensures right { steps.BesideIsRight }
+    ensures number { steps.BesideIsNumber }
+    ensures few { steps.BesideIsFew }
+{}
+
+/// What is kept beside a history goes on with an entry more: one that asks for a use counts the
+/// answer that is kept, or keeps the new one if it lasts; any other empties what is kept, where it
+/// changes what walks read, and else leaves it.
+pub fn keepers_go_on()
+    ensures asked { steps.AskedGoOn }
+    ensures unasked { steps.UnaskedGoOn }
+{}
+
+/// Which entries doom an instance: a mark to be destroyed does; an exit does, and an end that
+/// stopped its instance, where some row goes with it; no other entry does.
+pub fn entries_that_doom()
+    ensures others { steps.OthersDoomNone }
+    ensures marks { steps.MarksDoom }
+    ensures exits { steps.ExitsDoom }
+    ensures ends { steps.EndsDoom }
 {}

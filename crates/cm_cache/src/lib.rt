@@ -13,17 +13,20 @@
 //! | `Places` | how a cache finds its answers |
 //! | `Keeping` | the uses whose answers a history keeps, and the number of answers that were there |
 //! | `Right` | answers that are those of the walks in a tree |
-//! | `Laws` | laws of these definitions |
+//! | `Beside` | answers kept beside a history, and what becomes of them with an entry more |
+//! | `Laws`, `Steps` | laws of these definitions, and of one entry more |
 //!
 //! That answers are kept, how many, and when they are forgotten is this project's own choice.
 #![tactic(auto)]
 
 pub mod answer;
 pub mod cache;
+pub mod keeper;
 pub mod laws;
 pub(crate) mod places;
 #[cfg(test)]
 mod tests;
 
-pub use answer::Answer;
+pub use answer::{Answer, copy_of};
 pub use cache::Cache;
+pub use keeper::Keeper;

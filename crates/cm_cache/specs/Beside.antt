@@ -1,0 +1,56 @@
+-- Answers that are kept beside a history, and what becomes of them with an entry more.
+use Rattle.std.specs.Prelude.{◌≡◌, ℕ, ◌+◌, List, [], Bool, not, ◌&&◌, ◌||◌, is_some, if◌then◌else◌}
+use Rattle.std.specs.List.{list_any}
+use Rattle.cm_world.specs.declared.row.Row.{Row}
+use Rattle.cm_world.specs.declared.action.Outcome.{Outcome}
+use Rattle.cm_world.specs.declared.frame.Frame.{Frame}
+use Rattle.cm_world.specs.declared.event.Event.{Event}
+use Rattle.cm_world.specs.declared.reply.Entry.{Entry}
+use Rattle.cm_world.specs.declared.reply.Reply.{Reply}
+use Rattle.cm_world.specs.declared.route.Walked.{Walked}
+use Rattle.cm_world.specs.Expiring.{goes_with, is_stopped}
+use Rattle.cm_world.specs.World.{World, start}
+use Rattle.cm_world.specs.Legal.{replay}
+use Rattle.cm_cache.specs.declared.answer.Answer.{Answer}
+use Rattle.cm_cache.specs.Answers.{kept_at, put_in}
+use Rattle.cm_cache.specs.Keeping.{IsKeptOf, is_lasting, resolves, comes_or_goes, forgets}
+use Rattle.cm_cache.specs.Right.{uses_of, AreRight}
+
+-- the answers that a keeper has, and how many answers were there for one who asked again
+pub record Held : Type 0 where
+  pub answers : List Answer
+  pub number : ℕ
+
+abbrev pub nothing_held : Held
+nothing_held = record { answers = []; number = 0 }
+
+-- behind an entry that asks for a use whose walk comes to this answer: where one is kept, it was there once
+-- more; else this one is kept, if it lasts
+abbrev pub asked_for : ℕ → List ℕ → Walked → Held → Held
+asked_for i path v h =
+    if is_some (kept_at h.answers i path) then record h { number = h.number + 1 }
+    else if is_lasting v then record h { answers = put_in h.answers i path v }
+    else h
+
+-- behind an entry that asks for none, where it is told whether the entry dooms an instance
+abbrev pub followed : Event → Reply → Bool → Held → Held
+followed event reply doomed h =
+    if resolves event reply || comes_or_goes reply || doomed then record h { answers = [] } else h
+
+-- what is told so is what the entry does in this world, as far as it counts
+abbrev pub IsTold : World → Entry → Bool → Type 0
+IsTold w e doomed = (resolves e.event e.reply || comes_or_goes e.reply || doomed) ≡ forgets w e
+
+-- beside a history: each answer is that of the walk in the tree that the history leaves; the uses that they
+-- were put for are those that it keeps; and so many were there
+pub record IsBeside (f : Frame) (es : List Entry) (h : Held) : Type 0 where
+  pub right : AreRight (replay (start f) es).rows (replay (start f) es).frame.builtins h.answers
+  pub keeps : IsKeptOf f es (record { uses = uses_of h.answers; number = h.number })
+
+-- whether a row that isn't doomed goes with row i, which has stopped
+abbrev pub goes_some : List Row → ℕ → Bool
+goes_some rows i = list_any (λ r. goes_with rows i r && not r.doomed) rows
+
+-- whether one goes with row i behind an action there that ended so
+abbrev pub goes_some_by : Outcome → List Row → ℕ → Bool
+goes_some_by o rows i = is_stopped o && goes_some rows i

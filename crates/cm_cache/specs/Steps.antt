@@ -1,0 +1,97 @@
+-- Laws of one entry more, as statements: what is kept beside a history is so beside the history with it.
+use Rattle.std.specs.Prelude.{◌≡◌, ℕ, ◌≤◌, List, [], ◌∷◌, ◌++◌, Bool, true, false, Some, None, length}
+use Rattle.cm_names.specs.declared.moniker.Moniker.{Moniker}
+use Rattle.cm_world.specs.declared.action.Act.{Act}
+use Rattle.cm_world.specs.declared.action.Finish.{Finish}
+use Rattle.cm_world.specs.declared.action.Outcome.{Outcome}
+use Rattle.cm_world.specs.declared.frame.Frame.{Frame}
+use Rattle.cm_world.specs.declared.event.Event.{Event}
+use Rattle.cm_world.specs.declared.event.Event.TheVariants.{End, Mark, Exited}
+use Rattle.cm_world.specs.declared.reply.Entry.{Entry}
+use Rattle.cm_world.specs.declared.reply.Reply.{Reply}
+use Rattle.cm_world.specs.declared.reply.Reply.TheVariants as reply
+use Rattle.cm_world.specs.declared.route.Start.TheVariants.{UseAt}
+use Rattle.cm_world.specs.declared.route.Walked.{Walked}
+use Rattle.cm_world.specs.World.{World, start, act_of}
+use Rattle.cm_world.specs.Route.{IsWalked}
+use Rattle.cm_world.specs.End.{changed, set_on, rows_by}
+use Rattle.cm_world.specs.Marks.{mark_reply}
+use Rattle.cm_world.specs.Legal.{replay}
+use Rattle.cm_world.specs.Sound.{IsRising}
+use Rattle.cm_cache.specs.Answers.{kept_at}
+use Rattle.cm_cache.specs.Keeping.{asked_by, IsKeptNumber}
+use Rattle.cm_cache.specs.Beside.{Held, nothing_held, asked_for, followed, IsTold, IsBeside}
+use Rattle.cm_cache.specs.Beside.{goes_some, goes_some_by}
+
+-- ---- what is beside a history
+
+-- beside the empty history nothing is
+abbrev pub NothingAtFirst : Type 0
+NothingAtFirst = (f : Frame) → IsBeside f [] nothing_held
+
+-- an answer that is there for a use is that of its walk in the tree that the history leaves
+abbrev pub BesideIsRight : Type 0
+BesideIsRight =
+    (f : Frame) (es : List Entry) (h : Held) (i : ℕ) (path : List ℕ) (v : Walked) → IsBeside f es h
+    → kept_at h.answers i path ≡ Some v
+    → IsWalked (replay (start f) es).rows (replay (start f) es).frame.builtins (UseAt i path) v
+
+-- the number is the one that the history has, and at most that of its entries
+abbrev pub BesideIsNumber : Type 0
+BesideIsNumber = (f : Frame) (es : List Entry) (h : Held) → IsBeside f es h → IsKeptNumber f es h.number
+
+abbrev pub BesideIsFew : Type 0
+BesideIsFew = (f : Frame) (es : List Entry) (h : Held) → IsBeside f es h → h.number ≤ length es
+
+-- ---- an entry more
+
+-- one that asks for no use, where it is told whether it dooms an instance
+abbrev pub UnaskedGoOn : Type 0
+UnaskedGoOn =
+    (f : Frame) (es : List Entry) (e : Entry) (doomed : Bool) (h : Held)
+    → IsRising (replay (start f) es).next_inc (replay (start f) es).rows
+    → asked_by (replay (start f) es) e.event ≡ None → IsTold (replay (start f) es) e doomed
+    → IsBeside f es h → IsBeside f (es ++ e ∷ []) (followed e.event e.reply doomed h)
+
+-- one that asks for a use, with what its walk comes to
+abbrev pub AskedGoOn : Type 0
+AskedGoOn =
+    (f : Frame) (es : List Entry) (e : Entry) (i : ℕ) (path : List ℕ) (v : Walked) (h : Held)
+    → asked_by (replay (start f) es) e.event ≡ Some (record { inc = i; path = path })
+    → IsWalked (replay (start f) es).rows (replay (start f) es).frame.builtins (UseAt i path) v
+    → IsBeside f es h → IsBeside f (es ++ e ∷ []) (asked_for i path v h)
+
+-- ---- which entries doom an instance
+
+-- whether an entry is of a kind that may doom an instance that was there before and is behind it: a mark, an
+-- end, or an exit
+abbrev pub may_doom : Event → Reply → Bool
+may_doom (Mark doom i) reply.Marked = true
+may_doom (End a finish) (reply.Ended o) = true
+may_doom (Exited i) (reply.Left m) = true
+may_doom event r = false
+
+-- no other does
+abbrev pub OthersDoomNone : Type 0
+OthersDoomNone = (w : World) (e : Entry) → may_doom e.event e.reply ≡ false → IsTold w e false
+
+-- a mark does if it is one to be destroyed
+abbrev pub MarksDoom : Type 0
+MarksDoom =
+    (w : World) (caller i : ℕ) (doom : Bool) → mark_reply w.rows doom i ≡ reply.Marked
+    → IsTold w (record { caller = caller; event = Mark doom i; reply = reply.Marked }) doom
+
+-- an exit does where some row goes with the one whose program has ended
+abbrev pub ExitsDoom : Type 0
+ExitsDoom =
+    (w : World) (caller i : ℕ) (m : Moniker) → IsRising w.next_inc w.rows
+    → IsTold w (record { caller = caller; event = Exited i; reply = reply.Left m })
+    (goes_some (changed i (set_on false) w.rows) i)
+
+-- an end does where it stopped its row and some row goes with it
+abbrev pub EndsDoom : Type 0
+EndsDoom =
+    (w : World) (caller a : ℕ) (finish : Finish) (o : Outcome) (x : Act) → IsRising w.next_inc w.rows
+    → act_of w.acts a ≡ Some x
+    → IsTold w (record { caller = caller; event = End a finish; reply = reply.Ended o })
+    (goes_some_by o (rows_by x.inc w.next_inc finish o w.rows) x.inc)
