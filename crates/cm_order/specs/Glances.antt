@@ -1,6 +1,7 @@
 -- What a quick look at a level comes to. It asks only for what nothing that isn't shut depends on by
 -- strong edges.
-use Rattle.std.specs.Prelude.{◌≡◌, ◌≢◌, ◌==◌, ℕ, List, Bool, true, false, ◌&&◌, Option, Some, None, IsTrue, ◌⊎◌}
+use Rattle.std.specs.Prelude.{◌≡◌, ◌≢◌, ◌==◌, ℕ, List, Bool, true, false, ◌&&◌, Option, Some, None, IsTrue}
+use Rattle.std.specs.Prelude.{◌⊎◌}
 use Rattle.std.specs.List.{list_any}
 use Rattle.std.specs.Ordering.{nat_cmp}
 use Rattle.std.specs.Cmp.Lexicographic.{slice_cmp}
@@ -89,17 +90,20 @@ HasNext rows p named w = (x : ℕ) → x ≢ p → LevelStrong rows p w x → Is
 -- a set has each row but p on which a node of p's level depends that isn't wholly shut
 abbrev pub HasBound : List Row → ℕ → BTreeSet ℕ → Type 0
 HasBound rows p named =
-    (z x : ℕ) → x ≢ p → is_wholly_shut rows p z ≡ false → Depends (level rows p) z x → IsTrue (in_set named x)
+    (z x : ℕ) → x ≢ p → is_wholly_shut rows p z ≡ false → Depends (level rows p) z x
+    → IsTrue (in_set named x)
 
 -- what a child was given alone is in the set, and offers to it count, unless no offer is strongly from
 -- a child
 pub record IsPut (rows : List Row) (p : ℕ) (look : Look) (wired : Bool) (named : BTreeSet ℕ)
     (targets : BTreeSet (List ℕ)) (r : Row) : Type 0 where
   pub given : HasSources p (gives_from rows p) r.gives named
-  pub target : (wired ≡ false) ⊎ ((c : ChildName) → r.name ≡ Some c → IsTrue (is_aimed look targets (target_of c)))
+  pub target : (wired ≡ false)
+      ⊎ ((c : ChildName) → r.name ≡ Some c → IsTrue (is_aimed look targets (target_of c)))
 
 -- that, or it is in the list of those that are all shut
-abbrev pub IsSeen : List Row → ℕ → Look → Bool → BTreeSet ℕ → BTreeSet (List ℕ) → List ℕ → ℕ → Row → Type 0
+abbrev pub IsSeen : List Row → ℕ → Look → Bool → BTreeSet ℕ → BTreeSet (List ℕ) → List ℕ → ℕ → Row
+    → Type 0
 IsSeen rows p look wired named targets closed c r =
     IsPut rows p look wired named targets r ⊎ (IsTrue (in_list closed c) × IsTrue (is_subtree_shut rows c))
 

@@ -36,9 +36,6 @@ right_near a b e = by (covers a b)
     by true = refl
     by false = e
 
-zero_for : ℕ → ℕ
-zero_for b = if b == 47 then 0 else b
-
 -- a path covers what lies inside it, with zeros for their slashes
 pub inside_covered : (path outer : List ℕ) → is_inside path outer ≡ true → covers (zeroed outer) (zeroed path) ≡ true
 inside_covered [] [] e = absurd (true≢false (sym e))

@@ -1,4 +1,4 @@
-use Rattle.std.proofs.Common.{◌≡◌, ℕ, zero, suc, ◌+◌, ◌<◌, List, [], ◌∷◌, length, take, get_or, Bool, true, false, ◌||◌, cond, true≢false, Option, Some, None, refl, sym, ◌∙◌, ap, subst, bytes_eq}
+use Rattle.std.proofs.Common.{◌≡◌, ℕ, zero, suc, ◌+◌, ◌<◌, List, [], ◌∷◌, length, take, drop, get_or, Bool, true, false, ◌||◌, cond, true≢false, Option, Some, None, refl, sym, ◌∙◌, ap, subst, bytes_eq}
 use Rattle.std.specs.Prelude.{slice_get, position, option_map, option_and_then, is_some, find}
 use Rattle.std.specs.List.{list_any, position_from}
 use Rattle.std.proofs.lemmas.Iterator.Adapters.{position_from-zero}
@@ -37,6 +37,17 @@ passes {A} test rows i row v at e = ap (λ (o : Option A). option_map_or test o 
 pub clash_of : {A : Type 0} (s : Section) (clashes : A → A → Bool) (rows : List A) (i : ℕ) (row : A) (o : Option ℕ) → slice_get rows i ≡ Some row → position (λ e. clashes e row) (take i rows) ≡ o → first_before s clashes rows i ≡ option_map (place s) o
 clash_of {A} s clashes rows i row o at e =
     ap (λ (r : Option A). option_and_then (λ x. first_row s (λ earlier. clashes earlier x) (take i rows)) r) at ∙ ap (option_map (place s)) e
+
+-- what was found among rows that were read is so among the rows that they are
+pub looked_through : {A : Type 0} (test : A → Bool) (rows all : List A) (found o : Option ℕ) → rows ≡ all → found ≡ position test rows → found ≡ o → position test all ≡ o
+looked_through {A} test rows all found o same looked told = subst (λ (l : List A). position test l ≡ o) same (sym looked ∙ told)
+
+-- the same for rows with names, as they were read and looked through
+pub first_named : {A : Type 0} (s : Section) (name : A → List ℕ) (rows all : List A) (i : ℕ) (row : A) (found o : Option ℕ) → rows ≡ all → i < length all → row ≡ get_or rows i row → found ≡ position (λ e. bytes_eq (name e) (name row)) (take i rows) → found ≡ o
+    → first_before s (λ a b. bytes_eq (name a) (name b)) all i ≡ option_map (place s) o
+first_named {A} s name rows all i row found o same within is looked told =
+    clash_of s (λ (a b : A). bytes_eq (name a) (name b)) all i row o (row_at rows all i row same within is)
+    (subst (λ (l : List A). position (λ e. bytes_eq (name e) (name row)) (take i l) ≡ o) same (sym looked ∙ told))
 
 -- a row that stands apart clashes with no earlier one
 pub clash_apart : {A : Type 0} (s : Section) (key : A → List ℕ) (clashes : A → A → Bool) → ((a b : A) → clashes a b ≡ true → near (key a) (key b) ≡ true) → (rows : List A) (n i : ℕ) → StandApart key rows n → i < n → first_before s clashes rows i ≡ None
@@ -80,6 +91,20 @@ finds d s i k rule against at fails broken e =
 pub finds_none : (d : Decl) (s : Section) (i : ℕ) → NonePasses (λ q. breaks d q s i) rules → Finds d (At s i) None
 finds_none d s i fails =
     subst (λ (o : Option Rule). IsFirstIn d (At s i) (option_map (fault_by d s i) o)) (find_none (λ q. breaks d q s i) rules fails) (first_at_row d s i)
+
+-- ---- rows that break no rule but that of their names
+
+abbrev BreaksNoOther : Decl → Section → ℕ → Type 0
+BreaksNoOther d s i = NonePasses (λ q. breaks d q s i) (drop 1 rules)
+
+-- the name isn't repeated
+pub named_once : (d : Decl) (s : Section) (i : ℕ) → breaks d RepeatedName s i ≡ false → BreaksNoOther d s i → Finds d (At s i) None
+named_once d s i once others = finds_none d s i (once, others)
+
+-- it is that of an earlier row
+pub named_before : (d : Decl) (s other : Section) (i first : ℕ) (found : Found) → found ≡ found_at s i RepeatedName (Some (place other first)) → breaks d RepeatedName s i ≡ true → clash d RepeatedName s i ≡ Some (place other first) → Finds d (At s i) (Some found)
+named_before d s other i first found is broken clashing =
+    subst (λ (f : Found). Finds d (At s i) (Some f)) (sym is) (finds d s i 0 RepeatedName (Some (place other first)) refl tt broken clashing)
 
 -- ---- collections
 
