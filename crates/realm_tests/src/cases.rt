@@ -1,4 +1,4 @@
-//! The tables: the steps of small realms, and all that they tell; texts of answers; gates. Most
+//! The tables: the steps of small realms, and all that they tell, and walks in trees by hand. Most
 //! realms are of a root with a store and a client, to which it offers what the store exposes.
 
 /// The root: it offers the client a protocol and a directory of the store.
@@ -59,12 +59,6 @@ pub fn manifest_of(word: &str) -> &str {
         manifest => manifest,
     }
 }
-
-/// All instances are resolved: the root 0, the store 1 and the client 2.
-pub const RESOLVED: &str = "\
-    0 resolve 0 @root\n\
-    0 resolve 1 @store\n\
-    0 resolve 2 @client";
 
 /// The root has a child in a collection that runs each child once, 1, and one in another, 2.
 pub const ONCE: &str = "\
@@ -689,35 +683,42 @@ pub const AVAILABILITY: &str = "\
     =>\n\
     7 0 open-exposed 1 log => failed availability-too-weak at expose a/b\n";
 
-/// Walks from the offer at an index of a root with that manifest, whose children aren't resolved.
-pub const OFFERS: &str = "\
+/// Walks in a tree without instances; then walks from the offer at an index of a root with that manifest,
+/// whose children aren't resolved.
+pub const WALKS: &str = "\
+    == use /svc/p\n\
+    =>\n\
+    no-such-use\n\
+    == expose p\n\
+    =>\n\
+    failed no-expose at expose .\n\
     == offer 0 {children:[{name:'a',url:'#a'}],capabilities:[{protocol:'log'}],offer:[{\
     protocol:'log',from:'self',to:'#a'}]}\n\
     =>\n\
-    route /svc/log at . incarnation 0 through offer ., capability .\n\
+    given /svc/log at . incarnation 0 through offer ., capability .\n\
     == offer 1 {children:[{name:'a',url:'#a'}],capabilities:[{protocol:'log'}],offer:[{\
     protocol:'log',from:'self',to:'#a'}]}\n\
     =>\n\
-    refused 86 no-such-use\n\
+    no-such-use\n\
     == offer 1 {children:[{name:'a',url:'#a'}],capabilities:[{directory:'d',path:'/d',\
     rights:['rw*']}],offer:[{protocol:'log',from:'parent',to:'#a'},{directory:'d',from:'self',\
     to:'#a',rights:['r*'],subdir:'s'}]}\n\
     =>\n\
-    route /d/s at . incarnation 0 rights connect,enumerate,get_attributes,read_bytes,traverse \
+    given /d/s at . incarnation 0 rights connect,enumerate,get_attributes,read_bytes,traverse \
     through offer ., capability .\n\
     == offer 0 {children:[{name:'a',url:'#a'}],capabilities:[{directory:'d',path:'/d',\
     rights:['connect']}],offer:[{directory:'d',from:'self',to:'#a'}]}\n\
     =>\n\
-    route /d at . incarnation 0 rights connect through offer ., capability .\n\
+    given /d at . incarnation 0 rights connect through offer ., capability .\n\
     == offer 0 {children:[{name:'a',url:'#a'}],capabilities:[{directory:'d',path:'/d',\
     rights:['connect']}],offer:[{directory:'d',from:'self',to:'#a',rights:['r*']}]}\n\
     =>\n\
-    refused 87 rights-too-weak at capability .\n\
+    failed rights-too-weak at capability .\n\
     == offer 0 {children:[{name:'a',url:'#a'}],offer:[{protocol:'log',from:'void',to:'#a',\
     availability:'optional'}]}\n\
     =>\n\
-    refused 88 void at offer .\n\
+    void at offer .\n\
     == offer 0 {children:[{name:'a',url:'#a'},{name:'b',url:'#b'}],offer:[{protocol:'log',\
     from:'#b',to:'#a'}]}\n\
     =>\n\
-    needs 2\n";
+    need 2\n";

@@ -12,6 +12,10 @@ mod book;
 #[cfg(test)]
 mod cases;
 #[cfg(test)]
+mod declarations;
+#[cfg(test)]
+mod endings;
+#[cfg(test)]
 mod meanwhile;
 #[cfg(test)]
 mod player;
@@ -23,3 +27,5 @@ mod steps;
 mod table;
 #[cfg(test)]
 mod walks;
+#[cfg(test)]
+mod words;

@@ -1,12 +1,14 @@
 //! Steps of another caller between the beginning and the end of a start.
 
-ghost use Rattle.std.specs.Prelude.{◌≡◌, IsTrue, OnOk};
+ghost use Rattle.std.specs.Prelude.{◌≡◌, ℕ, IsTrue, OnOk};
 ghost use Rattle.cm_world.specs.declared.action.Finish.TheVariants as finish;
 ghost use Rattle.cm_world.specs.declared.action.Outcome.TheVariants as outcome;
 ghost use Rattle.cm_world.specs.Step.{MayEnd, may_close};
 ghost use Rattle.cm_laws.specs.Laws.{IsJoined};
 ghost use Rattle.cm_laws.specs.Story.{world_of};
+ghost use Rattle.realm_tests.specs.Ends.{Closes};
 
+use crate::endings::begun;
 use cm_laws::marks_stay;
 use cm_steps::{Ending, NoStep, Realm};
 use cm_world::{ActKind, Outcome, Reply};
@@ -15,10 +17,9 @@ use std::alloc::Global;
 /// Begins to start an instance for caller 0, joins caller 1, and lets the start be declined: then
 /// caller 1 awaits that, where it heard nothing before.
 pub fn join_and_decline(realm: &mut Realm, alloc: Global, inc: u64) -> Option<NoStep> {
-    match realm.begin(alloc, 0, ActKind::Start, inc) {
-        Ok(Reply::Begun(work)) => join(realm, alloc, inc, work.action),
-        Ok(_other) => None,
-        Err(no_step) => Some(no_step),
+    match begun(realm, alloc, ActKind::Start, inc) {
+        Ok(action) => join(realm, alloc, inc, action),
+        Err(refused) => refused,
     }
 }
 
@@ -42,22 +43,47 @@ fn decline_joined(realm: &mut Realm, begun: u64, action: u64)
     requires may { MayEnd (world_of realm.old).acts 0 begun (finish.Other outcome.Declined) }
     requires joined { IsJoined (world_of realm.old) 1 action }
 {
-    match realm.await_end(1, action) {
-        Some(_early) => (),
-        None => {
-            realm.end(0, begun, Ending::Other(Outcome::Declined));
-            realm.await_end(1, action);
+    match hears_nothing(realm, action) {
+        Ok(()) => {
+            decline(realm, begun);
+            hear(realm, action);
         }
+        Err(_ended) => (),
     }
+}
+
+/// Awaits for caller 1 an action that hasn't ended, and changes nothing; or tells which one has.
+fn hears_nothing(realm: &mut Realm, action: u64) -> Result<(), u64>
+    requires { IsJoined (world_of realm.old) 1 action }
+    ensures { OnOk result (realm.new ≡ realm.old) }
+{
+    match realm.await_end(1, action) {
+        Some(_early) => Err(action),
+        None => Ok(()),
+    }
+}
+
+/// Lets caller 0 end its action as declined. What caller 1 has joined it may still await.
+fn decline(realm: &mut Realm, begun: u64)
+    requires { MayEnd (world_of realm.old).acts 0 begun (finish.Other outcome.Declined) }
+    ensures { (a : ℕ) → IsJoined (world_of realm.old) 1 a → IsJoined (world_of realm.new) 1 a }
+{
+    realm.end(0, begun, Ending::Other(Outcome::Declined));
+}
+
+/// Awaits for caller 1 an action that it joined.
+fn hear(realm: &mut Realm, action: u64)
+    requires { IsJoined (world_of realm.old) 1 action }
+{
+    realm.await_end(1, action);
 }
 
 /// Begins to start an instance for caller 0, and lets caller 1 mark it to be destroyed: why caller 1
 /// makes no pick for it. Then the start ends well.
 pub fn doom_while_starting(realm: &mut Realm, alloc: Global, inc: u64) -> Option<NoStep> {
-    match realm.begin(alloc, 0, ActKind::Start, inc) {
-        Ok(Reply::Begun(work)) => doom(realm, alloc, inc, work.action),
-        Ok(_other) => None,
-        Err(no_step) => Some(no_step),
+    match begun(realm, alloc, ActKind::Start, inc) {
+        Ok(action) => doom(realm, alloc, inc, action),
+        Err(refused) => refused,
     }
 }
 
@@ -66,17 +92,35 @@ pub fn doom_while_starting(realm: &mut Realm, alloc: Global, inc: u64) -> Option
 fn doom(realm: &mut Realm, alloc: Global, inc: u64, begun: u64) -> Option<NoStep>
     requires { MayEnd (world_of realm.old).acts 0 begun (finish.Other outcome.Started) }
 {
+    match marked(realm, inc) {
+        Ok(()) => end_behind_pick(realm, alloc, inc, begun),
+        Err(refused) => refused,
+    }
+}
+
+/// Marks an instance for caller 1 to be destroyed, or tells why no step was made, if none was.
+fn marked(realm: &mut Realm, inc: u64) -> Result<(), Option<NoStep>>
+    ensures { OnOk result (Closes realm.old realm.new inc) }
+{
     marks_stay();
     let _entries = realm.entries();
     match realm.mark(1, true, inc) {
-        Ok(Reply::Marked) => match waited_for(realm, alloc, inc) {
-            Ok(action) => {
-                realm.end(0, begun, Ending::Other(Outcome::Started));
-                Some(NoStep::Busy(action))
-            }
-            Err(no_step) => Some(no_step),
-        },
-        Ok(_other) => None,
+        Ok(Reply::Marked) => Ok(()),
+        Ok(_other) => Err(None),
+        Err(no_step) => Err(Some(no_step)),
+    }
+}
+
+/// Ends the start that caller 0 has begun, behind a pick of caller 1 that isn't made.
+fn end_behind_pick(realm: &mut Realm, alloc: Global, inc: u64, begun: u64) -> Option<NoStep>
+    requires may { MayEnd (world_of realm.old).acts 0 begun (finish.Other outcome.Started) }
+    requires closes { IsTrue (may_close (world_of realm.old).rows inc) }
+{
+    match waited_for(realm, alloc, inc) {
+        Ok(action) => {
+            realm.end(0, begun, Ending::Other(Outcome::Started));
+            Some(NoStep::Busy(action))
+        }
         Err(no_step) => Some(no_step),
     }
 }

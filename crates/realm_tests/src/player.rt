@@ -4,6 +4,7 @@
 //! A case begins with `== `, the word of what is played and a space. Then comes what is played, and
 //! behind a line `=>` what has to be told of it, line by line.
 
+use crate::cases::{ACTIONS, AVAILABILITY, EXPIRIES, OPENINGS, SHUTDOWNS, WALKS};
 use crate::{realms, walks};
 use cm_names::{Memory, Text};
 use std::alloc::Global;
@@ -46,9 +47,32 @@ fn told_of(alloc: Global, case: &str) -> Option<Text> {
     let (word, input) = played.split_once(' ')?;
     match word {
         "realm" => realms::told(alloc, input),
-        "offer" => walks::told(alloc, input),
+        "offer" => walks::told_of_offer(alloc, input),
+        "use" => walks::told_of_use(alloc, input),
+        "expose" => walks::told_of_expose(alloc, input),
         _ => None,
     }
+}
+
+fn table_of(number: u8) -> &'static str {
+    match number {
+        0 => ACTIONS,
+        1 => OPENINGS,
+        2 => SHUTDOWNS,
+        3 => AVAILABILITY,
+        4 => EXPIRIES,
+        5 => WALKS,
+        _ => "",
+    }
+}
+
+#[test]
+fn cases_tell_what_they_should(rt: HostRuntime) -> Result<(), Fail> {
+    for number in 0..6 {
+        let odd = odd_cases(rt.alloc(), table_of(number))?;
+        assert!(rt; odd.is_empty(), "table {number}: {odd}");
+    }
+    Ok(())
 }
 
 /// A table in which the second case is wrong, and those behind it can't be read.

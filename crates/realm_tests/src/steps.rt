@@ -1,41 +1,39 @@
 //! Takes steps of a small realm, and tells what came of each.
 //!
 //! A step is a line: the caller, what it does, the incarnation of the instance that it does it
-//! with, and a word, where it needs one.
-
-ghost use Rattle.std.specs.Prelude.{IsTrue, IfSome};
-ghost use Rattle.cm_decl.specs.Valid.{IsValid};
-ghost use Rattle.cm_world.specs.End.{fits_kind};
-ghost use Rattle.cm_world.specs.declared.action.Finish.TheVariants as finish;
+//! with, and a word, where it needs one. Nobody here holds a reply: what a step tells is read from the
+//! history.
 
 use crate::cases::manifest_of;
+use crate::endings::{declined, killed, resolve, started};
 use crate::meanwhile::{doom_while_starting, join_and_decline};
-use cm_names::{CapPath, List, Memory, Moniker, Name, Text};
-use cm_read::read_decl;
-use cm_reply::entry_text;
-use cm_steps::{Ending, NoStep, Realm};
-use cm_table::Prepared;
-use cm_valid::{ValidDecl, validate};
-use cm_world::{ActKind, Entry, Limits, Outcome, Reply};
+use crate::words::{line_of, moniker_of, name_of, path_of};
+use cm_names::{List, Memory, Name, Text};
+use cm_steps::{NoStep, Realm};
+use cm_world::{ActKind, Entry, Limits};
 use std::alloc::Global;
 
 /// A new realm with these limits.
 pub fn realm_of(alloc: Global, rows: u32, entries: u64) -> Option<Realm> {
     let root = Text::from_str(alloc, "fuchsia-pkg://t/a#meta/root.cm").ok()?;
-    let limits = Limits { rows, entries };
-    Realm::new(alloc, root, List::new(alloc), limits).ok()
+    Realm::new(alloc, root, List::new(alloc), Limits { rows, entries }).ok()
 }
 
 /// Takes the steps of lines, and puts down what each tells: why no step was made, and the new lines
 /// of the history. Nothing where a line can't be read.
 pub fn take_all(realm: &mut Realm, alloc: Global, lines: &str, told: &mut Text) -> Option<()> {
     for line in lines.split('\n') {
-        let first = realm.entries().len();
+        let first = length_of(realm);
         let refused = take(realm, alloc, line)?;
         tell_refusal(told, refused).ok()?;
         tell_lines(told, alloc, realm.entries(), first).ok()?;
     }
     Some(())
+}
+
+/// How many entries a history has.
+fn length_of(realm: &Realm) -> usize {
+    realm.entries().len()
 }
 
 /// Takes the step of a line: why no step was made, or none where one was.
@@ -59,19 +57,19 @@ fn look(
 ) -> Option<Option<NoStep>> {
     match verb {
         "find" => find(realm, alloc, caller, word),
-        "show" => Some(realm.show(alloc, caller, inc).err()),
+        "show" => Some(show(realm, alloc, caller, inc)),
         "list" => list(realm, alloc, caller, inc, word),
-        "survey" => Some(realm.survey(alloc, caller, inc).err()),
+        "survey" => Some(survey(realm, alloc, caller, inc)),
         "tail" => tail(realm, caller, inc, word),
         "route" => route(realm, alloc, caller, inc, word),
         "open" => open_use(realm, alloc, caller, inc, word),
         "open-exposed" => open_exposed(realm, alloc, caller, inc, word),
-        "begin" => begin(realm, alloc, caller, inc, word),
+        "reap" => Some(reap(realm, alloc, caller, inc)),
         _ => change(realm, alloc, caller, verb, inc, word),
     }
 }
 
-/// Takes a step that changes the tree, or several: those that end an action begin it for caller 0.
+/// Takes a step that changes the tree.
 fn change(
     realm: &mut Realm,
     alloc: Global,
@@ -81,12 +79,26 @@ fn change(
     word: &str,
 ) -> Option<Option<NoStep>> {
     match verb {
-        "exited" => Some(realm.exited(alloc, caller, inc).err()),
-        "close" => Some(realm.mark(caller, false, inc).err()),
-        "doom" => Some(realm.mark(caller, true, inc).err()),
-        "reap" => Some(realm.reap(alloc, caller, inc).err()),
+        "begin" => begin(realm, alloc, caller, inc, word),
+        "exited" => Some(exited(realm, alloc, caller, inc)),
+        "close" => Some(mark(realm, caller, false, inc)),
+        "doom" => Some(mark(realm, caller, true, inc)),
         "create" => create(realm, alloc, caller, inc, word),
-        "resolve" => resolve(realm, alloc, inc, word),
+        _ => end(realm, alloc, verb, inc, word),
+    }
+}
+
+/// Takes the steps of caller 0 that begin an action and end it, and in some those of caller 1
+/// meanwhile.
+fn end(
+    realm: &mut Realm,
+    alloc: Global,
+    verb: &str,
+    inc: u64,
+    word: &str,
+) -> Option<Option<NoStep>> {
+    match verb {
+        "resolve" => resolve(realm, alloc, inc, manifest_of(word)),
         "started" => Some(started(realm, alloc, inc)),
         "declined" => Some(declined(realm, alloc, inc)),
         "killed" => Some(killed(realm, alloc, inc)),
@@ -98,8 +110,16 @@ fn change(
 
 /// Finds the instance of a moniker; the step's number isn't read.
 fn find(realm: &mut Realm, alloc: Global, caller: u32, word: &str) -> Option<Option<NoStep>> {
-    let moniker = Moniker::read(alloc, word).ok()?;
+    let moniker = moniker_of(alloc, word)?;
     Some(realm.find(alloc, caller, moniker).err())
+}
+
+fn show(realm: &mut Realm, alloc: Global, caller: u32, inc: u64) -> Option<NoStep> {
+    realm.show(alloc, caller, inc).err()
+}
+
+fn survey(realm: &mut Realm, alloc: Global, caller: u32, inc: u64) -> Option<NoStep> {
+    realm.survey(alloc, caller, inc).err()
 }
 
 /// Lists the children in a collection.
@@ -110,7 +130,7 @@ fn list(
     inc: u64,
     word: &str,
 ) -> Option<Option<NoStep>> {
-    let coll = Name::read(alloc, word).ok()?;
+    let coll = name_of(alloc, word)?;
     Some(realm.list(alloc, caller, inc, coll).err())
 }
 
@@ -128,7 +148,7 @@ fn route(
     inc: u64,
     word: &str,
 ) -> Option<Option<NoStep>> {
-    let path = CapPath::read(alloc, word).ok()?;
+    let path = path_of(alloc, word)?;
     Some(realm.route(alloc, caller, inc, path).err())
 }
 
@@ -140,7 +160,7 @@ fn open_use(
     inc: u64,
     word: &str,
 ) -> Option<Option<NoStep>> {
-    let path = CapPath::read(alloc, word).ok()?;
+    let path = path_of(alloc, word)?;
     Some(realm.open_use(alloc, caller, inc, path).err())
 }
 
@@ -152,8 +172,13 @@ fn open_exposed(
     inc: u64,
     word: &str,
 ) -> Option<Option<NoStep>> {
-    let name = Name::read(alloc, word).ok()?;
+    let name = name_of(alloc, word)?;
     Some(realm.open_exposed(alloc, caller, inc, name).err())
+}
+
+/// Asks what is left to be removed of an instance.
+fn reap(realm: &mut Realm, alloc: Global, caller: u32, inc: u64) -> Option<NoStep> {
+    realm.reap(alloc, caller, inc).err()
 }
 
 /// Begins an action.
@@ -177,6 +202,15 @@ fn kind_of(word: &str) -> Option<ActKind> {
     }
 }
 
+fn exited(realm: &mut Realm, alloc: Global, caller: u32, inc: u64) -> Option<NoStep> {
+    realm.exited(alloc, caller, inc).err()
+}
+
+/// Marks an instance to be shut down, or to be destroyed.
+fn mark(realm: &mut Realm, caller: u32, doom: bool, inc: u64) -> Option<NoStep> {
+    realm.mark(caller, doom, inc).err()
+}
+
 /// Creates a child by a command to create one, whose parent isn't read and which offers nothing.
 fn create(
     realm: &mut Realm,
@@ -188,8 +222,21 @@ fn create(
     let (_, rest) = word.split_once(" . ")?;
     let (coll, rest) = rest.split_once(' ')?;
     let (name, url) = rest.split_once(' ')?;
-    let coll = Name::read(alloc, coll).ok()?;
-    let name = Name::read(alloc, name).ok()?;
+    match (name_of(alloc, coll), name_of(alloc, name)) {
+        (Some(coll), Some(name)) => create_at(realm, alloc, caller, parent, coll, name, url),
+        _ => None,
+    }
+}
+
+fn create_at(
+    realm: &mut Realm,
+    alloc: Global,
+    caller: u32,
+    parent: u64,
+    coll: Name,
+    name: Name,
+    url: &str,
+) -> Option<Option<NoStep>> {
     match Text::from_str(alloc, url) {
         Ok(url) => Some(create_child(realm, alloc, caller, parent, coll, name, url)),
         Err(_) => None,
@@ -210,85 +257,6 @@ fn create_child(
         .err()
 }
 
-/// Begins a start, and ends it well where it begins.
-fn started(realm: &mut Realm, alloc: Global, inc: u64) -> Option<NoStep> {
-    act(realm, alloc, ActKind::Start, inc, Outcome::Started)
-}
-
-/// Begins a start, and declines it where it begins.
-fn declined(realm: &mut Realm, alloc: Global, inc: u64) -> Option<NoStep> {
-    act(realm, alloc, ActKind::Start, inc, Outcome::Declined)
-}
-
-/// Begins a stop, and ends it by force where it begins.
-fn killed(realm: &mut Realm, alloc: Global, inc: u64) -> Option<NoStep> {
-    act(realm, alloc, ActKind::Stop, inc, Outcome::Killed)
-}
-
-/// Begins a resolve, and ends it by a manifest where it begins. The declaration is made in the arm
-/// that hands it on, so that no other end of the function drops it: that would be dear to prove.
-fn resolve(realm: &mut Realm, alloc: Global, inc: u64, word: &str) -> Option<Option<NoStep>> {
-    match realm.begin(alloc, 0, ActKind::Resolve, inc) {
-        Ok(Reply::Begun(work)) => match prepared(alloc, manifest_of(word)) {
-            Some(prepared) => {
-                realm.end(0, work.action, Ending::Resolved(prepared));
-                Some(None)
-            }
-            None => None,
-        },
-        Ok(_other) => Some(None),
-        Err(no_step) => Some(Some(no_step)),
-    }
-}
-
-/// The declaration of a manifest, where it is valid.
-fn valid_of(alloc: Global, manifest: &str) -> Option<ValidDecl> {
-    match read_decl(alloc, manifest.as_bytes()) {
-        Ok(decl) => validate(alloc, decl).ok(),
-        Err(_) => None,
-    }
-}
-
-/// A valid declaration that is got ready.
-fn prepared_at(alloc: Global, valid: ValidDecl, url: Text) -> Option<Prepared>
-    ensures { IfSome result (λ made. IsValid made.decl) }
-{
-    Prepared::make(alloc, valid.into_decl(), url).ok()
-}
-
-/// The declaration of a manifest, which is valid.
-pub fn prepared(alloc: Global, manifest: &str) -> Option<Prepared>
-    ensures { IfSome result (λ made. IsValid made.decl) }
-{
-    match valid_of(alloc, manifest) {
-        Some(valid) => match Text::from_str(alloc, "fuchsia-pkg://t/a#x") {
-            Ok(url) => prepared_at(alloc, valid, url),
-            Err(_) => None,
-        },
-        None => None,
-    }
-}
-
-/// Begins an action for caller 0, and ends it in this where it begins.
-fn act(
-    realm: &mut Realm,
-    alloc: Global,
-    kind: ActKind,
-    inc: u64,
-    outcome: Outcome,
-) -> Option<NoStep>
-    requires { IsTrue (fits_kind kind (finish.Other outcome)) }
-{
-    match realm.begin(alloc, 0, kind, inc) {
-        Ok(Reply::Begun(work)) => {
-            realm.end(0, work.action, Ending::Other(outcome));
-            None
-        }
-        Ok(_other) => None,
-        Err(no_step) => Some(no_step),
-    }
-}
-
 /// Puts down why no step was made.
 fn tell_refusal(told: &mut Text, refused: Option<NoStep>) -> Result<(), Memory> {
     match refused {
@@ -307,7 +275,7 @@ fn tell_lines(
     first: usize,
 ) -> Result<(), Memory> {
     for place in first..entries.len() {
-        let line = entry_text(alloc, place as u64 + 1, &entries[place])?;
+        let line = line_of(alloc, place as u64 + 1, &entries[place])?;
         told.push(format_args!("{line}\n"))?;
     }
     Ok(())

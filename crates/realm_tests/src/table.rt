@@ -1,15 +1,34 @@
+//! The rows of a table, as they change.
+
+ghost use Rattle.std.specs.Prelude.{◌≡◌, ◌<◌, None, IsTrue, IfSome};
+ghost use Rattle.cm_world.specs.Rows.{is_live, decl_of};
+
+use crate::words::name_of;
 use cm_decl::Kind;
-use cm_names::{List, Name, Text};
-use cm_table::*;
+use cm_names::{List, Text};
+use cm_table::Table;
 use cm_world::{ActKind, Outcome, View};
 use std::alloc::Global;
 
-/// A table of a root, with room for two rows more of at most three.
-fn new_table(alloc: Global) -> Option<Table> {
+/// A table of a root that isn't resolved, with room for two resolves and for three rows more.
+pub fn fresh(alloc: Global) -> Option<Table>
+    ensures lives { IfSome result (λ made. IsTrue (is_live made.rows 0)) }
+    ensures unresolved { IfSome result (λ made. decl_of made.rows 0 ≡ None) }
+    ensures spare { IfSome result (λ made. 0 < made.spare) }
+{
     let root = Text::from_str(alloc, "r").ok()?;
-    let mut table = Table::new(alloc, root, List::new(alloc), 4).ok()?;
-    table.reserve(2).ok()?;
-    Some(table)
+    match Table::new(alloc, root, List::new(alloc), 4) {
+        Ok(mut table) => match table.reserve(2) {
+            Ok(()) => Some(table),
+            Err(_) => None,
+        },
+        Err(_) => None,
+    }
+}
+
+/// Whether there is room for what a fresh table has room for, and for no more.
+fn has_room(table: &Table) -> bool {
+    table.spare() == 2 && table.free() == 3 && table.fits(3)
 }
 
 /// Starts the root, and marks it to be shut down.
@@ -24,6 +43,10 @@ fn start_and_close(table: &mut Table) {
 fn destroy(table: &mut Table) {
     table.set_doomed(0);
     table.set_shut(0);
+}
+
+fn remove(table: &mut Table) {
+    table.remove_below(0);
 }
 
 /// Whether the root is on, being shut down, being destroyed, shut, waiting for an action, and
@@ -50,34 +73,48 @@ fn parts(table: &Table) -> [bool; 4] {
     ]
 }
 
+/// Whether the root has its URL, and no child.
+fn is_alone(table: &Table) -> bool {
+    table.url(0).is_some_and(|url| url.as_str() == "r") && table.next_child(0, None).is_none()
+}
+
 fn has_builtin(alloc: Global, table: &Table) -> Option<bool> {
-    let name = Name::read(alloc, "b").ok()?;
+    let name = name_of(alloc, "b")?;
     Some(table.builtin(Kind::Protocol, &name).is_some())
 }
 
+/// Whether no row is left, and there is room for all again.
+fn is_bare(table: &Table) -> bool {
+    table.facts(0).is_none() && table.free() == 4
+}
+
 /// Whether the table of a root tells its places, its marks and its parts as they change.
-fn changes_rows(alloc: Global, table: &mut Table) -> [bool; 8] {
-    let has_places = table.spare() == 2 && table.free() == 3 && table.fits(3);
+fn changes_rows(alloc: Global, table: &mut Table) -> [bool; 7] {
+    let has_places = has_room(table);
     start_and_close(table);
     let is_closing = marks(table) == Some([true, true, false, false, false, false]);
     destroy(table);
     let is_shut = marks(table) == Some([true, true, true, true, false, false]);
     let has_parts = parts(table) == [false, false, true, false];
-    let has_url = table.url(0).is_some_and(|url| url.as_str() == "r");
-    let is_alone = table.next_child(0, None).is_none();
+    let is_alone = is_alone(table);
     let has_none = has_builtin(alloc, table) == Some(false);
-    table.remove_below(0);
-    let is_removed = table.facts(0).is_none() && table.free() == 4;
+    remove(table);
     [
-        has_places, is_closing, is_shut, has_parts, has_url, is_alone, has_none, is_removed,
+        has_places,
+        is_closing,
+        is_shut,
+        has_parts,
+        is_alone,
+        has_none,
+        is_bare(table),
     ]
 }
 
 #[test]
 fn rows_change(rt: HostRuntime) {
-    let told = match new_table(rt.alloc()) {
+    let told = match fresh(rt.alloc()) {
         Some(mut table) => changes_rows(rt.alloc(), &mut table),
-        None => [false; 8],
+        None => [false; 7],
     };
-    assert!(rt; told == [true; 8], "{told:?}");
+    assert!(rt; told == [true; 7], "{told:?}");
 }

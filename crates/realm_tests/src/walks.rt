@@ -1,136 +1,118 @@
-//! Walks in a tree without instances, and from the offers of a root. Other walks stand with the
-//! realms.
+//! Walks in trees that no realm holds: one without instances, and one of a root alone, which begin at an
+//! offer of it. Other walks are shown by runs of the program.
 
-use crate::cases::OFFERS;
-use crate::player::odd_cases;
-use crate::steps::prepared;
-use cm_command::Command;
-use cm_names::{CapPath, List, Memory, Name, Text};
-use cm_reply::reply_text;
+use crate::declarations::prepared;
+use crate::table::fresh;
+use crate::words::{line_of, name_of, path_of};
+use cm_names::Text;
 use cm_table::{Prepared, Table};
 use cm_walk::walk;
-use cm_world::{Answer, Refusal, Start, StepKind, Target, Walked, Why};
+use cm_world::{Entry, Event, Reply, Start, Walked};
 use std::alloc::Global;
-use std::test::Fail;
+
+/// What a walk from the use at a path comes to in a tree without instances.
+pub fn told_of_use(alloc: Global, path: &str) -> Option<Text> {
+    match path_of(alloc, path) {
+        Some(path) => told_in(alloc, bare(alloc), Start::UseAt(0, path)),
+        None => None,
+    }
+}
+
+/// What a walk from the expose of a name comes to in a tree without instances.
+pub fn told_of_expose(alloc: Global, name: &str) -> Option<Text> {
+    match name_of(alloc, name) {
+        Some(name) => told_in(alloc, bare(alloc), Start::ExposeAt(0, name)),
+        None => None,
+    }
+}
+
+/// What a walk from an offer of a root comes to: first stands the index of the offer, then the manifest of
+/// the root.
+pub fn told_of_offer(alloc: Global, input: &str) -> Option<Text> {
+    let (index, manifest) = input.split_once(' ')?;
+    let index = index.parse().ok()?;
+    told_in(alloc, declared(alloc, manifest), Start::OfferAt(0, index))
+}
 
 /// A tree without instances.
 fn bare(alloc: Global) -> Option<Table> {
-    let root = Text::from_str(alloc, "r").ok()?;
-    match Table::new(alloc, root, List::new(alloc), 9) {
-        Ok(mut table) => {
+    match fresh(alloc) {
+        Some(mut table) => {
             table.remove_below(0);
             Some(table)
         }
+        None => None,
+    }
+}
+
+/// A tree whose root has the declaration of a manifest.
+fn declared(alloc: Global, manifest: &str) -> Option<Table> {
+    match prepared(alloc, manifest) {
+        Some(prepared) => settled(alloc, prepared),
+        None => None,
+    }
+}
+
+fn settled(alloc: Global, prepared: Prepared) -> Option<Table> {
+    match fresh(alloc) {
+        Some(mut table) => {
+            table.settle(0, prepared);
+            Some(table)
+        }
+        None => None,
+    }
+}
+
+fn told_in(alloc: Global, table: Option<Table>, start: Start) -> Option<Text> {
+    match table {
+        Some(table) => told_by(alloc, reached(alloc, &table, start)),
+        None => None,
+    }
+}
+
+/// What a walk comes to, as a reply.
+fn reached(alloc: Global, table: &Table, start: Start) -> Option<Reply> {
+    match walk(alloc, table, start) {
+        Ok(walked) => Some(reply_of(walked)),
         Err(_) => None,
     }
 }
 
-fn walk_in(alloc: Global, table: &Table, start: Start) -> Option<Walked> {
-    walk(alloc, table, start).ok()
-}
-
-fn walk_bare(alloc: Global, start: Start) -> Option<Walked> {
-    match bare(alloc) {
-        Some(table) => walk_in(alloc, &table, start),
-        None => None,
-    }
-}
-
-fn walk_of_use(alloc: Global) -> Option<Walked> {
-    let path = CapPath::read(alloc, "/svc/p").ok()?;
-    walk_bare(alloc, Start::UseAt(0, path))
-}
-
-fn walk_of_expose(alloc: Global) -> Option<Walked> {
-    let name = Name::read(alloc, "p").ok()?;
-    walk_bare(alloc, Start::ExposeAt(0, name))
-}
-
-#[test]
-fn finds_nothing(rt: HostRuntime) {
-    assert!(rt; matches!(walk_of_use(rt.alloc()), Some(Walked::NoSuchUse)));
-    let is_so = match walk_of_expose(rt.alloc()) {
-        Some(Walked::Failed(hop, Why::NoExpose)) => {
-            hop.step == StepKind::ExposeHop && hop.moniker.is_root()
-        }
-        _other => false,
-    };
-    assert!(rt; is_so);
-}
-
-/// What a walk from an offer of a root comes to, with a line feed behind it. First comes the index
-/// of the offer, then the manifest of the root.
-pub fn told(alloc: Global, input: &str) -> Option<Text> {
-    let (index, manifest) = input.split_once(' ')?;
-    match walked(alloc, index.parse().ok()?, manifest) {
-        Some(walked) => told_by(alloc, walked),
-        None => None,
-    }
-}
-
-fn walked(alloc: Global, index: u32, manifest: &str) -> Option<Walked> {
-    match prepared(alloc, manifest) {
-        Some(prepared) => walked_in(alloc, index, prepared),
-        None => None,
-    }
-}
-
-fn walked_in(alloc: Global, index: u32, prepared: Prepared) -> Option<Walked> {
-    match table_of(alloc, prepared) {
-        Some(table) => walk_in(alloc, &table, Start::OfferAt(0, index)),
-        None => None,
-    }
-}
-
-/// A tree whose root has this declaration.
-fn table_of(alloc: Global, prepared: Prepared) -> Option<Table> {
-    let root = Text::from_str(alloc, "r").ok()?;
-    let mut table = Table::new(alloc, root, List::new(alloc), 9).ok()?;
-    table.reserve(1).ok()?;
-    table.settle(0, prepared);
-    Some(table)
-}
-
-fn told_by(alloc: Global, walked: Walked) -> Option<Text> {
+fn reply_of(walked: Walked) -> Reply {
     match walked {
-        Walked::Given(route) => said(alloc, &Ok(Answer::Routed(route))),
-        Walked::Failed(hop, why) => said(alloc, &Err(Refusal::NoRoute(hop, why))),
-        Walked::Void(hop) => said(alloc, &Err(Refusal::VoidSource(hop))),
-        Walked::NoSuchUse => said(alloc, &Err(Refusal::NoSuchUse)),
-        Walked::Need(inc) => needs(alloc, inc).ok(),
+        Walked::Given(route) => Reply::Given(route),
+        Walked::Failed(hop, why) => Reply::Failed(hop, why),
+        Walked::Void(hop) => Reply::Void(hop),
+        Walked::NoSuchUse => Reply::NoSuchUse,
+        Walked::Need(inc) => Reply::Need(inc),
     }
 }
 
-/// The text of what is said, with a line feed behind it. No text here tells what was asked.
-fn said(alloc: Global, said: &Result<Answer, Refusal>) -> Option<Text> {
-    ended(text_of(alloc, &Command::Show(Target::Inc(0)), said)?)
+/// A reply as a history has it, with a line feed behind it.
+fn told_by(alloc: Global, reply: Option<Reply>) -> Option<Text> {
+    match reply {
+        Some(reply) => told_at(
+            alloc,
+            &Entry {
+                caller: 0,
+                event: Event::Show(0),
+                reply,
+            },
+        ),
+        None => None,
+    }
 }
 
-fn text_of(alloc: Global, command: &Command, said: &Result<Answer, Refusal>) -> Option<Text> {
-    reply_text(alloc, command, said).ok()
+/// The reply of an entry, whose event isn't told.
+fn told_at(alloc: Global, entry: &Entry) -> Option<Text> {
+    let line = line_of(alloc, 1, entry).ok()?;
+    let (_event, reply) = line.as_str().split_once(" => ")?;
+    ended(alloc, reply)
 }
 
 /// A text with a line feed behind it.
-fn ended(mut text: Text) -> Option<Text> {
-    text.push_str("\n").ok()?;
-    Some(text)
-}
-
-#[test]
-fn tells_want_of_memory(rt: HostRuntime) {
-    let text = said(rt.alloc(), &Err(Refusal::Memory));
-    assert!(rt; text.is_some_and(|text| text.as_str() == "refused want-of-memory\n"));
-}
-
-fn needs(alloc: Global, inc: u64) -> Result<Text, Memory> {
-    let mut text = Text::new(alloc);
-    text.push(format_args!("needs {inc}\n"))?;
-    Ok(text)
-}
-
-#[test]
-fn walks_from_offers(rt: HostRuntime) -> Result<(), Fail> {
-    let odd = odd_cases(rt.alloc(), OFFERS)?;
-    assert!(rt; odd.is_empty(), "{odd}");
-    Ok(())
+fn ended(alloc: Global, text: &str) -> Option<Text> {
+    let mut line = Text::new(alloc);
+    line.push(format_args!("{text}\n")).ok()?;
+    Some(line)
 }
