@@ -25,8 +25,6 @@ MERGE = re.compile(r"(?:<{7}|>{7}|\|{7}) |={7}$")
 WIDE = re.compile(
     r"crates/[^/]+/(?:proofs/|must-fail/|stdin$|stdout$)|tools/tests/journals/|bench/turns/.*\.txt$"
     r"|docs/component_manager\.1$|crates\.txt$|crates/\w+_tests/src/"
-    # Its lines are broken when its crate is next proved.
-    r"|crates/cm_order/specs/Glances\.antt$"
 )
 COMMAND = re.compile(r"\d+ ")
 

@@ -15,7 +15,7 @@ it has more than one), and a check of what each changes.
 
 Usage: bench/gate.py [--kept] [NAME..]
 With --kept what earlier runs on this machine proved is not proved again, where the kit keeps it, so
-the table shows what was left to do.
+the table shows what was left to do. Stopped by Ctrl-C it prints what was done until then.
 """
 import os
 import re
@@ -114,12 +114,18 @@ def watched(command, folder, log):
     with open(log, "w", encoding="utf-8") as out:
         streams = {"stdin": subprocess.DEVNULL, "stdout": out, "stderr": subprocess.STDOUT}
         ran = subprocess.Popen(command, cwd=folder, **streams)
-        while ran.poll() is None:
-            look(ran.pid, processes)
-            loads.append(os.getloadavg()[0])
-            time.sleep(EVERY)
+        try:
+            while ran.poll() is None:
+                look(ran.pid, processes)
+                loads.append(os.getloadavg()[0])
+                time.sleep(EVERY)
+        except KeyboardInterrupt:
+            print("gate.py: stopped early; this is what was done until then", file=sys.stderr)
+            ran.terminate()
+            ran.wait()
     used = resource.getrusage(resource.RUSAGE_CHILDREN)
-    return ran.returncode, list(processes.values()), used.ru_utime + used.ru_stime, sum(loads) / len(loads)
+    load = sum(loads) / max(len(loads), 1)
+    return ran.returncode, list(processes.values()), used.ru_utime + used.ru_stime, load
 
 
 def crates_of(folder):
