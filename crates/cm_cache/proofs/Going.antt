@@ -22,8 +22,11 @@ use Rattle.cm_cache.specs.declared.answer.Answer.{Answer}
 use Rattle.cm_cache.specs.Answers.{kept_at, put_in}
 use Rattle.cm_cache.specs.Keeping.{Asked, Kept, asked_by, is_lasting, with_use, emptied, forgets, KeepsBy, Keeps}
 use Rattle.cm_cache.specs.Right.{uses_of, AreRight}
-use Rattle.cm_cache.specs.Beside.{Held, asked_for, IsBeside}
+use Rattle.cm_cache.specs.declared.keeper.Found.TheVariants.{New, Passing}
+use Rattle.cm_cache.specs.Answers.{answer_of}
+use Rattle.cm_cache.specs.Beside.{Held, asked_for, found_by, finding, IsBeside}
 use Rattle.cm_cache.specs.Steps.{NothingAtFirst, BesideIsRight, BesideIsNumber, BesideIsFew, UnaskedGoOn, AskedGoOn}
+use Rattle.cm_cache.specs.Steps.{KeptAreFound, NewAreFound}
 use Rattle.cm_cache.proofs.Folding.{keeping_goes_on, kept_are_few}
 use Rattle.cm_cache.proofs.Putting.{uses_are_kept, puts_add_uses, right_answers, puts_stay_right, answers_stay_right}
 
@@ -156,3 +159,15 @@ asked_go_on f es e i path v h asks walked beside =
           (right_held i path v h (kept_at h.answers i path) (is_lasting v) w refl walked beside.right));
       keeps = keeping_goes_on f es e (seen h) (seen (asked_for i path v h)) beside.keeps (keeps_held i path v h w e asks walked);
     }
+
+-- ---- what is found
+
+pub kept_are_found : KeptAreFound
+kept_are_found i path v h is = sym (ap (λ o. held_by i path v h o (is_lasting v)) is)
+
+new_by : (t : Bool) (i : ℕ) (path : List ℕ) (v : Walked) (h : Held) → found_by (cond t (New (answer_of i path v)) Passing) h ≡ held_by i path v h None t
+new_by true i path v h = refl
+new_by false i path v h = refl
+
+pub new_are_found : NewAreFound
+new_are_found i path v h none = new_by (is_lasting v) i path v h ∙ sym (ap (λ o. held_by i path v h o (is_lasting v)) none)

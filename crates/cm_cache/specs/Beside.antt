@@ -12,7 +12,9 @@ use Rattle.cm_world.specs.Expiring.{goes_with, is_stopped}
 use Rattle.cm_world.specs.World.{World, start}
 use Rattle.cm_world.specs.Legal.{replay}
 use Rattle.cm_cache.specs.declared.answer.Answer.{Answer}
-use Rattle.cm_cache.specs.Answers.{kept_at, put_in}
+use Rattle.cm_cache.specs.declared.keeper.Found.{Found}
+use Rattle.cm_cache.specs.declared.keeper.Found.TheVariants.{Again, New, Passing}
+use Rattle.cm_cache.specs.Answers.{answer_of, kept_at, put_in}
 use Rattle.cm_cache.specs.Keeping.{IsKeptOf, is_lasting, resolves, comes_or_goes, forgets}
 use Rattle.cm_cache.specs.Right.{uses_of, AreRight}
 
@@ -31,6 +33,16 @@ asked_for i path v h =
     if is_some (kept_at h.answers i path) then record h { number = h.number + 1 }
     else if is_lasting v then record h { answers = put_in h.answers i path v }
     else h
+
+-- what becomes of it with the answer of such a walk, where none is kept
+abbrev pub finding : ℕ → List ℕ → Walked → Found
+finding i path v = if is_lasting v then New (answer_of i path v) else Passing
+
+-- and what is held then
+abbrev pub found_by : Found → Held → Held
+found_by Again h = record h { number = h.number + 1 }
+found_by (New a) h = record h { answers = put_in h.answers a.inc a.path a.walked }
+found_by Passing h = h
 
 -- behind an entry that asks for none, where it is told whether the entry dooms an instance
 abbrev pub followed : Event → Reply → Bool → Held → Held

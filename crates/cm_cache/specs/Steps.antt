@@ -20,7 +20,9 @@ use Rattle.cm_world.specs.Legal.{replay}
 use Rattle.cm_world.specs.Sound.{IsRising}
 use Rattle.cm_cache.specs.Answers.{kept_at}
 use Rattle.cm_cache.specs.Keeping.{asked_by, IsKeptNumber}
-use Rattle.cm_cache.specs.Beside.{Held, nothing_held, asked_for, followed, IsTold, IsBeside}
+use Rattle.cm_cache.specs.declared.keeper.Found.TheVariants.{Again}
+use Rattle.cm_cache.specs.Beside.{Held, nothing_held, asked_for, finding, found_by, followed}
+use Rattle.cm_cache.specs.Beside.{IsTold, IsBeside}
 use Rattle.cm_cache.specs.Beside.{goes_some, goes_some_by}
 
 -- ---- what is beside a history
@@ -61,6 +63,18 @@ AskedGoOn =
     → IsWalked (replay (start f) es).rows (replay (start f) es).frame.builtins (UseAt i path) v
     → IsBeside f es h → IsBeside f (es ++ e ∷ []) (asked_for i path v h)
 
+-- where its answer is kept, it was there again
+abbrev pub KeptAreFound : Type 0
+KeptAreFound =
+    (i : ℕ) (path : List ℕ) (v : Walked) (h : Held) → kept_at h.answers i path ≡ Some v
+    → found_by Again h ≡ asked_for i path v h
+
+-- and else it is kept from then on, if it lasts
+abbrev pub NewAreFound : Type 0
+NewAreFound =
+    (i : ℕ) (path : List ℕ) (v : Walked) (h : Held) → kept_at h.answers i path ≡ None
+    → found_by (finding i path v) h ≡ asked_for i path v h
+
 -- ---- which entries doom an instance
 
 -- whether an entry is of a kind that may doom an instance that was there before and is behind it: a mark, an
@@ -71,7 +85,7 @@ may_doom (End a finish) (reply.Ended o) = true
 may_doom (Exited i) (reply.Left m) = true
 may_doom event r = false
 
--- no other does
+-- no other does, as far as it counts
 abbrev pub OthersDoomNone : Type 0
 OthersDoomNone = (w : World) (e : Entry) → may_doom e.event e.reply ≡ false → IsTold w e false
 

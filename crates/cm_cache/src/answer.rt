@@ -1,8 +1,6 @@
 //! Answers that are kept.
 
-ghost use Rattle.std.specs.Prelude.{◌≡◌, IfOk};
-
-use cm_names::{CapPath, Memory};
+use cm_names::CapPath;
 use cm_world::Walked;
 
 /// What the walk from a use came to.
@@ -14,11 +12,4 @@ pub struct Answer {
     pub path: CapPath,
     /// What the walk came to.
     pub walked: Walked,
-}
-
-/// A copy of what a walk came to. `Err` where memory runs out.
-pub fn copy_of(walked: &Walked) -> Result<Walked, Memory>
-    ensures { IfOk result (λ copy. copy ≡ walked.now) }
-{
-    Ok(walked.clone()?)
 }

@@ -1,13 +1,12 @@
 //! Answers kept beside a history.
 
 ghost use Rattle.std.specs.Prelude.{◌≡◌, ◌+◌, ◌<◌, ◌^◌, ℕ, IfOk, OnOk, OnErr};
-ghost use Rattle.std.specs.Option.{option_copied};
 ghost use Rattle.cm_world.specs.declared.action.Finish.{Finish};
 ghost use Rattle.cm_cache.specs.Answers.{kept_at};
-ghost use Rattle.cm_cache.specs.Beside.{nothing_held, asked_for, followed};
+ghost use Rattle.cm_cache.specs.Beside.{nothing_held, found_by, followed, finding};
 ghost use Rattle.cm_cache.specs.Keeping as keeping;
 
-use crate::answer::copy_of;
+use crate::answer::Answer;
 use crate::cache::Cache;
 use cm_names::{CapPath, Memory};
 use cm_world::{Event, Outcome, Reply, Walked};
@@ -17,10 +16,36 @@ use std::marker::Model;
 /// How many hops the longest route has that is kept.
 const LONGEST: usize = 64;
 
+/// What becomes of the answers that are kept with an entry that asks for a use.
+#[derive(Drop)]
+pub enum Found {
+    /// The answer was there.
+    Again,
+    /// This answer is kept from now on.
+    New(Answer),
+    /// The answer isn't kept.
+    Passing,
+}
+
+/// What becomes of the answers with an entry that asks for a use of which none is kept, and whose
+/// walk comes to this: a copy of it is kept, unless it waits for a declaration or is a route of
+/// more than 64 hops. `Err` where memory runs out.
+pub fn found_by_walk(inc: u64, path: &CapPath, walked: &Walked) -> Result<Found, Memory>
+    ensures { IfOk result (λ found. found ≡ finding inc path.now walked.now) }
+{
+    if !lasts(walked) {
+        return Ok(Found::Passing);
+    }
+    let path = path.clone()?;
+    let walked = walked.clone()?;
+    Ok(Found::New(Answer { inc, path, walked }))
+}
+
 /// The answers that a history keeps, and how many of them were there for one who asked again.
 ///
 /// It is told of each entry of the history: [`Keeper::ask`] of those that ask for a use of an
-/// instance which lives and is resolved, [`Keeper::follow`] of all others.
+/// instance that isn't gone and is resolved, and for an opening is on, [`Keeper::follow`] of all
+/// others.
 #[derive(Drop)]
 pub struct Keeper {
     cache: Cache,
@@ -54,32 +79,38 @@ impl Keeper {
         self.number
     }
 
-    /// The answer that is kept for this use of an instance, or `None`.
-    pub fn find(&self, inc: u64, path: &CapPath) -> Option<&Walked>
-        ensures { option_copied result ≡ kept_at self.now.answers inc path.now }
+    /// A copy of the answer that is kept for this use of an instance, or `None`. `Err` where memory
+    /// runs out.
+    pub fn recall(&self, inc: u64, path: &CapPath) -> Result<Option<Walked>, Memory>
+        ensures { IfOk result (λ found. found ≡ kept_at self.now.answers inc path.now) }
     {
         let _number = self.number;
-        self.cache.get(inc, path)
+        match self.cache.get(inc, path) {
+            None => Ok(None),
+            Some(walked) => Ok(Some(walked.clone()?)),
+        }
     }
 
-    /// Goes on over an entry that asks for a use whose walk comes to this answer: counts the
-    /// answer that is kept, if there is one, and else keeps this one, unless it waits for a
-    /// declaration or is a route of more than 64 hops.
+    /// Goes on over an entry that asks for a use: counts an answer that was there, or keeps a new
+    /// one.
     ///
     /// `Err` where memory runs out, and then all is as before.
-    pub fn ask(&mut self, inc: u64, path: CapPath, walked: &Walked) -> Result<(), Memory>
+    pub fn ask(&mut self, found: Found) -> Result<(), Memory>
         requires { self.old.number + 1 < 2 ^ 64 }
-        ensures ok { OnOk result (self.new ≡ asked_for inc path walked.now self.old) }
+        ensures ok { OnOk result (self.new ≡ found_by found self.old) }
         ensures err { OnErr result (self.new ≡ self.old) }
     {
-        if self.cache.get(inc, &path).is_some() {
-            self.number += 1;
-            return Ok(());
+        match found {
+            Found::Again => {
+                self.number += 1;
+                Ok(())
+            }
+            Found::New(answer) => {
+                let Answer { inc, path, walked } = answer;
+                self.cache.put(inc, path, walked)
+            }
+            Found::Passing => Ok(()),
         }
-        if lasts(walked) {
-            self.cache.put(inc, path, copy_of(walked)?)?;
-        }
-        Ok(())
     }
 
     /// Goes on over an entry that asks for no use: forgets all answers where the entry resolves
@@ -130,7 +161,7 @@ fn lasts(walked: &Walked) -> bool
 {
     match walked {
         Walked::Need(_) => false,
-        Walked::Given(route) => route.hops.len() <= LONGEST,
+        Walked::Given(route) => route.get().hops.len() <= LONGEST,
         _ => true,
     }
 }

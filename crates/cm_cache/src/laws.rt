@@ -76,11 +76,14 @@ pub fn kept_beside()
 /// changes what walks read, and else leaves it.
 pub fn keepers_go_on()
     ensures asked { steps.AskedGoOn }
+    ensures kept { steps.KeptAreFound }
+    ensures new { steps.NewAreFound }
     ensures unasked { steps.UnaskedGoOn }
 {}
 
 /// Which entries doom an instance: a mark to be destroyed does; an exit does, and an end that
-/// stopped its instance, where some row goes with it; no other entry does.
+/// stopped its instance, where some row goes with it; of any other entry that counts only where it
+/// empties what is kept anyway.
 pub fn entries_that_doom()
     ensures others { steps.OthersDoomNone }
     ensures marks { steps.MarksDoom }

@@ -1,8 +1,8 @@
-//! Answers to the uses of instances, kept until the realm tree changes.
+//! Answers to the uses of instances, kept until a walk may come to something else.
 //!
 //! A walk along a route reads every instance on the way, and most routes are asked for again and
 //! again. A [`Cache`] keeps what walks came to, by the instance and the path that they began with,
-//! and looks an answer up in a number of steps that grows with the logarithm of the answers alone.
+//! and looks an answer up in a number of steps that grows with the logarithm of the answers.
 //!
 //! The definitions in `specs/` say which answers a history of a realm tree keeps, and how often one
 //! of them was asked for again:
@@ -27,6 +27,6 @@ pub(crate) mod places;
 #[cfg(test)]
 mod tests;
 
-pub use answer::{Answer, copy_of};
+pub use answer::Answer;
 pub use cache::Cache;
-pub use keeper::Keeper;
+pub use keeper::{Found, Keeper, found_by_walk};

@@ -17,6 +17,7 @@ pub mod PathCounts
 pub mod Pieces
 pub mod ReadCommands
 pub mod RightCounts
+pub mod Runs
 pub mod ScriptSteps
 pub mod SpacelessWords
 pub mod StepLemmas

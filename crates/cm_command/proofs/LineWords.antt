@@ -1,7 +1,7 @@
 -- The words of a line, read one by one.
-use Rattle.std.proofs.Common.{◌≡◌, ◌≢◌, inl, inr, ℕ, ◌+◌, ◌<◌, ◌≤◌, ◌^◌, [], ◌∷◌, ◌++◌, length, ◌==◌, Result, Ok, Err, MatchResult, codes, refl, sym, ap, subst, ◌∙◌, arith, length-append}
+use Rattle.std.proofs.Common.{◌≡◌, ◌≢◌, inl, inr, ℕ, ◌+◌, ◌-◌, ◌<◌, ◌≤◌, ◌^◌, [], ◌∷◌, ◌++◌, length, ◌==◌, Result, Ok, Err, MatchResult, codes, refl, sym, ap, subst, ◌∙◌, arith, length-append}
 use Rattle.std.proofs.lemmas.List.Splits.{slice_split_none, slice_split_at}
-use Rattle.cm_names.specs.Fronts.{Begins}
+use Rattle.cm_names.specs.Fronts.{Begins, IsLongestFront}
 use Rattle.cm_world.specs.declared.frame.Builtin.{Builtin}
 use Rattle.cm_command.specs.declared.command.Command.{Command}
 use Rattle.cm_command.specs.declared.command.Command.TheVariants as command
@@ -14,7 +14,7 @@ use Rattle.cm_command.specs.declared.tokens.WordFault.{WordFault}
 use Rattle.cm_command.specs.declared.tokens.WordFault.TheVariants.{Bad, Memory}
 use Rattle.cm_command.specs.Counts.{CountsFronts, IsWordFault, Fits, fault_behind}
 use Rattle.cm_command.specs.Words.{words_of}
-use Rattle.cm_command.specs.Grammar.{Text, CommandText, CommandWords, IsCommandText, IsCommandFault, BuiltinText, BuiltinWords, IsBuiltinText, IsBuiltinFault}
+use Rattle.cm_command.specs.Grammar.{Text, CommandText, CommandWords, IsCommandFault, BuiltinText, BuiltinWords, IsBuiltinFault}
 use Rattle.cm_command.specs.Pieces.{Leads, Says, Wants}
 use Rattle.cm_command.specs.Places.{Steps, Ends, IsUnended, IsShort, line_fault}
 use Rattle.cm_command.proofs.Pieces.{Lacks, same}
@@ -100,80 +100,73 @@ ended {from} {p} {line} {rest} {front} h word next (Err (Bad n)) clean e st ends
     ((λ all. let on = word_says 32 Steps Ends p word clean (subst (Line p) e (h.said all)) in ends.0 on.2.0 (subst (λ q. Ends q on.2.0) (same_place p next on.0 word st on.1) on.2.1)), subst (CountsFronts (Line from) line) same counts)
 ended h word next (Err Memory) clean e st ends = tt
 
+-- ---- the lines of a kind
+
+-- each line of the kind says one thing, to which its words lead from the place, and nothing else does
+pub record IsKind {A : Type 0} (from : Place) (say : A → Sentence) (Is : Text → A → Type 0) : Type 0 where
+  leads : (t : Text) (s : Sentence) → Leads Steps Ends from (words_of t) s → (a : A) × (s ≡ say a) × Is t a
+  says : (t : Text) (a : A) → Is t a → Leads Steps Ends from (words_of t) (say a)
+  begins : Begins (λ t. (a : A) × Is t a) []
+  one : (a b : A) → say a ≡ say b → a ≡ b
+
+module _ {A : Type 0} {from : Place} {say : A → Sentence} {Is : Text → A → Type 0} (k : IsKind from say Is) where
+  pub read : (t : Text) (s : Sentence) (a : A) → s ≡ say a → Leads Steps Ends from (words_of t) s → Is t a
+  read t s a e h =
+      let said = k.leads t s h in
+      subst (Is t) (k.one said.0 a (sym said.1 ∙ e)) said.2
+
+  -- the words lead to nothing else
+  pub no_other : (t : Text) (s : Sentence) → ((a : A) → s ≡ say a → ⊥) → Leads Steps Ends from (words_of t) s → ⊥
+  no_other t s other h = let said = k.leads t s h in other said.0 said.1
+
+  line_says : (t : Text) → (a : A) × Is t a → Line from t
+  line_says t h = (say h.0, k.says t h.0 h.1)
+
+  counts : (t : Text) (n : ℕ) → CountsFronts (Line from) t n → CountsFronts (λ u. (a : A) × Is u a) t n
+  counts t n h = counts_same {P = Line from} {Q = λ u. (a : A) × Is u a} t n (λ u says. let said = k.leads u says.0 says.1 in (said.0, said.2)) line_says h
+
+  pub short : (t : Text) (e : WordFault) → length t < 2 ^ 32 → IsWordFault (Says 32 Steps Ends from) t e → IsShort e
+  short t (Bad n) low h = (some_front t n (counts t n h.1) k.begins, omega (arith, h.1.within))
+  short t Memory low h = tt
+
+  -- a line that is none of the kind has a longest front
+  pub longest_front : (t : Text) (n : ℕ) → IsWordFault (Says 32 Steps Ends from) t (Bad n) → ((a : A) × Is t a → ⊥) × IsLongestFront (λ u. (a : A) × Is u a) t (n - 1)
+  longest_front t n h = ((λ is. h.0 (line_says t is)), longest t n (counts t n h.1) (some_front t n (counts t n h.1) k.begins))
+
 -- ---- commands
 
-command_begins : Begins IsCommandText []
-command_begins = (codes "show .", (command.Show root, CommandWords.show root_dot))
-
-says_command : (t : Text) → Line place.Start t → IsCommandText t
-says_command t h =
-    let asked = leads_command (words_of t) h.0 h.1 in
-    (asked.0, asked.2)
-
-command_says : (t : Text) → IsCommandText t → Line place.Start t
-command_says t h = (sentence.Command h.0, command_leads h.1)
-
-pub command_read : (t : Text) (s : Sentence) (c : Command) → s ≡ sentence.Command c → Leads Steps Ends place.Start (words_of t) s → CommandText t c
-command_read t s c e h =
-    let asked = leads_command (words_of t) s h in
-    let same : sentence.Command asked.0 ≡ sentence.Command c = sym asked.1 ∙ e in
-    let one : asked.0 ≡ c = cc same in
-    subst (CommandText t) one asked.2
+pub commands : IsKind place.Start sentence.Command CommandText
+commands = record {
+  leads = λ t s h. leads_command (words_of t) s h;
+  says = λ t c h. command_leads h;
+  begins = (codes "show .", (command.Show root, CommandWords.show root_dot));
+  one = λ c d same. cc same;
+}
 
 pub no_builtin : (t : Text) (s : Sentence) (b : Builtin) → s ≡ sentence.Builtin b → Leads Steps Ends place.Start (words_of t) s → ⊥
-no_builtin t s b e h =
-    let asked = leads_command (words_of t) s h in
-    let same : sentence.Builtin b ≡ sentence.Command asked.0 = sym e ∙ asked.1 in
-    cc same
-
-command_counts : (t : Text) (n : ℕ) → CountsFronts (Line place.Start) t n → CountsFronts IsCommandText t n
-command_counts t n h = counts_same {P = Line place.Start} {Q = IsCommandText} t n says_command command_says h
-
-pub command_short : (t : Text) (e : WordFault) → length t < 2 ^ 32 → IsWordFault (Says 32 Steps Ends place.Start) t e → IsShort e
-command_short t (Bad n) short h = (some_front t n (command_counts t n h.1) command_begins, omega (arith, h.1.within))
-command_short t Memory short h = tt
+no_builtin t s b e h = no_other commands t s (λ c same. differ c (sym e ∙ same)) h where
+  differ : (c : Command) → sentence.Builtin b ≡ sentence.Command c → ⊥
+  differ c same = cc same
 
 pub command_faulty : (t : Text) (e : WordFault) → IsWordFault (Says 32 Steps Ends place.Start) t e → line_fault e ≢ command_fault.Memory → IsCommandFault t (line_fault e)
-command_faulty t (Bad n) h told =
-    let counts = command_counts t n h.1 in
-    ((λ c. h.0 (command_says t c)), longest t n counts (some_front t n counts command_begins))
+command_faulty t (Bad n) h told = longest_front commands t n h
 command_faulty t Memory h told = absurd (told refl)
 
 -- ---- builtin capabilities
 
-builtin_begins : Begins IsBuiltinText []
-builtin_begins = (codes "protocol a", (_, BuiltinWords.protocol name_a))
-
-says_builtin : (t : Text) → Line place.BuiltinKind t → IsBuiltinText t
-says_builtin t h =
-    let said = leads_builtin (words_of t) h.0 h.1 in
-    (said.0, said.2)
-
-builtin_says : (t : Text) → IsBuiltinText t → Line place.BuiltinKind t
-builtin_says t h = (sentence.Builtin h.0, builtin_leads h.1)
-
-pub builtin_read : (t : Text) (s : Sentence) (b : Builtin) → s ≡ sentence.Builtin b → Leads Steps Ends place.BuiltinKind (words_of t) s → BuiltinText t b
-builtin_read t s b e h =
-    let said = leads_builtin (words_of t) s h in
-    let same : sentence.Builtin said.0 ≡ sentence.Builtin b = sym said.1 ∙ e in
-    let one : said.0 ≡ b = cc same in
-    subst (BuiltinText t) one said.2
+pub builtins : IsKind place.BuiltinKind sentence.Builtin BuiltinText
+builtins = record {
+  leads = λ t s h. leads_builtin (words_of t) s h;
+  says = λ t b h. builtin_leads h;
+  begins = (codes "protocol a", (_, BuiltinWords.protocol name_a));
+  one = λ b c same. cc same;
+}
 
 pub no_command : (t : Text) (s : Sentence) (c : Command) → s ≡ sentence.Command c → Leads Steps Ends place.BuiltinKind (words_of t) s → ⊥
-no_command t s c e h =
-    let said = leads_builtin (words_of t) s h in
-    let same : sentence.Command c ≡ sentence.Builtin said.0 = sym e ∙ said.1 in
-    cc same
-
-builtin_counts : (t : Text) (n : ℕ) → CountsFronts (Line place.BuiltinKind) t n → CountsFronts IsBuiltinText t n
-builtin_counts t n h = counts_same {P = Line place.BuiltinKind} {Q = IsBuiltinText} t n says_builtin builtin_says h
-
-pub builtin_short : (t : Text) (e : WordFault) → length t < 2 ^ 32 → IsWordFault (Says 32 Steps Ends place.BuiltinKind) t e → IsShort e
-builtin_short t (Bad n) short h = (some_front t n (builtin_counts t n h.1) builtin_begins, omega (arith, h.1.within))
-builtin_short t Memory short h = tt
+no_command t s c e h = no_other builtins t s (λ b same. differ b (sym e ∙ same)) h where
+  differ : (b : Builtin) → sentence.Command c ≡ sentence.Builtin b → ⊥
+  differ b same = cc same
 
 pub builtin_faulty : (t : Text) (e : WordFault) → IsWordFault (Says 32 Steps Ends place.BuiltinKind) t e → line_fault e ≢ command_fault.Memory → IsBuiltinFault t (line_fault e)
-builtin_faulty t (Bad n) h told =
-    let counts = builtin_counts t n h.1 in
-    ((λ b. h.0 (builtin_says t b)), longest t n counts (some_front t n counts builtin_begins))
+builtin_faulty t (Bad n) h told = longest_front builtins t n h
 builtin_faulty t Memory h told = absurd (told refl)

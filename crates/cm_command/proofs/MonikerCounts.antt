@@ -21,7 +21,7 @@ use Rattle.cm_command.specs.Numbers.{IsNumber}
 use Rattle.cm_command.specs.Words.{IsTargetText, IsIncarnation}
 use Rattle.cm_command.proofs.KindLemmas.{IsBehind, counts_limited, counts_longest, counts_whole, fault_either}
 use Rattle.cm_command.proofs.NumberCounts.{number_begins}
-use Rattle.cm_command.proofs.UrlLemmas.{ascii_text}
+use Rattle.cm_command.proofs.Runs.{ascii_text}
 
 -- ---- bytes of monikers
 

@@ -1,15 +1,15 @@
 -- Names, byte by byte.
-use Rattle.std.proofs.Common.{◌≡◌, ◌⊎◌, inl, inr, ⊎_elim, ℕ, zero, suc, ◌+◌, ◌-◌, ◌<◌, ◌≤◌, List, [], ◌∷◌, ◌++◌, length, take, drop, get_or, min, true, false, true≢false, All, IsTrue, refl, sym, ap, subst, ◌∙◌, arith, rules, append-nil, length-append}
+use Rattle.std.proofs.Common.{◌≡◌, ◌⊎◌, inl, inr, ⊎_elim, ℕ, zero, suc, ◌+◌, ◌-◌, ◌<◌, ◌≤◌, List, [], ◌∷◌, length, take, drop, get_or, min, true, false, true≢false, IsTrue, refl, sym, ap, subst, ◌∙◌, arith, rules, append-nil, length-append}
 use Rattle.std.specs.List.{prefix_len, take_while}
 use Rattle.std.specs.Str.{IsUtf8}
-use Rattle.std.proofs.lemmas.List.{length-take-le, get_or-take, get_or_append_left, take_rest}
+use Rattle.std.proofs.lemmas.List.{length-take-le, take_rest}
 use Rattle.std.proofs.lemmas.List.Elements.{All-cons, All-nil}
 use Rattle.std.proofs.lemmas.List.Folds.{length-prefix_len}
-use Rattle.std.proofs.lemmas.List.Sums.{prefix_len-le-length, prefix_len_passes, prefix_len_stops}
+use Rattle.std.proofs.lemmas.List.Sums.{prefix_len-le-length}
 use Rattle.cm_names.specs.Name.{IsName, begins_name, continues_name}
 use Rattle.cm_names.specs.Fronts.{Begins}
 use Rattle.cm_command.specs.Counts.{CountsFronts}
-use Rattle.cm_command.proofs.UrlLemmas.{ascii_text}
+use Rattle.cm_command.proofs.Runs.{ascii_text, run_passes, run_stops, least}
 
 pub name_begins : Begins IsName []
 name_begins = (97 ∷ [], (omega arith, refl, All-nil (λ c. IsTrue (continues_name c))))
@@ -46,23 +46,13 @@ name_front b bs zero h le short = name_begins
 name_front b bs (suc i) h le short =
     let bound : prefix_len continues_name bs ≤ length bs = prefix_len-le-length continues_name bs in
     let len : length (take i bs) ≡ i = length-take-le i bs (omega arith) in
-    let all : All (λ c. IsTrue (continues_name c)) (take i bs) = λ k d lt. subst (λ c. continues_name c ≡ true) (sym (get_or-take i bs k d (omega arith))) (prefix_len_passes continues_name bs k d (omega arith)) in
-    ([], subst IsName (sym (append-nil (b ∷ take i bs))) (omega arith, h, all))
-
-limit : (m n : ℕ) → n ≡ min (m + 2) 256 → (n ≡ 256) ⊎ (n ≡ m + 2)
-limit m n e = grind arith
+    ([], subst IsName (sym (append-nil (b ∷ take i bs))) (omega arith, h, run_passes continues_name bs i (omega arith)))
 
 name_stops : (b : ℕ) (bs : List ℕ) (n : ℕ) → suc n ≤ length (b ∷ bs) → Begins IsName (take (suc n) (b ∷ bs)) → (suc n ≡ 256) ⊎ (suc n ≡ prefix_len continues_name bs + 2) → ⊥
 name_stops b bs n le more (inl full) =
     let len : length (take n bs) ≡ n = length-take-le n bs (omega arith) in
     absurd (omega (arith, more.1.0, length-append (take n bs) more.0))
-name_stops b bs n le more (inr past) =
-    let len : length (take n bs) ≡ n = length-take-le n bs (omega arith) in
-    let m : ℕ = prefix_len continues_name bs in
-    let inside : m < length (take n bs) = omega arith in
-    let passes : continues_name (get_or (take n bs ++ more.0) m 0) ≡ true = more.1.2 m 0 (omega (arith, length-append (take n bs) more.0)) in
-    let here : get_or (take n bs ++ more.0) m 0 ≡ get_or bs m 0 = get_or_append_left (take n bs) more.0 0 m inside ∙ get_or-take n bs m 0 (omega arith) in
-    true≢false (sym passes ∙ ap continues_name here ∙ prefix_len_stops continues_name bs 0 (omega arith))
+name_stops b bs n le more (inr past) = run_stops continues_name bs more.0 n (omega arith) (omega arith) more.1.2
 
 stops_at : (b : ℕ) (bs : List ℕ) (n : ℕ) → 1 ≤ n → n ≤ length (b ∷ bs) → Begins IsName (take n (b ∷ bs)) → (n ≡ 256) ⊎ (n ≡ prefix_len continues_name bs + 2) → ⊥
 stops_at b bs zero some le more at = absurd (omega arith)
@@ -75,7 +65,7 @@ good_first b bs m n h e f =
     record {
       within = omega arith;
       begins = λ i g. name_front b bs i h (omega arith) (omega arith);
-      stops = λ le more. stops_at b bs n (omega arith) le more (⊎_elim (λ x. inl x) (λ x. inr (x ∙ ap (λ k. k + 2) same)) (limit m n f));
+      stops = λ le more. stops_at b bs n (omega arith) le more (⊎_elim (λ x. inl x) (λ x. inr (x ∙ ap (λ k. k + 2) same)) (least (m + 2) 256 n f));
     }
 
 -- the first byte and the rest, as a slice pattern has them

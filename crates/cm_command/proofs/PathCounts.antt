@@ -14,7 +14,7 @@ use Rattle.cm_command.specs.PathPlaces.{path_front}
 use Rattle.cm_command.specs.Counts.{CountsFronts}
 use Rattle.cm_command.proofs.KindLemmas.{IsBehind, counts_stop, counts_all, counts_same, counts_behind}
 use Rattle.cm_command.proofs.NameCounts.{nil_of}
-use Rattle.cm_command.proofs.UrlLemmas.{ascii_text}
+use Rattle.cm_command.proofs.Runs.{ascii_text}
 
 -- parts of a path in at most so many bytes
 abbrev pub AreParts : ℕ → List ℕ → Type 0

@@ -1,25 +1,16 @@
 -- URLs, byte by byte.
-use Rattle.std.proofs.Common.{◌≡◌, ◌⊎◌, inl, inr, ⊎_elim, ℕ, zero, suc, ◌+◌, ◌<◌, ◌≤◌, List, [], ◌∷◌, ◌++◌, length, take, drop, get_or, min, true, true≢false, All, sym, ap, subst, ◌∙◌, arith, rules, append-nil, length-append}
+use Rattle.std.proofs.Common.{◌≡◌, ◌⊎◌, inl, inr, ⊎_elim, ℕ, zero, suc, ◌+◌, ◌<◌, ◌≤◌, List, [], length, take, drop, min, true, sym, ap, subst, ◌∙◌, arith, rules, append-nil, length-append}
 use Rattle.std.specs.List.{prefix_len, take_while}
-use Rattle.std.specs.Str.{IsUtf8, IsAscii}
-use Rattle.std.proofs.lemmas.Str.{IsUtf8-from_ascii}
-use Rattle.std.proofs.lemmas.List.{length-take-le, get_or-take, get_or_append_left, take-append-drop}
+use Rattle.std.specs.Str.{IsUtf8}
+use Rattle.std.proofs.lemmas.List.{length-take-le, take-append-drop}
 use Rattle.std.proofs.lemmas.List.Folds.{length-prefix_len}
-use Rattle.std.proofs.lemmas.List.Sums.{prefix_len-le-length, prefix_len_passes, prefix_len_stops}
+use Rattle.std.proofs.lemmas.List.Sums.{prefix_len-le-length, prefix_len_passes}
 use Rattle.cm_names.specs.Fronts.{Begins}
 use Rattle.cm_names.specs.Urls.{is_url_byte}
 use Rattle.cm_command.specs.Words.{IsUrlText}
 use Rattle.cm_command.specs.Counts.{CountsFronts}
 use Rattle.cm_command.proofs.CountLemmas.{take_none, url_begins}
-
--- bytes below 128 are a text
-ascii_at : (t : List ℕ) → All (λ b. b < 128) t → IsAscii t
-ascii_at [] h i = omega arith
-ascii_at (b ∷ bs) h zero = h 0 0 (omega arith)
-ascii_at (b ∷ bs) h (suc i) = ascii_at bs (λ k d lt. h (suc k) d (omega arith)) i
-
-pub ascii_text : (t : List ℕ) → All (λ b. b < 128) t → IsUtf8 t
-ascii_text t h = IsUtf8-from_ascii t (ascii_at t h)
+use Rattle.cm_command.proofs.Runs.{ascii_text, run_passes, run_stops, least}
 
 url_byte_low : (b : ℕ) → is_url_byte b ≡ true → b < 128
 url_byte_low b h = grind (arith, rules)
@@ -31,29 +22,14 @@ url_front : (w : List ℕ) (i : ℕ) → i ≤ prefix_len is_url_byte w → i �
 url_front w zero le short = subst (Begins IsUrlText) (sym (take_none w)) url_begins
 url_front w (suc i) le short =
     let bound : prefix_len is_url_byte w ≤ length w = prefix_len-le-length is_url_byte w in
-    let len : length (take (suc i) w) ≡ suc i = length-take-le (suc i) w (omega arith) in (
-      [],
-      subst IsUrlText (sym (append-nil (take (suc i) w))) (record {
-        some = omega arith;
-        short = omega arith;
-        bytes = λ k d lt. let below : k < suc i = omega arith in subst (λ b. is_url_byte b ≡ true) (sym (get_or-take (suc i) w k d below)) (prefix_len_passes is_url_byte w k d (omega arith));
-      }),
-    )
-
-limit : (m n : ℕ) → n ≡ min (m + 1) 4097 → (n ≡ 4097) ⊎ (n ≡ m + 1)
-limit m n e = grind arith
+    let len : length (take (suc i) w) ≡ suc i = length-take-le (suc i) w (omega arith) in
+    ([], subst IsUrlText (sym (append-nil (take (suc i) w))) (record { some = omega arith; short = omega arith; bytes = run_passes is_url_byte w (suc i) le }))
 
 url_stops : (w : List ℕ) (n : ℕ) → n ≤ length w → Begins IsUrlText (take n w) → (n ≡ 4097) ⊎ (n ≡ prefix_len is_url_byte w + 1) → ⊥
 url_stops w n le more (inl full) =
     let len : length (take n w) ≡ n = length-take-le n w le in
     absurd (omega (arith, more.1.short, length-append (take n w) more.0))
-url_stops w n le more (inr past) =
-    let len : length (take n w) ≡ n = length-take-le n w le in
-    let m : ℕ = prefix_len is_url_byte w in
-    let inside : m < length (take n w) = omega arith in
-    let passes : is_url_byte (get_or (take n w ++ more.0) m 0) ≡ true = more.1.bytes m 0 (omega (arith, length-append (take n w) more.0)) in
-    let here : get_or (take n w ++ more.0) m 0 ≡ get_or w m 0 = get_or_append_left (take n w) more.0 0 m inside ∙ get_or-take n w m 0 (omega arith) in
-    true≢false (sym passes ∙ ap is_url_byte here ∙ prefix_len_stops is_url_byte w 0 (omega arith))
+url_stops w n le more (inr past) = run_stops is_url_byte w more.0 n le (omega arith) more.1.bytes
 
 pub url_counts : (w : List ℕ) (m n : ℕ) → m ≡ length (take_while is_url_byte w) → n ≡ min (m + 1) 4097 → CountsFronts IsUrlText w n
 url_counts w m n e f =
@@ -62,7 +38,7 @@ url_counts w m n e f =
     record {
       within = omega arith;
       begins = λ i g. url_front w i (omega arith) (omega arith);
-      stops = λ le more. url_stops w n le more (⊎_elim (λ x. inl x) (λ x. inr (x ∙ ap (λ k. k + 1) same)) (limit m n f));
+      stops = λ le more. url_stops w n le more (⊎_elim (λ x. inl x) (λ x. inr (x ∙ ap (λ k. k + 1) same)) (least (m + 1) 4097 n f));
     }
 
 pub url_whole : (w : List ℕ) (m n : ℕ) → m ≡ length (take_while is_url_byte w) → n ≡ min (m + 1) 4097 → 0 < length w → length w < n → IsUrlText w

@@ -1,5 +1,5 @@
 -- The line that a command is written as asks for it.
-use Rattle.std.proofs.Common.{◌≡◌, ◌≢◌, ◌⊎◌, inl, inr, ℕ, List, [], ◌∷◌, ◌++◌, length, map, true, false, not, ◌==◌, ◌&&◌, nat_le, filter, Ok, Some, None, IsTrue, codes, refl, sym, ap, subst, ◌∙◌, arith, rules, eqb-true}
+use Rattle.std.proofs.Common.{◌≡◌, ◌≢◌, inl, ℕ, List, [], ◌∷◌, ◌++◌, length, map, true, false, not, ◌==◌, ◌&&◌, nat_le, filter, Ok, Some, None, IsTrue, refl, sym, ap, subst, ◌∙◌, arith, rules, eqb-true}
 use Rattle.std.specs.List.{slice_split, join_with_byte, list_all}
 use Rattle.std.proofs.lemmas.Option.{none-some}
 use Rattle.std.proofs.lemmas.List.Splits.{slice_split_none, slice_split_at}
@@ -119,38 +119,29 @@ path_lacks (b ∷ bs) h =
 pub subdir_lacks : (t : List ℕ) → IsTrue (is_subdir t) → Lacks 32 t
 subdir_lacks t h = relative_lacks t (and_parts (nat_le (length t) 4096) (is_relative t) h).1
 
-word_lacks : (k : ℕ) → (k ≡ 32) ⊎ (k ≡ 44) → (r : Right) → Lacks k (word_of r)
-word_lacks k (inl e) r = subst (λ j. Lacks j (word_of r)) (sym e) (spaceless r)
-  where
-    spaceless : (r : Right) → Lacks 32 (word_of r)
-    spaceless Connect = lacks_by 32 (codes "connect") refl
-    spaceless Enumerate = lacks_by 32 (codes "enumerate") refl
-    spaceless Execute = lacks_by 32 (codes "execute") refl
-    spaceless GetAttributes = lacks_by 32 (codes "get_attributes") refl
-    spaceless ModifyDirectory = lacks_by 32 (codes "modify_directory") refl
-    spaceless ReadBytes = lacks_by 32 (codes "read_bytes") refl
-    spaceless Traverse = lacks_by 32 (codes "traverse") refl
-    spaceless UpdateAttributes = lacks_by 32 (codes "update_attributes") refl
-    spaceless WriteBytes = lacks_by 32 (codes "write_bytes") refl
-word_lacks k (inr e) r = subst (λ j. Lacks j (word_of r)) (sym e) (commaless r)
-  where
-    commaless : (r : Right) → Lacks 44 (word_of r)
-    commaless Connect = lacks_by 44 (codes "connect") refl
-    commaless Enumerate = lacks_by 44 (codes "enumerate") refl
-    commaless Execute = lacks_by 44 (codes "execute") refl
-    commaless GetAttributes = lacks_by 44 (codes "get_attributes") refl
-    commaless ModifyDirectory = lacks_by 44 (codes "modify_directory") refl
-    commaless ReadBytes = lacks_by 44 (codes "read_bytes") refl
-    commaless Traverse = lacks_by 44 (codes "traverse") refl
-    commaless UpdateAttributes = lacks_by 44 (codes "update_attributes") refl
-    commaless WriteBytes = lacks_by 44 (codes "write_bytes") refl
+right_bytes : (r : Right) → list_all continues_name (word_of r) ≡ true
+right_bytes Connect = refl
+right_bytes Enumerate = refl
+right_bytes Execute = refl
+right_bytes GetAttributes = refl
+right_bytes ModifyDirectory = refl
+right_bytes ReadBytes = refl
+right_bytes Traverse = refl
+right_bytes UpdateAttributes = refl
+right_bytes WriteBytes = refl
 
-words_lack : (k : ℕ) → (k ≡ 32) ⊎ (k ≡ 44) → (rs : List Right) → AllLack k (map word_of rs)
+letters_lack : (k : ℕ) → continues_name k ≡ false → (t : List ℕ) → list_all continues_name t ≡ true → Lacks k t
+letters_lack k e [] h = All-nil (λ b. (b == k) ≡ false)
+letters_lack k e (b ∷ bs) h =
+    let both = and_parts (continues_name b) (list_all continues_name bs) h in
+    All-cons (λ c. (c == k) ≡ false) b bs (not_at b k both.0 e) (letters_lack k e bs both.1)
+
+words_lack : (k : ℕ) → continues_name k ≡ false → (rs : List Right) → AllLack k (map word_of rs)
 words_lack k e [] = tt
-words_lack k e (r ∷ rs) = (word_lacks k e r, words_lack k e rs)
+words_lack k e (r ∷ rs) = (letters_lack k e (word_of r) (right_bytes r), words_lack k e rs)
 
 pub rights_lack : (r : RightSet) → Lacks 32 (text_of r)
-rights_lack r = joined_lack 44 refl (words_of r) (words_lack 32 (inl refl) (filter (has r) all_rights))
+rights_lack r = joined_lack 44 refl (words_of r) (words_lack 32 refl (filter (has r) all_rights))
 
 rights_joined : (ws : List (List ℕ)) (r : RightSet) → AllLack 44 ws → rights_of ws ≡ Ok r → rights_of (slice_split (λ b. b == 44) (join_with_byte 44 ws)) ≡ Ok r
 unfolding rights_of
@@ -159,4 +150,4 @@ rights_joined (w ∷ ws) r h e = ap rights_of (split_join 44 w ws h.0 h.1) ∙ e
 
 pub rights_read : (r : RightSet) → r ≢ no_rights → IsRightsText (text_of r) r
 rights_read r some =
-    rights_joined (words_of r) r (words_lack 44 (inr refl) (filter (has r) all_rights)) (words_are_read_back_lem r some)
+    rights_joined (words_of r) r (words_lack 44 refl (filter (has r) all_rights)) (words_are_read_back_lem r some)

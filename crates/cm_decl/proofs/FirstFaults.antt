@@ -10,12 +10,12 @@ use Rattle.cm_decl.specs.declared.section.Section.{Section}
 use Rattle.cm_decl.specs.declared.section.Section.TheVariants.{Manifest, Program, Children, Collections, Capabilities, Uses, Offers, Exposes, Environments, Graph}
 use Rattle.cm_decl.specs.Rules.{Rule, RepeatedName, UnknownRef, NotDeclared, TargetIsSource, RepeatedTarget, RepeatedPath, PathInside, RequiredVoid, rules, number_of}
 use Rattle.cm_decl.specs.declared.rows.Collection.{Collection}
-use Rattle.cm_decl.specs.Clashes.{Place, clash, or_else, first_row, first_before, same_child_name, same_collection_name, same_capability_name, same_target, same_expose, same_path, nested_paths}
+use Rattle.cm_decl.specs.Clashes.{Place, clash, or_else, first_row, first_before, same_child_name, same_collection_name, same_capability_name, same_target, same_expose, same_path, are_paths_nested}
 use Rattle.cm_decl.specs.Breaks.{breaks, passes_at}
 use Rattle.cm_decl.specs.Faults.{Fault, Stands, section_rank, IsBefore, IsFirst, IsFirstIn, IsFaultless}
 use Rattle.cm_decl.proofs.Computed.{fault_by, fault_at, fault_below, first_fault}
 use Rattle.cm_decl.specs.Valid.{IsValid, IsFaultOf, cycle_fault}
-use Rattle.cm_decl.specs.Graph.{strong_edge}
+use Rattle.cm_decl.specs.Graph.{is_strong_edge}
 use Rattle.cm_decl.proofs.Sameness.{never}
 use Rattle.cm_decl.proofs.Picking.{picks_once, picked_is_cycle}
 
@@ -276,7 +276,7 @@ broken_within d RepeatedName Capabilities i h = clash_within Capabilities same_c
 broken_within d RepeatedTarget Offers i h = clash_within Offers same_target d.offers i h
 broken_within d RepeatedTarget Exposes i h = clash_within Exposes same_expose d.exposes i h
 broken_within d RepeatedPath Uses i h = clash_within Uses same_path d.uses i h
-broken_within d PathInside Uses i h = clash_within Uses nested_paths d.uses i h
+broken_within d PathInside Uses i h = clash_within Uses are_paths_nested d.uses i h
 broken_within d rule s i h = never h
 
 -- the faults of a section stand at its rows
@@ -399,9 +399,9 @@ fault_once d f g (inl one) (inl two) = first_once d f g one two
 fault_once d f g (inl one) (inr two) = absurd (two.faultless f one.stands)
 fault_once d f g (inr one) (inl two) = absurd (one.faultless g two.stands)
 fault_once d f g (inr one) (inr two) =
-    one.whole ∙ ap cycle_fault (picks_once (strong_edge d []) f.cycle g.cycle one.picked two.picked) ∙ sym two.whole
+    one.whole ∙ ap cycle_fault (picks_once (is_strong_edge d []) f.cycle g.cycle one.picked two.picked) ∙ sym two.whole
 
 -- and a valid one has none
 pub valid_faultless : (d : Decl) (f : Fault) → IsValid d → IsFaultOf d f → ⊥
 valid_faultless d f valid (inl one) = valid.faultless f one.stands
-valid_faultless d f valid (inr one) = valid.acyclic (picked_is_cycle (strong_edge d []) f.cycle one.picked)
+valid_faultless d f valid (inr one) = valid.acyclic (picked_is_cycle (is_strong_edge d []) f.cycle one.picked)

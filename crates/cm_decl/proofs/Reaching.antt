@@ -1,18 +1,5 @@
-use Rattle.std.proofs.Common.{ℕ, ◌<◌, List, [], ◌∷◌, arith}
+use Rattle.std.proofs.Common.{List, [], ◌∷◌}
 use Rattle.cm_decl.specs.Reach.{Way, Reaches, NoCycle}
-
--- where each step goes down by a rank, a way does
-pub Way-rank : {N : Type 0} (On : N → N → Type 0) (rank : N → ℕ) → ((x y : N) → On x y → rank y < rank x) → (x : N) (between : List N) (y : N) → Way On x between y → rank y < rank x
-Way-rank On rank down x [] y on = down x y on
-Way-rank On rank down x (z ∷ zs) y way =
-    let first : rank z < rank x = down x z way.0 in
-    let rest : rank y < rank z = Way-rank On rank down z zs y way.1 in
-    omega arith
-
--- so there is no cycle
-pub acyclic_by_rank : {N : Type 0} (On : N → N → Type 0) (rank : N → ℕ) → ((x y : N) → On x y → rank y < rank x) → NoCycle On
-acyclic_by_rank On rank down (x, (between, way)) =
-    let lower : rank x < rank x = Way-rank On rank down x between x way in absurd (omega arith)
 
 -- two ways make one
 pub Way-append : {N : Type 0} (On : N → N → Type 0) (x : N) (xs : List N) (y : N) (ys : List N) (z : N) → Way On x xs y → Way On y ys z → Reaches On x z

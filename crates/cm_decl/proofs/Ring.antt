@@ -10,7 +10,7 @@ use Rattle.cm_decl.specs.declared.node.Node.{Node}
 use Rattle.cm_decl.specs.declared.node.Node.TheVariants.{Own, Child}
 use Rattle.cm_decl.specs.Same.{same_node}
 use Rattle.cm_decl.specs.NodeOrder.{node_at_most}
-use Rattle.cm_decl.specs.Graph.{strong_edge, StrongOn, static_name, is_node, is_from_node, sources_of}
+use Rattle.cm_decl.specs.Graph.{is_strong_edge, StrongOn, static_name, is_node, is_from_node, sources_of}
 use Rattle.cm_decl.specs.Cycle.{IsSupported, InCore, IsLeast, Follows, IsPickedCycle}
 use Rattle.cm_decl.specs.Reach.{NoCycle}
 use Rattle.cm_decl.specs.Examples.{two_ways, child_node, a, b}
@@ -53,7 +53,7 @@ three k (Child n) h =
     ]
 
 edge : Dependency → Node → Node → Bool
-edge k = strong_edge (two_ways k) []
+edge k = is_strong_edge (two_ways k) []
 
 apart : at_a ≡ at_b → ⊥
 apart e = true≢false (ap (same_node at_a) e)
@@ -110,29 +110,29 @@ pub weak_acyclic : NoCycle (StrongOn (two_ways Weak) [])
 weak_acyclic = acyclic_by_ends (StrongOn (two_ways Weak) []) (λ x y z first second. apart (sym (weak_ends x y first).1 ∙ (weak_ends y z second).0))
 
 abbrev ring : Node → Bool
-ring z = strong_edge (two_ways Strong) [] z at_a || strong_edge (two_ways Strong) [] z at_b
+ring z = is_strong_edge (two_ways Strong) [] z at_a || is_strong_edge (two_ways Strong) [] z at_b
 
-ring_supported : IsSupported (strong_edge (two_ways Strong) []) ring
+ring_supported : IsSupported (is_strong_edge (two_ways Strong) []) ring
 ring_supported x h =
-    elim (or_split (strong_edge (two_ways Strong) [] x at_a) (strong_edge (two_ways Strong) [] x at_b) h) as (λ _. (y : Node) × IsTrue (ring y) × IsTrue (strong_edge (two_ways Strong) [] x y)) [
+    elim (or_split (is_strong_edge (two_ways Strong) [] x at_a) (is_strong_edge (two_ways Strong) [] x at_b) h) as (λ _. (y : Node) × IsTrue (ring y) × IsTrue (is_strong_edge (two_ways Strong) [] x y)) [
       | inl e ↦ (at_a, refl, e)
       | inr e ↦ (at_b, refl, e)
     ]
 
-core_a : InCore (strong_edge (two_ways Strong) []) at_a
+core_a : InCore (is_strong_edge (two_ways Strong) []) at_a
 core_a = (ring, refl, ring_supported)
 
-core_b : InCore (strong_edge (two_ways Strong) []) at_b
+core_b : InCore (is_strong_edge (two_ways Strong) []) at_b
 core_b = (ring, refl, ring_supported)
 
 -- a node of the core is one of the two children
-core_ends : (y : Node) → InCore (strong_edge (two_ways Strong) []) y → (y ≡ at_a) ⊎ (y ≡ at_b)
+core_ends : (y : Node) → InCore (is_strong_edge (two_ways Strong) []) y → (y ≡ at_a) ⊎ (y ≡ at_b)
 unfolding Ends
 core_ends y core =
-    let next : (z : Node) × IsTrue (core.0 z) × IsTrue (strong_edge (two_ways Strong) [] y z) = core.2 y core.1 in
+    let next : (z : Node) × IsTrue (core.0 z) × IsTrue (is_strong_edge (two_ways Strong) [] y z) = core.2 y core.1 in
     elim (two_ends y next.0 next.2) as (λ _. (y ≡ at_a) ⊎ (y ≡ at_b)) [ inl e ↦ inl e.0 | inr e ↦ inr e.0 ]
 
-least_a : IsLeast (InCore (strong_edge (two_ways Strong) [])) at_a
+least_a : IsLeast (InCore (is_strong_edge (two_ways Strong) [])) at_a
 least_a = (
   core_a,
   λ y core. elim (core_ends y core) as (λ _. IsTrue (node_at_most at_a y)) [
@@ -141,7 +141,7 @@ least_a = (
   ],
 )
 
-a_to_b : Follows (strong_edge (two_ways Strong) []) at_a at_b
+a_to_b : Follows (is_strong_edge (two_ways Strong) []) at_a at_b
 unfolding Ends
 a_to_b = (
   (core_b, refl),
@@ -151,7 +151,7 @@ a_to_b = (
   ],
 )
 
-b_to_a : Follows (strong_edge (two_ways Strong) []) at_b at_a
+b_to_a : Follows (is_strong_edge (two_ways Strong) []) at_b at_a
 unfolding Ends
 b_to_a = (
   (core_a, refl),
@@ -162,7 +162,7 @@ b_to_a = (
 )
 
 -- with strong offers both ways the picked cycle is a, b, a
-pub ring_is_picked : IsPickedCycle (strong_edge (two_ways Strong) []) (at_a ∷ at_b ∷ at_a ∷ [])
+pub ring_is_picked : IsPickedCycle (is_strong_edge (two_ways Strong) []) (at_a ∷ at_b ∷ at_a ∷ [])
 ring_is_picked = record {
   start = at_a;
   least_of_core = least_a;

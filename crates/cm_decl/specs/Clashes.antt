@@ -68,8 +68,8 @@ abbrev pub same_path : Usage → Usage → Bool
 same_path a b = bytes_eq a.path b.path
 
 -- one of the two paths lies inside the other
-abbrev pub nested_paths : Usage → Usage → Bool
-nested_paths a b = is_inside a.path b.path || is_inside b.path a.path
+abbrev pub are_paths_nested : Usage → Usage → Bool
+are_paths_nested a b = is_inside a.path b.path || is_inside b.path a.path
 
 -- the earlier row that this one clashes with: the first, where several do
 abbrev pub clash : Decl → Rule → Section → ℕ → Option Place
@@ -80,5 +80,5 @@ clash d RepeatedName Capabilities i = first_before Capabilities same_capability_
 clash d RepeatedTarget Offers i = first_before Offers same_target d.offers i
 clash d RepeatedTarget Exposes i = first_before Exposes same_expose d.exposes i
 clash d RepeatedPath Uses i = first_before Uses same_path d.uses i
-clash d PathInside Uses i = first_before Uses nested_paths d.uses i
+clash d PathInside Uses i = first_before Uses are_paths_nested d.uses i
 clash d rule section i = None

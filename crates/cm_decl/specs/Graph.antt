@@ -87,17 +87,17 @@ abbrev pub is_from_node : Node → Origin → Bool
 is_from_node y from = option_eq same_node (node_of from) (Some y)
 
 -- the first node strongly depends on the second: the second is a source of the first, and both are nodes
-abbrev pub strong_edge : Decl → List DynChild → Node → Node → Bool
-strong_edge d dynamic x y =
+abbrev pub is_strong_edge : Decl → List DynChild → Node → Node → Bool
+is_strong_edge d dynamic x y =
     list_any (is_from_node y) (sources_of d dynamic x) && is_node d dynamic x && is_node d dynamic y
 
 -- the same as a relation
 abbrev pub StrongOn : Decl → List DynChild → Node → Node → Type 0
-StrongOn d dynamic x y = IsTrue (strong_edge d dynamic x y)
+StrongOn d dynamic x y = IsTrue (is_strong_edge d dynamic x y)
 
 -- the realm graph
 abbrev pub realm : Decl → List DynChild → Realm Node
-realm d dynamic = record { own = Own; has = is_node d dynamic; edge = strong_edge d dynamic }
+realm d dynamic = record { own = Own; has = is_node d dynamic; edge = is_strong_edge d dynamic }
 
 -- the first node depends on the second, directly or through others, the implied edges included
 abbrev pub DependsOn : Decl → List DynChild → Node → Node → Type 0

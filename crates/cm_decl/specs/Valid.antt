@@ -8,7 +8,7 @@ use Rattle.cm_decl.specs.declared.environment.Registration.{Registration}
 use Rattle.cm_decl.specs.declared.environment.Environment.{Environment}
 use Rattle.cm_decl.specs.declared.node.Node.{Node}
 use Rattle.cm_decl.specs.declared.section.Section.TheVariants.{Graph}
-use Rattle.cm_decl.specs.Graph.{strong_edge, StrongOn}
+use Rattle.cm_decl.specs.Graph.{is_strong_edge, StrongOn}
 use Rattle.cm_decl.specs.Reach.{NoCycle}
 use Rattle.cm_decl.specs.Cycle.{IsPickedCycle}
 use Rattle.cm_decl.specs.Faults.{Fault, IsFirst, IsFaultless}
@@ -71,7 +71,7 @@ cycle_fault cycle = record { number = 58; section = Graph; index = 0; against = 
 -- a declaration whose rows have no fault has that of the picked cycle of its realm graph
 pub record IsCycleFault (d : Decl) (f : Fault) : Type 0 where
   pub faultless : IsFaultless d
-  pub picked : IsPickedCycle (strong_edge d []) f.cycle
+  pub picked : IsPickedCycle (is_strong_edge d []) f.cycle
   pub whole : f ≡ cycle_fault f.cycle
 
 -- the fault of a declaration: the first that stands at a row, or else that of the cycle

@@ -1,4 +1,4 @@
-use Rattle.std.proofs.Common.{◌≡◌, ℕ, zero, suc, ◌<◌, List, [], ◌∷◌, ◌++◌, length, Bool, true, false, ◌&&◌, ◌||◌, true≢false, refl, sym, ◌∙◌, ap, subst, IsTrue, inl, inr, ◌⊎◌, arith, nat_eq, Some, None, cond}
+use Rattle.std.proofs.Common.{◌≡◌, ℕ, ◌<◌, List, [], ◌∷◌, ◌++◌, length, Bool, true, false, ◌&&◌, ◌||◌, true≢false, refl, sym, ◌∙◌, ap, subst, IsTrue, inl, inr, ◌⊎◌, arith, nat_eq, Some, None, cond}
 use Rattle.std.specs.Prelude.{nat_lt, position, Option, ◌↔◌}
 use Rattle.std.specs.List.{list_any, position_or_len}
 use Rattle.std.specs.Option.{option_map_or}
@@ -7,6 +7,7 @@ use Rattle.std.proofs.lemmas.List.Quantifiers.{position-Some}
 use Rattle.std.proofs.lemmas.List.Sums.{fails_before_first}
 use Rattle.std.proofs.lemmas.Bool.{cases_lt}
 use borrow.Author.Tests.{ltb-true, lt-ltb}
+use Rattle.std.proofs.lemmas.Bool.{and_from as and_pair}
 use Rattle.cm_decl.specs.declared.decl.Decl.{Decl}
 use Rattle.cm_decl.specs.declared.rows.Give.{Give}
 use Rattle.cm_decl.specs.declared.node.DynChild.{DynChild}
@@ -16,13 +17,12 @@ use Rattle.cm_decl.specs.declared.origin.Origin.{Origin}
 use Rattle.cm_decl.specs.declared.origin.Origin.TheVariants as origin
 use Rattle.cm_decl.specs.Same.{same_node}
 use Rattle.cm_decl.specs.Realm.{Directly}
-use Rattle.cm_decl.specs.Reach.{Way}
 use Rattle.cm_decl.specs.Graph.{is_node, is_from_node, realm, DependsOn, WouldDirectly, WouldDepend}
 use Rattle.cm_decl.proofs.Orders.{direct_nodes}
 use Rattle.cm_decl.proofs.Sameness.{and_first, and_second, or_split, same_node-refl, same_node_exact}
 use Rattle.cm_deps.specs.Edges.{holds, row}
 use Rattle.cm_deps.specs.Nodes.{at, IsNodes, IsNumber}
-use Rattle.cm_deps.specs.Sources.{IsOffered, is_source, numbers_at, strong_sources, offers_of}
+use Rattle.cm_deps.specs.Sources.{is_source, strong_sources, offers_of}
 use Rattle.cm_deps.specs.Leads.{number_of, leads_to, source_leads}
 use Rattle.cm_deps.specs.Graph.{IsReached}
 use Rattle.cm_deps.proofs.Listing.{same_nat, nat_eq-refl, or_left, or_right}
@@ -32,10 +32,6 @@ use Rattle.cm_deps.proofs.Rising.{rising_keys}
 use Rattle.cm_deps.proofs.Placing.{found_at, at_found}
 use Rattle.cm_deps.proofs.Sourcing.{sources_append}
 use Rattle.cm_deps.proofs.Realms.{own_first}
-
-and_pair : (p q : Bool) → IsTrue p → IsTrue q → IsTrue (p && q)
-and_pair true q first second = second
-and_pair false q first second = absurd (true≢false (sym first))
 
 -- ---- the ends of what depends
 

@@ -1,12 +1,9 @@
-use Rattle.std.proofs.Common.{◌≡◌, ℕ, ◌+◌, List, [], ◌∷◌, ◌++◌, refl, sym, ◌∙◌, ap, subst, inl, inr, arith}
+use Rattle.std.proofs.Common.{◌≡◌, ℕ, ◌+◌, List, [], ◌∷◌, ◌++◌, sym, ◌∙◌, ap, subst, inl, inr, arith}
 use Rattle.std.proofs.lemmas.Bool.{cases_lt}
 use Rattle.std.proofs.lemmas.List.{get_or_append_left, length-append}
 use Rattle.std.proofs.Math.Seq.{get_or-append_seam}
 use Rattle.cm_deps.specs.Edges.{row, IsReach}
 use Rattle.cm_deps.specs.Closure.{IsClosure}
-
-pub closure_none : (after : List (List ℕ)) → IsClosure after 0 []
-closure_none after = record { size = refl; reach = λ x low. absurd (omega arith) }
 
 -- the list of one node more
 pub closure_more : (after : List (List ℕ)) (count : ℕ) (all : List (List ℕ)) (new : List ℕ) → IsClosure after count all → IsReach after count new → IsClosure after (count + 1) (all ++ new ∷ [])

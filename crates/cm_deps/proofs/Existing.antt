@@ -1,12 +1,11 @@
-use Rattle.std.proofs.Common.{◌≡◌, ℕ, zero, suc, ◌+◌, ◌<◌, ◌≤◌, List, [], ◌∷◌, ◌++◌, length, take, drop, set, Bool, true, false, not, ◌&&◌, ◌||◌, true≢false, refl, sym, ◌∙◌, ap, subst, IsTrue, inl, inr, ◌⊎◌, arith, get_or, nat_eq, Some}
-use Rattle.std.specs.Prelude.{map, filter, replicate, count_by, nat_lt, slice_get}
+use Rattle.std.proofs.Common.{◌≡◌, ℕ, zero, suc, ◌+◌, ◌<◌, ◌≤◌, List, [], ◌∷◌, ◌++◌, length, take, drop, set, Bool, true, false, not, ◌&&◌, true≢false, refl, sym, ◌∙◌, ap, subst, IsTrue, inl, inr, ◌⊎◌, arith, get_or, nat_eq, Some}
+use Rattle.std.specs.Prelude.{map, replicate, count_by, slice_get}
 use Rattle.std.specs.List.{list_any, list_all}
 use Rattle.std.proofs.lemmas.Bool.{cases_lt}
 use Rattle.std.proofs.lemmas.List.{length-append, length-map, length-drop, get_or-map, get_or_past, get_or_append_left}
 use Rattle.std.proofs.Math.Seq.{get_or-append_seam}
 use Rattle.cm_decl.proofs.Sameness.{or_split}
 use Rattle.cm_deps.proofs.Numbering.{not_false}
-use borrow.Author.Tests.{ltb-true, lt-ltb}
 use Rattle.cm_deps.specs.Edges.{holds, is_set, row, On, IsBelow, IsListing, IsPeeled}
 use Rattle.cm_deps.specs.Ring.{IsLeastLeft, IsFirstLeft, IsWalk, IsTurned, IsRing, GoesOn}
 use Rattle.cm_deps.proofs.Listing.{same_nat, nat_eq-refl, or_left, or_right, one_fails, listing_more}

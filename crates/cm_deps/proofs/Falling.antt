@@ -1,6 +1,7 @@
 use Rattle.std.proofs.Common.{◌≡◌, ℕ, zero, suc, ◌<◌, List, [], ◌∷◌, length, Bool, true, false, not, ◌&&◌, ◌||◌, true≢false, Some, refl, sym, ◌∙◌, ap, subst, IsTrue, inl, inr, arith, nat_eq}
 use Rattle.std.specs.Prelude.{map, filter, slice_get, if◌then◌else◌}
 use Rattle.std.proofs.lemmas.List.Sums.{length-filter}
+use Rattle.std.proofs.lemmas.Bool.{and_from, not_from_false}
 use Rattle.cm_decl.specs.declared.node.Node.{Node}
 use Rattle.cm_decl.specs.Same.{same_node}
 use Rattle.cm_decl.specs.Reach.{Way, Reaches}
@@ -14,18 +15,7 @@ use Rattle.cm_deps.specs.Implied.{IsFull, IsFalling}
 use Rattle.cm_deps.proofs.Listing.{same_nat, nat_eq-refl, or_left, or_right}
 use Rattle.cm_deps.proofs.Cores.{listed_unsupported, held_at}
 use Rattle.cm_deps.proofs.Ways.{Way-map}
-use Rattle.cm_deps.proofs.Numbering.{at, IsNumbered, number_once, edge_at}
-
-and_both : (p q : Bool) → IsTrue p → IsTrue q → IsTrue (p && q)
-and_both true q first second = second
-and_both false q first second = absurd (true≢false (sym first))
-
-not_true : (b : Bool) → b ≡ false → IsTrue (not b)
-not_true b h = ap not h
-
-is_false : (b : Bool) → IsTrue (not b) → b ≡ false
-is_false true h = absurd (true≢false (sym h))
-is_false false h = refl
+use Rattle.cm_deps.proofs.Numbering.{at, IsNumbered, number_once, edge_at, not_false}
 
 -- where all are listed by the strong edges, they are by all edges
 pub full_listed : (after : List (List ℕ)) (reached : List ℕ) (full : List (List ℕ)) (first order : List ℕ) → 0 < length after → IsBelow after (length after) → IsReach after 0 reached → IsFull after reached full → IsGrown after first → ((x : ℕ) → x < length after → IsTrue (holds first x)) → IsPeeled full order → (x : ℕ) → x < length after → IsTrue (holds order x)
@@ -39,11 +29,11 @@ full_listed after reached full first order some below reach is grown all peeled 
     onward : (i : ℕ) → IsTrue (holds first i && not (holds order i)) → (y : ℕ) × On full i y × (holds order y ≡ false)
     onward i is_left =
         let low : i < length after = listed_low i (and_first (holds first i) (not (holds order i)) is_left) in
-        let waits : Waits full order i = peeled.rest i (omega (arith, is.size)) (is_false (holds order i) (and_second (holds first i) (not (holds order i)) is_left)) in
+        let waits : Waits full order i = peeled.rest i (omega (arith, is.size)) (not_false (holds order i) (and_second (holds first i) (not (holds order i)) is_left)) in
         (waits.0, waits.1, waits.2)
 
     stays : (i y : ℕ) → On after i y → holds order y ≡ false → IsTrue (holds first y && not (holds order y))
-    stays i y on open_y = and_both (holds first y) (not (holds order y)) (all y (below i y on)) (not_true (holds order y) open_y)
+    stays i y on open_y = and_from (holds first y) (not (holds order y)) (all y (below i y on)) (not_from_false (holds order y) open_y)
 
     near_on : (i y : ℕ) → IsTrue (nat_eq i 0 || holds reached i) → On after i y → IsTrue (nat_eq y 0 || holds reached y)
     near_on i y here on = or_right (nat_eq y 0) (holds reached y) (reach.all y (elim (or_split (nat_eq i 0) (holds reached i) here) as (λ _. Reaches (On after) 0 y) [
@@ -56,7 +46,7 @@ full_listed after reached full first order some below reach is grown all peeled 
         let close : IsTrue (nat_eq i 0 || holds reached i) = and_first (nat_eq i 0 || holds reached i) (holds first i && not (holds order i)) here in
         let next : (y : ℕ) × On full i y × (holds order y ≡ false) = onward i (and_second (nat_eq i 0 || holds reached i) (holds first i && not (holds order i)) here) in
         elim (is.only i next.0 next.1) as (λ _. (y : ℕ) × IsTrue ((nat_eq y 0 || holds reached y) && (holds first y && not (holds order y))) × On after i y) [
-          | inl on ↦ (next.0, and_both (nat_eq next.0 0 || holds reached next.0) (holds first next.0 && not (holds order next.0)) (near_on i next.0 close on) (stays i next.0 on next.2), on)
+          | inl on ↦ (next.0, and_from (nat_eq next.0 0 || holds reached next.0) (holds first next.0 && not (holds order next.0)) (near_on i next.0 close on) (stays i next.0 on next.2), on)
           | inr far ↦ absurd (elim (or_split (nat_eq i 0) (holds reached i) close) as (λ _. ⊥) [
             | inl own ↦ far.child (same_nat i 0 own)
             | inr held ↦ true≢false (sym held ∙ far.apart)
@@ -72,12 +62,12 @@ full_listed after reached full first order some below reach is grown all peeled 
         elim (is.only i next.0 next.1) as (λ _. (y : ℕ) × IsTrue (holds first y && not (holds order y)) × On after i y) [
           | inl on ↦ (next.0, stays i next.0 on next.2, on)
           | inr far ↦ absurd (let zero_left : holds order 0 ≡ false = subst (λ z. holds order z ≡ false) far.own next.2 in
-              none_near 0 (all 0 some) (and_both (nat_eq 0 0 || holds reached 0) (holds first 0 && not (holds order 0)) (or_left (nat_eq 0 0) (holds reached 0) (nat_eq-refl 0)) (and_both (holds first 0) (not (holds order 0)) (all 0 some) (not_true (holds order 0) zero_left))))
+              none_near 0 (all 0 some) (and_from (nat_eq 0 0 || holds reached 0) (holds first 0 && not (holds order 0)) (or_left (nat_eq 0 0) (holds reached 0) (nat_eq-refl 0)) (and_from (holds first 0) (not (holds order 0)) (all 0 some) (not_from_false (holds order 0) zero_left))))
         ]
 
     by : (b : Bool) → holds order x ≡ b → IsTrue (holds order x)
     by true held = held
-    by false out = absurd (listed_unsupported after first grown (λ k. holds first k && not (holds order k)) left_supported x (all x inside) (and_both (holds first x) (not (holds order x)) (all x inside) (not_true (holds order x) out)))
+    by false out = absurd (listed_unsupported after first grown (λ k. holds first k && not (holds order k)) left_supported x (all x inside) (and_from (holds first x) (not (holds order x)) (all x inside) (not_from_false (holds order x) out)))
 
 -- what stands in a falling list depends on nodes that stand behind it
 pub falls_behind : (rows : List (List ℕ)) (xs : List ℕ) → IsFalling rows xs → (k l x y : ℕ) → slice_get xs k ≡ Some x → slice_get xs l ≡ Some y → On rows x y → k < l

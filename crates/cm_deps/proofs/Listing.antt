@@ -8,6 +8,7 @@ use Rattle.std.proofs.lemmas.List.{append-nil, append_assoc, take_more, length-a
 use Rattle.std.proofs.lemmas.Bool.{eqb-true}
 use Rattle.std.proofs.lemmas.Bool.Decides.{nat_tests}
 use Rattle.std.proofs.lemmas.List.Sums.{sum_by-set}
+pub use Rattle.std.proofs.lemmas.Bool.{or_left, or_right}
 use Rattle.cm_deps.specs.Edges.{holds, is_set, row, IsNext, IsGrown, IsListing, IsSettled, Extends}
 
 pub same_nat : (x y : ℕ) → IsTrue (nat_eq x y) → x ≡ y
@@ -15,14 +16,6 @@ same_nat x y h = eqb-true x y h
 
 pub nat_eq-refl : (x : ℕ) → IsTrue (nat_eq x x)
 nat_eq-refl x = grind (arith, nat_tests)
-
-pub or_left : (p q : Bool) → IsTrue p → IsTrue (p || q)
-or_left true q h = refl
-or_left false q h = absurd (true≢false (sym h))
-
-pub or_right : (p q : Bool) → IsTrue q → IsTrue (p || q)
-or_right true q h = refl
-or_right false q h = h
 
 pub or_none : (p : Bool) → (p || false) ≡ p
 or_none true = refl

@@ -4,7 +4,6 @@ use Rattle.std.specs.List.{list_any, list_all}
 use Rattle.std.specs.Ordering.{is_le, ordering_reverse}
 use Rattle.std.proofs.lemmas.Bool.{cases_lt}
 use Rattle.cm_decl.specs.declared.node.Node.{Node}
-use Rattle.cm_decl.specs.declared.node.Node.TheVariants.{Own}
 use Rattle.cm_decl.specs.Same.{same_node}
 use Rattle.cm_decl.specs.NodeOrder.{node_cmp, node_cmp_total, node_at_most}
 use Rattle.cm_decl.specs.Reach.{Way, Reaches}

@@ -1,33 +1,25 @@
 use Rattle.std.proofs.Common.{◌≡◌, ℕ, List, [], ◌∷◌, ◌++◌, Bool, true, false, ◌&&◌, ◌||◌, true≢false, refl, sym, ◌∙◌, ap, subst, IsTrue, inl, inr, ◌⊎◌, Some, append-nil, append_assoc}
-use Rattle.std.specs.Prelude.{map, filter, flat_map, unwrap_or, ◌↔◌}
+use Rattle.std.specs.Prelude.{map, unwrap_or, ◌↔◌}
 use Rattle.std.specs.List.{list_any}
 use Rattle.std.proofs.lemmas.List.{map-append}
 use Rattle.std.proofs.lemmas.List.Folds.{list_any-append}
+use Rattle.std.proofs.lemmas.Bool.{and_from as and_pair}
 use Rattle.cm_names.specs.declared.child.ChildName.{ChildName}
 use Rattle.cm_decl.specs.declared.decl.Decl.{Decl}
 use Rattle.cm_decl.specs.declared.node.DynChild.{DynChild}
 use Rattle.cm_decl.specs.declared.node.Node.{Node}
 use Rattle.cm_decl.specs.declared.node.Node.TheVariants.{Own, Child}
-use Rattle.cm_decl.specs.declared.origin.Origin.{Origin}
 use Rattle.cm_decl.specs.Same.{same_node, same_child}
-use Rattle.cm_decl.specs.Realm.{Realm, Strong, IsImplied, Directly}
-use Rattle.cm_decl.specs.Reach.{Way, Reaches, NoCycle}
-use Rattle.cm_decl.specs.Graph.{is_node, nodes, static_node, dynamic_node, is_from_node, sources_of, child_sources, gives_of, offers_to, strong_edge, realm, StrongOn, DependsOn, WouldDirectly, WouldDepend}
-use Rattle.cm_decl.proofs.Orders.{edge_nodes, direct_nodes}
+use Rattle.cm_decl.specs.Realm.{Realm, Directly}
+use Rattle.cm_decl.specs.Reach.{Reaches, NoCycle}
+use Rattle.cm_decl.specs.Graph.{is_node, nodes, static_node, dynamic_node, is_from_node, sources_of, child_sources, gives_of, offers_to, realm, StrongOn, DependsOn, WouldDirectly, WouldDepend}
+use Rattle.cm_decl.proofs.Orders.{edge_nodes}
 use Rattle.cm_decl.proofs.Sameness.{and_first, and_second, or_split, same_node-refl, same_node_exact}
 use Rattle.cm_deps.specs.Laws.{IsFurther}
 use Rattle.cm_deps.specs.Sources.{strong_sources, offers_of}
 use Rattle.cm_deps.proofs.Listing.{or_left, or_right}
 use Rattle.cm_deps.proofs.Ways.{Way-map, Reaches-along, last_step}
 use Rattle.cm_deps.proofs.Sourcing.{given_other, given_same, sources_append}
-
-and_pair : (p q : Bool) → IsTrue p → IsTrue q → IsTrue (p && q)
-and_pair true q first second = second
-and_pair false q first second = absurd (true≢false (sym first))
-
-false_or : (p : Bool) → p ≡ false → (p || false) ≡ false
-false_or true e = e
-false_or false e = refl
 
 or_right_false : (p q : Bool) → (p || q) ≡ false → q ≡ false
 or_right_false true q e = absurd (true≢false e)

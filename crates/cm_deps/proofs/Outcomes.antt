@@ -1,17 +1,17 @@
-use Rattle.std.proofs.Common.{◌≡◌, ℕ, ◌<◌, List, [], ◌∷◌, ◌++◌, length, Bool, true, false, ◌||◌, take, ◌+◌, ap, sym, ◌∙◌, subst, IsTrue, inl, inr, arith, get_or, nat_eq}
+use Rattle.std.proofs.Common.{◌≡◌, ℕ, ◌<◌, List, [], ◌∷◌, ◌++◌, length, Bool, take, ◌+◌, ap, sym, ◌∙◌, subst, IsTrue, inl, inr, arith, get_or, nat_eq}
 use Rattle.std.specs.Prelude.{map}
 use Rattle.std.proofs.lemmas.List.{take_more, map-append}
 use Rattle.std.proofs.lemmas.Option.{slice_get-get_or}
 use Rattle.cm_decl.specs.declared.decl.Decl.{Decl}
 use Rattle.cm_decl.specs.declared.node.DynChild.{DynChild}
 use Rattle.cm_decl.specs.declared.node.Node.{Node}
-use Rattle.cm_decl.specs.Graph.{is_node, strong_edge, realm, StrongOn, IsOrder}
-use Rattle.cm_decl.specs.Realm.{Realm, Directly}
+use Rattle.cm_decl.specs.Graph.{is_node, is_strong_edge, realm, StrongOn, IsOrder}
+use Rattle.cm_decl.specs.Realm.{Directly}
 use Rattle.cm_decl.specs.Reach.{NoCycle}
 use Rattle.cm_decl.specs.Cycle.{IsPickedCycle}
 use Rattle.cm_decl.proofs.Orders as orders
 use Rattle.cm_decl.proofs.Sameness.{or_split}
-use Rattle.cm_deps.specs.Edges.{holds, On, IsBelow}
+use Rattle.cm_deps.specs.Edges.{holds, IsBelow}
 use Rattle.cm_deps.specs.Ring.{Leads, IsRing}
 use Rattle.cm_deps.specs.Implied.{IsOrdered}
 use Rattle.cm_deps.specs.Shapes.{IsLeftRing}
@@ -84,10 +84,10 @@ ring_inside d dynamic nodes after ring sorted edges is z held =
 pub ring_some : (after : List (List ℕ)) (ring : List ℕ) → IsLeftRing after ring → 0 < length ring
 ring_some after ring is = subst (λ l. 0 < length l) (sym is.picked.whole) (omega arith)
 
-pub cycle_made : (d : Decl) (dynamic : List DynChild) (nodes : List Node) (after : List (List ℕ)) (ring : List ℕ) (list : List Node) → IsNodes (is_node d dynamic) nodes → IsEdges d dynamic nodes after → IsLeftRing after ring → list ≡ map (at nodes) ring ++ at nodes (get_or ring 0 0) ∷ [] → IsPickedCycle (strong_edge d dynamic) list
+pub cycle_made : (d : Decl) (dynamic : List DynChild) (nodes : List Node) (after : List (List ℕ)) (ring : List ℕ) (list : List Node) → IsNodes (is_node d dynamic) nodes → IsEdges d dynamic nodes after → IsLeftRing after ring → list ≡ map (at nodes) ring ++ at nodes (get_or ring 0 0) ∷ [] → IsPickedCycle (is_strong_edge d dynamic) list
 cycle_made d dynamic nodes after ring list sorted edges is same =
-    subst (IsPickedCycle (strong_edge d dynamic)) (sym same)
-    (ring_picked nodes (strong_edge d dynamic) after is.listed ring (realm_of d dynamic nodes after sorted edges).numbered is.peeled is.picked)
+    subst (IsPickedCycle (is_strong_edge d dynamic)) (sym same)
+    (ring_picked nodes (is_strong_edge d dynamic) after is.listed ring (realm_of d dynamic nodes after sorted edges).numbered is.peeled is.picked)
 
 -- ---- a realm that has an order has no cycle of strong edges
 

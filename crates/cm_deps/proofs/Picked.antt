@@ -1,11 +1,11 @@
-use Rattle.std.proofs.Common.{◌≡◌, ℕ, zero, suc, ◌+◌, ◌<◌, List, [], ◌∷◌, ◌++◌, length, Bool, true, false, ◌&&◌, ◌||◌, true≢false, refl, sym, ◌∙◌, ap, subst, IsTrue, inl, inr, ◌⊎◌, arith, get_or, nat_eq, Ordering, Less, Equal, Greater}
+use Rattle.std.proofs.Common.{◌≡◌, ℕ, zero, suc, ◌<◌, List, [], ◌∷◌, ◌++◌, length, Bool, true, false, ◌&&◌, ◌||◌, true≢false, refl, sym, ◌∙◌, ap, subst, IsTrue, inl, inr, ◌⊎◌, arith, get_or, nat_eq, Ordering, Less, Equal, Greater}
 use Rattle.std.specs.Prelude.{map, filter, nat_lt}
 use Rattle.std.specs.List.{list_any, AllByRecursion}
 use Rattle.std.specs.List.Sorted.{IsStrictlySortedBy}
 use Rattle.std.specs.Ordering.{ordering_reverse}
 use Rattle.std.proofs.lemmas.Bool.{cases_lt}
 use Rattle.std.proofs.lemmas.List.{length-map, get_or-map}
-use Rattle.std.proofs.lemmas.Map.Keys.{sorted_head, sorted_tail}
+use Rattle.std.proofs.lemmas.Map.Keys.{sorted_tail}
 use borrow.Author.Tests.{ltb-true, lt-ltb}
 use Rattle.cm_decl.specs.declared.decl.Decl.{Decl}
 use Rattle.cm_decl.specs.declared.node.DynChild.{DynChild}
@@ -15,13 +15,12 @@ use Rattle.cm_decl.specs.Same.{same_node}
 use Rattle.cm_decl.specs.NodeOrder.{node_cmp, node_cmp_total}
 use Rattle.cm_decl.specs.Reach.{NoCycle}
 use Rattle.cm_decl.specs.Cycle.{IsPickedCycle}
-use Rattle.cm_decl.specs.Graph.{nodes, is_node, is_from_node, sources_of, strong_edge, realm, StrongOn}
+use Rattle.cm_decl.specs.Graph.{nodes, is_node, is_from_node, sources_of, is_strong_edge, realm, StrongOn}
 use Rattle.cm_decl.proofs.Comparing.{node_cmp_exact}
 use Rattle.cm_decl.proofs.Sameness.{same_node-refl, same_node_exact, or_split}
-use Rattle.cm_deps.specs.Edges.{holds, row, IsPeeled}
-use Rattle.cm_deps.specs.Ring.{IsRing}
+use Rattle.cm_deps.specs.Edges.{holds, IsPeeled}
 use Rattle.cm_deps.specs.Nodes.{at, IsRising, IsNodes}
-use Rattle.cm_deps.specs.Sources.{is_source, IsEdges}
+use Rattle.cm_deps.specs.Sources.{IsEdges}
 use Rattle.cm_deps.proofs.Listing.{same_nat, nat_eq-refl, or_left, or_right, holds_push}
 use Rattle.cm_deps.proofs.Numbering.{ring_picked}
 use Rattle.cm_deps.proofs.Falling.{IsRealmOf}
@@ -143,13 +142,13 @@ edges_of d dynamic ks = (
     of x = filter (λ v. list_any (is_from_node (at ks v)) (sources_of d dynamic x)) (below (length ks))
 
 -- a realm graph has no cycle, or it has a picked one
-pub acyclic_or_picked : (d : Decl) (dynamic : List DynChild) → NoCycle (StrongOn d dynamic) ⊎ ((cycle : List Node) × IsPickedCycle (strong_edge d dynamic) cycle)
+pub acyclic_or_picked : (d : Decl) (dynamic : List DynChild) → NoCycle (StrongOn d dynamic) ⊎ ((cycle : List Node) × IsPickedCycle (is_strong_edge d dynamic) cycle)
 acyclic_or_picked d dynamic =
     let ks : (ks : List Node) × IsNodes (is_node d dynamic) ks = nodes_of d dynamic in
     let rows : (rows : List (List ℕ)) × IsEdges d dynamic ks.0 rows = edges_of d dynamic ks.0 in
     let r : IsRealmOf ks.0 rows.0 (realm d dynamic) = realm_of d dynamic ks.0 rows.0 ks.1 rows.1 in
     let peeled : (order : List ℕ) × IsPeeled rows.0 order = can_be_peeled rows.0 in
-    elim (has_ring rows.0 peeled.0 r.numbered.below peeled.1) as (λ _. NoCycle (StrongOn d dynamic) ⊎ ((cycle : List Node) × IsPickedCycle (strong_edge d dynamic) cycle)) [
+    elim (has_ring rows.0 peeled.0 r.numbered.below peeled.1) as (λ _. NoCycle (StrongOn d dynamic) ⊎ ((cycle : List Node) × IsPickedCycle (is_strong_edge d dynamic) cycle)) [
       | inl all ↦ inl (listed_acyclic ks.0 rows.0 (realm d dynamic) peeled.0 r peeled.1.grown all)
-      | inr ring ↦ inr (map (at ks.0) ring.0 ++ at ks.0 (get_or ring.0 0 0) ∷ [], ring_picked ks.0 (strong_edge d dynamic) rows.0 peeled.0 ring.0 r.numbered peeled.1 ring.1)
+      | inr ring ↦ inr (map (at ks.0) ring.0 ++ at ks.0 (get_or ring.0 0 0) ∷ [], ring_picked ks.0 (is_strong_edge d dynamic) rows.0 peeled.0 ring.0 r.numbered peeled.1 ring.1)
     ]

@@ -1,4 +1,4 @@
-use Rattle.std.proofs.Common.{◌≡◌, ℕ, zero, suc, ◌+◌, ◌<◌, ◌≤◌, List, [], ◌∷◌, ◌++◌, length, take, Bool, true, false, ◌||◌, cond, true≢false, refl, sym, ◌∙◌, ap, subst, IsTrue, inl, inr, arith, get_or, Ordering, Less, Equal, Greater, Result, Ok, Err}
+use Rattle.std.proofs.Common.{◌≡◌, ℕ, zero, suc, ◌+◌, ◌<◌, ◌≤◌, List, [], ◌∷◌, length, take, Bool, true, false, ◌||◌, cond, true≢false, refl, sym, ◌∙◌, ap, subst, IsTrue, inl, inr, arith, get_or, Ordering, Less, Equal, Greater, Result, Ok, Err}
 use Rattle.std.specs.Prelude.{map, IfOk, IfSome, IfNone}
 use Rattle.std.specs.List.{list_any, HoldsAt}
 use Rattle.std.specs.List.Sorted.{IsSearchInRange, IsBinarySearchResult, IsNonDecreasingBy}

@@ -1,27 +1,23 @@
-use Rattle.std.proofs.Common.{◌≡◌, ℕ, zero, suc, ◌<◌, List, length, Bool, true, false, ◌&&◌, true≢false, refl, sym, ◌∙◌, ap, subst, IsTrue, inl, inr, arith, Less}
+use Rattle.std.proofs.Common.{◌≡◌, ℕ, ◌<◌, List, length, ◌&&◌, refl, sym, ◌∙◌, subst, IsTrue, inl, inr, arith, Less}
 use Rattle.std.specs.Prelude.{nat_lt}
 use Rattle.std.specs.List.{list_any}
 use Rattle.std.proofs.lemmas.Bool.{cases_lt}
 use borrow.Author.Tests.{ltb-true, lt-ltb}
+use Rattle.std.proofs.lemmas.Bool.{and_from as and_pair}
 use Rattle.cm_decl.specs.declared.decl.Decl.{Decl}
 use Rattle.cm_decl.specs.declared.node.DynChild.{DynChild}
 use Rattle.cm_decl.specs.declared.node.Node.{Node}
 use Rattle.cm_decl.specs.declared.node.Node.TheVariants.{Own, Child}
-use Rattle.cm_decl.specs.Same.{same_node}
 use Rattle.cm_decl.specs.NodeOrder.{node_cmp}
-use Rattle.cm_decl.specs.Graph.{is_node, is_from_node, sources_of, strong_edge, realm}
+use Rattle.cm_decl.specs.Graph.{is_node, is_from_node, sources_of, is_strong_edge, realm}
 use Rattle.cm_decl.proofs.Sameness.{and_first, and_second}
-use Rattle.cm_deps.specs.Edges.{holds, row, On}
+use Rattle.cm_deps.specs.Edges.{On}
 use Rattle.cm_deps.specs.Nodes.{at, IsNodes}
 use Rattle.cm_deps.specs.Sources.{IsEdges}
 use Rattle.cm_deps.proofs.Gathering.{held_inside}
 use Rattle.cm_deps.proofs.Rising.{rising_keys}
 use Rattle.cm_deps.proofs.Falling.{IsRealmOf}
 use Rattle.cm_deps.proofs.Placing.{found_at, at_found}
-
-and_pair : (p q : Bool) → IsTrue p → IsTrue q → IsTrue (p && q)
-and_pair true q first second = second
-and_pair false q first second = absurd (true≢false (sym first))
 
 -- nothing is less than the component itself
 own_least : (x : Node) → node_cmp x Own ≡ Less → ⊥
@@ -67,7 +63,7 @@ realm_of d dynamic nodes rows is edges = record {
         let both : IsTrue (nat_lt j (length nodes) && list_any (is_from_node (at nodes j)) (sources_of d dynamic (at nodes i))) = sym (edges.sources i low j) ∙ on in
         (low, ltb-true j (length nodes) (and_first (nat_lt j (length nodes)) (list_any (is_from_node (at nodes j)) (sources_of d dynamic (at nodes i))) both), and_second (nat_lt j (length nodes)) (list_any (is_from_node (at nodes j)) (sources_of d dynamic (at nodes i))) both)
 
-    from : (x y : Node) → IsTrue (strong_edge d dynamic x y) → (i : ℕ) × (j : ℕ) × (at nodes i ≡ x) × (at nodes j ≡ y) × On rows i j
+    from : (x y : Node) → IsTrue (is_strong_edge d dynamic x y) → (i : ℕ) × (j : ℕ) × (at nodes i ≡ x) × (at nodes j ≡ y) × On rows i j
     from x y edge =
         let pair : IsTrue (list_any (is_from_node y) (sources_of d dynamic x) && is_node d dynamic x) = and_first (list_any (is_from_node y) (sources_of d dynamic x) && is_node d dynamic x) (is_node d dynamic y) edge in
         let there : IsTrue (list_any (is_from_node y) (sources_of d dynamic x)) = and_first (list_any (is_from_node y) (sources_of d dynamic x)) (is_node d dynamic x) pair in

@@ -3,23 +3,14 @@ use Rattle.std.specs.Prelude.{count_by, cond, replicate}
 use Rattle.std.proofs.lemmas.List.{length-append, length-set, length-replicate}
 use Rattle.std.proofs.lemmas.List.Folds.{list_any-append}
 use Rattle.std.proofs.lemmas.List.Sums.{sum_by-set}
+use Rattle.std.proofs.lemmas.Bool.{or_parts, or_from}
 use Rattle.cm_decl.specs.Reach.{Way, Reaches}
+use Rattle.cm_decl.proofs.Sameness.{or_split}
 use Rattle.cm_deps.specs.Edges.{holds, is_set, row, IsBelow, IsSeen, IsPeeled, Waits}
 use Rattle.cm_deps.specs.Ring.{Leads, GoesOn, Once, IsTrail, IsWalk, IsLeastLeft, IsFirstLeft, IsTurned, IsRing}
 use Rattle.cm_deps.proofs.Listing.{same_nat, nat_eq-refl, or_left, or_right, holds_push}
 use Rattle.cm_deps.proofs.Searching.{seen_none, seen_more}
 use Rattle.cm_deps.proofs.Ways.{Way-join, Way-split, Way-snoc, Way-along}
-
-or_neither : (p q : Bool) → (p || q) ≡ false → (p ≡ false) × (q ≡ false)
-or_neither true q h = absurd (true≢false h)
-or_neither false q h = (refl, h)
-
-neither_or : (p q : Bool) → p ≡ false → q ≡ false → (p || q) ≡ false
-neither_or p q first second = rw first second
-
-or_by : (p q : Bool) → IsTrue (p || q) → IsTrue p ⊎ IsTrue q
-or_by true q h = inl refl
-or_by false q h = inr h
 
 -- a trail grows by a step
 pub trail_more : (Onward : ℕ → ℕ → Type 0) (start : ℕ) (passed : List ℕ) (node next : ℕ) → IsTrail Onward start passed node → Onward node next → IsTrail Onward start (passed ++ node ∷ []) next
@@ -37,9 +28,9 @@ trail_loop Onward start (f ∷ fs) node back trail =
 pub once_more : (xs : List ℕ) (y : ℕ) → Once xs → holds xs y ≡ false → Once (xs ++ y ∷ [])
 once_more [] y once out = (refl, tt)
 once_more (x ∷ xs) y once out =
-    let both : (nat_eq y x ≡ false) × (holds xs y ≡ false) = or_neither (nat_eq y x) (holds xs y) out in
+    let both : (nat_eq y x ≡ false) × (holds xs y ≡ false) = or_parts (nat_eq y x) (holds xs y) out in
     let apart : nat_eq x y ≡ false = other x y both.0 in
-    (holds_push xs y x ∙ neither_or (holds xs x) (nat_eq x y) once.0 apart, once_more xs y once.1 both.1)
+    (holds_push xs y x ∙ or_from (holds xs x) (nat_eq x y) once.0 apart, once_more xs y once.1 both.1)
   where
     other : (a b : ℕ) → nat_eq b a ≡ false → nat_eq a b ≡ false
     other a b h = by (nat_eq a b) refl
@@ -59,9 +50,9 @@ once_between [] x back once = (refl, once.0)
 once_between (f ∷ fs) x back once =
     let rest : (holds fs x ≡ false) × (holds back x ≡ false) = once_between fs x back once.1 in
     let whole : (holds fs f || holds (x ∷ back) f) ≡ false = sym (list_any-append (nat_eq f) fs (x ∷ back)) ∙ once.0 in
-    let tail : holds (x ∷ back) f ≡ false = (or_neither (holds fs f) (holds (x ∷ back) f) whole).1 in
-    let apart : nat_eq f x ≡ false = (or_neither (nat_eq f x) (holds back f) tail).0 in
-    (neither_or (nat_eq x f) (holds fs x) (turn apart) rest.0, rest.1)
+    let tail : holds (x ∷ back) f ≡ false = (or_parts (holds fs f) (holds (x ∷ back) f) whole).1 in
+    let apart : nat_eq f x ≡ false = (or_parts (nat_eq f x) (holds back f) tail).0 in
+    (or_from (nat_eq x f) (holds fs x) (turn apart) rest.0, rest.1)
   where
     turn : nat_eq f x ≡ false → nat_eq x f ≡ false
     turn h = by (nat_eq x f) refl
@@ -122,16 +113,16 @@ turned_loop Onward start node back ring (suc place) reached loop once inside lea
         | inr way ↦ (way.0 ++ node ∷ take place back, Way-join Onward start way.0 node (take place back) (get_or back place 0) way.1 ways.0)
       ]);
       loop = Way-join Onward (get_or back place 0) (drop (place + 1) back) node (take place back) (get_or back place 0) ways.1 ways.0;
-      once = list_any-append (nat_eq (get_or back place 0)) (drop (place + 1) back) (node ∷ take place back) ∙ neither_or (holds (drop (place + 1) back) (get_or back place 0)) (holds (node ∷ take place back) (get_or back place 0)) sides.1 sides.0;
+      once = list_any-append (nat_eq (get_or back place 0)) (drop (place + 1) back) (node ∷ take place back) ∙ or_from (holds (drop (place + 1) back) (get_or back place 0)) (holds (node ∷ take place back) (get_or back place 0)) sides.1 sides.0;
       least = λ x held. least x (among x cut held);
       whole = whole ∙ ap (λ l. l ++ node ∷ take place back) (drop_at back place low);
     }
   where
     among : (x : ℕ) → back ≡ take place back ++ get_or back place 0 ∷ drop (place + 1) back → IsTrue (holds (drop (place + 1) back ++ node ∷ take place back) x) → IsTrue (holds (node ∷ back) x)
     among x cut held =
-        elim (or_by (holds (drop (place + 1) back) x) (holds (node ∷ take place back) x) (sym (list_any-append (nat_eq x) (drop (place + 1) back) (node ∷ take place back)) ∙ held)) as (λ _. IsTrue (holds (node ∷ back) x)) [
+        elim (or_split (holds (drop (place + 1) back) x) (holds (node ∷ take place back) x) (sym (list_any-append (nat_eq x) (drop (place + 1) back) (node ∷ take place back)) ∙ held)) as (λ _. IsTrue (holds (node ∷ back) x)) [
           | inl behind ↦ or_right (nat_eq x node) (holds back x) (ap (λ l. holds l x) cut ∙ list_any-append (nat_eq x) (take place back) (get_or back place 0 ∷ drop (place + 1) back) ∙ or_right (holds (take place back) x) (holds (get_or back place 0 ∷ drop (place + 1) back) x) (or_right (nat_eq x (get_or back place 0)) (holds (drop (place + 1) back) x) behind))
-          | inr before ↦ (elim (or_by (nat_eq x node) (holds (take place back) x) before) as (λ _. IsTrue (holds (node ∷ back) x)) [
+          | inr before ↦ (elim (or_split (nat_eq x node) (holds (take place back) x) before) as (λ _. IsTrue (holds (node ∷ back) x)) [
             | inl here ↦ or_left (nat_eq x node) (holds back x) here
             | inr front ↦ or_right (nat_eq x node) (holds back x) (ap (λ l. holds l x) cut ∙ list_any-append (nat_eq x) (take place back) (get_or back place 0 ∷ drop (place + 1) back) ∙ or_left (holds (take place back) x) (holds (get_or back place 0 ∷ drop (place + 1) back) x) front)
           ])

@@ -6,7 +6,7 @@ use Rattle.std.proofs.lemmas.List.Folds.{list_any-append}
 use Rattle.cm_decl.specs.Reach.{Way, Reaches}
 use Rattle.cm_decl.proofs.Reaching.{Reaches-trans}
 use Rattle.cm_deps.specs.Edges.{holds, is_set, row, On, IsBelow, IsReach, IsSeen, IsAdded, Extends}
-use Rattle.cm_deps.proofs.Listing.{same_nat, or_left, or_right, holds_push, flag_more, front_more, holds_at, extends_on, nat_eq-refl}
+use Rattle.cm_deps.proofs.Listing.{or_left, or_right, holds_push, flag_more, front_more, holds_at, extends_on, nat_eq-refl}
 use Rattle.cm_deps.proofs.Peeling.{none_set, all_open}
 
 -- a node that isn't there yet is put there
@@ -29,12 +29,6 @@ seen_none n = record {
   listed = λ x. none_set n x;
   counted = omega (arith, all_open n, length-replicate n false);
 }
-
--- the last of a longer list
-pub last_only : (found : List ℕ) (x y : ℕ) → IsTrue (holds (found ++ x ∷ []) y) → holds found y ≡ false → y ≡ x
-last_only found x y held out =
-    let both : IsTrue (holds found y || nat_eq y x) = sym (holds_push found x y) ∙ held in
-    let end : IsTrue (nat_eq y x) = rw out at both in same_nat y x end
 
 pub holds_longer : (old new : List ℕ) (y : ℕ) → Extends old new → IsTrue (holds old y) → IsTrue (holds new y)
 holds_longer old new y more held =

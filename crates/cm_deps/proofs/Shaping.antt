@@ -1,8 +1,5 @@
-use Rattle.std.proofs.Common.{◌≡◌, ◌≢◌, ℕ, ◌+◌, ◌<◌, List, [], ◌∷◌, ◌++◌, length, Bool, true, false, not, ◌&&◌, true≢false, Some, refl, sym, ◌∙◌, ap, subst, IsTrue, inl, inr, ◌⊎◌, arith, nat_eq}
+use Rattle.std.proofs.Common.{◌≡◌, ◌≢◌, ℕ, ◌<◌, List, [], ◌∷◌, ◌++◌, length, Bool, true, false, not, ◌&&◌, true≢false, Some, refl, sym, ◌∙◌, ap, subst, IsTrue, inl, inr, ◌⊎◌, arith, nat_eq}
 use Rattle.std.specs.Prelude.{reverse, if◌then◌else◌, slice_get}
-use Rattle.std.proofs.lemmas.Bool.{cases_lt}
-use Rattle.std.proofs.lemmas.List.{get_or_append_left, length-append}
-use Rattle.std.proofs.Math.Seq.{get_or-append_seam}
 use Rattle.std.proofs.lemmas.List.Folds.{list_any-append}
 use Rattle.cm_decl.specs.Reach.{Way, Reaches}
 use Rattle.cm_decl.proofs.Sameness.{or_split}
@@ -27,17 +24,6 @@ reach_inside after start reached below reach x held =
 pub record IsFillingFull (after : List (List ℕ)) (near : List Bool) (full : List (List ℕ)) (count : ℕ) : Type 0 where
   pub size : length full ≡ count
   pub rows : (i : ℕ) → i < count → row full i ≡ row_with i (row after i) (is_set near i)
-
-pub full_more : (after : List (List ℕ)) (near : List Bool) (full : List (List ℕ)) (count : ℕ) (new : List ℕ) → IsFillingFull after near full count → new ≡ row_with count (row after count) (is_set near count) → IsFillingFull after near (full ++ new ∷ []) (count + 1)
-full_more after near full count new state is = record {
-  size = omega (arith, length-append full (new ∷ []), state.size);
-  rows = λ i low. elim (cases_lt i count) as (λ _. row (full ++ new ∷ []) i ≡ row_with i (row after i) (is_set near i)) [
-    | inl before ↦ get_or_append_left full (new ∷ []) [] i (omega (arith, state.size)) ∙ state.rows i before
-    | inr from ↦ (let here : count ≡ i = omega arith in
-        subst (λ k. row (full ++ new ∷ []) k ≡ row_with k (row after k) (is_set near k)) here
-        (ap (λ k. row (full ++ new ∷ []) k) (sym state.size) ∙ get_or-append_seam full new [] [] ∙ is))
-  ];
-}
 
 -- what a row with the implied edge holds
 row_split : (i : ℕ) (r : List ℕ) (near : Bool) (j : ℕ) → IsTrue (holds (row_with i r near) j) → IsTrue (holds r j) ⊎ ((i ≢ 0) × (near ≡ false) × (j ≡ 0))

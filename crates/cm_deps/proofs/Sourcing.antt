@@ -1,5 +1,5 @@
-use Rattle.std.proofs.Common.{◌≡◌, ℕ, zero, suc, ◌+◌, ◌<◌, ◌≤◌, List, [], ◌∷◌, ◌++◌, length, take, Bool, true, false, ◌&&◌, ◌||◌, true≢false, refl, sym, ◌∙◌, ap, subst, IsTrue, inl, inr, arith, get_or, nat_eq, Some, None, Less, Result, Ok, Err, bytes_eq, append-nil, append_assoc, set, ◌≢◌}
-use Rattle.std.specs.Prelude.{map, filter, flat_map, nat_lt, Option, OnOk, IfOk, if◌then◌else◌}
+use Rattle.std.proofs.Common.{◌≡◌, ℕ, ◌+◌, ◌<◌, ◌≤◌, List, [], ◌∷◌, ◌++◌, length, take, Bool, true, false, ◌&&◌, ◌||◌, true≢false, refl, sym, ◌∙◌, ap, subst, IsTrue, inl, inr, arith, get_or, nat_eq, Some, Result, Ok, Err, bytes_eq, append-nil, append_assoc, set, ◌≢◌}
+use Rattle.std.specs.Prelude.{map, filter, flat_map, nat_lt, OnOk, IfOk, if◌then◌else◌}
 use Rattle.std.specs.List.{list_any}
 use Rattle.std.specs.Option.{option_eq}
 use Rattle.std.proofs.lemmas.Bool.{cases_lt}
@@ -10,6 +10,7 @@ use Rattle.std.proofs.lemmas.Grind.{flat_map-append}
 use Rattle.std.proofs.Common.{get_or-set_same, get_or-set_other}
 use Rattle.std.proofs.Math.Seq.{get_or-append_seam}
 use borrow.Author.Tests.{ltb-true, lt-ltb}
+use Rattle.std.proofs.lemmas.Bool.{and_from as and_pair, and_right}
 use Rattle.cm_names.specs.declared.child.ChildName.{ChildName}
 use Rattle.cm_decl.specs.declared.decl.Decl.{Decl}
 use Rattle.cm_decl.specs.declared.rows.Give.{Give}
@@ -19,7 +20,6 @@ use Rattle.cm_decl.specs.declared.node.Node.TheVariants.{Own, Child}
 use Rattle.cm_decl.specs.declared.node.DynChild.{DynChild}
 use Rattle.cm_decl.specs.declared.origin.Origin.{Origin}
 use Rattle.cm_decl.specs.Same.{same_node, same_child}
-use Rattle.cm_decl.specs.NodeOrder.{node_cmp}
 use Rattle.cm_decl.specs.Graph.{node_of, is_from_node, is_strong, sources_of, child_sources, gives_of, offers_to, target_of}
 use Rattle.cm_decl.proofs.Sameness.{and_first, and_second, same_node-refl, same_node_exact, same_child_exact}
 use Rattle.cm_deps.specs.Edges.{holds, row}
@@ -30,23 +30,11 @@ use Rattle.cm_deps.proofs.Numbering.{number_once}
 use Rattle.cm_deps.proofs.Rising.{rising_keys}
 use Rattle.cm_deps.proofs.Placing.{bool_same, at_found}
 
-and_pair : (p q : Bool) → IsTrue p → IsTrue q → IsTrue (p && q)
-and_pair true q first second = second
-and_pair false q first second = absurd (true≢false (sym first))
-
 or_false : (p : Bool) → p ≡ (p || false)
 or_false true = refl
 or_false false = refl
 
 -- ---- one source
-
--- what is no node has no number
-pub source_none : (nodes : List Node) (source : Origin) → node_of source ≡ None → (j : ℕ) → is_source nodes (source ∷ []) j ≡ false
-source_none nodes source none j = by (nat_lt j (length nodes)) (node_of source) none
-  where
-    by : (b : Bool) (o : Option Node) → o ≡ None → (b && (option_eq same_node o (Some (at nodes j)) || false)) ≡ false
-    by true o e = subst (λ v. (option_eq same_node v (Some (at nodes j)) || false) ≡ false) (sym e) refl
-    by false o e = refl
 
 -- a source that is a node
 pub source_node : (nodes : List Node) (source : Origin) (x : Node) → node_of source ≡ Some x → (j : ℕ) → is_source nodes (source ∷ []) j ≡ (nat_lt j (length nodes) && same_node x (at nodes j))
@@ -201,13 +189,9 @@ offered_strong nodes offers i o name old new low here strong so_far there elsewh
         subst (λ l. Lists nodes (passing (λ (o : Offer). bytes_eq o.to name && is_strong o.give.dependency) (λ (o : Offer). o.give.from) (take (i + 1) offers)) l) (sym (elsewhere e))
         (more_fails (λ (o : Offer). bytes_eq o.to name && is_strong o.give.dependency) (λ (o : Offer). o.give.from) nodes offers i o [] old low here fails so_far)
 
-and_weak : (p q : Bool) → q ≡ false → (p && q) ≡ false
-and_weak true q e = e
-and_weak false q e = refl
-
 pub offered_weak : (nodes : List Node) (offers : List Offer) (i : ℕ) (o : Offer) (name : List ℕ) (old : List ℕ) → i < length offers → o ≡ get_or offers i o → is_strong o.give.dependency ≡ false → Lists nodes (passing (λ (o : Offer). bytes_eq o.to name && is_strong o.give.dependency) (λ (o : Offer). o.give.from) (take i offers)) old → Lists nodes (passing (λ (o : Offer). bytes_eq o.to name && is_strong o.give.dependency) (λ (o : Offer). o.give.from) (take (i + 1) offers)) old
 offered_weak nodes offers i o name old low here weak so_far =
-    more_fails (λ (o : Offer). bytes_eq o.to name && is_strong o.give.dependency) (λ (o : Offer). o.give.from) nodes offers i o [] old low here (and_weak (bytes_eq o.to name) (is_strong o.give.dependency) weak) so_far
+    more_fails (λ (o : Offer). bytes_eq o.to name && is_strong o.give.dependency) (λ (o : Offer). o.give.from) nodes offers i o [] old low here (and_right (bytes_eq o.to name) (is_strong o.give.dependency) weak) so_far
 
 pub offered_all : (nodes : List Node) (offers : List Offer) (i : ℕ) (name : List ℕ) (numbers : List ℕ) → length offers ≤ i → Lists nodes (passing (λ (o : Offer). bytes_eq o.to name && is_strong o.give.dependency) (λ (o : Offer). o.give.from) (take i offers)) numbers → Lists nodes (strong_sources (offers_of offers name)) numbers
 offered_all nodes offers i name numbers low so_far =

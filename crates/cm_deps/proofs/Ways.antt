@@ -1,4 +1,4 @@
-use Rattle.std.proofs.Common.{◌≡◌, List, [], ◌∷◌, ◌++◌, sym, subst}
+use Rattle.std.proofs.Common.{List, [], ◌∷◌, ◌++◌}
 use Rattle.std.specs.Prelude.{map}
 use Rattle.cm_decl.specs.Reach.{Way, Reaches}
 
@@ -41,11 +41,3 @@ Way-map On Along at Inside step x inside (z ∷ zs) y way =
 pub Way-inside : {M : Type 0} (On : M → M → Type 0) (Inside : M → Type 0) → ((x y : M) → Inside x → On x y → Inside y) → (x : M) → Inside x → (xs : List M) (y : M) → Way On x xs y → Inside y
 Way-inside On Inside step x inside [] y on = step x y inside on
 Way-inside On Inside step x inside (z ∷ zs) y way = Way-inside On Inside step z (step x z inside way.0) zs y way.1
-
--- a way between nodes that stand at places is one of the places
-pub Way-back : {M N : Type 0} (On : M → M → Type 0) (Along : N → N → Type 0) (at : M → N) → ((x : M) (y : N) → Along (at x) y → (k : M) × On x k × (at k ≡ y)) → (x : M) (ys : List N) (y : N) → Way Along (at x) ys y → (k : M) × Reaches On x k × (at k ≡ y)
-Way-back On Along at step x [] y on = let next : (k : _) × On x k × (at k ≡ y) = step x y on in (next.0, ([], next.1), next.2)
-Way-back On Along at step x (z ∷ zs) y way =
-    let next : (k : _) × On x k × (at k ≡ z) = step x z way.0 in
-    let rest : (k : _) × Reaches On next.0 k × (at k ≡ y) = Way-back On Along at step next.0 zs y (subst (λ v. Way Along v zs y) (sym next.2) way.1) in
-    (rest.0, (next.0 ∷ rest.1.0, (next.1, rest.1.1)), rest.2)

@@ -6,13 +6,13 @@ use Rattle.cm_decl.specs.declared.node.Node.{Node}
 use Rattle.cm_decl.specs.declared.node.Node.TheVariants.{Child}
 use Rattle.cm_decl.specs.Reach.{NoCycle}
 use Rattle.cm_decl.specs.Cycle.{IsPickedCycle}
-use Rattle.cm_decl.specs.Graph.{is_node, strong_edge, StrongOn, DependsOn, WouldDepend}
+use Rattle.cm_decl.specs.Graph.{is_node, is_strong_edge, StrongOn, DependsOn, WouldDepend}
 
 -- a further child of a collection: it isn't a node yet, and no node depends on it
 pub record IsFurther (d : Decl) (dynamic : List DynChild) (collection : List ℕ) (k : DynChild) : Type 0 where
   pub coll : k.name.coll ≡ Some collection
   pub new : is_node d dynamic (Child k.name) ≡ false
-  pub unused : (z : Node) → strong_edge d (dynamic ++ k ∷ []) z (Child k.name) ≡ false
+  pub unused : (z : Node) → is_strong_edge d (dynamic ++ k ∷ []) z (Child k.name) ≡ false
 
 -- where a realm graph has no cycle, a further child would depend on a node exactly where, in
 -- the realm graph with that child, it depends on it
@@ -26,4 +26,4 @@ WouldDependIsOneMore =
 abbrev pub EachIsAcyclicOrHasAPickedCycle : Type 0
 EachIsAcyclicOrHasAPickedCycle =
     (d : Decl) (dynamic : List DynChild) →
-    NoCycle (StrongOn d dynamic) ⊎ ((cycle : List Node) × IsPickedCycle (strong_edge d dynamic) cycle)
+    NoCycle (StrongOn d dynamic) ⊎ ((cycle : List Node) × IsPickedCycle (is_strong_edge d dynamic) cycle)

@@ -10,6 +10,7 @@ use Rattle.cm_world.specs.Rows.{row_of, has_parent, is_behind, child_behind}
 use Rattle.cm_world.specs.Sound.{IsRising}
 use Rattle.cm_world.specs.Create.{dynamic_by, dynamic_of, dynamic_children}
 use Rattle.cm_world.proofs.Finding.{some_same, none_some, find-passes}
+use Rattle.cm_walk.proofs.Behind.{behind_more}
 use Rattle.cm_dynamic.specs.Siblings.{sibling_by, sibling_of, siblings_behind}
 
 -- a child of p whose incarnation is above the given one
@@ -68,9 +69,6 @@ all_behind p after (r ∷ rs) all =
     ap (λ b. cons_option (cond b (dynamic_of p r) None) (filter_map (taken p after) rs)) all.0
     ∙ ap (cons_option (dynamic_of p r)) (all_behind p after rs all.1)
 
-later : (a b c : ℕ) → a < b → b < c → a < c
-later a b c low high = omega arith
-
 -- a row that lives
 living : (r : Row) (rs : List Row) → IsSome (row_of (r ∷ rs) r.inc)
 living r rs = ap (λ b. is_some (cond b (Some r) (row_of rs r.inc))) (eq-eqb r.inc r.inc refl)
@@ -88,14 +86,10 @@ above_all a next (r ∷ rs) above rising = (
   above_all a next rs (λ s lives. above s (living_by (r.inc == s) r (row_of rs s) lives)) rising.1,
 )
 
-behind_later : (after : Option ℕ) (a b : ℕ) → is_behind after a ≡ true → a < b → is_behind after b ≡ true
-behind_later None a b h less = refl
-behind_later (Some j) a b h less = lt-ltb j b (later j a b (ltb-true j a h) less)
-
 behind_all : (after : Option ℕ) (a : ℕ) (rows : List Row) → is_behind after a ≡ true → AllBehind (Some a) rows → AllBehind after rows
 unfolding AllBehind
 behind_all after a [] h all = tt
-behind_all after a (r ∷ rs) h all = (behind_later after a r.inc h (ltb-true a r.inc all.0), behind_all after a rs h all.1)
+behind_all after a (r ∷ rs) h all = (behind_more after a r.inc h (ltb-true a r.inc all.0), behind_all after a rs h all.1)
 
 -- ---- the first row that follows
 

@@ -2,6 +2,7 @@
 use Rattle.std.proofs.Common.{◌≡◌, ℕ, List, [], ◌∷◌, ◌++◌, Bool, true, false, ◌&&◌, ◌||◌, true≢false, Option, Some, None, IsTrue, is_some, is_none, filter, map, option_and_then, refl, sym, ◌∙◌, ap, subst, inl, inr, append_assoc, append-nil}
 use Rattle.std.specs.List.{list_any, list_all, cons_option}
 use Rattle.std.proofs.lemmas.List.Folds.{list_any-append}
+use Rattle.std.proofs.lemmas.Bool.{and_from as and_pair, or_left, or_right}
 use Rattle.cm_names.specs.declared.child.ChildName.{ChildName}
 use Rattle.cm_decl.specs.declared.decl.Decl.{Decl}
 use Rattle.cm_decl.specs.declared.rows.Give.{Give}
@@ -16,7 +17,7 @@ use Rattle.cm_world.specs.declared.row.Row.{Row}
 use Rattle.cm_world.specs.Rows.{has_parent}
 use Rattle.cm_world.specs.Create.{dynamic_name, dynamic_by, dynamic_children}
 use Rattle.cm_dynamic.specs.Apart.{is_from_created, is_plain_give, is_plain_offer, is_plain_use, AreApart}
-use Rattle.cm_dynamic.proofs.Rings.{and_pair, or_left, or_right, all_join, IsKept, one_kept, is_static, some_not_none, unbound, static_source, own_static, plain_offers}
+use Rattle.cm_dynamic.proofs.Rings.{all_join, IsKept, one_kept, is_static, some_not_none, unbound, static_source, own_static, plain_offers}
 
 -- ---- lists
 

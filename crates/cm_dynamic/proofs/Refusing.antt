@@ -1,5 +1,5 @@
 -- What refuses a child, part by part.
-use Rattle.std.proofs.Common.{◌≡◌, ℕ, List, Bool, true, false, cond, Option, Some, None, Result, Ok, Err, IfOk, refl, sym, ◌∙◌, ap, subst}
+use Rattle.std.proofs.Common.{◌≡◌, ℕ, List, Bool, true, false, cond, Option, Some, None, refl, sym, ◌∙◌, ap, subst}
 use Rattle.cm_names.specs.declared.child.ChildName.{ChildName}
 use Rattle.cm_decl.specs.declared.decl.Decl.{Decl}
 use Rattle.cm_decl.specs.declared.rows.Collection.{Collection}
@@ -65,7 +65,3 @@ is_by_graph rows free p coll name gives d c made children answer refuses found n
     subst (λ o. CreatesUnless limit rows next p (dynamic_name coll name) gives o (create_reply next answer)) (refuses next)
     (subst (λ o. CreatesUnder limit rows next o (dynamic_with rows p (dynamic_name coll name) gives) (create_reply next answer)) (sym found)
     (subst (λ xs. Creates limit rows next d xs (create_reply next answer)) (same ∙ are ∙ ap (λ n. dynamic_with rows p n gives) named) (by_graph limit next rows tells)))
-
-pub if_ok : {A E : Type 0} (P Q : A → Type 0) (r : Result A E) → ((x : A) → P x → Q x) → IfOk r P → IfOk r Q
-if_ok P Q (Ok x) more it = more x it
-if_ok P Q (Err e) more it = it

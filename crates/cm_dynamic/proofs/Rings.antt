@@ -1,8 +1,9 @@
 -- What comes strongly from no child of a collection.
-use Rattle.std.proofs.Common.{◌≡◌, ℕ, List, [], ◌∷◌, ◌++◌, Bool, true, false, not, ◌&&◌, ◌||◌, true≢false, Option, Some, None, IsTrue, is_some, is_none, filter, map, refl, subst, inl, inr}
+use Rattle.std.proofs.Common.{◌≡◌, ℕ, List, [], ◌∷◌, ◌++◌, Bool, true, false, not, ◌&&◌, true≢false, Option, Some, None, IsTrue, is_some, is_none, filter, map, refl, subst, inl, inr}
 use Rattle.std.specs.List.{list_any, list_all}
 use Rattle.std.specs.Option.{option_eq}
 use Rattle.std.specs.Str.{bytes_eq}
+use Rattle.std.proofs.lemmas.Bool.{and_from as and_pair}
 use Rattle.cm_names.specs.declared.child.ChildName.{ChildName}
 use Rattle.cm_decl.specs.declared.decl.Decl.{Decl}
 use Rattle.cm_decl.specs.declared.origin.Origin.{Origin}
@@ -17,18 +18,6 @@ use Rattle.cm_decl.proofs.Sameness.{and_first, and_second, or_split, never, same
 use Rattle.cm_dynamic.specs.Apart.{is_from_created, is_plain_give, is_plain_use, AreApart}
 
 -- ---- lists
-
-pub and_pair : (p q : Bool) → IsTrue p → IsTrue q → IsTrue (p && q)
-and_pair true q first second = second
-and_pair false q first second = never first
-
-pub or_left : (p q : Bool) → IsTrue p → IsTrue (p || q)
-or_left true q h = refl
-or_left false q h = never h
-
-pub or_right : (p q : Bool) → IsTrue q → IsTrue (p || q)
-or_right true q h = refl
-or_right false q h = h
 
 pub all_join : {A : Type 0} (p : A → Bool) (xs ys : List A) → IsTrue (list_all p xs) → IsTrue (list_all p ys) → IsTrue (list_all p (xs ++ ys))
 all_join p [] ys first second = second

@@ -10,25 +10,25 @@ use Rattle.cm_gate.specs.declared.asked.Halted.{Halted}
 use Rattle.cm_gate.specs.declared.asked.Halted.TheVariants as halted
 
 -- whether a resolver failed
-abbrev pub fetch_failed : Fetched → Bool
-fetch_failed fetched.Failed = true
-fetch_failed (fetched.Found bytes) = false
-fetch_failed fetched.Absent = false
-fetch_failed fetched.Memory = false
+abbrev pub is_failed_fetch : Fetched → Bool
+is_failed_fetch fetched.Failed = true
+is_failed_fetch (fetched.Found bytes) = false
+is_failed_fetch fetched.Absent = false
+is_failed_fetch fetched.Memory = false
 
 -- whether a runner failed to start a program
-abbrev pub launch_failed : Launched → Bool
-launch_failed launched.Failed = true
-launch_failed launched.Running = false
-launch_failed launched.Declined = false
+abbrev pub is_failed_launch : Launched → Bool
+is_failed_launch launched.Failed = true
+is_failed_launch launched.Running = false
+is_failed_launch launched.Declined = false
 
 -- whether a runner failed to stop a program
-abbrev pub halt_failed : Halted → Bool
-halt_failed halted.Failed = true
-halt_failed halted.Stopped = false
+abbrev pub is_failed_halt : Halted → Bool
+is_failed_halt halted.Failed = true
+is_failed_halt halted.Stopped = false
 
 -- whether the gate that was asked failed
 abbrev pub is_failure : Asked → Bool
-is_failure (asked.Fetch what answer) = fetch_failed answer
-is_failure (asked.Launch job answer) = launch_failed answer
-is_failure (asked.Halt job answer) = halt_failed answer
+is_failure (asked.Fetch what answer) = is_failed_fetch answer
+is_failure (asked.Launch job answer) = is_failed_launch answer
+is_failure (asked.Halt job answer) = is_failed_halt answer

@@ -1,7 +1,7 @@
 //! Questions to gates, and their answers.
 
 ghost use Rattle.std.specs.Prelude.{◌≡◌};
-ghost use Rattle.cm_gate.specs.Failures.{fetch_failed, halt_failed, launch_failed};
+ghost use Rattle.cm_gate.specs.Failures.{is_failed_fetch, is_failed_halt, is_failed_launch};
 
 use cm_names::{Bytes, Moniker, Name, Text};
 
@@ -31,7 +31,7 @@ pub enum Fetched {
 impl Fetched {
     /// Whether the resolver failed.
     pub fn is_failed(&self) -> bool
-        ensures { result ≡ fetch_failed self.now }
+        ensures { result ≡ is_failed_fetch self.now }
     {
         matches!(self, Fetched::Failed)
     }
@@ -66,7 +66,7 @@ pub enum Launched {
 impl Launched {
     /// Whether the runner failed.
     pub fn is_failed(self) -> bool
-        ensures { result ≡ launch_failed self }
+        ensures { result ≡ is_failed_launch self }
     {
         matches!(self, Launched::Failed)
     }
@@ -84,7 +84,7 @@ pub enum Halted {
 impl Halted {
     /// Whether the runner failed.
     pub fn is_failed(self) -> bool
-        ensures { result ≡ halt_failed self }
+        ensures { result ≡ is_failed_halt self }
     {
         matches!(self, Halted::Failed)
     }

@@ -4,7 +4,7 @@ ghost use Rattle.std.specs.Prelude.{◌≡◌, ◌⊎◌, ◌<◌, ◌≤◌, �
 ghost use Rattle.std.specs.IoError.{error_kind};
 ghost use Rattle.cm_io.specs.Counts.{count_after};
 ghost use Rattle.cm_io.specs.Outside.{Rose};
-ghost use Rattle.cm_gate.specs.Failures.{fetch_failed};
+ghost use Rattle.cm_gate.specs.Failures.{is_failed_fetch};
 ghost use Rattle.cm_gate.specs.Places.{HasAtMost, place_of_fetch};
 
 use crate::count::FaultCount;
@@ -139,7 +139,7 @@ impl<F: Files + Drop> Gates for FolderGates<F> {
         _idle: &Pass<Entry, Frame>,
         what: &Fetch,
     ) -> Fetched
-        ensures count { self.new ≡ count_after (fetch_failed result) self.old }
+        ensures count { self.new ≡ count_after (is_failed_fetch result) self.old }
         ensures later { self.old ≤ self.new }
         ensures fault { result ≡ Fetched.Failed → Rose self.old self.new }
         ensures bound { self.new < 2 ^ 64 }

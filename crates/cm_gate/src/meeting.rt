@@ -3,7 +3,7 @@
 ghost use Rattle.std.specs.Prelude.{◌≡◌, ◌⊎◌, ◌<◌, ◌≤◌, ◌^◌, IfOk};
 ghost use Rattle.cm_io.specs.Counts.{count_after};
 ghost use Rattle.cm_io.specs.Outside.{Rose};
-ghost use Rattle.cm_gate.specs.Failures.{fetch_failed};
+ghost use Rattle.cm_gate.specs.Failures.{is_failed_fetch};
 ghost use Rattle.cm_gate.specs.Manifests.{manifest_at};
 
 use crate::count::FaultCount;
@@ -132,7 +132,7 @@ impl Gates for MeetingGates {
         ensures fault { result ≡ Fetched.Failed → Rose self.old.faults self.new.faults }
         ensures bound { self.new.faults < 2 ^ 64 }
         ensures call { self.new ≡ record self.old {
-          faults = count_after (fetch_failed result) self.old.faults;
+          faults = count_after (is_failed_fetch result) self.old.faults;
         } }
         ensures answer { (result ≡ manifest_at what.now.url self.old.manifests)
             ⊎ (result ≡ Fetched.Failed) ⊎ (result ≡ Fetched.Memory) }

@@ -51,12 +51,12 @@ Gives old new accept.Closed = (old ≡ []) × (new ≡ [])
 Gives old new accept.Failed = new ≡ old
 
 -- whether a listen failed
-abbrev pub listen_failed : Listen → Bool
-listen_failed listen.Failed = true
-listen_failed listen.Ready = false
+abbrev pub is_failed_listen : Listen → Bool
+is_failed_listen listen.Failed = true
+is_failed_listen listen.Ready = false
 
 -- whether an accept failed
-abbrev pub accept_failed : {L : Type 0} → Accept L → Bool
-accept_failed accept.Failed = true
-accept_failed accept.Closed = false
-accept_failed (accept.Link link) = false
+abbrev pub is_failed_accept : {L : Type 0} → Accept L → Bool
+is_failed_accept accept.Failed = true
+is_failed_accept accept.Closed = false
+is_failed_accept (accept.Link link) = false

@@ -51,15 +51,15 @@ abbrev pub no_sink : AsSink
 no_sink = record { written = None; faults = 0 }
 
 -- whether a read failed
-abbrev pub read_failed : Got → Bool
-read_failed got.Failed = true
-read_failed got.End = false
-read_failed (got.Bytes n) = false
+abbrev pub is_failed_read : Got → Bool
+is_failed_read got.Failed = true
+is_failed_read got.End = false
+is_failed_read (got.Bytes n) = false
 
 -- whether a write failed
-abbrev pub write_failed : Took → Bool
-write_failed took.Failed = true
-write_failed (took.Bytes n) = false
+abbrev pub is_failed_write : Took → Bool
+is_failed_write took.Failed = true
+is_failed_write (took.Bytes n) = false
 
 -- a fact about the number of bytes that a write took; a write that failed meets none
 abbrev pub TookAnd : Took → (ℕ → Type 0) → Type 0

@@ -2,8 +2,8 @@
 
 ghost use Rattle.cm_io.specs.Counts.{count_after, one_more};
 ghost use Rattle.cm_io.specs.InMemory.{after_call, most_of, sure_room, unused};
-ghost use Rattle.cm_io.specs.Outside.{Gave, ReadCause, Reads, TookAnd, WriteCause, Writes, read_failed};
-ghost use Rattle.cm_io.specs.Outside.{write_failed};
+ghost use Rattle.cm_io.specs.Outside.{Gave, ReadCause, Reads, TookAnd, WriteCause, Writes, is_failed_read};
+ghost use Rattle.cm_io.specs.Outside.{is_failed_write};
 ghost use Rattle.std.specs.Prelude.{IsTrue, ◌≡◌, ◌≢◌, ◌↔◌, ◌⊎◌, ◌<◌, ℕ, Some, [], ◌≤◌, ◌+◌, ◌-◌, ◌^◌};
 ghost use Rattle.std.specs.Prelude.{length, min, max, Contains, IfOk};
 
@@ -160,7 +160,7 @@ impl Source for MemorySource {
         ensures cause { ReadCause self.old.plan.faults self.new.plan.faults result }
         ensures quiet { self.old.plan.failing ≡ [] → (self.new.plan.failing ≡ []) × (result ≢ Got.Failed) }
         ensures failed { (result ≡ Got.Failed) ↔ Contains self.old.plan.failing self.old.plan.calls }
-        ensures call { self.new.plan ≡ after_call (read_failed result) self.old.plan }
+        ensures call { self.new.plan ≡ after_call (is_failed_read result) self.old.plan }
         ensures piece { (n : ℕ) → result ≡ Got.Bytes n →
             n ≡ min (min (length self.old.left) (length into.old)) (most_of self.old.plan) }
     {
@@ -261,7 +261,7 @@ impl Sink for MemorySink {
         ensures planned { Contains self.old.plan.failing self.old.plan.calls → result ≡ Took.Failed }
         ensures memory { result ≡ Took.Failed → Contains self.old.plan.failing self.old.plan.calls
             ⊎ (self.old.capacity < length self.old.written + min (length bytes.now) (most_of self.old.plan)) }
-        ensures call { self.new.plan ≡ after_call (write_failed result) self.old.plan }
+        ensures call { self.new.plan ≡ after_call (is_failed_write result) self.old.plan }
         ensures piece { (n : ℕ) → result ≡ Took.Bytes n → n ≡ min (length bytes.now) (most_of self.old.plan) }
         ensures capacity { self.old.capacity ≤ self.new.capacity }
     {

@@ -2,8 +2,8 @@
 
 ghost use Rattle.cm_io.specs.Doors.{Accepts, IsNew, Listens, OnLink};
 ghost use Rattle.cm_io.specs.InMemory.{after_call, unused};
-ghost use Rattle.cm_io.specs.MemoryDoors.{Gives, IsToFail, accept_failed, as_sink, as_source, counts_of};
-ghost use Rattle.cm_io.specs.MemoryDoors.{listen_failed};
+ghost use Rattle.cm_io.specs.MemoryDoors.{Gives, IsToFail, is_failed_accept, as_sink, as_source, counts_of};
+ghost use Rattle.cm_io.specs.MemoryDoors.{is_failed_listen};
 ghost use Rattle.std.specs.Prelude.{◌≡◌, ◌↔◌, ◌-◌, ◌^◌, Contains};
 
 use crate::memory::Planned;
@@ -72,7 +72,9 @@ impl Door for MemoryDoor {
     fn listen<R: Threads + Wait + Sync>(&mut self, _rt: &R, _at: &str) -> Listen
         ensures counts { Listens (counts_of self.old) (counts_of self.new) result }
         ensures failed { (result ≡ Listen.Failed) ↔ Contains self.old.plan.failing self.old.plan.calls }
-        ensures call { self.new ≡ record self.old { plan = after_call (listen_failed result) self.old.plan } }
+        ensures call { self.new ≡ record self.old {
+          plan = after_call (is_failed_listen result) self.old.plan;
+        } }
     {
         if self.planned.fails() {
             return Listen::Failed;
@@ -88,7 +90,7 @@ impl Door for MemoryDoor {
         ensures new { OnLink result (λ link. IsNew (as_source link) (as_sink link)) }
         ensures failed { (result ≡ Accept.Failed) ↔ IsToFail self.old }
         ensures gives { Gives self.old.waiting self.new.waiting result }
-        ensures call { self.new.plan ≡ after_call (accept_failed result) self.old.plan }
+        ensures call { self.new.plan ≡ after_call (is_failed_accept result) self.old.plan }
     {
         if self.planned.fails() {
             return Accept::Failed;

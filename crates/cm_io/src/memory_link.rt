@@ -2,8 +2,8 @@
 
 ghost use Rattle.cm_io.specs.InMemory.{after_call, most_of, sure_room};
 ghost use Rattle.cm_io.specs.MemoryDoors.{as_sink, as_source, made_by};
-ghost use Rattle.cm_io.specs.Outside.{Gave, ReadCause, Reads, TookAnd, WriteCause, Writes, read_failed};
-ghost use Rattle.cm_io.specs.Outside.{write_failed};
+ghost use Rattle.cm_io.specs.Outside.{Gave, ReadCause, Reads, TookAnd, WriteCause, Writes, is_failed_read};
+ghost use Rattle.cm_io.specs.Outside.{is_failed_write};
 ghost use Rattle.std.specs.Prelude.{◌≡◌, ◌≢◌, ◌↔◌, ◌⊎◌, ◌<◌, ◌≤◌, ◌+◌, ℕ, Some, [], length, min, Contains};
 
 use crate::{Got, Link, MemorySink, MemorySource, Plan, Sink, Source, Took};
@@ -48,7 +48,7 @@ impl Source for MemoryLink {
             (self.new.source.plan.failing ≡ []) × (result ≢ Got.Failed) }
         ensures failed { (result ≡ Got.Failed) ↔
             Contains self.old.source.plan.failing self.old.source.plan.calls }
-        ensures call { self.new.source.plan ≡ after_call (read_failed result) self.old.source.plan }
+        ensures call { self.new.source.plan ≡ after_call (is_failed_read result) self.old.source.plan }
         ensures piece { (n : ℕ) → result ≡ Got.Bytes n →
             n ≡ min (min (length self.old.source.left) (length into.old)) (most_of self.old.source.plan) }
         ensures apart { self.new.sink ≡ self.old.sink }
@@ -83,7 +83,7 @@ impl Sink for MemoryLink {
             Contains self.old.sink.plan.failing self.old.sink.plan.calls
             ⊎ (self.old.sink.capacity <
             length self.old.sink.written + min (length bytes.now) (most_of self.old.sink.plan)) }
-        ensures call { self.new.sink.plan ≡ after_call (write_failed result) self.old.sink.plan }
+        ensures call { self.new.sink.plan ≡ after_call (is_failed_write result) self.old.sink.plan }
         ensures piece { (n : ℕ) → result ≡ Took.Bytes n →
             n ≡ min (length bytes.now) (most_of self.old.sink.plan) }
         ensures capacity { self.old.sink.capacity ≤ self.new.sink.capacity }

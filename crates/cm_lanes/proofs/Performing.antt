@@ -39,15 +39,6 @@ performing_none shelf p g said own = record {
 lines_more : (c : ℕ) (lines : List Line) (l : Line) (b : Bool) → (l.lane == c) ≡ b → lines_of c (lines ++ l ∷ []) ≡ lines_of c lines ++ cond b (l ∷ []) []
 lines_more c lines l b is = filter-append (λ (l : Line). l.lane == c) lines (l ∷ []) ∙ ap (λ (t : Bool). lines_of c lines ++ cond t (l ∷ []) []) is
 
-pub performing_passed : (shelf : Shelf) (lines : List Line) (l : Line) (p q : RealmPass) (g h : GatesView) (said₀ said₁ : List Said) (lost : Bool) → Performing shelf lines p q g h said₀ said₁ lost → (l.lane == p.caller) ≡ false → Performing shelf (lines ++ l ∷ []) p q g h said₀ said₁ lost
-performing_passed shelf lines l p q g h said₀ said₁ lost is other = record {
-  keeps = is.keeps;
-  answers = is.answers;
-  own_lines = is.own_lines ∙ sym (lines_more p.caller lines l false other ∙ append-nil (lines_of p.caller lines));
-  goes_on = is.goes_on;
-  said = is.said;
-}
-
 said_then : (before now : Bool) (a b d more : List Said) (s : Said) → GrewUnless before a b more → PutsUnless before now b d s → GrewUnless now a d (more ++ s ∷ [])
 said_then before now a b d more s old puts kept =
     let e = puts kept in

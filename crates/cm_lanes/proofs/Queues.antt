@@ -7,16 +7,13 @@ use Rattle.cm_command.specs.declared.script.Line.{Line}
 use Rattle.cm_lanes.specs.declared.said.Said.{Said}
 use Rattle.cm_lanes.specs.Script.{Answered, said_of, answered_lines, answers_of}
 use Rattle.cm_lanes.specs.Phases.{told_to}
-use Rattle.cm_lanes.specs.Weave.{Queue, Takes, BeginsWith, HasAll}
+use Rattle.cm_lanes.specs.Weave.{Queue, Takes, BeginsWith}
 use Rattle.cm_lanes.proofs.Weaving.{same_lane, is_lane, answers_first}
 
 -- the first n of these answers are moved
 pub record Moves (n : ℕ) (answered : List Answered) (behind : ℕ → List Said) (queues : List Queue) (old all : List Said) : Type 0 where
   pub moved : all ≡ old ++ map said_of (take n answered)
   pub left : (k : ℕ) (d : Queue) → k < 16 → (get_or queues k d).items ≡ map said_of (answers_of k (drop n answered)) ++ behind k
-
-pub moves_none : (lines : List Line) (queues : List Queue) (all : List Said) → (is : BeginsWith lines queues) → Moves 0 is.answered is.behind queues all all
-moves_none lines queues all is = record { moved = sym (append-nil all); left = is.each }
 
 -- the answer to the next line
 pub record Next (answered : List Answered) (n : ℕ) (l : Line) : Type 0 where
@@ -90,9 +87,6 @@ moves_more answered behind n l queues new old all all' s count lane next moves t
 pub record MovesAll (n : ℕ) (answered : List (List Answered)) (queues : List Queue) (all : List Said) : Type 0 where
   pub moved : all ≡ flat_map (λ p. map said_of p) (take n answered)
   pub left : (k : ℕ) (d : Queue) → k < 16 → (get_or queues k d).items ≡ told_to k (drop n answered)
-
-pub phases_none : (phases : List (List Line)) (queues : List Queue) → (is : HasAll phases queues) → MovesAll 0 is.answered queues []
-phases_none phases queues is = record { moved = refl; left = is.each }
 
 -- the answers to the next phase
 pub record NextPhase (answered : List (List Answered)) (n : ℕ) (lines : List Line) : Type 0 where

@@ -1,6 +1,6 @@
 //! One lane.
 
-ghost use Rattle.std.specs.Prelude.{◌≡◌, All};
+ghost use Rattle.std.specs.Prelude.{◌≡◌, All, Some};
 ghost use Rattle.cm_lanes.specs.Script.{IsFit};
 ghost use Rattle.cm_manager.specs.Kept.{IsOwnPass};
 ghost use Rattle.cm_lanes.specs.Lane.{IsReady, Performed, PutsUnless, Worked};
@@ -36,7 +36,10 @@ fn tell(said: &mut VecDeque<Said>, answer: Said, lost: bool) -> bool
 {
     match said.push_back(answer) {
         Ok(()) => lost,
-        Err(_) => true,
+        Err(refused) => {
+            drop(refused);
+            true
+        }
     }
 }
 
@@ -76,6 +79,13 @@ fn perform_lines<R: Threads + Wait + Sync, G: Gates>(
     (pass, lost)
 }
 
+/// Puts a value where another may be.
+pub(crate) fn put<T: Drop>(place: &mut Option<T>, value: T)
+    ensures { place.new ≡ Some value }
+{
+    *place = Some(value);
+}
+
 /// Performs the lane's own lines of a phase.
 pub(crate) fn work<R: Threads + Wait + Sync, G: Gates>(
     rt: &R,
@@ -100,7 +110,7 @@ pub(crate) fn work<R: Threads + Wait + Sync, G: Gates>(
         lines,
         &mut lane.said,
     );
-    lane.pass = Some(pass);
+    put(&mut lane.pass, pass);
     if lost {
         lane.lost = true;
     }

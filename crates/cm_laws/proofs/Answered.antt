@@ -86,32 +86,47 @@ found_plain rows i front (c ∷ cs) =
     if_passes is_plain (is_resolved rows i) _ _ (found_child rows front c cs (child_of rows i c) (λ j. found_plain rows j (front ++ c ∷ []) cs))
     (if_passes is_plain (is_closed rows i) (reply.Shut i) (reply.Need i) refl refl)
 
-bad_plain : (o : Option (ℕ × ℕ)) → passes_or is_plain (option_map (λ bad. reply.BadOffer bad.0 bad.1) o) ≡ true
-bad_plain None = refl
-bad_plain (Some bad) = refl
+-- a test that each refusal of a create passes
+pub record PassesRefusals (p : Reply → Bool) : Type 0 where
+  pub gone : (i : ℕ) → p (reply.Gone i) ≡ true
+  pub closing : (i : ℕ) → p (reply.Closing i) ≡ true
+  pub need : (i : ℕ) → p (reply.Need i) ≡ true
+  pub no_collection : p reply.NoCollection ≡ true
+  pub exists : (i : ℕ) → p (reply.Exists i) ≡ true
+  pub offers : p reply.OffersRefused ≡ true
+  pub bad : (i n : ℕ) → p (reply.BadOffer i n) ≡ true
 
-gives_plain : (rows : List Row) (p : ℕ) (d : Decl) (coll : Collection) (gives : List Give) → passes_or is_plain (refused_gives rows p d coll gives) ≡ true
-gives_plain rows p d coll [] = refl
-gives_plain rows p d coll (g ∷ gs) =
-    or_passes is_plain coll.dynamic_offers _ _ (bad_plain (bad_give d (is_child_there rows p) coll.name (g ∷ gs))) refl
+module _ (p : Reply → Bool) (each : PassesRefusals p) where
+  bad_passes : (o : Option (ℕ × ℕ)) → passes_or p (option_map (λ bad. reply.BadOffer bad.0 bad.1) o) ≡ true
+  bad_passes None = refl
+  bad_passes (Some bad) = each.bad bad.0 bad.1
 
-name_plain : (rows : List Row) (p : ℕ) (d : Decl) (coll : Collection) (gives : List Give) (o : Option ℕ) → passes_or is_plain (elim o as (λ _. Option Reply) [ Some i ↦ Some (reply.Exists i) | None ↦ refused_gives rows p d coll gives ]) ≡ true
-name_plain rows p d coll gives (Some i) = refl
-name_plain rows p d coll gives None = gives_plain rows p d coll gives
+  gives_pass : (rows : List Row) (i : ℕ) (d : Decl) (coll : Collection) (gives : List Give) → passes_or p (refused_gives rows i d coll gives) ≡ true
+  gives_pass rows i d coll [] = refl
+  gives_pass rows i d coll (g ∷ gs) =
+      or_passes p coll.dynamic_offers _ _ (bad_passes (bad_give d (is_child_there rows i) coll.name (g ∷ gs))) each.offers
 
-by_plain : (rows : List Row) (p : ℕ) (d : Decl) (coll name : List ℕ) (gives : List Give) (o : Option Collection) → passes_or is_plain (elim o as (λ _. Option Reply) [ None ↦ Some reply.NoCollection | Some c ↦ refused_name rows p d c (dynamic_name coll name) gives ]) ≡ true
-by_plain rows p d coll name gives None = refl
-by_plain rows p d coll name gives (Some c) =
-    name_plain rows p d c gives (child_of rows p (dynamic_name coll name))
+  name_passes : (rows : List Row) (i : ℕ) (d : Decl) (coll : Collection) (gives : List Give) (o : Option ℕ) → passes_or p (elim o as (λ _. Option Reply) [ Some k ↦ Some (reply.Exists k) | None ↦ refused_gives rows i d coll gives ]) ≡ true
+  name_passes rows i d coll gives (Some k) = each.exists k
+  name_passes rows i d coll gives None = gives_pass rows i d coll gives
 
-under_plain : (rows : List Row) (p : ℕ) (coll name : List ℕ) (gives : List Give) (o : Option Decl) → passes_or is_plain (elim o as (λ _. Option Reply) [ None ↦ Some (reply.Need p) | Some d ↦ refused_by rows p d coll name gives ]) ≡ true
-under_plain rows p coll name gives None = refl
-under_plain rows p coll name gives (Some d) = by_plain rows p d coll name gives (collection_of d coll)
+  by_passes : (rows : List Row) (i : ℕ) (d : Decl) (coll name : List ℕ) (gives : List Give) (o : Option Collection) → passes_or p (elim o as (λ _. Option Reply) [ None ↦ Some reply.NoCollection | Some c ↦ refused_name rows i d c (dynamic_name coll name) gives ]) ≡ true
+  by_passes rows i d coll name gives None = each.no_collection
+  by_passes rows i d coll name gives (Some c) =
+      name_passes rows i d c gives (child_of rows i (dynamic_name coll name))
 
-refused_plain : (rows : List Row) (p : ℕ) (coll name : List ℕ) (gives : List Give) → passes_or is_plain (refused_create rows p coll name gives) ≡ true
-refused_plain rows p coll name gives =
-    or_passes is_plain (is_gone rows p) _ _ refl
-    (or_passes is_plain (is_closed rows p) _ _ refl (under_plain rows p coll name gives (decl_of rows p)))
+  under_passes : (rows : List Row) (i : ℕ) (coll name : List ℕ) (gives : List Give) (o : Option Decl) → passes_or p (elim o as (λ _. Option Reply) [ None ↦ Some (reply.Need i) | Some d ↦ refused_by rows i d coll name gives ]) ≡ true
+  under_passes rows i coll name gives None = each.need i
+  under_passes rows i coll name gives (Some d) = by_passes rows i d coll name gives (collection_of d coll)
+
+  -- no refusal of a create fails it
+  pub refused_passes : (rows : List Row) (i : ℕ) (coll name : List ℕ) (gives : List Give) → passes_or p (refused_create rows i coll name gives) ≡ true
+  refused_passes rows i coll name gives =
+      or_passes p (is_gone rows i) _ _ (each.gone i)
+      (or_passes p (is_closed rows i) _ _ (each.closing i) (under_passes rows i coll name gives (decl_of rows i)))
+
+refusals_plain : PassesRefusals is_plain
+refusals_plain = record { gone = λ i. refl; closing = λ i. refl; need = λ i. refl; no_collection = refl; exists = λ i. refl; offers = refl; bad = λ i n. refl }
 
 creates_plain : (limit : ℕ) (rows : List Row) (next : ℕ) (d : Decl) (dynamic : List DynChild) (r : Reply) → Creates limit rows next d dynamic r → is_plain r ≡ true
 creates_plain limit rows next d dynamic (reply.Cycle nodes) it = refl
@@ -197,7 +212,7 @@ plain_reply w caller (Begin kind i) r plainly it = absurd (true≢false (sym pla
 plain_reply w caller (End a finish) r plainly it = ap is_plain it
 plain_reply w caller (Await a) r plainly it = ended_plain (outcome_of w.acts a) r it
 plain_reply w caller (Create p coll name url gives) r plainly it =
-    creates_unless w.frame.limits.rows w.rows w.next_inc p (dynamic_name coll name) gives (refused_create w.rows p coll name gives) r (refused_plain w.rows p coll name gives) it
+    creates_unless w.frame.limits.rows w.rows w.next_inc p (dynamic_name coll name) gives (refused_create w.rows p coll name gives) r (refused_passes is_plain refusals_plain w.rows p coll name gives) it
 plain_reply w caller (Mark doom i) r plainly it = ap is_plain it ∙ mark_plain w.rows doom i
 plain_reply w caller (Pick t) r plainly it = absurd (true≢false (sym plainly))
 plain_reply w caller (Purge i) r plainly it = ap is_plain it ∙ if_passes is_plain (is_live w.rows i) _ _ refl refl

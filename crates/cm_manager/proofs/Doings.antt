@@ -33,6 +33,7 @@ use Rattle.cm_gate.specs.declared.asked.Asked.TheVariants.{Fetch, Launch, Halt}
 use Rattle.cm_gate.specs.declared.asked.Fetch.{Fetch as Fetching}
 use Rattle.cm_gate.specs.declared.asked.Fetched.{Fetched}
 use Rattle.cm_gate.specs.declared.asked.Fetched.TheVariants as fetched
+use Rattle.cm_gate.specs.declared.asked.Job.{Job}
 use Rattle.cm_gate.specs.declared.asked.Launched.{Launched}
 use Rattle.cm_gate.specs.declared.asked.Launched.TheVariants as launched
 use Rattle.cm_gate.specs.declared.asked.Halted.{Halted}
@@ -41,7 +42,7 @@ use Rattle.cm_gate.specs.Logs.{Grew}
 use Rattle.cm_gate.proofs.Logs.{grew_nothing}
 use Rattle.cm_manager.specs.Contract.{GatesView}
 use Rattle.cm_manager.specs.Work.{Judges, note_of, resolved_by, Shelf, Does, FetchEnds, job_of, is_gate_failure}
-use Rattle.cm_manager.specs.Doing.{JudgesBy, EndsBy, Fits, Did, unread_outcome, invalid_outcome, launched_outcome, halted_outcome}
+use Rattle.cm_manager.specs.Doing.{JudgesBy, EndsBy, Fits, HasJob, Did, unread_outcome, invalid_outcome, launched_outcome, halted_outcome}
 
 -- ---- manifests
 
@@ -164,3 +165,12 @@ halt_did shelf w runner halted.Failed g h is grew later rose = asked_badly shelf
 pub did_halt : (shelf : Shelf) (w : Work) (runner : List ℕ) (answer : Halted) (o : Outcome) (g h : GatesView) → o ≡ halted_outcome answer → w.runner ≡ Some runner → Grew g.log h.log (Halt (job_of w runner) answer ∷ []) → g.faults ≤ h.faults → (answer ≡ halted.Failed → Rose g.faults h.faults) → Did shelf w kind.Stop (finish.Other o) g h
 did_halt shelf w runner answer o g h by is grew later rose =
     subst (λ (o : Outcome). Did shelf w kind.Stop (finish.Other o) g h) (sym by) (halt_did shelf w runner answer g h is grew later rose)
+
+-- the same of the job that was asked about
+pub launched_for : (shelf : Shelf) (w : Work) (job : Job) (answer : Launched) (o : Outcome) (g h : GatesView) → HasJob w (Some job) → o ≡ launched_outcome answer → Grew g.log h.log (Launch job answer ∷ []) → g.faults ≤ h.faults → (answer ≡ launched.Failed → Rose g.faults h.faults) → Did shelf w kind.Start (finish.Other o) g h
+launched_for shelf w job answer o g h has by grew later rose =
+    did_launch shelf w has.0 answer o g h by has.1 (subst (λ (j : Job). Grew g.log h.log (Launch j answer ∷ [])) has.2 grew) later rose
+
+pub halted_for : (shelf : Shelf) (w : Work) (job : Job) (answer : Halted) (o : Outcome) (g h : GatesView) → HasJob w (Some job) → o ≡ halted_outcome answer → Grew g.log h.log (Halt job answer ∷ []) → g.faults ≤ h.faults → (answer ≡ halted.Failed → Rose g.faults h.faults) → Did shelf w kind.Stop (finish.Other o) g h
+halted_for shelf w job answer o g h has by grew later rose =
+    did_halt shelf w has.0 answer o g h by has.1 (subst (λ (j : Job). Grew g.log h.log (Halt j answer ∷ [])) has.2 grew) later rose

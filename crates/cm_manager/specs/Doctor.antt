@@ -1,6 +1,7 @@
 -- The run of a check of all routes: a survey of a row, and the routes of all paths that the rows of the
 -- survey use.
-use Rattle.std.specs.Prelude.{◌≡◌, ◌⊎◌, ℕ, List, [], ◌∷◌, ◌++◌, Some, None, Result, Ok, Err, IsTrue, IsFalse}
+use Rattle.std.specs.Prelude.{◌≡◌, ◌⊎◌, ℕ, List, [], ◌∷◌, ◌++◌, Option, Some, None, Result, Ok, Err, IsTrue}
+use Rattle.std.specs.Prelude.{IsFalse}
 use Rattle.cm_names.specs.declared.moniker.Moniker.{Moniker}
 use Rattle.cm_world.specs.declared.frame.Frame.{Frame}
 use Rattle.cm_world.specs.declared.event.Event.TheVariants as event
@@ -31,6 +32,12 @@ abbrev pub line_of : Moniker → List ℕ → Result Route Refusal → Result (L
 line_of m p (Err refusal.Memory) = Err refusal.Memory
 line_of m p (Err refusal.HistoryFull) = Err refusal.HistoryFull
 line_of m p found = Ok (record { moniker = m; path = Some p; result = found } ∷ [])
+
+-- what ends the call in place of such a line
+abbrev pub end_of_line : Result Route Refusal → Option Refusal
+end_of_line (Err refusal.Memory) = Some refusal.Memory
+end_of_line (Err refusal.HistoryFull) = Some refusal.HistoryFull
+end_of_line _ = None
 
 -- the line of an instance that isn't resolved
 abbrev pub unresolved_line : Moniker → Checked

@@ -1,5 +1,5 @@
 -- What the functions promise that do the work of an action.
-use Rattle.std.specs.Prelude.{◌≡◌, ◌⊎◌, ℕ, List, Result, Ok, Err, IsTrue}
+use Rattle.std.specs.Prelude.{◌≡◌, ◌⊎◌, ℕ, List, Option, Some, None, Result, Ok, Err, IsTrue}
 use Rattle.cm_decl.specs.declared.decl.Decl.{Decl}
 use Rattle.cm_world.specs.declared.action.ActKind.{ActKind}
 use Rattle.cm_world.specs.declared.action.FaultNote.{FaultNote}
@@ -18,8 +18,9 @@ use Rattle.cm_gate.specs.declared.asked.Launched.{Launched}
 use Rattle.cm_gate.specs.declared.asked.Launched.TheVariants as launched
 use Rattle.cm_gate.specs.declared.asked.Halted.{Halted}
 use Rattle.cm_gate.specs.declared.asked.Halted.TheVariants as halted
+use Rattle.cm_gate.specs.declared.asked.Job.{Job}
 use Rattle.cm_gate.specs.Logs.{Grew}
-use Rattle.cm_manager.specs.Work.{Judges, resolved_by, Shelf, Does, Counts}
+use Rattle.cm_manager.specs.Work.{Judges, resolved_by, Shelf, Does, Counts, job_of}
 use Rattle.cm_manager.specs.Contract.{GatesView}
 
 -- ---- manifests
@@ -49,6 +50,11 @@ EndsBy url bytes end =
     ⊎ (end ≡ finish.Other outcome.NoMemory)
 
 -- ---- questions
+
+-- the job of a work, which has none where the instance has no program
+abbrev pub HasJob : Work → Option Job → Type 0
+HasJob w None = w.runner ≡ None
+HasJob w (Some job) = (runner : List ℕ) × (w.runner ≡ Some runner) × (job ≡ job_of w runner)
 
 abbrev pub launched_outcome : Launched → Outcome
 launched_outcome launched.Running = outcome.Started

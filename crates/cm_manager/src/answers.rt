@@ -29,7 +29,10 @@ pub(crate) fn refusing(reply: Reply) -> Refusal
         Reply::Failed(hop, why) => Refusal::NoRoute(hop, why),
         Reply::Void(hop) => Refusal::VoidSource(hop),
         Reply::SourceShut(row) => Refusal::SourceShut(row),
-        _ => Refusal::Memory,
+        other => {
+            drop(other);
+            Refusal::Memory
+        }
     }
 }
 

@@ -6,9 +6,18 @@
 //! `Performs` has it: an instance is found by one event, an action that was begun is ended,
 //! one that was joined is awaited, and what another event needed first was done.
 //!
-//! `Err` with `Memory` or `HistoryFull` ends each call at once, where memory ran out or the
-//! history has no room for the next event. What was begun is ended before, and the entries that
-//! were made stay.
+//! Each call is refused
+//!
+//! - with `NotFound` and the part of its moniker that was found, where nothing stands there;
+//! - with `Gone` where its instance doesn't live, or it or one above it is being destroyed
+//!   (`exited` only where it doesn't live), and with `Shut` where that, or one on the way to it, is
+//!   being shut down and would have to be resolved, started or stopped;
+//! - with `CannotResolve`, the action and its outcome, where a resolve failed that it needed;
+//! - with `HistoryFull` where the history has no room for what is needed, and with `Memory` where
+//!   memory runs out. These end the call at once: what was begun is ended before, and the entries
+//!   that were made stay.
+//!
+//! What else refuses it stands at the call.
 
 ghost use Rattle.std.specs.Prelude.{◌≡◌, IfOk};
 ghost use Rattle.cm_command.specs.declared.command.Command.TheVariants as command;
@@ -91,12 +100,6 @@ impl Manager {
 
     /// Resolves an instance, as `ResolveInstance` of `fuchsia.sys2.LifecycleController` does:
     /// `Resolved` with the number of the action, or none where it was resolved before.
-    ///
-    /// - `NotFound` with the part of the moniker that was found, where nothing stands there;
-    /// - `Gone` or `Shut` where the instance doesn't live, or is being shut down;
-    /// - `CannotResolve` with the action and its outcome, where a resolve failed;
-    /// - `HistoryFull` where the history has no room for what is needed, `Memory` where memory
-    ///   runs out.
     pub fn resolve<R: Threads + Wait + Sync, G: Gates>(
         &self,
         rt: &R,
@@ -106,8 +109,7 @@ impl Manager {
         target: &Target,
     ) -> (Pass<Entry, Frame>, Result<Answer, Refusal>)
         requires lock { pass.lock ≡ self.now.turn.lock }
-        ensures performs { PerformsWith G.log G.faults self.now.shelf
-            (command.Resolve target.now)
+        ensures performs { PerformsWith G.log G.faults self.now.shelf (command.Resolve target.now)
             pass result.0 gates.old gates.new result.1 }
     {
         self.call(
@@ -123,12 +125,7 @@ impl Manager {
     /// Starts an instance, as `StartInstance` of `fuchsia.sys2.LifecycleController` does, with its
     /// eager children: `Started` with the number of the action, or none where it ran before.
     ///
-    /// - `NotFound` with the part of the moniker that was found, where nothing stands there;
-    /// - `Gone` or `Shut` where the instance doesn't live, or is being shut down;
-    /// - `CannotResolve` with the action and its outcome, where a resolve failed;
-    /// - `CannotStart` likewise, where a start failed;
-    /// - `HistoryFull` where the history has no room for what is needed, `Memory` where memory
-    ///   runs out.
+    /// - `CannotStart` with the action and its outcome, where a start failed.
     pub fn start<R: Threads + Wait + Sync, G: Gates>(
         &self,
         rt: &R,
@@ -138,8 +135,7 @@ impl Manager {
         target: &Target,
     ) -> (Pass<Entry, Frame>, Result<Answer, Refusal>)
         requires lock { pass.lock ≡ self.now.turn.lock }
-        ensures performs { PerformsWith G.log G.faults self.now.shelf
-            (command.Start target.now)
+        ensures performs { PerformsWith G.log G.faults self.now.shelf (command.Start target.now)
             pass result.0 gates.old gates.new result.1 }
     {
         self.call(
@@ -156,12 +152,6 @@ impl Manager {
     /// with the number of the action, or none where it was off before, and whether it had to be
     /// stopped by force. What goes with the instance is removed before the answer, where this call
     /// itself stopped it; a call that joined the stop of another caller doesn't wait for that.
-    ///
-    /// - `NotFound` with the part of the moniker that was found, where nothing stands there;
-    /// - `Gone` or `Shut` where the instance doesn't live, or is being shut down;
-    /// - `CannotResolve` with the action and its outcome, where a resolve failed;
-    /// - `HistoryFull` where the history has no room for what is needed, `Memory` where memory
-    ///   runs out.
     pub fn stop<R: Threads + Wait + Sync, G: Gates>(
         &self,
         rt: &R,
@@ -171,8 +161,7 @@ impl Manager {
         target: &Target,
     ) -> (Pass<Entry, Frame>, Result<Answer, Refusal>)
         requires lock { pass.lock ≡ self.now.turn.lock }
-        ensures performs { PerformsWith G.log G.faults self.now.shelf
-            (command.Stop target.now)
+        ensures performs { PerformsWith G.log G.faults self.now.shelf (command.Stop target.now)
             pass result.0 gates.old gates.new result.1 }
     {
         self.call(rt, alloc, pass, gates, target, Question::Act(ActKind::Stop))
@@ -185,12 +174,7 @@ impl Manager {
     /// A stop that has to be made by force counts as one. Where the call ends early, the instance
     /// stays marked, and a later call goes on from there.
     ///
-    /// - `NotFound` with the part of the moniker that was found, where nothing stands there;
-    /// - `Gone` where the instance doesn't live, or it or one above it is being destroyed;
-    /// - `Shut` where an instance on the way to it can't be resolved any more;
-    /// - `CannotResolve` with the action and its outcome, where a resolve on the way failed;
-    /// - `HistoryFull` where the history has no room for what is needed, `Memory` where memory
-    ///   runs out.
+    /// - `Gone` where the instance doesn't live, or it or one above it is being destroyed.
     pub fn shutdown<R: Threads + Wait + Sync, G: Gates>(
         &self,
         rt: &R,
@@ -200,8 +184,7 @@ impl Manager {
         target: &Target,
     ) -> (Pass<Entry, Frame>, Result<Answer, Refusal>)
         requires lock { pass.lock ≡ self.now.turn.lock }
-        ensures performs { PerformsWith G.log G.faults self.now.shelf
-            (command.Shutdown target.now)
+        ensures performs { PerformsWith G.log G.faults self.now.shelf (command.Shutdown target.now)
             pass result.0 gates.old gates.new result.1 }
         ensures shut { let f = frame_of pass in
             IfOk result.1 (λ _. Leaves f pass.caller target.now IsOver pass.seen result.0.seen) }
@@ -215,18 +198,13 @@ impl Manager {
     /// incarnation, which no instance had before. A child of a collection that runs each child
     /// once is started before the answer; that its start fails doesn't change the answer.
     ///
-    /// - `NotFound` with the part of the moniker that was found, where no parent stands there;
     /// - `Gone` where the parent doesn't live, or it or one above it is being destroyed, and
     ///   `ParentClosing` where it is being shut down;
     /// - `CollectionNotFound` where the parent declares no such collection, and `AlreadyExists`
     ///   with the incarnation of the child that has the name there;
     /// - `DynamicOffersRefused` where the collection takes no such offers, `BadOffer` with the
     ///   first one that breaks a rule, and `OfferCycle` with a ring of siblings that they close;
-    /// - `Full` where the realm has no room for one instance more;
-    /// - `Shut` where an instance on the way to the parent can't be resolved any more;
-    /// - `CannotResolve` with the action and its outcome, where a resolve failed;
-    /// - `HistoryFull` where the history has no room for what is needed, `Memory` where memory
-    ///   runs out.
+    /// - `Full` where the realm has no room for one instance more.
     pub fn create_child<R: Threads + Wait + Sync, G: Gates>(
         &self,
         rt: &R,
@@ -255,13 +233,8 @@ impl Manager {
     /// Where the call ends early, the child stays marked to be destroyed; its name is free, and a
     /// later call that names its incarnation goes on from there.
     ///
-    /// - `NotFound` with the part of the moniker that was found, where nothing stands there;
     /// - `Gone` where the instance doesn't live, or one above it is being destroyed;
-    /// - `NotDynamic` where it is the root, or a child that its parent declares;
-    /// - `Shut` where an instance on the way to it can't be resolved any more;
-    /// - `CannotResolve` with the action and its outcome, where a resolve on the way failed;
-    /// - `HistoryFull` where the history has no room for what is needed, `Memory` where memory
-    ///   runs out.
+    /// - `NotDynamic` where it is the root, or a child that its parent declares.
     pub fn destroy_child<R: Threads + Wait + Sync, G: Gates>(
         &self,
         rt: &R,
@@ -271,8 +244,7 @@ impl Manager {
         target: &Target,
     ) -> (Pass<Entry, Frame>, Result<Answer, Refusal>)
         requires lock { pass.lock ≡ self.now.turn.lock }
-        ensures performs { PerformsWith G.log G.faults self.now.shelf
-            (command.Destroy target.now)
+        ensures performs { PerformsWith G.log G.faults self.now.shelf (command.Destroy target.now)
             pass result.0 gates.old gates.new result.1 }
         ensures removed { let f = frame_of pass in
             IfOk result.1 (λ _. Leaves f pass.caller target.now IsRemoved pass.seen result.0.seen) }
@@ -284,12 +256,7 @@ impl Manager {
     /// Lists the children that an instance has in a collection and that aren't being destroyed,
     /// as `ListChildren` of `fuchsia.component.Realm` does: `Children`, by their incarnations.
     ///
-    /// - `NotFound` with the part of the moniker that was found, where nothing stands there;
-    /// - `Gone` or `Shut` where an instance doesn't live, or can't be resolved any more;
-    /// - `CollectionNotFound` where the instance declares no such collection;
-    /// - `CannotResolve` with the action and its outcome, where a resolve failed;
-    /// - `HistoryFull` where the history has no room for what is needed, `Memory` where memory
-    ///   runs out.
+    /// - `CollectionNotFound` where the instance declares no such collection.
     pub fn list_children<R: Threads + Wait + Sync, G: Gates>(
         &self,
         rt: &R,
@@ -301,8 +268,7 @@ impl Manager {
     ) -> (Pass<Entry, Frame>, Result<Answer, Refusal>)
         requires lock { pass.lock ≡ self.now.turn.lock }
         ensures performs { PerformsWith G.log G.faults self.now.shelf
-            (command.ListChildren target.now coll.now)
-            pass result.0 gates.old gates.new result.1 }
+            (command.ListChildren target.now coll.now) pass result.0 gates.old gates.new result.1 }
     {
         self.call(
             rt,
@@ -317,14 +283,10 @@ impl Manager {
     /// Opens what an instance uses at a path, and starts the provider first where it is off:
     /// `Opened` with the route.
     ///
-    /// - `NotFound` with the part of the moniker that was found, where nothing stands there;
-    /// - `Gone` or `Shut` where an instance doesn't live, or can't be resolved any more;
     /// - `ClientOff` where the instance doesn't run, `NoSuchUse` where it has no use of the path;
     /// - `NoRoute` with the hop that fails and why, `VoidSource` where it is left out on purpose;
     /// - `SourceShut` where the provider can't be started any more;
-    /// - `CannotResolve` and `CannotStart` with the action and its outcome, where one failed;
-    /// - `HistoryFull` where the history has no room for what is needed, `Memory` where memory
-    ///   runs out.
+    /// - `CannotStart` with the action and its outcome, where a start failed.
     pub fn open_use<R: Threads + Wait + Sync, G: Gates>(
         &self,
         rt: &R,
@@ -335,8 +297,7 @@ impl Manager {
         path: &CapPath,
     ) -> (Pass<Entry, Frame>, Result<Answer, Refusal>)
         requires lock { pass.lock ≡ self.now.turn.lock }
-        ensures performs { PerformsWith G.log G.faults self.now.shelf
-            (command.OpenUse target.now path.now)
+        ensures performs { PerformsWith G.log G.faults self.now.shelf (command.OpenUse target.now path.now)
             pass result.0 gates.old gates.new result.1 }
     {
         self.call(
@@ -352,13 +313,9 @@ impl Manager {
     /// Opens what an instance exposes by a name, as `OpenExposedDir` of `fuchsia.component.Realm`
     /// does, and starts the provider first where it is off: `Opened` with the route.
     ///
-    /// - `NotFound` with the part of the moniker that was found, where nothing stands there;
-    /// - `Gone` or `Shut` where an instance doesn't live, or can't be resolved any more;
     /// - `NoRoute` with the hop that fails and why, `VoidSource` where it is left out on purpose;
     /// - `SourceShut` where the provider can't be started any more;
-    /// - `CannotResolve` and `CannotStart` with the action and its outcome, where one failed;
-    /// - `HistoryFull` where the history has no room for what is needed, `Memory` where memory
-    ///   runs out.
+    /// - `CannotStart` with the action and its outcome, where a start failed.
     pub fn open_exposed<R: Threads + Wait + Sync, G: Gates>(
         &self,
         rt: &R,
@@ -370,8 +327,7 @@ impl Manager {
     ) -> (Pass<Entry, Frame>, Result<Answer, Refusal>)
         requires lock { pass.lock ≡ self.now.turn.lock }
         ensures performs { PerformsWith G.log G.faults self.now.shelf
-            (command.OpenExposed target.now name.now)
-            pass result.0 gates.old gates.new result.1 }
+            (command.OpenExposed target.now name.now) pass result.0 gates.old gates.new result.1 }
     {
         self.call(
             rt,
@@ -385,14 +341,9 @@ impl Manager {
 
     /// Tells where what an instance uses at a path comes from: `Routed` with the route.
     ///
-    /// - `NotFound` with the part of the moniker that was found, where nothing stands there;
-    /// - `Gone` or `Shut` where an instance doesn't live, or can't be resolved any more;
     /// - `NoSuchUse` where the instance has no use of the path;
     /// - `NoRoute` with the hop that fails and why, `VoidSource` where it is left out on purpose;
-    /// - `SourceShut` where an instance on the way can't be resolved any more;
-    /// - `CannotResolve` with the action and its outcome, where a resolve failed;
-    /// - `HistoryFull` where the history has no room for what is needed, `Memory` where memory
-    ///   runs out.
+    /// - `SourceShut` where an instance on the way can't be resolved any more.
     pub fn route<R: Threads + Wait + Sync, G: Gates>(
         &self,
         rt: &R,
@@ -403,8 +354,7 @@ impl Manager {
         path: &CapPath,
     ) -> (Pass<Entry, Frame>, Result<Answer, Refusal>)
         requires lock { pass.lock ≡ self.now.turn.lock }
-        ensures performs { PerformsWith G.log G.faults self.now.shelf
-            (command.RouteOf target.now path.now)
+        ensures performs { PerformsWith G.log G.faults self.now.shelf (command.RouteOf target.now path.now)
             pass result.0 gates.old gates.new result.1 }
     {
         self.call(
@@ -418,12 +368,6 @@ impl Manager {
     }
 
     /// Tells how an instance is: `Shown`.
-    ///
-    /// - `NotFound` with the part of the moniker that was found, where nothing stands there;
-    /// - `Gone` or `Shut` where an instance doesn't live, or can't be resolved any more;
-    /// - `CannotResolve` with the action and its outcome, where a resolve on the way failed;
-    /// - `HistoryFull` where the history has no room for what is needed, `Memory` where memory
-    ///   runs out.
     pub fn show<R: Threads + Wait + Sync, G: Gates>(
         &self,
         rt: &R,
@@ -433,8 +377,7 @@ impl Manager {
         target: &Target,
     ) -> (Pass<Entry, Frame>, Result<Answer, Refusal>)
         requires lock { pass.lock ≡ self.now.turn.lock }
-        ensures performs { PerformsWith G.log G.faults self.now.shelf
-            (command.Show target.now)
+        ensures performs { PerformsWith G.log G.faults self.now.shelf (command.Show target.now)
             pass result.0 gates.old gates.new result.1 }
     {
         self.call(
@@ -449,12 +392,6 @@ impl Manager {
 
     /// Tells how an instance and all below it are: `Surveyed` with those that aren't being
     /// destroyed, by their incarnations, each with where it stands and the paths that it uses.
-    ///
-    /// - `NotFound` with the part of the moniker that was found, where nothing stands there;
-    /// - `Gone` or `Shut` where an instance doesn't live, or can't be resolved any more;
-    /// - `CannotResolve` with the action and its outcome, where a resolve on the way failed;
-    /// - `HistoryFull` where the history has no room for what is needed, `Memory` where memory
-    ///   runs out.
     pub fn survey<R: Threads + Wait + Sync, G: Gates>(
         &self,
         rt: &R,
@@ -464,8 +401,7 @@ impl Manager {
         target: &Target,
     ) -> (Pass<Entry, Frame>, Result<Answer, Refusal>)
         requires lock { pass.lock ≡ self.now.turn.lock }
-        ensures performs { PerformsWith G.log G.faults self.now.shelf
-            (command.Survey target.now)
+        ensures performs { PerformsWith G.log G.faults self.now.shelf (command.Survey target.now)
             pass result.0 gates.old gates.new result.1 }
     {
         self.call(
@@ -481,12 +417,6 @@ impl Manager {
     /// Tells that the program of an instance has ended by itself: `Left`, and whether it was on.
     /// It waits while an action is pending at the instance. What went with an instance that was on
     /// is removed before the answer.
-    ///
-    /// - `NotFound` with the part of the moniker that was found, where nothing stands there;
-    /// - `Gone` or `Shut` where an instance doesn't live, or can't be resolved any more;
-    /// - `CannotResolve` with the action and its outcome, where a resolve on the way failed;
-    /// - `HistoryFull` where the history has no room for what is needed, `Memory` where memory
-    ///   runs out.
     pub fn exited<R: Threads + Wait + Sync, G: Gates>(
         &self,
         rt: &R,
@@ -496,8 +426,7 @@ impl Manager {
         target: &Target,
     ) -> (Pass<Entry, Frame>, Result<Answer, Refusal>)
         requires lock { pass.lock ≡ self.now.turn.lock }
-        ensures performs { PerformsWith G.log G.faults self.now.shelf
-            (command.Exited target.now)
+        ensures performs { PerformsWith G.log G.faults self.now.shelf (command.Exited target.now)
             pass result.0 gates.old gates.new result.1 }
     {
         self.call(
@@ -520,8 +449,7 @@ impl Manager {
         command: &Command,
     ) -> (Pass<Entry, Frame>, Result<Answer, Refusal>)
         requires lock { pass.lock ≡ self.now.turn.lock }
-        ensures performs { PerformsWith G.log G.faults self.now.shelf
-            command.now
+        ensures performs { PerformsWith G.log G.faults self.now.shelf command.now
             pass result.0 gates.old gates.new result.1 }
     {
         let (target, question) = question_of(command);

@@ -4,15 +4,17 @@ ghost use Rattle.std.specs.Prelude.{◌≡◌, ◌∷◌, ◌++◌, [], Some, Ok
 ghost use Rattle.cm_command.specs.declared.command.Command.TheVariants as command;
 ghost use Rattle.cm_manager.specs.Asking.{frame_of};
 ghost use Rattle.cm_manager.specs.Contract.{IsSamePass};
-ghost use Rattle.cm_manager.specs.Doctor.{route_by, line_of, unresolved_line, surveyed_by, doctored_by};
+ghost use Rattle.cm_manager.specs.Doctor.{route_by, end_of_line, line_of, unresolved_line, surveyed_by};
+ghost use Rattle.cm_manager.specs.Doctor.{doctored_by};
 ghost use Rattle.cm_manager.specs.Doctor.{Each, OfPath, OfRow, Doctors, Adds, Adding, Gathering, Surveying};
 ghost use Rattle.cm_manager.specs.Gated.{HelpsWith, PerformsWith};
 
 use crate::Manager;
 use crate::answers::refusing;
 use crate::question::{Question, Request};
+use cm_decl::copies::two;
 use cm_gate::Gates;
-use cm_names::{CapPath, List, Memory, Moniker};
+use cm_names::{CapPath, List, Memory, Shared};
 use cm_turn::Pass;
 use cm_world::{Answer, Checked, Entry, Frame, Refusal, Reply, Route, SurveyRow, Target};
 use std::alloc::Global;
@@ -20,7 +22,7 @@ use std::sync::Wait;
 use std::thread::Threads;
 
 /// The route that was given, or why there is none.
-fn route_in(went: Result<Reply, Refusal>) -> Result<Route, Refusal>
+fn route_in(went: Result<Reply, Refusal>) -> Result<Shared<Route>, Refusal>
     ensures { result ≡ route_by went }
 {
     match went {
@@ -51,31 +53,22 @@ fn doctored(lines: Result<List<Checked>, Refusal>) -> Result<Answer, Refusal>
     }
 }
 
-/// Where the line of a path stands: its moniker and the path. `Err` where memory runs out.
-fn place(row: &SurveyRow, path: &CapPath) -> Result<(Moniker, CapPath), Memory>
-    ensures moniker { IfOk result (λ made. made.0 ≡ row.now.moniker) }
-    ensures path { IfOk result (λ made. made.1 ≡ path.now) }
-{
-    let moniker = row.moniker.clone()?;
-    let path = path.clone()?;
-    Ok((moniker, path))
-}
-
 /// The lines with that of a path behind them. `Err` where memory runs out.
 fn with_path(
     lines: List<Checked>,
     row: &SurveyRow,
     path: &CapPath,
-    found: Result<Route, Refusal>,
+    found: Result<Shared<Route>, Refusal>,
 ) -> Result<List<Checked>, Memory>
     ensures { IfOk result (λ all. all ≡ lines ++
         record { moniker = row.now.moniker; path = Some path.now; result = found } ∷ []) }
 {
-    let (moniker, path) = match place(row, path) {
+    let (moniker, path) = match two(&row.moniker, path) {
         Ok(both) => both,
-        Err(memory) => {
+        Err(_) => {
             drop(found);
-            return Err(memory);
+            drop(lines);
+            return Err(Memory);
         }
     };
     let mut all = lines;
@@ -113,6 +106,17 @@ fn or_memory(lines: Result<List<Checked>, Memory>) -> Result<List<Checked>, Refu
     }
 }
 
+/// What ends the check where this was found for a path: want of memory, or of room in the history.
+fn end_in(found: &Result<Shared<Route>, Refusal>) -> Option<Refusal>
+    ensures { result ≡ end_of_line found.now }
+{
+    match found {
+        Err(Refusal::Memory) => Some(Refusal::Memory),
+        Err(Refusal::HistoryFull) => Some(Refusal::HistoryFull),
+        _ => None,
+    }
+}
+
 /// The lines with that of a path behind them, for which this was found.
 ///
 /// `Err` with what ends the check: `HistoryFull` where that was found, and `Memory` where memory
@@ -121,14 +125,17 @@ fn found_at(
     lines: List<Checked>,
     row: &SurveyRow,
     path: &CapPath,
-    found: Result<Route, Refusal>,
+    found: Result<Shared<Route>, Refusal>,
 ) -> Result<List<Checked>, Refusal>
     ensures { Adds lines (line_of row.now.moniker path.now found) result }
 {
-    match found {
-        Err(Refusal::Memory) => Err(Refusal::Memory),
-        Err(Refusal::HistoryFull) => Err(Refusal::HistoryFull),
-        other => or_memory(with_path(lines, row, path, other)),
+    match end_in(&found) {
+        Some(refusal) => {
+            drop(found);
+            drop(lines);
+            Err(refusal)
+        }
+        None => or_memory(with_path(lines, row, path, found)),
     }
 }
 
@@ -294,14 +301,8 @@ impl Manager {
     /// - `SourceShut` where an instance on the way can't be resolved any more;
     /// - `CannotResolve` with the action and its outcome, where a resolve failed.
     ///
-    /// The call itself is refused:
-    ///
-    /// - `NotFound` with the part of the moniker that was found, where nothing stands there;
-    /// - `Gone` where the instance doesn't live, or it or one above it is being destroyed; `Shut`
-    ///   where an instance on the way can't be resolved any more;
-    /// - `CannotResolve` with the action and its outcome, where a resolve on the way failed;
-    /// - `HistoryFull` where the history has no room for what is needed, `Memory` where memory
-    ///   runs out.
+    /// The call itself is refused with `Gone` also where the instance, or one above it, is being
+    /// destroyed.
     pub fn doctor<R: Threads + Wait + Sync, G: Gates>(
         &self,
         rt: &R,
@@ -311,8 +312,7 @@ impl Manager {
         target: &Target,
     ) -> (Pass<Entry, Frame>, Result<Answer, Refusal>)
         requires lock { pass.lock ≡ self.now.turn.lock }
-        ensures performs { PerformsWith G.log G.faults self.now.shelf
-            (command.Doctor target.now)
+        ensures performs { PerformsWith G.log G.faults self.now.shelf (command.Doctor target.now)
             pass result.0 gates.old gates.new result.1 }
     {
         self.call(rt, alloc, pass, gates, target, Question::Doctor)

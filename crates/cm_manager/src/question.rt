@@ -7,6 +7,7 @@ ghost use Rattle.cm_manager.specs.Questions.{asked_by, event_for, follow_of};
 use crate::answers::{created_in, has_left};
 use cm_command::Command;
 use cm_decl::Give;
+use cm_decl::copies::four;
 use cm_names::{CapPath, List, Memory, Name, Text};
 use cm_world::{ActKind, Event, Refusal, Reply, Target};
 
@@ -101,10 +102,7 @@ fn creation(
     ensures { IfOk result (λ made.
         made ≡ event.Create parent coll.now name.now url.now gives.now) }
 {
-    let coll = coll.clone()?;
-    let name = name.clone()?;
-    let url = url.clone()?;
-    let gives = gives.clone()?;
+    let (coll, name, url, gives) = four(coll, name, url, gives)?;
     Ok(Event::Create(parent, coll, name, url, gives))
 }
 

@@ -16,6 +16,7 @@ ghost use Rattle.cm_manager.specs.Asking.{DueStays, DueIsOpen, IsDue, IsOpen};
 use crate::Manager;
 use crate::manager::check_history;
 use cm_decl::Give;
+use cm_decl::copies::four;
 use cm_laws::{marks_stay, shutdowns_last};
 use cm_names::{List, Name, Text};
 use cm_steps::{Ending, NoStep, Realm};
@@ -48,10 +49,7 @@ fn tell_of_child(
     ensures { let event = event.Create parent coll.now name.now url.now gives.now in
         StepsBy realm.old realm.new caller event result }
 {
-    let coll = coll.clone()?;
-    let name = name.clone()?;
-    let url = url.clone()?;
-    let gives = gives.clone()?;
+    let (coll, name, url, gives) = four(coll, name, url, gives)?;
     realm.create(alloc, caller, parent, coll, name, url, gives)
 }
 

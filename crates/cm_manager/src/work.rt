@@ -12,7 +12,7 @@ ghost use Rattle.cm_repo.specs.Urls.{absolute_of};
 ghost use Rattle.cm_world.specs.declared.action.Work.{Work as TheWork};
 ghost use Rattle.cm_steps.specs.Ends.{finish_of};
 ghost use Rattle.cm_manager.specs.Work.{Shelf};
-ghost use Rattle.cm_manager.specs.Doing.{JudgesBy, EndsBy, Fits};
+ghost use Rattle.cm_manager.specs.Doing.{JudgesBy, EndsBy, Fits, HasJob};
 ghost use Rattle.cm_manager.specs.Doing.{unread_outcome, invalid_outcome, launched_outcome, halted_outcome};
 ghost use Rattle.cm_manager.specs.Gated.{DidWith};
 
@@ -119,6 +119,41 @@ fn halted(answer: Halted) -> Outcome
     }
 }
 
+/// What the gates are asked for a start or a stop, unless the instance has no program, and its eager
+/// children.
+fn job_for(work: Work) -> (Option<Job>, List<u64>)
+    ensures job { HasJob work result.0 }
+    ensures eager { result.1 ≡ work.eager }
+{
+    let Work {
+        action,
+        inc,
+        moniker,
+        base,
+        url,
+        runner,
+        eager,
+    } = work;
+    drop(base);
+    match runner {
+        Some(runner) => {
+            let job = Job {
+                action,
+                inc,
+                moniker,
+                url,
+                runner,
+            };
+            (Some(job), eager)
+        }
+        None => {
+            drop(moniker);
+            drop(url);
+            (None, eager)
+        }
+    }
+}
+
 /// The work of a start. It gives the instance's eager children back.
 fn launch<R: Threads + Wait + Sync, G: Gates>(
     rt: &R,
@@ -131,27 +166,15 @@ fn launch<R: Threads + Wait + Sync, G: Gates>(
     ensures fits { Fits ActKind.Start (finish_of result.0) }
     ensures eager { result.1 ≡ work.eager }
 {
-    let Work {
-        action,
-        inc,
-        moniker,
-        base: _,
-        url,
-        runner,
-        eager,
-    } = work;
-    let Some(runner) = runner else {
-        return (Ending::Other(Outcome::Started), eager);
-    };
-    let job = Job {
-        action,
-        inc,
-        moniker,
-        url,
-        runner,
-    };
-    let outcome = launched(gates.launch(rt, idle, &job));
-    (Ending::Other(outcome), eager)
+    let (job, eager) = job_for(work);
+    match job {
+        Some(job) => {
+            let answer = gates.launch(rt, idle, &job);
+            drop(job);
+            (Ending::Other(launched(answer)), eager)
+        }
+        None => (Ending::Other(Outcome::Started), eager),
+    }
 }
 
 /// The work of a stop.
@@ -165,26 +188,16 @@ fn halt<R: Threads + Wait + Sync, G: Gates>(
         gates.old gates.new }
     ensures fits { Fits ActKind.Stop (finish_of result) }
 {
-    let Work {
-        action,
-        inc,
-        moniker,
-        base: _,
-        url,
-        runner,
-        eager: _,
-    } = work;
-    let Some(runner) = runner else {
-        return Ending::Other(Outcome::Stopped);
-    };
-    let job = Job {
-        action,
-        inc,
-        moniker,
-        url,
-        runner,
-    };
-    Ending::Other(halted(gates.halt(rt, idle, &job)))
+    let (job, eager) = job_for(work);
+    drop(eager);
+    match job {
+        Some(job) => {
+            let answer = gates.halt(rt, idle, &job);
+            drop(job);
+            Ending::Other(halted(answer))
+        }
+        None => Ending::Other(Outcome::Stopped),
+    }
 }
 
 impl Manager {
@@ -258,7 +271,9 @@ impl Manager {
         let Ok(what) = self.question(&url) else {
             return Ending::Other(Outcome::NoMemory);
         };
-        match gates.fetch(rt, alloc, idle, &what) {
+        let answer = gates.fetch(rt, alloc, idle, &what);
+        drop(what);
+        match answer {
             Fetched::Found(bytes) => ending_by(alloc, url, bytes.as_slice()),
             Fetched::Absent => Ending::Other(Outcome::Absent),
             Fetched::Failed => Ending::Other(Outcome::GateFailed),
@@ -266,8 +281,8 @@ impl Manager {
         }
     }
 
-    /// Does the work of an action, with the pass of its caller idle. It gives the instance's eager
-    /// children back.
+    /// Does the work of an action, with the pass of its caller idle. For a start it gives the
+    /// instance's eager children back.
     pub(crate) fn do_work<R: Threads + Wait + Sync, G: Gates>(
         &self,
         rt: &R,
@@ -285,7 +300,8 @@ impl Manager {
         match kind {
             ActKind::Resolve => {
                 let ending = self.do_resolve(rt, alloc, gates, idle, &work);
-                (ending, work.eager)
+                drop(work);
+                (ending, List::new(alloc))
             }
             ActKind::Start => launch(rt, gates, idle, work),
             ActKind::Stop => (halt(rt, gates, idle, work), List::new(alloc)),

@@ -8,3 +8,5 @@ pub mod MonikerPlaces
 pub mod RightBits
 pub mod Rights
 pub mod Urls
+pub mod Steps
+pub mod Text

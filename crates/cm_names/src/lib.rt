@@ -1,8 +1,10 @@
 //! The small types that every other part of the component manager is made of: texts, lists,
-//! names, paths, monikers, rights, the texts of URLs and the words of a manifest.
+//! names, paths, monikers, rights, the texts of URLs, the words of a manifest, and values that are
+//! shared.
 //!
-//! Contracts see [`Text`] as the list of its bytes, [`List`] as the list of its items, and a
-//! name or a path as the bytes of its text, so that definitions speak of plain lists.
+//! Contracts see [`Text`] as the list of its bytes, [`List`] as the list of its items, a name or a
+//! path as the bytes of its text, and [`Shared`] as the value itself, so that definitions speak of
+//! plain lists and values.
 #![tactic(auto)]
 
 pub mod availability;
@@ -17,6 +19,7 @@ pub mod name;
 pub mod path;
 pub mod plain;
 pub mod rights;
+pub mod shared;
 pub mod text;
 pub mod url;
 
@@ -32,4 +35,5 @@ pub use name::{Name, NameFault};
 pub use path::{CapPath, PathFault, SubDir};
 pub use plain::Plain;
 pub use rights::{Right, Rights, RightsFault};
+pub use shared::Shared;
 pub use text::Text;

@@ -11,9 +11,15 @@ use std::marker::Model;
 /// A list of values, which contracts see as the list of its items.
 ///
 /// Iterate over it by `for item in list.as_slice()`, or by value by `for item in list.into_vec()`.
-#[derive(Debug, Drop)]
+#[derive(Debug)]
 pub struct List<T> {
     items: Vec<T>,
+}
+
+impl<T: Drop> Drop for List<T> {
+    fn drop(self) {
+        let List { items: _ } = self;
+    }
 }
 
 /// A list of bytes.

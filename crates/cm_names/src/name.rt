@@ -45,9 +45,15 @@ impl From<Memory> for NameFault {
 /// This is the name of Fuchsia's component manifest reference (fuchsia.dev). The limit of 255 bytes
 /// is that of its short names; that it holds for names of every kind is this project's own choice.
 /// Names are ordered by their bytes.
-#[derive(Debug, Drop, PartialEq, Eq, PartialOrd, Ord, Hash)]
+#[derive(Debug, PartialEq, Eq, PartialOrd, Ord, Hash)]
 pub struct Name {
     text: Text,
+}
+
+impl Drop for Name {
+    fn drop(self) {
+        let Name { text: _ } = self;
+    }
 }
 
 impl Model for Name {

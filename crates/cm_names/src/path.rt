@@ -167,9 +167,15 @@ fn subdir_fault(text: &[u8]) -> Option<PathFault>
 ///
 /// This is the path of Fuchsia's component manifest reference (fuchsia.dev). The limit of 4,096
 /// bytes and the range of bytes are this project's own. Paths are ordered by their bytes.
-#[derive(Debug, Drop, PartialEq, Eq, PartialOrd, Ord)]
+#[derive(Debug, PartialEq, Eq, PartialOrd, Ord)]
 pub struct CapPath {
     text: Text,
+}
+
+impl Drop for CapPath {
+    fn drop(self) {
+        let CapPath { text: _ } = self;
+    }
 }
 
 impl Model for CapPath {
@@ -298,9 +304,15 @@ impl AsStr for CapPath {
 ///
 /// This is `subdir` of Fuchsia's component manifest reference (fuchsia.dev). The limit of 4,096
 /// bytes and the range of bytes are this project's own. Subdirectories are ordered by their bytes.
-#[derive(Debug, Drop, PartialEq, Eq, PartialOrd, Ord)]
+#[derive(Debug, PartialEq, Eq, PartialOrd, Ord)]
 pub struct SubDir {
     text: Text,
+}
+
+impl Drop for SubDir {
+    fn drop(self) {
+        let SubDir { text: _ } = self;
+    }
 }
 
 impl Model for SubDir {

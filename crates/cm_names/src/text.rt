@@ -2,8 +2,10 @@
 
 ghost use Rattle.std.specs.Prelude.{◌≡◌, ◌++◌, ◌↔◌, [], length, string_bytes, IsTrue, IfOk, OnOk, OnErr};
 ghost use Rattle.std.specs.Fmt.{AppendsText};
+ghost use Rattle.cm_names.specs.Text.{stored_bytes};
 
 use crate::{Memory, Plain};
+use arrayvec::ArrayString;
 use std::alloc::{AllocError, Global};
 use std::cmp::Ordering;
 use std::convert::AsStr;
@@ -11,20 +13,74 @@ use std::fmt;
 use std::hash::{Hash, Hasher};
 use std::marker::Model;
 
+/// The greatest number of bytes that a text keeps in itself, without an allocation.
+const MAX_INLINE_BYTES: usize = 24;
+
 /// A text, which contracts see as the list of its bytes.
 ///
-/// Two texts are equal where their bytes are, and are ordered by their bytes.
-#[derive(Debug, Drop)]
+/// Two texts are equal where their bytes are, and are ordered by their bytes. A text of up to 24
+/// bytes takes no memory beside itself, unless it was made of a string, or is a copy of such a one.
 pub struct Text {
-    text: String,
+    alloc: Global,
+    stored: Stored,
+}
+
+/// Where the bytes of a text stand.
+#[derive(Drop)]
+pub(crate) enum Stored {
+    /// In the text itself.
+    Inline(ArrayString<MAX_INLINE_BYTES>),
+    /// In an allocation.
+    Heap(String),
 }
 
 impl Model for Text {
-    ghost use Rattle.std.specs.Prelude.{List as Seq, ℕ, string_bytes};
+    ghost use Rattle.std.specs.Prelude.{List as Seq, ℕ};
+    ghost use Rattle.cm_names.specs.Text.{stored_bytes};
 
     ghost Value = { Seq ℕ };
 
-    ghost view = { λ a. string_bytes a.text };
+    ghost view = { λ a. stored_bytes a.stored };
+}
+
+impl Drop for Text {
+    fn drop(self) {
+        let Text {
+            alloc: _,
+            stored: _,
+        } = self;
+    }
+}
+
+impl Stored {
+    /// The text.
+    fn as_str(&self) -> &str
+        ensures { result.now ≡ stored_bytes self.now }
+    {
+        match self {
+            Stored::Inline(short) => short.as_str(),
+            Stored::Heap(long) => long.as_str(),
+        }
+    }
+
+    /// A place for the bytes of `text`, which takes memory where they are more than 24.
+    fn from_str(alloc: Global, text: &str) -> Result<Stored, Memory>
+        ensures { IfOk result (λ made. stored_bytes made ≡ text.now) }
+    {
+        match ArrayString::from(text) {
+            Ok(short) => Ok(Stored::Inline(short)),
+            Err(_) => Ok(Stored::Heap(String::from_str(alloc, text)?)),
+        }
+    }
+}
+
+/// The bytes of both, one behind the other, in an allocation.
+fn joined(alloc: Global, front: &str, back: &str) -> Result<String, Memory>
+    ensures { IfOk result (λ text. string_bytes text ≡ front.now ++ back.now) }
+{
+    let mut text = String::from_str(alloc, front)?;
+    text.push_str(back)?;
+    Ok(text)
 }
 
 impl Text {
@@ -33,7 +89,8 @@ impl Text {
         ensures { result ≡ [] }
     {
         Text {
-            text: String::new(alloc),
+            alloc,
+            stored: Stored::Inline(ArrayString::new()),
         }
     }
 
@@ -41,44 +98,51 @@ impl Text {
     pub fn from_str(alloc: Global, text: &str) -> Result<Text, Memory>
         ensures { IfOk result (λ made. made ≡ text.now) }
     {
-        let text = String::from_str(alloc, text)?;
-        Ok(Text { text })
+        let stored = Stored::from_str(alloc, text)?;
+        Ok(Text { alloc, stored })
     }
 
     /// The text of a string.
     pub fn from_string(text: String) -> Text
         ensures { result ≡ string_bytes text }
     {
-        Text { text }
+        Text {
+            alloc: *text.allocator(),
+            stored: Stored::Heap(text),
+        }
     }
 
-    /// The string of the text.
-    pub fn into_string(self) -> String
-        ensures { string_bytes result ≡ self }
+    /// The string of the text. `Err(Memory)` comes where memory runs out, and the text is gone
+    /// then; one that stands in an allocation is handed over.
+    pub fn into_string(self) -> Result<String, Memory>
+        ensures { IfOk result (λ text. string_bytes text ≡ self) }
     {
-        let Text { text } = self;
-        text
+        let Text { alloc, stored } = self;
+        match stored {
+            Stored::Inline(short) => Ok(String::from_str(alloc, short.as_str())?),
+            Stored::Heap(long) => Ok(long),
+        }
     }
 
     /// The text.
     pub fn as_str(&self) -> &str
         ensures { result.now ≡ self.now }
     {
-        self.text.as_str()
+        self.stored.as_str()
     }
 
     /// The number of bytes.
     pub fn len(&self) -> usize
         ensures { result ≡ length self.now }
     {
-        self.text.len()
+        self.as_str().len()
     }
 
     /// Whether there is no byte.
     pub fn is_empty(&self) -> bool
         ensures { IsTrue result ↔ (self.now ≡ []) }
     {
-        self.text.is_empty()
+        self.as_str().is_empty()
     }
 
     /// Puts `text` at the end. `Err(Memory)` comes where memory runs out; then the text is as
@@ -87,7 +151,20 @@ impl Text {
         ensures ok { OnOk result (self.new ≡ self.old ++ text.now) }
         ensures err { OnErr result (self.new ≡ self.old) }
     {
-        self.text.push_str(text)?;
+        match &mut self.stored {
+            Stored::Heap(long) => {
+                long.push_str(text)?;
+                return Ok(());
+            }
+            Stored::Inline(short) => {
+                if text.len() <= short.remaining_capacity() {
+                    short.push_str(text);
+                    return Ok(());
+                }
+            }
+        }
+        let long = joined(self.alloc, self.stored.as_str(), text)?;
+        self.stored = Stored::Heap(long);
         Ok(())
     }
 
@@ -97,7 +174,7 @@ impl Text {
         ensures ok { OnOk result (AppendsText self.old self.new (D.output value)) }
         ensures err { OnErr result (self.new ≡ self.old) }
     {
-        let mut written = String::new(*self.text.allocator());
+        let mut written = String::new(self.alloc);
         written.write(value)?;
         self.push_str(written.as_str())
     }
@@ -109,8 +186,16 @@ impl Clone for Text {
     ghost is_clone = { λ a b. b ≡ a };
 
     fn clone(&self) -> Result<Text, AllocError> {
-        let text = self.text.clone()?;
-        Ok(Text { text })
+        match &self.stored {
+            Stored::Inline(short) => Ok(Text {
+                alloc: self.alloc,
+                stored: Stored::Inline(*short),
+            }),
+            Stored::Heap(long) => Ok(Text {
+                alloc: self.alloc,
+                stored: Stored::Heap(long.clone()?),
+            }),
+        }
     }
 }
 
@@ -128,7 +213,7 @@ impl PartialEq for Text {
     ghost laws = { partial_equiv_from_equiv nat_list_eq_equiv };
 
     fn eq(&self, other: &Text) -> bool {
-        self.text == other.text
+        self.as_str() == other.as_str()
     }
 }
 
@@ -148,7 +233,7 @@ impl Hash for Text {
     ghost respects_eq = { Prim.search (hashing, rules) };
 
     fn hash<H: Hasher>(&self, state: &mut H) {
-        self.text.hash(state);
+        self.as_str().hash(state);
     }
 }
 
@@ -183,7 +268,13 @@ impl Ord for Text {
     ghost matches_eq = { Prim.search (comparing, rules) };
 
     fn cmp(&self, other: &Text) -> Ordering {
-        self.text.cmp(&other.text)
+        self.as_str().cmp(other.as_str())
+    }
+}
+
+impl fmt::Debug for Text {
+    fn fmt<W: fmt::Write>(&self, f: &mut fmt::Formatter<W>) -> fmt::Result {
+        fmt::Debug::fmt(&self.as_str(), f)
     }
 }
 

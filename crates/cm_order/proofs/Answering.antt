@@ -1,19 +1,16 @@
 -- What a pick answers.
-use Rattle.std.proofs.Common.{◌≡◌, ℕ, List, Bool, true, false, cond, not, Option, Some, None, IsTrue, is_none, is_some, option_map, option_and_then, refl, sym, ◌∙◌, ap, subst, inl, inr}
-use Rattle.std.specs.Option.{option_map_or}
-use Rattle.cm_decl.proofs.Sameness.{or_split, never}
+use Rattle.std.proofs.Common.{◌≡◌, ℕ, List, false, not, Option, Some, None, IsTrue, is_none, is_some, option_map, option_and_then, refl, sym, ◌∙◌, ap, subst, inl, inr}
+use Rattle.cm_decl.proofs.Sameness.{or_split}
 use Rattle.cm_world.specs.declared.row.Row.{Row}
 use Rattle.cm_world.specs.declared.action.ActKind.{ActKind}
-use Rattle.cm_world.specs.Rows.{row_of, is_live, is_below, is_closing, is_on, is_subtree_shut}
+use Rattle.cm_world.specs.Rows.{row_of, is_live, is_below, is_closing, is_subtree_shut}
 use Rattle.cm_world.specs.Sound.{IsSound}
-use Rattle.cm_world.specs.Stopping.{outermost, MayPick, CanPick}
+use Rattle.cm_world.specs.Stopping.{outermost, CanPick}
 use Rattle.cm_world.specs.Step.{may_close}
 use Rattle.cm_world.proofs.Finding.{none_some, some_same}
 use Rattle.cm_order.specs.declared.search.Wanted.TheVariants.{Idle, Pending}
-use Rattle.cm_order.specs.declared.picking.Picked.{Picked}
-use Rattle.cm_order.specs.declared.picking.Picked.TheVariants.{StopNow, ShutNow}
-use Rattle.cm_order.specs.Search.{IsCandidate, IsFound, NoneIs}
-use Rattle.cm_order.specs.Picking.{WaitsFor, IsPicked}
+use Rattle.cm_order.specs.Search.{IsFound, NoneIs}
+use Rattle.cm_order.specs.Picking.{WaitsFor}
 use Rattle.cm_order.proofs.Trees.{climb, below_lives, below_cases, below_trans, shut_each, shut_all, flip_not, true_not_false}
 use Rattle.cm_order.proofs.Tops.{IsTop, top_of, top_below, top_lives, no_top}
 use Rattle.cm_order.proofs.Ending.{CanUnder, shut_or_can}
@@ -45,32 +42,6 @@ module _ (rows : List Row) (next : ℕ) (sound : IsSound rows next) where
   -- the outermost closing row is its own
   pub own_top : (t top : ℕ) → outermost rows t ≡ Some top → outermost rows top ≡ Some top
   own_top t top all = let is : IsTop rows top t = top_of rows next sound.orderly t top all in is.own
-
-  -- ---- a row that may be picked
-
-  idle_none : (o : Option (ActKind × ℕ)) → IsTrue (is_none o) → o ≡ None
-  idle_none None h = refl
-  idle_none (Some x) h = never h
-
-  may_pick : (t top y : ℕ) (r : Row) → outermost rows t ≡ Some top → IsCandidate rows top Idle y r → MayPick rows t y r
-  may_pick t top y r all may = record {
-    row = may.lives;
-    top = top;
-    outermost = all;
-    below = may.below;
-    unshut = may.unshut;
-    idle = idle_none r.pending may.fits;
-    may_stop = may.may_stop;
-  }
-
-  by_state : (t y : ℕ) (r : Row) (b : Bool) → is_subtree_shut rows t ≡ false → MayPick rows t y r → r.on ≡ b → IsPicked rows t (cond b (StopNow y) (ShutNow y))
-  by_state t y r true undone may on = record { undone = undone; row = r; may = may; state = on }
-  by_state t y r false undone may off = record { undone = undone; row = r; may = may; state = off }
-
-  pub picks_found : (t top y : ℕ) (picked : Picked) → outermost rows t ≡ Some top → is_subtree_shut rows t ≡ false → IsFound rows top Idle y → picked ≡ cond (is_on rows y) (StopNow y) (ShutNow y) → IsPicked rows t picked
-  picks_found t top y picked all undone found is =
-      let state : is_on rows y ≡ found.row.on = ap (λ o. option_map_or (λ r. r.on) o false) found.may.lives in
-      subst (IsPicked rows t) (sym (is ∙ ap (λ b. cond b (StopNow y) (ShutNow y)) state)) (by_state t y found.row found.row.on undone (may_pick t top y found.row all found.may) refl)
 
   -- ---- what is waited for
 

@@ -142,21 +142,6 @@ own_shut rows p = rw (same_inc p) refl
 own_node : (rows : List Row) (p : ℕ) → node_in rows p p ≡ Some Own
 own_node rows p = rw (same_inc p) refl
 
-pub gathered_first : (rows : List Row) (p : ℕ) (m : Member) (members : List Member) → members ≡ m ∷ [] → m.inc ≡ p → m.node ≡ Some Own → m.shut ≡ is_shut rows p → AreGathered rows p None members
-gathered_first rows p m members is own node shut =
-    subst (AreGathered rows p None) (sym is) (record {
-      each = (
-        record {
-          place = inl own;
-          node = node ∙ sym (ap (node_in rows p) own ∙ own_node rows p);
-          shut = shut ∙ sym (ap (is_wholly_shut rows p) own ∙ own_shut rows p);
-        },
-        tt,
-      );
-      own = one_member m p own;
-      rest = λ x kid. inl refl;
-    })
-
 -- ---- children in collections
 
 module _ (rows : List Row) (next : ℕ) (orderly : IsOrderly rows next) where

@@ -16,7 +16,7 @@ use Rattle.cm_world.specs.Stopping.{is_wholly_shut}
 use Rattle.cm_order.specs.declared.search.Wanted.TheVariants.{Idle}
 use Rattle.cm_order.specs.Kids.{IsKid}
 use Rattle.cm_order.specs.Search.{IsHere}
-use Rattle.cm_order.specs.Glances.{in_set, HasBound, IsFreeKid, AreKidsShut}
+use Rattle.cm_order.specs.Glances.{is_in_set, HasBound, IsFreeKid, AreKidsShut}
 use Rattle.cm_order.proofs.Trees.{kid_higher, flip_not, true_not_false}
 use Rattle.cm_order.proofs.Kids.{next_kid, other_kids, no_kids}
 use Rattle.cm_order.proofs.Gathering.{own_shut, kid_shut}
@@ -38,14 +38,14 @@ module _ (rows : List Row) (next : ℕ) (sound : IsSound rows next) (p : ℕ) wh
   apart c kid = λ same. let higher : p < c = kid_higher rows next sound.orderly p c kid in absurd (omega arith)
 
   -- a child on which nothing depends that isn't all shut is free
-  pub free_unnamed : (c : ℕ) (behind : Option ℕ) (named : BTreeSet ℕ) → HasBound rows p named → Some c ≡ child_behind rows p behind → in_set named c ≡ false → IsFreeKid rows p c
+  pub free_unnamed : (c : ℕ) (behind : Option ℕ) (named : BTreeSet ℕ) → HasBound rows p named → Some c ≡ child_behind rows p behind → is_in_set named c ≡ false → IsFreeKid rows p c
   free_unnamed c behind named has found out =
       let kid : IsKid rows p c = (next_kid rows next sound.orderly p behind c (sym found)).0 in
       record { kid = kid; free = λ z way. by z kid way (is_wholly_shut rows p z) refl }
     where
       by : (z : ℕ) → IsKid rows p c → Depends (level rows p) z c → (b : Bool) → is_wholly_shut rows p z ≡ b → IsTrue (is_wholly_shut rows p z)
       by z kid way true shut = shut
-      by z kid way false unshut = true_not_false (in_set named c) (has z c (apart c kid) unshut way) out
+      by z kid way false unshut = true_not_false (is_in_set named c) (has z c (apart c kid) unshut way) out
 
   -- ---- p itself
 

@@ -62,9 +62,6 @@ pub record IsPassing (rows : List Row) (p : ℕ) (first last : Option ℕ) : Typ
   pub left : (c : ℕ) → IsKid rows p c → IsTrue (is_behind first c) → Leads rows p c → IsTrue (is_behind last c)
 
 module _ (rows : List Row) (next : ℕ) (orderly : IsOrderly rows next) (p : ℕ) where
-  pub passing_first : (first : Option ℕ) → IsPassing rows p first first
-  passing_first first = record { later = λ c behind. behind; left = λ c kid behind leads. behind }
-
   later_on : (last : Option ℕ) (b c : ℕ) → IsTrue (is_behind last b) → IsTrue (is_behind (Some b) c) → IsTrue (is_behind last c)
   later_on None b c first second = refl
   later_on (Some a) b c first second =

@@ -73,9 +73,6 @@ left_by rows d dynamic y m false yet answers = (
   λ leaves. refl,
 )
 
-pub left_shut : (rows : List Row) (d : Decl) (dynamic : List DynChild) (y : Node) (m : Member) → m.shut ≡ true → (false ≡ false) ↔ LeavesFree rows d dynamic y m
-left_shut rows d dynamic y m shut = (λ same. λ depends. shut, λ leaves. refl)
-
 -- ---- a loop over members
 
 module _ (rows : List Row) (d : Decl) (dynamic : List DynChild) (y : Node) (ms : List Member) where

@@ -2,7 +2,6 @@ pub mod Trees
 pub mod Kids
 pub mod Weights
 pub mod Tops
-pub mod Climbs
 pub mod Turns
 pub mod Gathering
 pub mod Listing

@@ -37,14 +37,6 @@ some_name (Some b) c h = ap Some (same_child_exact b c h)
 name_some : (o : Option ChildName) (c : ChildName) → o ≡ Some c → IsTrue (option_eq same_child o (Some c))
 name_some o c e = subst (λ z. IsTrue (option_eq same_child z (Some c))) (sym e) (child_refl c)
 
-no_coll : (o : Option (List ℕ)) → is_some o ≡ false → o ≡ None
-no_coll None e = refl
-no_coll (Some x) e = absurd (true≢false e)
-
-some_coll : (o : Option (List ℕ)) → IsTrue (is_some o) → (k : List ℕ) × (o ≡ Some k)
-some_coll None e = never e
-some_coll (Some k) e = (k, refl)
-
 named : Option (List ℕ) → List ℕ → ChildName
 named coll name = record { coll = coll; name = name }
 

@@ -1,5 +1,5 @@
 -- The search for a row that may stop, place by place.
-use Rattle.std.proofs.Common.{◌≡◌, ℕ, List, [], ◌∷◌, ◌++◌, Bool, true, false, true≢false, Option, Some, None, IsTrue, refl, sym, ◌∙◌, ap, subst, inl, inr}
+use Rattle.std.proofs.Common.{◌≡◌, ℕ, List, [], ◌∷◌, ◌++◌, true, false, true≢false, Option, Some, None, IsTrue, refl, sym, ◌∙◌, ap, subst, inl, inr}
 use Rattle.std.specs.Prelude.{◌↔◌, is_some}
 use Rattle.std.specs.Option.{option_map_or}
 use Rattle.cm_decl.proofs.Sameness.{never}
@@ -152,26 +152,5 @@ module _ (rows : List Row) (next : ℕ) (orderly : IsOrderly rows next) (wanted 
   behind_some None yet e = true≢false (sym yet)
   behind_some (Some b) yet e = none_some b (sym e)
 
-  behind_none : (o : Option ℕ) → is_some o ≡ false → o ≡ None
-  behind_none None no_way = refl
-  behind_none (Some b) no_way = absurd (true≢false no_way)
-
-  wants_by : (o : Option Row) → IsTrue (option_map_or (is_wanted wanted) o false) → (r : Row) × (o ≡ Some r) × IsTrue (is_wanted wanted r)
-  wants_by None h = never h
-  wants_by (Some r) h = (r, refl, h)
-
   pub here_seen : (s : Spot) → is_some s.behind ≡ true → IsTrue false ↔ IsHere rows wanted s
   here_seen s seen = (λ no_way. never no_way, λ here. absurd (behind_some s.behind seen here.new))
-
-  pub here_unwanted : (s : Spot) → option_map_or (is_wanted wanted) (row_of rows s.inc) false ≡ false → IsTrue false ↔ IsHere rows wanted s
-  here_unwanted s other = (
-    λ no_way. never no_way,
-    λ here. true_not_false (is_wanted wanted here.row) here.fits (sym (ap (λ o. option_map_or (is_wanted wanted) o false) here.lives) ∙ other),
-  )
-
-  pub here_leads : (s : Spot) (p : ℕ) (result : Bool) → p ≡ s.inc → is_some s.behind ≡ false → IsTrue (option_map_or (is_wanted wanted) (row_of rows s.inc) false) → IsTrue result ↔ Leads rows p s.inc → IsTrue result ↔ IsHere rows wanted s
-  here_leads s p result own new wants answers =
-      let row : (r : Row) × (row_of rows s.inc ≡ Some r) × IsTrue (is_wanted wanted r) = wants_by (row_of rows s.inc) wants in (
-        λ there. record { new = behind_none s.behind new; row = row.0; lives = row.1; fits = row.2; leads = subst (λ q. Leads rows q s.inc) own (answers.0 there) },
-        λ here. answers.1 (subst (λ q. Leads rows q s.inc) (sym own) here.leads),
-      )

@@ -71,10 +71,6 @@ module _ (rows : List Row) (next : ℕ) (orderly : IsOrderly rows next) where
       ∙ sym (ap (λ o. option_or (outermost_from rows o) (cond (has_closing rows here) (Some here) found)) up)
       ∙ sym (ap (option_or (outermost_from rows above)) closing)
 
-  -- and at the root it ends
-  pub up_ends : (all : Option ℕ) (at found : Option ℕ) → at ≡ None → all ≡ option_or (outermost_from rows at) found → found ≡ all
-  up_ends all at found is so_far = sym (so_far ∙ ap (λ o. option_or (outermost_from rows o) found) is ∙ ap (λ o. option_or o found) none_from)
-
   -- ---- what it says
 
   here_or_above : (i : ℕ) (r : Row) (top : ℕ) (above : Option ℕ) (b : Bool) → row_of rows i ≡ Some r → outermost rows i ≡ Some top → option_or above (cond b (Some i) None) ≡ Some top → (above ≡ Some top → IsTop rows top i) → IsTop rows top i

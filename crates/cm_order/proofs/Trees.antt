@@ -3,39 +3,21 @@ use Rattle.std.proofs.Common.{◌≡◌, ℕ, zero, suc, ◌+◌, ◌<◌, ◌�
 use Rattle.std.specs.List.{list_all}
 use Rattle.std.specs.Option.{option_eq}
 use Rattle.std.specs.Cmp.{unsigned_Decides}
-use Rattle.cm_decl.proofs.Sameness.{or_split, never}
+pub use Rattle.std.proofs.lemmas.Bool.{or_left, or_right, and_from as and_pair, false_from_ne_true as not_true, not_from_false as not_flip}
+use Rattle.cm_decl.proofs.Sameness.{never}
 use Rattle.cm_world.specs.declared.row.Row.{Row}
-use Rattle.cm_world.specs.Rows.{row_of, at_or_above, is_below, is_subtree_shut, line_from, line_of}
+use Rattle.cm_world.specs.Rows.{row_of, is_below, is_subtree_shut, line_from, line_of}
 use Rattle.cm_world.specs.Sound.{IsRising, IsOrderly, IsParent}
 use Rattle.cm_order.specs.Kids.{IsKid}
-use Rattle.cm_world.proofs.Climbing.{some_above-step, line_of-step, above_root, line_root}
+use Rattle.cm_world.proofs.Climbing.{line_of-step, line_root}
 use Rattle.cm_world.proofs.Finding.{row_of-inc, find-all, find-passes}
 use Rattle.cm_world.proofs.Walks.{find-lives, below_next}
+use Rattle.cm_walk.proofs.Standing as standing
 
 -- ---- tests
 
-pub or_left : (p q : Bool) → IsTrue p → IsTrue (p || q)
-or_left true q h = refl
-or_left false q h = never h
-
-pub or_right : (p q : Bool) → IsTrue q → IsTrue (p || q)
-or_right true q h = refl
-or_right false q h = h
-
-pub and_pair : (p q : Bool) → IsTrue p → IsTrue q → IsTrue (p && q)
-and_pair true q first second = second
-and_pair false q first second = never first
-
-pub not_true : (p : Bool) → (IsTrue p → ⊥) → p ≡ false
-not_true true no_way = absurd (no_way refl)
-not_true false no_way = refl
-
 pub true_not_false : {A : Type 0} (p : Bool) → IsTrue p → p ≡ false → A
 true_not_false p h g = absurd (true≢false (sym h ∙ g))
-
-pub not_flip : (p : Bool) → p ≡ false → IsTrue (not p)
-not_flip true h = absurd (true≢false h)
-not_flip false h = refl
 
 pub flip_not : (p : Bool) → IsTrue (not p) → p ≡ false
 flip_not true h = never h
@@ -92,38 +74,18 @@ module _ (rows : List Row) (next : ℕ) (orderly : IsOrderly rows next) where
 
   -- ---- what stands below what
 
-  nothing_above : (n : ℕ) (p : Row → Bool) (i : ℕ) → row_of rows i ≡ None → at_or_above n p rows (Some i) ≡ false
-  nothing_above zero p i none = refl
-  nothing_above (suc n) p i none = rw (none, at_or_above) refl
-
-  lives_by : (top i : ℕ) (o : Option Row) → row_of rows i ≡ o → IsTrue (is_below rows top i) → (r : Row) × (row_of rows i ≡ Some r)
-  lives_by top i None e below = true_not_false (is_below rows top i) below (nothing_above (length rows) (λ r. r.inc == top) i e)
-  lives_by top i (Some r) e below = (r, e)
-
   pub below_lives : (top i : ℕ) → IsTrue (is_below rows top i) → (r : Row) × (row_of rows i ≡ Some r)
-  below_lives top i below = lives_by top i (row_of rows i) refl below
+  below_lives top i = standing.below_lives rows top i
 
   pub below_self : (i : ℕ) (r : Row) → row_of rows i ≡ Some r → IsTrue (is_below rows i i)
-  below_self i r lives =
-      some_above-step (λ r. r.inc == i) rows next i r orderly lives
-      ∙ or_left (r.inc == i) (at_or_above (length rows) (λ r. r.inc == i) rows r.parent) ((unsigned_Decides r.inc i).1 (row_of-inc rows i r lives))
+  below_self i r = standing.below_self rows next i r orderly
 
   pub below_up : (top i p : ℕ) (r : Row) → row_of rows i ≡ Some r → r.parent ≡ Some p → IsTrue (is_below rows top p) → IsTrue (is_below rows top i)
-  below_up top i p r lives parent below =
-      some_above-step (λ r. r.inc == top) rows next i r orderly lives
-      ∙ or_right (r.inc == top) (at_or_above (length rows) (λ r. r.inc == top) rows r.parent) (ap (at_or_above (length rows) (λ r. r.inc == top) rows) parent ∙ below)
-
-  above_by : (top : ℕ) (o : Option ℕ) → IsTrue (at_or_above (length rows) (λ r. r.inc == top) rows o) → (p : ℕ) × (o ≡ Some p) × IsTrue (is_below rows top p)
-  above_by top None h = true_not_false (at_or_above (length rows) (λ r. r.inc == top) rows None) h (above_root (length rows) (λ r. r.inc == top) rows)
-  above_by top (Some p) h = (p, refl, h)
+  below_up top i p r = standing.below_parent rows next top i p r orderly
 
   -- a row below another is that one, or its parent is below it
   pub below_cases : (top i : ℕ) (r : Row) → row_of rows i ≡ Some r → IsTrue (is_below rows top i) → (i ≡ top) ⊎ ((p : ℕ) × (r.parent ≡ Some p) × IsTrue (is_below rows top p))
-  below_cases top i r lives below =
-      elim (or_split (r.inc == top) (at_or_above (length rows) (λ r. r.inc == top) rows r.parent) (sym (some_above-step (λ r. r.inc == top) rows next i r orderly lives) ∙ below)) [
-        | inl here ↦ inl (sym (row_of-inc rows i r lives) ∙ (unsigned_Decides r.inc top).0 here)
-        | inr above ↦ inr (above_by top r.parent above)
-      ]
+  below_cases top i r = standing.below_cases rows next top i r orderly
 
   -- what stands below a row has no lower incarnation
   pub below_least : (top i : ℕ) → IsTrue (is_below rows top i) → top ≤ i

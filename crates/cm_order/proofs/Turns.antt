@@ -134,6 +134,3 @@ module _ (rows : List Row) (next : ℕ) (orderly : IsOrderly rows next) where
 
   pub looking_found : (top : ℕ) (old rest : List Spot) (s : Spot) (o : Option ℕ) → IsLooking rows top old → old ≡ rest ++ s ∷ [] → o ≡ child_behind rows s.inc s.behind → IsTrue (is_unshut rows o) → false ≡ is_subtree_shut rows top
   looking_found top old rest s o is was found yet = sym (found_by top s o (last_of (KidsBelow rows top) rest s (subst (Each (KidsBelow rows top)) was is.below)) found yet)
-
-  pub looking_ends : (top : ℕ) (left : List Spot) → IsLooking rows top left → left ≡ [] → true ≡ is_subtree_shut rows top
-  looking_ends top left is none = sym (is.rest (subst (Each (KidsShut rows)) (sym none) tt))

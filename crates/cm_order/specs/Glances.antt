@@ -29,26 +29,26 @@ use Rattle.cm_order.specs.Search.{IsHere, IsFound}
 -- ---- a set of rows
 
 -- whether a row is in a set
-abbrev pub in_set : BTreeSet ℕ → ℕ → Bool
-in_set named x = contains nat_cmp named x
+abbrev pub is_in_set : BTreeSet ℕ → ℕ → Bool
+is_in_set named x = contains nat_cmp named x
 
 -- nothing was taken out of a set
 abbrev pub Grows : BTreeSet ℕ → BTreeSet ℕ → Type 0
-Grows old new = (x : ℕ) → IsTrue (in_set old x) → IsTrue (in_set new x)
+Grows old new = (x : ℕ) → IsTrue (is_in_set old x) → IsTrue (is_in_set new x)
 
 -- whether a text is in a set
-abbrev pub in_texts : BTreeSet (List ℕ) → List ℕ → Bool
-in_texts targets name = contains (slice_cmp nat_cmp) targets name
+abbrev pub is_in_texts : BTreeSet (List ℕ) → List ℕ → Bool
+is_in_texts targets name = contains (slice_cmp nat_cmp) targets name
 
 abbrev pub TextsGrow : BTreeSet (List ℕ) → BTreeSet (List ℕ) → Type 0
-TextsGrow old new = (name : List ℕ) → IsTrue (in_texts old name) → IsTrue (in_texts new name)
+TextsGrow old new = (name : List ℕ) → IsTrue (is_in_texts old name) → IsTrue (is_in_texts new name)
 
 -- whether a row is in a list
-abbrev pub in_list : List ℕ → ℕ → Bool
-in_list closed x = list_any (λ y. y == x) closed
+abbrev pub is_in_list : List ℕ → ℕ → Bool
+is_in_list closed x = list_any (λ y. y == x) closed
 
 abbrev pub ListGrows : List ℕ → List ℕ → Type 0
-ListGrows old new = (x : ℕ) → IsTrue (in_list old x) → IsTrue (in_list new x)
+ListGrows old new = (x : ℕ) → IsTrue (is_in_list old x) → IsTrue (is_in_list new x)
 
 -- ---- what strong edges lead to
 
@@ -56,19 +56,19 @@ ListGrows old new = (x : ℕ) → IsTrue (in_list old x) → IsTrue (in_list new
 abbrev pub is_strong_from : List Row → ℕ → ℕ → Dependency → Origin → Bool
 is_strong_from rows p x dependency from = is_strong dependency && is_from_row rows p x from
 
-abbrev pub gives_from : List Row → ℕ → ℕ → Give → Bool
-gives_from rows p x g = is_strong_from rows p x g.dependency g.from
+abbrev pub is_given_from : List Row → ℕ → ℕ → Give → Bool
+is_given_from rows p x g = is_strong_from rows p x g.dependency g.from
 
-abbrev pub offers_from : List Row → ℕ → ℕ → Offer → Bool
-offers_from rows p x o = is_strong_from rows p x o.give.dependency o.give.from
+abbrev pub is_offered_from : List Row → ℕ → ℕ → Offer → Bool
+is_offered_from rows p x o = is_strong_from rows p x o.give.dependency o.give.from
 
-abbrev pub uses_from : List Row → ℕ → ℕ → Usage → Bool
-uses_from rows p x u = is_strong_from rows p x u.dependency u.from
+abbrev pub is_used_from : List Row → ℕ → ℕ → Usage → Bool
+is_used_from rows p x u = is_strong_from rows p x u.dependency u.from
 
 -- a set has each row but p from which one of these comes
 abbrev pub HasSources : {A : Type 0} → ℕ → (ℕ → A → Bool) → List A → BTreeSet ℕ → Type 0
 HasSources p comes_from xs named =
-    (x : ℕ) → x ≢ p → IsTrue (list_any (comes_from x) xs) → IsTrue (in_set named x)
+    (x : ℕ) → x ≢ p → IsTrue (list_any (comes_from x) xs) → IsTrue (is_in_set named x)
 
 -- whether something comes strongly from a child
 abbrev pub is_wired : Give → Bool
@@ -77,27 +77,27 @@ is_wired g = is_strong g.dependency && is_from_child g.from
 -- whether offers to a target count: all at a quick look, those to these targets at a close one
 abbrev pub is_aimed : Look → BTreeSet (List ℕ) → List ℕ → Bool
 is_aimed Quick targets to = true
-is_aimed Close targets to = in_texts targets to
+is_aimed Close targets to = is_in_texts targets to
 
 -- whether an offer that counts comes strongly from a row of p's level
-abbrev pub aimed_from : List Row → ℕ → Look → BTreeSet (List ℕ) → ℕ → Offer → Bool
-aimed_from rows p look targets x o = is_aimed look targets o.to && offers_from rows p x o
+abbrev pub is_aimed_from : List Row → ℕ → Look → BTreeSet (List ℕ) → ℕ → Offer → Bool
+is_aimed_from rows p look targets x o = is_aimed look targets o.to && is_offered_from rows p x o
 
 -- a set has each row but p to which a strong edge of p's level leads from w
 abbrev pub HasNext : List Row → ℕ → BTreeSet ℕ → ℕ → Type 0
-HasNext rows p named w = (x : ℕ) → x ≢ p → LevelStrong rows p w x → IsTrue (in_set named x)
+HasNext rows p named w = (x : ℕ) → x ≢ p → LevelStrong rows p w x → IsTrue (is_in_set named x)
 
 -- a set has each row but p on which a node of p's level depends that isn't wholly shut
 abbrev pub HasBound : List Row → ℕ → BTreeSet ℕ → Type 0
 HasBound rows p named =
     (z x : ℕ) → x ≢ p → is_wholly_shut rows p z ≡ false → Depends (level rows p) z x
-    → IsTrue (in_set named x)
+    → IsTrue (is_in_set named x)
 
 -- what a child was given alone is in the set, and offers to it count, unless no offer is strongly from
 -- a child
 pub record IsPut (rows : List Row) (p : ℕ) (look : Look) (wired : Bool) (named : BTreeSet ℕ)
     (targets : BTreeSet (List ℕ)) (r : Row) : Type 0 where
-  pub given : HasSources p (gives_from rows p) r.gives named
+  pub given : HasSources p (is_given_from rows p) r.gives named
   pub target : (wired ≡ false)
       ⊎ ((c : ChildName) → r.name ≡ Some c → IsTrue (is_aimed look targets (target_of c)))
 
@@ -105,7 +105,7 @@ pub record IsPut (rows : List Row) (p : ℕ) (look : Look) (wired : Bool) (named
 abbrev pub IsSeen : List Row → ℕ → Look → Bool → BTreeSet ℕ → BTreeSet (List ℕ) → List ℕ → ℕ → Row
     → Type 0
 IsSeen rows p look wired named targets closed c r =
-    IsPut rows p look wired named targets r ⊎ (IsTrue (in_list closed c) × IsTrue (is_subtree_shut rows c))
+    IsPut rows p look wired named targets r ⊎ (IsTrue (is_in_list closed c) × IsTrue (is_subtree_shut rows c))
 
 -- ---- one look
 

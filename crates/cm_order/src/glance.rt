@@ -10,7 +10,7 @@ ghost use Rattle.std.specs.List.{list_any};
 ghost use Rattle.cm_decl.specs.Graph.{is_strong, is_from_child};
 ghost use Rattle.cm_world.specs.Rows.{row_of, decl_of, is_subtree_shut};
 ghost use Rattle.cm_world.specs.Sound.{IsSound};
-ghost use Rattle.cm_order.specs.Glances.{in_set, HasBound, IsChosen, AreKidsShut, IsGlance};
+ghost use Rattle.cm_order.specs.Glances.{is_in_set, HasBound, IsChosen, AreKidsShut, IsGlance};
 ghost use Rattle.cm_order.specs.Search.{IsHere};
 ghost use Rattle.cm_order.specs.declared.search.Wanted.TheVariants as wanted;
 
@@ -92,7 +92,7 @@ fn is_free<V: View>(
     child: u64,
     named: &BTreeSet<u64>,
 ) -> Result<bool, Memory>
-    ensures unnamed { IfOk result (λ free. IsTrue free → in_set named.now child ≡ false) }
+    ensures unnamed { IfOk result (λ free. IsTrue free → is_in_set named.now child ≡ false) }
     ensures left { IfOk result (λ free. IsTrue free →
         is_subtree_shut (V.rows view.now) child ≡ false) }
 {

@@ -13,9 +13,9 @@ ghost use Rattle.cm_world.specs.Level.{is_from_row};
 ghost use Rattle.cm_world.specs.Rows.{row_of, name_of, decl_of, is_subtree_shut};
 ghost use Rattle.cm_world.specs.Sound.{IsSound};
 ghost use Rattle.cm_order.specs.Kids.{IsKid};
-ghost use Rattle.cm_order.specs.Glances.{in_set, Grows, in_texts, TextsGrow, in_list, ListGrows};
+ghost use Rattle.cm_order.specs.Glances.{is_in_set, Grows, is_in_texts, TextsGrow, is_in_list, ListGrows};
 ghost use Rattle.cm_order.specs.Glances.{HasSources, HasBound, IsSeen, is_strong_from};
-ghost use Rattle.cm_order.specs.Glances.{gives_from, aimed_from, uses_from};
+ghost use Rattle.cm_order.specs.Glances.{is_given_from, is_aimed_from, is_used_from};
 ghost use Rattle.cm_order.specs.Glances as spec;
 
 use crate::below::all_shut;
@@ -131,7 +131,7 @@ pub(crate) fn is_from_child(source: &Origin) -> bool
 
 /// Whether one of these instances is in the set.
 fn meet(closed: &[u64], named: &BTreeSet<u64>) -> bool
-    ensures { result ≡ list_any (in_set named.now) closed.now }
+    ensures { result ≡ list_any (is_in_set named.now) closed.now }
 {
     closed.iter().any(|inc| named.contains(inc))
 }
@@ -146,7 +146,7 @@ fn put_offers<V: View>(
     named: &mut BTreeSet<u64>,
 ) -> Result<(), Memory>
     ensures all { OnOk result (HasSources asked.parent
-        (aimed_from (V.rows view.now) asked.parent asked.look targets.now) offers.now named.new) }
+        (is_aimed_from (V.rows view.now) asked.parent asked.look targets.now) offers.now named.new) }
     ensures kept { OnOk result (Grows named.old named.new) }
 {
     for offer in offers {
@@ -165,8 +165,8 @@ fn put_offer<V: View>(
     named: &mut BTreeSet<u64>,
 ) -> Result<(), Memory>
     ensures here { OnOk result ((x : ℕ) → x ≢ asked.parent →
-        IsTrue (aimed_from (V.rows view.now) asked.parent asked.look targets.now x offer.now) →
-        IsTrue (in_set named.new x)) }
+        IsTrue (is_aimed_from (V.rows view.now) asked.parent asked.look targets.now x offer.now) →
+        IsTrue (is_in_set named.new x)) }
     ensures kept { OnOk result (Grows named.old named.new) }
 {
     if !is_aimed(asked.look, targets, &offer.to) {
@@ -199,7 +199,7 @@ fn put_uses<V: View>(
     uses: &[Usage],
     named: &mut BTreeSet<u64>,
 ) -> Result<(), Memory>
-    ensures all { OnOk result (HasSources parent (uses_from (V.rows view.now) parent) uses.now
+    ensures all { OnOk result (HasSources parent (is_used_from (V.rows view.now) parent) uses.now
         named.new) }
     ensures kept { OnOk result (Grows named.old named.new) }
 {
@@ -216,7 +216,7 @@ fn put_gives<V: View>(
     gives: &[Give],
     named: &mut BTreeSet<u64>,
 ) -> Result<(), Memory>
-    ensures all { OnOk result (HasSources parent (gives_from (V.rows view.now) parent) gives.now
+    ensures all { OnOk result (HasSources parent (is_given_from (V.rows view.now) parent) gives.now
         named.new) }
     ensures kept { OnOk result (Grows named.old named.new) }
 {
@@ -314,7 +314,7 @@ fn put_target<V: View>(
 /// Puts the name that a child has for offers into the set.
 fn put_name<V: View>(view: &V, child: u64, targets: &mut BTreeSet<Name>) -> Result<(), Memory>
     ensures here { OnOk result ((c : OneName) → name_of (V.rows view.now) child ≡ Some c →
-        IsTrue (in_texts targets.new (graph.target_of c))) }
+        IsTrue (is_in_texts targets.new (graph.target_of c))) }
     ensures kept { OnOk result (TextsGrow targets.old targets.new) }
 {
     match view.name(child) {
@@ -338,7 +338,7 @@ fn target_of(child: &ChildName) -> &Name
 
 /// Puts a copy of a name into the set, if it isn't there.
 fn put_text(name: &Name, targets: &mut BTreeSet<Name>) -> Result<(), Memory>
-    ensures here { OnOk result (IsTrue (in_texts targets.new name.now)) }
+    ensures here { OnOk result (IsTrue (is_in_texts targets.new name.now)) }
     ensures kept { OnOk result (TextsGrow targets.old targets.new) }
 {
     if targets.contains(name) {
@@ -358,7 +358,7 @@ fn put_strong<V: View>(
 ) -> Result<(), Memory>
     ensures here { OnOk result ((x : ℕ) → x ≢ parent →
         IsTrue (is_strong_from (V.rows view.now) parent x dependency source.now) →
-        IsTrue (in_set named.new x)) }
+        IsTrue (is_in_set named.new x)) }
     ensures kept { OnOk result (Grows named.old named.new) }
 {
     match dependency {
@@ -375,7 +375,7 @@ fn put_source<V: View>(
     named: &mut BTreeSet<u64>,
 ) -> Result<(), Memory>
     ensures here { OnOk result ((x : ℕ) → x ≢ parent →
-        IsTrue (is_from_row (V.rows view.now) parent x source.now) → IsTrue (in_set named.new x)) }
+        IsTrue (is_from_row (V.rows view.now) parent x source.now) → IsTrue (is_in_set named.new x)) }
     ensures kept { OnOk result (Grows named.old named.new) }
 {
     match source {
@@ -386,7 +386,7 @@ fn put_source<V: View>(
 
 /// Puts a child into the set, if there is one.
 fn put_found(child: Option<u64>, named: &mut BTreeSet<u64>) -> Result<(), Memory>
-    ensures here { OnOk result ((x : ℕ) → child ≡ Some x → IsTrue (in_set named.new x)) }
+    ensures here { OnOk result ((x : ℕ) → child ≡ Some x → IsTrue (is_in_set named.new x)) }
     ensures kept { OnOk result (Grows named.old named.new) }
 {
     match child {

@@ -2,7 +2,7 @@
 use Rattle.std.proofs.Common.{◌≡◌, ◌⊎◌, inl, inr, ℕ, ◌<◌, ◌≤◌, List, [], ◌++◌, length, true, nat_lt, Option, Some, None, Result, Ok, Err, IfOk, codes, refl, sym, ap, subst, ◌∙◌, arith, rules, length-append}
 use Rattle.std.proofs.lemmas.List.{append-nil}
 use Rattle.std.specs.Io.KnownBytes.{Consumes, IsAtEnd}
-use Rattle.cm_read.specs.Reading.{◌>>=◌}
+use Rattle.cm_names.specs.Steps.{◌>>=◌}
 use Rattle.cm_read.specs.Manifest.{decl_of_bytes, decl_of_text, text_of}
 use Rattle.cm_read.specs.Numbers.{max_bytes}
 use Rattle.cm_decl.specs.declared.decl.Decl.{Decl}
@@ -21,8 +21,8 @@ use Rattle.cm_valid.specs.Reports.{Reports, reported}
 use Rattle.cm_valid.specs.Texts as valid_text
 use Rattle.cm_valid.specs.declared.fault.ValidFault.{ValidFault}
 use Rattle.cm_valid.specs.declared.fault.ValidFault.TheVariants as valid_fault
-use Rattle.cm_program.specs.Checks.{IsJudged, IsVerdict}
-use Rattle.cm_program.specs.Written.{OfKnown}
+use Rattle.cm_program.specs.Checks.{IsChecked, IsJudged, IsTold, IsVerdict}
+use Rattle.cm_program.specs.Written.{OfSome}
 
 lt_true : (a b : ℕ) → a < b → nat_lt a b ≡ true
 lt_true a b h = grind (arith, rules)
@@ -44,11 +44,20 @@ decl_front front rest all = by (either (length front) max_bytes)
     by (inr long) = ap (λ t. t >>= decl_of_text) (text_front front rest long)
 
 -- the verdict on what was read is the verdict on all that was left
-pub verdict_known : (old new : Option (List ℕ)) (front : List ℕ) (status : ℕ) (line : List ℕ) → Consumes old new front → (length front ≤ max_bytes → IsAtEnd new) → IsVerdict front status line → OfKnown (λ bytes. IsVerdict bytes status line) old
-verdict_known None new front status line gone all h = tt
-verdict_known (Some whole) None front status line gone all h = absurd gone
-verdict_known (Some whole) (Some rest) front status line gone all h =
+pub verdict_some : (old new : Option (List ℕ)) (front : List ℕ) (status : ℕ) (line : List ℕ) → Consumes old new front → (length front ≤ max_bytes → IsAtEnd new) → IsVerdict front status line → OfSome (λ bytes. IsVerdict bytes status line) old
+verdict_some None new front status line gone all h = (front, h)
+verdict_some (Some whole) None front status line gone all h = absurd gone
+verdict_some (Some whole) (Some rest) front status line gone all h =
     subst (λ bytes. IsVerdict bytes status line) (sym gone) (subst (λ r. IsJudged r status line) (sym (decl_front front rest all)) h)
+
+-- what was written of the verdict
+pub checked_some : (written : List ℕ → Type 0) (status : ℕ) (line : List ℕ) (left : Option (List ℕ)) → OfSome (λ bytes. IsVerdict bytes status line) left → written line → OfSome (IsChecked written status) left
+checked_some written status line None some out = (some.0, record { line = line; verdict = some.1; out = out })
+checked_some written status line (Some bytes) is out = record { line = line; verdict = is; out = out }
+
+pub told_some : (written : List ℕ → Type 0) (status : ℕ) (line : List ℕ) (left : Option (List ℕ)) → OfSome (λ bytes. IsVerdict bytes status line) left → written line → OfSome (IsTold written) left
+told_some written status line None some out = (some.0, (status, record { line = line; verdict = some.1; out = out }))
+told_some written status line (Some bytes) is out = (status, record { line = line; verdict = is; out = out })
 
 -- ---- what is said of a manifest that was read
 

@@ -9,7 +9,7 @@ use Rattle.cm_command.specs.declared.fault.ScriptNumber.{ScriptNumber}
 use Rattle.cm_command.specs.declared.fault.ScriptNumber.TheVariants as fault
 use Rattle.cm_command.specs.declared.script.Script.{Script}
 use Rattle.cm_command.specs.declared.script_reader.Draft.{Draft}
-use Rattle.cm_program.specs.Written.{OfKnown, OfSome}
+use Rattle.cm_program.specs.Written.{OfSome}
 use Rattle.cm_program.specs.Stock.{Serves, Refuses, IsFault}
 use Rattle.cm_program.specs.declared.stock.Served.{Served}
 use Rattle.cm_program.specs.declared.fault.Fault.{Fault}
@@ -186,10 +186,10 @@ fault_whole front rest (Unserved line problem) all h = refused_whole front rest 
 fault_whole front rest Memory all h = absurd h
 
 -- what is known of the bytes that were read is known of all that was left
-pub served_known : (old new : Option (List ℕ)) (front : List ℕ) (served : Served) → Consumes old new front → (length front ≤ read_limit → IsAtEnd new) → Serves front served → OfKnown (λ bytes. Serves bytes served) old
-served_known None new front served gone all h = tt
-served_known (Some whole) None front served gone all h = absurd gone
-served_known (Some whole) (Some rest) front served gone all h =
+pub served_some : (old new : Option (List ℕ)) (front : List ℕ) (served : Served) → Consumes old new front → (length front ≤ read_limit → IsAtEnd new) → Serves front served → OfSome (λ bytes. Serves bytes served) old
+served_some None new front served gone all h = (front, h)
+served_some (Some whole) None front served gone all h = absurd gone
+served_some (Some whole) (Some rest) front served gone all h =
     subst (λ bytes. Serves bytes served) (sym gone) (served_whole front rest served all h)
 
 pub fault_known : (old new : Option (List ℕ)) (front : List ℕ) (f : Fault) → Consumes old new front → (length front ≤ read_limit → IsAtEnd new) → IsFault front f → OfSome (λ bytes. IsFault bytes f) old

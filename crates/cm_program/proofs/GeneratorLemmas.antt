@@ -1,5 +1,5 @@
 -- What a workload is made of, one after the other.
-use Rattle.std.proofs.Common.{◌≡◌, ℕ, zero, suc, ◌+◌, ◌-◌, ◌*◌, ◌/◌, ◌%◌, ◌^◌, ◌<◌, ◌≤◌, List, [], ◌∷◌, ◌++◌, All, map, filter, length, get_or, Bool, false, cond, ◌==◌, nat_lt, rules, Option, Some, Result, Ok, Err, IfOk, refl, sym, ap, subst, ◌∙◌, arith, append_assoc}
+use Rattle.std.proofs.Common.{◌≡◌, ℕ, zero, suc, ◌+◌, ◌-◌, ◌*◌, ◌/◌, ◌%◌, ◌<◌, ◌≤◌, List, [], ◌∷◌, ◌++◌, All, map, filter, length, get_or, false, cond, ◌==◌, nat_lt, rules, Some, Result, Ok, Err, IfOk, refl, sym, ap, subst, ◌∙◌, arith, append_assoc}
 use Rattle.std.specs.List.{range_with_len, slice_get}
 use Rattle.std.proofs.lemmas.List.Elements.{All-nil, All-cons}
 use Rattle.std.proofs.lemmas.Option.{slice_get_within, get_or_from_slice_get}
@@ -13,7 +13,7 @@ use Rattle.cm_world.specs.declared.event.Target.TheVariants as target
 use Rattle.cm_command.specs.declared.command.Command.{Command}
 use Rattle.cm_command.specs.declared.command.Command.TheVariants as command
 use Rattle.cm_command.specs.declared.script.Line.{Line}
-use Rattle.cm_program.specs.Generated.{parent_of, protocol_of, kids_of, name_of, names_to, moniker_of, next_of, drawn, in_turns, start_at, start_of, ask_of}
+use Rattle.cm_program.specs.Generated.{parent_of, protocol_of, name_of, names_to, moniker_of, next_of, drawn, in_turns, start_at, start_of, ask_of}
 
 -- ---- where an instance stands
 

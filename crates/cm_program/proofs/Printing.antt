@@ -1,5 +1,5 @@
 -- What is printed of answers that stand in the order of their lines.
-use Rattle.std.proofs.Common.{◌≡◌, ◌≢◌, ℕ, ◌+◌, List, [], ◌∷◌, ◌++◌, ◌≤◌, All, Bool, cond, map, flat_map, count_by, length, drop, take, Option, Some, None, Result, Err, refl, sym, ap, subst, ◌∙◌, append_assoc, append-nil, rules}
+use Rattle.std.proofs.Common.{◌≡◌, ◌≢◌, ℕ, ◌+◌, List, [], ◌∷◌, ◌++◌, ◌≤◌, All, Bool, cond, map, flat_map, count_by, length, drop, take, Option, Some, None, Result, Err, refl, sym, ap, ◌∙◌, append_assoc, append-nil, rules}
 use Rattle.std.proofs.lemmas.List.{drop_all}
 use Rattle.std.proofs.lemmas.List.Elements.{All-nil, All-cons, All-head, All-tail}
 use Rattle.std.proofs.lemmas.List.Sums.{sum_by-cons}
@@ -10,7 +10,7 @@ use Rattle.cm_command.specs.declared.script.Line.{Line}
 use Rattle.cm_lanes.specs.declared.said.Said.{Said}
 use Rattle.cm_lanes.specs.Script.{Answered, said_of, answered_lines}
 use Rattle.cm_program.specs.Headline.{IsNoWant}
-use Rattle.cm_program.specs.Printed.{line_text, answered_text, phases_text, results_of, texts_of}
+use Rattle.cm_program.specs.Printed.{answered_text, phases_text, results_of, texts_of}
 use Rattle.cm_program.specs.Written.{AppendsFront}
 use Rattle.cm_program.proofs.Sixteen.{all_front, all_behind}
 

@@ -23,9 +23,9 @@ use Rattle.cm_manager.specs.Kept.{AreSixteen}
 use Rattle.cm_lanes.specs.Lanes.{RanOrNot}
 use Rattle.cm_program.specs.Headline.{IsHistory, RunsScript, shelf_of}
 use Rattle.cm_program.specs.Performing.{Performs}
-use Rattle.cm_program.specs.Printed.{IsPrinted, phases_text, journal_of, printed_text, summary_text, texts_of, wanted_text}
+use Rattle.cm_program.specs.Printed.{IsPrinted, journal_of, printed_text, summary_text, texts_of, wanted_text}
 use Rattle.cm_program.specs.Calls.{words_of}
-use Rattle.cm_program.specs.Run.{AsksScript, IsFaulty, RunsAsServed, RunsOwn}
+use Rattle.cm_program.specs.Run.{AsksScript, IsFaulty, IsScriptRun, RunsAsServed, RunsOwn, RunsSome}
 use Rattle.cm_program.specs.Stock.{IsFault, Serves, served_script}
 use Rattle.cm_program.specs.Written.{AppendsFront, OfKnown, OfSome}
 use Rattle.cm_program.specs.declared.call.Call.TheVariants as call
@@ -46,6 +46,11 @@ use Rattle.cm_program.proofs.Wanting.{all_wanting, makes_nothing}
 pub not_faulty : (P : Type 0) (left : Option (List ℕ)) (served : Served) → OfKnown (λ bytes. Serves bytes served) left → OfKnown (λ bytes. IsFaulty bytes → P) left
 not_faulty P None served h = tt
 not_faulty P (Some bytes) served h = λ faulty. absurd (served_are_not_refused_lem bytes served h faulty)
+
+-- what holds of some bytes holds of those that are known
+pub known_of_some : (P : List ℕ → Type 0) (left : Option (List ℕ)) → OfSome P left → OfKnown P left
+known_of_some P None some = tt
+known_of_some P (Some bytes) is = is
 
 -- what holds of a run holds of faulty bytes
 pub of_faulty : (P : Type 0) (left : Option (List ℕ)) → P → OfKnown (λ bytes. IsFaulty bytes → P) left
@@ -201,6 +206,22 @@ own_served P script status served is holds = record {
   runs = λ other also. subst P (ok_same is also) holds;
   is_served = λ ended. (served, is);
 }
+
+-- what holds of the script that was served holds of some
+pub some_served : (P : Served → Type 0) (Idle : Type 0) (status : ℕ) (left : Option (List ℕ)) (served : Served) → OfSome (λ bytes. Serves bytes served) left → P served → RunsSome P Idle status left
+unfolding RunsSome
+some_served P Idle status left served from is = inl (served, (from, is))
+
+-- memory ran out before there was a script
+pub some_unread : (P : Served → Type 0) (Idle : Type 0) (status : ℕ) (left : Option (List ℕ)) → status ≡ 6 → Idle → RunsSome P Idle status left
+unfolding RunsSome
+some_unread P Idle status left six idle = inr (six, idle)
+
+pub some_refused : (P : Served → Type 0) (Idle : Type 0) (status : ℕ) (left : Option (List ℕ)) → (status ≡ 7) ⊎ (status ≡ 6) → Idle → IsScriptRun status → RunsSome P Idle status left
+some_refused P Idle status left (inr six) idle ran = some_unread P Idle status left six idle
+some_refused P Idle status left (inl seven) idle (inl none) = absurd (cc (seven, none))
+some_refused P Idle status left (inl seven) idle (inr (inl four)) = absurd (cc (seven, four))
+some_refused P Idle status left (inl seven) idle (inr (inr six)) = absurd (cc (seven, six))
 
 -- bytes that are refused are served in no way
 pub refused_runs : (P : Served → Type 0) (left : Option (List ℕ)) (fault : Fault) → OfSome (λ bytes. IsFault bytes fault) left → OfKnown (RunsAsServed P) left

@@ -1,8 +1,22 @@
 -- What is said on the error stream, by the status.
-use Rattle.std.proofs.Common.{◌≡◌, ◌⊎◌, inl, inr, ℕ, List, Option}
+use Rattle.std.proofs.Common.{◌≡◌, ◌⊎◌, inl, inr, ℕ, List, Option, Bool, true, not, ◌&&◌, ◌==◌, true≢false, refl, sym, ap, ◌∙◌}
 use Rattle.std.specs.Io.KnownBytes.{Keeps}
 use Rattle.cm_program.specs.Run.{IsScriptRun}
 use Rattle.cm_program.specs.Written.{IsSaid, Says, usage_line, read_fault_line, door_fault_line, want_line}
+
+-- a status at which nothing is said
+abbrev IsQuiet : ℕ → Type 0
+IsQuiet status = (status ≡ 0) ⊎ ((status ≡ 1) ⊎ (status ≡ 4))
+
+-- whether a status has a line of its own
+abbrev has_line : ℕ → Bool
+has_line n = not (n == 0) && (not (n == 1) && not (n == 4))
+
+-- none of those is one of these
+unquiet : {A : Type 0} (n status : ℕ) → has_line n ≡ true → status ≡ n → IsQuiet status → A
+unquiet n status line is (inl none) = absurd (true≢false (sym line ∙ ap has_line (sym is ∙ none)))
+unquiet n status line is (inr (inl one)) = absurd (true≢false (sym line ∙ ap has_line (sym is ∙ one)))
+unquiet n status line is (inr (inr four)) = absurd (true≢false (sym line ∙ ap has_line (sym is ∙ four)))
 
 module _ {E : Type 0} (written_of : E → Option (List ℕ)) (faults_of : E → ℕ) (old new : E) where
   pub says_usage : (status : ℕ) → status ≡ 2 → IsSaid written_of faults_of old new usage_line → Says written_of faults_of old new status
@@ -11,13 +25,8 @@ module _ {E : Type 0} (written_of : E → Option (List ℕ)) (faults_of : E → 
     read = λ s. absurd (cc (is, s));
     door = λ s. absurd (cc (is, s));
     memory = λ s. absurd (cc (is, s));
-    nothing = λ s. none s;
+    nothing = λ quiet. unquiet 2 status refl is quiet;
   }
-    where
-      none : (status ≡ 0) ⊎ ((status ≡ 1) ⊎ (status ≡ 4)) → Keeps (written_of old) (written_of new)
-      none (inl s) = absurd (cc (is, s))
-      none (inr (inl s)) = absurd (cc (is, s))
-      none (inr (inr s)) = absurd (cc (is, s))
 
   pub says_read_fault : (status : ℕ) → status ≡ 3 → IsSaid written_of faults_of old new read_fault_line → Says written_of faults_of old new status
   says_read_fault status is said = record {
@@ -25,13 +34,8 @@ module _ {E : Type 0} (written_of : E → Option (List ℕ)) (faults_of : E → 
     read = λ s. said;
     door = λ s. absurd (cc (is, s));
     memory = λ s. absurd (cc (is, s));
-    nothing = λ s. none s;
+    nothing = λ quiet. unquiet 3 status refl is quiet;
   }
-    where
-      none : (status ≡ 0) ⊎ ((status ≡ 1) ⊎ (status ≡ 4)) → Keeps (written_of old) (written_of new)
-      none (inl s) = absurd (cc (is, s))
-      none (inr (inl s)) = absurd (cc (is, s))
-      none (inr (inr s)) = absurd (cc (is, s))
 
   pub says_want : (status : ℕ) → status ≡ 6 → IsSaid written_of faults_of old new want_line → Says written_of faults_of old new status
   says_want status is said = record {
@@ -39,13 +43,8 @@ module _ {E : Type 0} (written_of : E → Option (List ℕ)) (faults_of : E → 
     read = λ s. absurd (cc (is, s));
     door = λ s. absurd (cc (is, s));
     memory = λ s. said;
-    nothing = λ s. none s;
+    nothing = λ quiet. unquiet 6 status refl is quiet;
   }
-    where
-      none : (status ≡ 0) ⊎ ((status ≡ 1) ⊎ (status ≡ 4)) → Keeps (written_of old) (written_of new)
-      none (inl s) = absurd (cc (is, s))
-      none (inr (inl s)) = absurd (cc (is, s))
-      none (inr (inr s)) = absurd (cc (is, s))
 
   pub says_door_fault : (status : ℕ) → status ≡ 5 → IsSaid written_of faults_of old new door_fault_line → Says written_of faults_of old new status
   says_door_fault status is said = record {
@@ -53,13 +52,8 @@ module _ {E : Type 0} (written_of : E → Option (List ℕ)) (faults_of : E → 
     read = λ s. absurd (cc (is, s));
     door = λ s. said;
     memory = λ s. absurd (cc (is, s));
-    nothing = λ s. none s;
+    nothing = λ quiet. unquiet 5 status refl is quiet;
   }
-    where
-      none : (status ≡ 0) ⊎ ((status ≡ 1) ⊎ (status ≡ 4)) → Keeps (written_of old) (written_of new)
-      none (inl s) = absurd (cc (is, s))
-      none (inr (inl s)) = absurd (cc (is, s))
-      none (inr (inr s)) = absurd (cc (is, s))
 
   -- at 7 the line is the fault's
   pub says_other : (status : ℕ) → status ≡ 7 → Says written_of faults_of old new status
@@ -68,42 +62,17 @@ module _ {E : Type 0} (written_of : E → Option (List ℕ)) (faults_of : E → 
     read = λ s. absurd (cc (is, s));
     door = λ s. absurd (cc (is, s));
     memory = λ s. absurd (cc (is, s));
-    nothing = λ s. none s;
+    nothing = λ quiet. unquiet 7 status refl is quiet;
   }
-    where
-      none : (status ≡ 0) ⊎ ((status ≡ 1) ⊎ (status ≡ 4)) → Keeps (written_of old) (written_of new)
-      none (inl s) = absurd (cc (is, s))
-      none (inr (inl s)) = absurd (cc (is, s))
-      none (inr (inr s)) = absurd (cc (is, s))
 
-  pub says_nothing : (status : ℕ) → (status ≡ 0) ⊎ ((status ≡ 1) ⊎ (status ≡ 4)) → Keeps (written_of old) (written_of new) → Says written_of faults_of old new status
+  pub says_nothing : (status : ℕ) → IsQuiet status → Keeps (written_of old) (written_of new) → Says written_of faults_of old new status
   says_nothing status quiet keeps = record {
-    usage = λ s. absurd (no_usage s quiet);
-    read = λ s. absurd (no_read s quiet);
-    door = λ s. absurd (no_door s quiet);
-    memory = λ s. absurd (no_memory s quiet);
+    usage = λ s. unquiet 2 status refl s quiet;
+    read = λ s. unquiet 3 status refl s quiet;
+    door = λ s. unquiet 5 status refl s quiet;
+    memory = λ s. unquiet 6 status refl s quiet;
     nothing = λ s. keeps;
   }
-    where
-      no_usage : status ≡ 2 → (status ≡ 0) ⊎ ((status ≡ 1) ⊎ (status ≡ 4)) → ⊥
-      no_usage s (inl is) = absurd (cc (is, s))
-      no_usage s (inr (inl is)) = absurd (cc (is, s))
-      no_usage s (inr (inr is)) = absurd (cc (is, s))
-
-      no_read : status ≡ 3 → (status ≡ 0) ⊎ ((status ≡ 1) ⊎ (status ≡ 4)) → ⊥
-      no_read s (inl is) = absurd (cc (is, s))
-      no_read s (inr (inl is)) = absurd (cc (is, s))
-      no_read s (inr (inr is)) = absurd (cc (is, s))
-
-      no_door : status ≡ 5 → (status ≡ 0) ⊎ ((status ≡ 1) ⊎ (status ≡ 4)) → ⊥
-      no_door s (inl is) = absurd (cc (is, s))
-      no_door s (inr (inl is)) = absurd (cc (is, s))
-      no_door s (inr (inr is)) = absurd (cc (is, s))
-
-      no_memory : status ≡ 6 → (status ≡ 0) ⊎ ((status ≡ 1) ⊎ (status ≡ 4)) → ⊥
-      no_memory s (inl is) = absurd (cc (is, s))
-      no_memory s (inr (inl is)) = absurd (cc (is, s))
-      no_memory s (inr (inr is)) = absurd (cc (is, s))
 
   pub says_verdict : (status : ℕ) → (status ≡ 0) ⊎ (status ≡ 1) → Keeps (written_of old) (written_of new) → Says written_of faults_of old new status
   says_verdict status (inl none) keeps = says_nothing status (inl none) keeps

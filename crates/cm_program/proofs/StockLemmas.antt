@@ -1,6 +1,7 @@
 -- The faults of scripts, and the lines of those that are served.
-use Rattle.std.proofs.Common.{◌≡◌, ℕ, ◌+◌, ◌<◌, ◌≤◌, List, [], ◌∷◌, ◌++◌, All, Bool, true, false, cond, IsTrue, Option, Result, Ok, Err, IfOk, IfErr, refl, sym, subst, arith}
+use Rattle.std.proofs.Common.{◌≡◌, ℕ, ◌≤◌, List, [], ◌∷◌, All, Option, Result, Ok, Err, IfOk, IfErr, refl, sym, subst, arith}
 use Rattle.std.proofs.lemmas.List.Elements.{All-nil, All-cons, All-append, All-head, All-tail}
+use Rattle.cm_names.specs.Steps.{◌>>=◌}
 use Rattle.cm_repo.specs.Blocks.{Blocks, added}
 use Rattle.cm_repo.specs.declared.fault.RepoFault.{RepoFault}
 use Rattle.cm_repo.specs.declared.fault.RepoFault.TheVariants as repo
@@ -10,7 +11,7 @@ use Rattle.cm_command.specs.declared.script.Line.{Line}
 use Rattle.cm_command.specs.declared.script.Script.{Script}
 use Rattle.cm_command.specs.declared.script_reader.Draft.{Draft}
 use Rattle.cm_lanes.specs.Script.{IsFit}
-use Rattle.cm_program.specs.Reading.{Read, ◌>>=◌, Gives}
+use Rattle.cm_program.specs.Reading.{Read, Gives}
 use Rattle.cm_program.specs.Run.{Stops, stop_of}
 use Rattle.cm_program.specs.Stock.{frame_of, accepted, stocked, stock_of, served_script, IsFault, Serves}
 use Rattle.cm_program.specs.Written.{OfSome}

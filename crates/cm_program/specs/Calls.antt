@@ -12,6 +12,7 @@ use Rattle.clap.specs.ValueTests.{accepts}
 use Rattle.clap.specs.declared.builder.ValueParser.TheVariants as value
 use Rattle.clap.specs.declared.builder.ArgAction.TheVariants.{Set, SetTrue}
 use Rattle.clap.specs.declared.ArgMatches.{ArgMatches}
+use Rattle.cm_names.specs.Steps.{◌>>=◌}
 use Rattle.cm_program.specs.declared.call.Call.{Call}
 use Rattle.cm_program.specs.declared.call.Call.TheVariants.{Run, Check, Generate, Serve}
 use Rattle.cm_program.specs.declared.call.RunOptions.{RunOptions}
@@ -131,11 +132,6 @@ run_words words = on_rows (λ rows. Run (options_in rows)) (rows_read run_app wo
 
 abbrev pub check_words : List Text → Read Call
 check_words words = on_rows (λ rows. Check) (rows_read check_app words)
-
-infixl 10 ◌>>=◌
-abbrev pub ◌>>=◌ : {X Y : Type 0} → Read X → (X → Read Y) → Read Y
-(Ok x) >>= f = f x
-(Err e) >>= f = Err e
 
 -- the number that a text is, if it is one from low to high; a plus may stand before its digits
 abbrev pub number_in : ℕ → ℕ → Option Text → Read ℕ

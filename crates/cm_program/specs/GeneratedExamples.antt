@@ -1,5 +1,5 @@
 -- A small workload, computed.
-use Rattle.std.specs.Prelude.{◌≡◌, ℕ, List, [], ◌∷◌, codes, map}
+use Rattle.std.specs.Prelude.{◌≡◌, [], ◌∷◌, codes}
 use Rattle.cm_names.specs.Moniker.{text_of_parts}
 use Rattle.cm_program.specs.Generated.{drawn, names_to, kids_of, url_of}
 

@@ -7,11 +7,6 @@ use Rattle.cm_program.specs.declared.fault.Problem.{Problem}
 abbrev pub Read : Type 0 → Type 0
 Read A = Result A Fault
 
-infixl 10 ◌>>=◌
-abbrev pub ◌>>=◌ : {A B : Type 0} → Read A → (A → Read B) → Read B
-(Ok x) >>= f = f x
-(Err e) >>= f = Err e
-
 -- this problem, at this line
 abbrev pub bad : ℕ → Problem → Fault
 bad line problem = Unserved line problem

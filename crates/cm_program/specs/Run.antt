@@ -39,13 +39,19 @@ AsksScript words = AsksRun words ⊎ AsksGenerate words
 abbrev pub AsksRealm : List (List ℕ) → Type 0
 AsksRealm words = AsksScript words ⊎ AsksServe words
 
--- the bytes that a source had left are refused, or bytes that it gave are where it tells none; and the line
--- that says why is said on the error stream
+-- the bytes that a source had left are refused, or some bytes are where it tells none; and the line that says
+-- why is said on the error stream
 module _ {E : Type 0} (written_of : E → Option (List ℕ)) (faults_of : E → ℕ) where
   pub record IsRefused (left : Option (List ℕ)) (err_old err_new : E) : Type 0 where
     pub fault : Fault
     pub faulty : OfSome (λ bytes. IsFault bytes fault) left
     pub said : IsSaid written_of faults_of err_old err_new (fault_line fault)
+
+-- of some script that is served this holds: the one that the bytes are which a source had left, or one that
+-- some bytes are where it tells none; or memory ran out before there was one, and then this holds
+unfoldable pub RunsSome : (Served → Type 0) → Type 0 → ℕ → Option (List ℕ) → Type 0
+RunsSome P Idle status left =
+    ((served : Served) × (OfSome (λ bytes. Serves bytes served) left × P served)) ⊎ ((status ≡ 6) × Idle)
 
 -- whichever script that is served the bytes are, this holds of it; they are one at most
 abbrev pub RunsAsServed : (Served → Type 0) → List ℕ → Type 0

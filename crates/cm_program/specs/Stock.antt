@@ -1,5 +1,6 @@
 -- What a script asks for.
 use Rattle.std.specs.Prelude.{◌≡◌, ℕ, List, [], ◌∷◌, Result, Ok, Err}
+use Rattle.cm_names.specs.Steps.{◌>>=◌}
 use Rattle.cm_repo.specs.Blocks.{Blocks, added}
 use Rattle.cm_repo.specs.declared.fault.RepoFault.{RepoFault}
 use Rattle.cm_repo.specs.declared.fault.RepoFault.TheVariants as repo
@@ -8,7 +9,7 @@ use Rattle.cm_world.specs.declared.frame.Limits.{Limits}
 use Rattle.cm_command.specs.Scripts as scripts
 use Rattle.cm_command.specs.declared.script.Block.{Block}
 use Rattle.cm_command.specs.declared.script.Script.{Script}
-use Rattle.cm_program.specs.Reading.{Read, ◌>>=◌, bad}
+use Rattle.cm_program.specs.Reading.{Read, bad}
 use Rattle.cm_program.specs.declared.fault.Fault.{Fault}
 use Rattle.cm_program.specs.declared.fault.Fault.TheVariants.{Unread, Unserved, Memory}
 use Rattle.cm_program.specs.declared.fault.Problem.TheVariants.{BadManifestUrl, RepeatedManifest}

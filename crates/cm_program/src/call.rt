@@ -99,11 +99,10 @@ fn run_command<'a>(alloc: Global) -> Result<Command<'a>, AllocError>
     let journal = Arg::new(alloc, "journal")
         .long("journal")
         .action(ArgAction::SetTrue);
-    let repo = Arg::new(alloc, "repo").long("repo").action(ArgAction::Set);
-    Command::new(alloc, "run")
+    let command = Command::new(alloc, "run")
         .no_binary_name(true)
-        .arg(journal)?
-        .arg(repo)
+        .arg(journal)?;
+    command.arg(Arg::new(alloc, "repo").long("repo").action(ArgAction::Set))
 }
 
 /// The parser of the words behind `check`.
@@ -129,11 +128,10 @@ fn generate_command<'a>(alloc: Global) -> Result<Command<'a>, AllocError>
     ensures { IfOk result (λ c. app_of c ≡ spec.generate_app) }
 {
     let seed = number_arg(alloc, "seed", 0, 2_147_483_647);
-    let size = number_arg(alloc, "size", 1, 10_000);
-    Command::new(alloc, "generate")
+    let command = Command::new(alloc, "generate")
         .no_binary_name(true)
-        .arg(seed)?
-        .arg(size)
+        .arg(seed)?;
+    command.arg(number_arg(alloc, "size", 1, 10_000))
 }
 
 /// An argument that has to be there, by its place.
@@ -168,28 +166,27 @@ fn place_command<'a>(alloc: Global) -> Result<Command<'a>, AllocError>
     ensures { IfOk result (λ c. app_of c ≡ spec.place_app) }
 {
     let socket = text_arg(alloc, "socket");
-    let root = named_arg(alloc, "root");
-    Command::new(alloc, "serve")
+    let command = Command::new(alloc, "serve")
         .no_binary_name(true)
-        .arg(socket)?
-        .arg(root)
+        .arg(socket)?;
+    command.arg(named_arg(alloc, "root"))
 }
 
 /// The parser of all that has to be there behind `serve`.
 fn needed_command<'a>(alloc: Global) -> Result<Command<'a>, AllocError>
     ensures { IfOk result (λ c. app_of c ≡ spec.needed_app) }
 {
-    let repo = named_arg(alloc, "repo");
-    place_command(alloc)?.arg(repo)
+    let command = place_command(alloc)?;
+    command.arg(named_arg(alloc, "repo"))
 }
 
 /// The parser of the words behind `serve`.
 fn serve_command<'a>(alloc: Global) -> Result<Command<'a>, AllocError>
     ensures { IfOk result (λ c. app_of c ≡ spec.serve_app) }
 {
-    let sessions = count_arg(alloc, "sessions", 4_096);
-    let workers = count_arg(alloc, "workers", 16);
-    needed_command(alloc)?.arg(sessions)?.arg(workers)
+    let needed = needed_command(alloc)?;
+    let command = needed.arg(count_arg(alloc, "sessions", 4_096))?;
+    command.arg(count_arg(alloc, "workers", 16))
 }
 
 /// What a parser makes of words.
@@ -212,7 +209,7 @@ fn text_at<'a>(matches: &ArgMatches<'a>, id: &str) -> Option<&'a str>
     matches.get_str(id)
 }
 
-fn flag_at(matches: &ArgMatches<'_>, id: &str) -> bool
+fn has_flag(matches: &ArgMatches<'_>, id: &str) -> bool
     ensures { result ≡ spec.is_yes (first_of id.now (rows_of (found_of matches.now))) }
 {
     match text_at(matches, id) {
@@ -260,7 +257,7 @@ fn number_in(text: &str, low: u64, high: u64) -> Result<u64, WordsFault>
 fn options_of(alloc: Global, matches: &ArgMatches<'_>) -> Result<RunOptions, WordsFault>
     ensures { Gives result (Ok (spec.options_in (rows_of (found_of matches.now)))) }
 {
-    let journal = flag_at(matches, "journal");
+    let journal = has_flag(matches, "journal");
     let repository = copy_at(alloc, matches, "repo")?;
     Ok(RunOptions {
         journal,

@@ -1,6 +1,6 @@
 //! The command `check`: whether a manifest is valid.
 
-ghost use Rattle.std.specs.Prelude.{◌≡◌, ◌⊎◌, ◌++◌, codes, Result, Ok, IfOk, IfErr};
+ghost use Rattle.std.specs.Prelude.{◌≡◌, ◌≢◌, ◌⊎◌, ◌++◌, codes, Result, Ok, IfOk, IfErr};
 ghost use Rattle.std.specs.Io.KnownBytes.{Appends, Keeps};
 ghost use Rattle.cm_io.specs.Outside.{Rose};
 ghost use Rattle.cm_decl.specs.declared.decl.Decl.{Decl};
@@ -11,7 +11,7 @@ ghost use Rattle.cm_valid.specs.Reports.{Reports};
 ghost use Rattle.cm_valid.specs.Texts as valid_text;
 ghost use Rattle.cm_program.specs.Checks.{IsChecked, IsJudged, IsTold, IsVerdict};
 ghost use Rattle.cm_program.specs.Run.{IsCheckStatus};
-ghost use Rattle.cm_program.specs.Written.{AppendsFront, OfKnown, Says};
+ghost use Rattle.cm_program.specs.Written.{AppendsFront, OfSome, Says};
 
 use crate::ran::{read_fault, want_of_memory};
 use cm_io::{Put, Sink, Source, SourceFault, put_all, read_up_to};
@@ -123,7 +123,7 @@ fn read_verdict<R: Threads + Wait + Sync, S: Source>(
     source: &mut S,
 ) -> Result<Verdict, NoVerdict>
     ensures verdict { IfOk result
-        (λ verdict. OfKnown (λ bytes. IsVerdict bytes verdict.status verdict.line)
+        (λ verdict. OfSome (λ bytes. IsVerdict bytes verdict.status verdict.line)
         (S.left source.old)) }
     ensures status { IfOk result (λ verdict. (verdict.status ≡ 0) ⊎ (verdict.status ≡ 1)) }
     ensures fault { IfErr result (λ e. e ≡ NoVerdict.ReadFault →
@@ -152,14 +152,15 @@ pub fn run_check<R: Threads + Wait + Sync, S: Source, K: Sink, E: Sink>(
 ) -> u8
     ensures read { result ≡ 3 → Rose (S.faults source.old) (S.faults source.new) }
     ensures write { result ≡ 4 → Rose (K.faults out.old) (K.faults out.new) }
+    ensures whole { result ≢ 4 → result ≢ 6 → K.faults out.new ≡ K.faults out.old }
     ensures valid { result ≡ 0 →
-        OfKnown (IsChecked (Appends (K.written out.old) (K.written out.new)) 0)
+        OfSome (IsChecked (Appends (K.written out.old) (K.written out.new)) 0)
         (S.left source.old) }
     ensures invalid { result ≡ 1 →
-        OfKnown (IsChecked (Appends (K.written out.old) (K.written out.new)) 1)
+        OfSome (IsChecked (Appends (K.written out.old) (K.written out.new)) 1)
         (S.left source.old) }
     ensures front { result ≡ 4 →
-        OfKnown (IsTold (AppendsFront (K.written out.old) (K.written out.new)))
+        OfSome (IsTold (AppendsFront (K.written out.old) (K.written out.new)))
         (S.left source.old) }
     ensures silent { (result ≡ 3) ⊎ (result ≡ 6) →
         Keeps (K.written out.old) (K.written out.new) }

@@ -1,14 +1,15 @@
 //! The command `generate`: a workload is made and run.
 
-ghost use Rattle.std.specs.Prelude.{◌≡◌, All, IfOk, None, Ok, length};
+ghost use Rattle.std.specs.Prelude.{◌≡◌, ◌≢◌, All, IfOk, None, Ok, length};
 ghost use Rattle.cm_io.specs.Outside.{Rose};
 ghost use Rattle.cm_lanes.specs.Script.{IsFit};
 ghost use Rattle.cm_program.specs.Calls.{IsWorkload};
 ghost use Rattle.cm_program.specs.Generated.{script_of};
-ghost use Rattle.cm_program.specs.Headline.{IsHistory, RunsScript};
+ghost use Rattle.cm_program.specs.Headline.{IsHistory, RunsNothing, RunsScript};
 ghost use Rattle.cm_program.specs.Run.{IsScriptRun, RunsOwn};
 ghost use Rattle.cm_program.specs.Stock.{served_script};
 ghost use Rattle.cm_program.specs.Written.{Says};
+ghost use Rattle.cm_program.specs.declared.stock.Served.{Served as TheServed};
 
 use crate::call::Workload;
 use crate::ran::{Finished, ended, want_of_memory};
@@ -55,7 +56,11 @@ pub fn run_generated<R: Threads + Wait + Sync, K: Sink, E: Sink, G: Gates + Send
         served gates result.gates result.book.entries result.status (K.written out.old)
         (K.written out.new)) (script_of workload.seed workload.size) result.status }
     ensures history { IsHistory result.book.entries }
+    ensures unmade { ((served : TheServed) →
+        served_script (script_of workload.seed workload.size) ≡ Ok served → ⊥) →
+        RunsNothing result.book.entries gates result.gates }
     ensures cause { result.status ≡ 4 → Rose (K.faults out.old) (K.faults out.new) }
+    ensures whole { result.status ≢ 4 → result.status ≢ 6 → K.faults out.new ≡ K.faults out.old }
     ensures err { Says E.written E.faults err.old err.new result.status }
     ensures others { IsScriptRun result.status }
 {

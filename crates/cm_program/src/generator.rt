@@ -5,6 +5,7 @@ ghost use Rattle.std.specs.Prelude.{◌≡◌, ◌++◌, ◌≤◌, ◌<◌, ◌
 ghost use Rattle.std.specs.Prelude.{nat_lt, if◌then◌else◌};
 ghost use Rattle.std.specs.List.{range_with_len};
 ghost use Rattle.cm_names.specs.Path.{service_path};
+ghost use Rattle.cm_read.specs.Writing.{decl_text};
 ghost use Rattle.cm_program.specs.Generated as spec;
 
 use cm_command::Block;
@@ -95,17 +96,6 @@ fn child_row(alloc: Global, kid: usize) -> Result<Child, Memory>
     })
 }
 
-/// What their parent declares of these children.
-fn child_rows(alloc: Global, kids: &[usize]) -> Result<List<Child>, Memory>
-    ensures { IfOk result (λ rows. rows ≡ map spec.child_row kids.now) }
-{
-    let mut rows = List::new(alloc);
-    for kid in kids {
-        rows.push(child_row(alloc, *kid)?)?;
-    }
-    Ok(rows)
-}
-
 /// The protocol of an instance, given to a child.
 fn give_row(alloc: Global, instance: usize) -> Result<Give, Memory>
     ensures { IfOk result (λ row. row ≡ spec.give_row instance) }
@@ -133,15 +123,22 @@ fn offer_row(alloc: Global, instance: usize, kid: usize) -> Result<Offer, Memory
     Ok(Offer { to, give })
 }
 
-/// The protocol of an instance, offered to each of these children.
-fn offer_rows(alloc: Global, instance: usize, kids: &[usize]) -> Result<List<Offer>, Memory>
-    ensures { IfOk result (λ rows. rows ≡ map (spec.offer_row instance) kids.now) }
+/// What an instance declares of these children, and its protocol, offered to each of them.
+fn kid_rows(
+    alloc: Global,
+    instance: usize,
+    kids: &[usize],
+) -> Result<(List<Child>, List<Offer>), Memory>
+    ensures { IfOk result (λ rows. (rows.0 ≡ map spec.child_row kids.now)
+        × (rows.1 ≡ map (spec.offer_row instance) kids.now)) }
 {
-    let mut rows = List::new(alloc);
+    let mut children = List::new(alloc);
+    let mut offers = List::new(alloc);
     for kid in kids {
-        rows.push(offer_row(alloc, instance, *kid)?)?;
+        children.push(child_row(alloc, *kid)?)?;
+        offers.push(offer_row(alloc, instance, *kid)?)?;
     }
-    Ok(rows)
+    Ok((children, offers))
 }
 
 /// The one capability of an instance: its protocol.
@@ -197,10 +194,9 @@ fn decl_of(alloc: Global, size: usize, instance: usize) -> Result<Decl, Memory>
 {
     let runner = read_name(alloc, &Text::from_str(alloc, "gen")?)?;
     let kids = kids_of(alloc, size, instance)?;
-    let children = child_rows(alloc, kids.as_slice())?;
+    let (children, offers) = kid_rows(alloc, instance, kids.as_slice())?;
     let capabilities = capability_rows(alloc, instance)?;
     let uses = use_rows(alloc, instance)?;
-    let offers = offer_rows(alloc, instance, kids.as_slice())?;
     Ok(Decl {
         runner: Some(runner),
         children,
@@ -217,16 +213,25 @@ fn decl_of(alloc: Global, size: usize, instance: usize) -> Result<Decl, Memory>
     })
 }
 
+/// The text of a declaration, which is given back to memory here.
+fn text_of(alloc: Global, decl: Decl) -> Result<Text, Memory>
+    ensures { IfOk result (λ text. text ≡ decl_text decl) }
+{
+    let text = write_decl(alloc, &decl);
+    drop(decl);
+    text
+}
+
 /// The manifest of an instance of so many, which is the text of its declaration.
 fn block_of(alloc: Global, size: usize, instance: usize) -> Result<Block, Memory>
     requires { instance ≤ 10000 }
     ensures { IfOk result (λ block. block ≡ spec.block_of size instance) }
 {
-    let url = url_of(alloc, instance)?;
     let decl = decl_of(alloc, size, instance)?;
-    let text = write_decl(alloc, &decl)?;
+    let text = text_of(alloc, decl)?;
     let mut bytes = Bytes::new(alloc);
     bytes.extend_from_slice(text.as_str().as_bytes())?;
+    let url = url_of(alloc, instance)?;
     Ok(Block {
         line: 0,
         url,

@@ -1,6 +1,6 @@
 //! The top call.
 
-ghost use Rattle.std.specs.Prelude.{◌≡◌, ◌⊎◌, ◌+◌, ◌≤◌, [], None, Ok, Err, length, map};
+ghost use Rattle.std.specs.Prelude.{◌≡◌, ◌≢◌, ◌⊎◌, ◌+◌, ◌≤◌, [], None, Ok, Err, length, map};
 ghost use Rattle.std.specs.Io.KnownBytes.{Appends, Keeps};
 ghost use Rattle.cm_io.specs.Outside.{Rose};
 ghost use Rattle.cm_program.specs.Calls.{words_of};
@@ -10,12 +10,14 @@ ghost use Rattle.cm_program.specs.Headline.{IsHistory, RunsNothing, RunsScript};
 ghost use Rattle.cm_program.specs.Run.{AsksCheck, AsksGenerate, AsksRealm, AsksRun, AsksScript};
 ghost use Rattle.cm_program.specs.Run.{AsksServe, IsCheckStatus, IsFaulty, IsRefusal, IsRefused};
 ghost use Rattle.cm_program.specs.Run.{IsScriptRun, IsScriptStatus, IsServeStatus, RunsAsServed};
-ghost use Rattle.cm_program.specs.Run.{RunsOwn};
+ghost use Rattle.cm_program.specs.Run.{RunsOwn, RunsSome};
 ghost use Rattle.cm_program.specs.Sessions.{RunsSessions, served_frame, served_shelf};
 ghost use Rattle.cm_program.specs.declared.call.RunOptions.{RunOptions as TheOptions};
 ghost use Rattle.cm_program.specs.declared.call.ServeOptions.{ServeOptions as TheServing};
 ghost use Rattle.cm_program.specs.declared.call.Workload.{Workload as TheWorkload};
-ghost use Rattle.cm_program.specs.Written.{AppendsFront, OfKnown, Says};
+ghost use Rattle.cm_program.specs.declared.stock.Served.{Served as TheServed};
+ghost use Rattle.cm_program.specs.Stock.{served_script};
+ghost use Rattle.cm_program.specs.Written.{AppendsFront, OfKnown, OfSome, Says};
 ghost use Rattle.cm_session.specs.Links.{link_view};
 ghost use Rattle.cm_session.specs.Serving.{back_view};
 
@@ -84,13 +86,15 @@ where
         (result.status ≡ 6) }
 
     // 3 comes only where the source failed in this run, 4 only where `out` did, and 5 only where the
-    // door did. 0 comes only where the door never failed in this run.
+    // door did. 0 comes only where the door never failed in this run; and where `out` failed, no
+    // status comes but 4 and 6.
     ensures read { result.status ≡ 3 → Rose (S.faults input.old) (S.faults input.new) }
     ensures write { result.status ≡ 4 → Rose (K.faults out.old) (K.faults out.new) }
     ensures door { result.status ≡ 5 →
         Rose (D.counts door).faults (D.counts result.door).faults }
     ensures sound { result.status ≡ 0 →
         (D.counts result.door).faults ≡ (D.counts door).faults }
+    ensures whole { result.status ≢ 4 → result.status ≢ 6 → K.faults out.new ≡ K.faults out.old }
 
     // Nothing is written on `out` at 2, 3 and 7, and at 6 only for a script that was run. What is said
     // on `err` goes by the status; at 7 it is the line of the script's fault.
@@ -133,12 +137,26 @@ where
         options.repository served gates result.gates result.book.entries result.status
         (K.written out.old) (K.written out.new))) (S.left input.old) }
 
+    // The same of some script, also where the source doesn't tell what it has left; or memory ran
+    // out before there was one, and then nothing happened and nothing was written.
+    ensures some { (options : TheOptions) → words_of words.now ≡ Ok (Call.Run options) →
+        IsScriptRun result.status →
+        RunsSome (λ served. RunsScript G.log G.faults (Wanted.Answers options.journal)
+        options.repository served gates result.gates result.book.entries result.status
+        (K.written out.old) (K.written out.new))
+        (RunsNothing result.book.entries gates result.gates
+        × Keeps (K.written out.old) (K.written out.new)) result.status (S.left input.old) }
+
     // The same of a workload, over its own script and with no folder. What is written is the line
-    // that counts the answers, and the input is as it was.
+    // that counts the answers, and the input is as it was. Were its script not served, the book
+    // would be empty and the gates as they were.
     ensures workload { (w : TheWorkload) → words_of words.now ≡ Ok (Call.Generate w) →
         RunsOwn (λ served. RunsScript G.log G.faults (Wanted.Summary w.size) None served gates
         result.gates result.book.entries result.status (K.written out.old)
         (K.written out.new)) (script_of w.seed w.size) result.status }
+    ensures unmade { (w : TheWorkload) → words_of words.now ≡ Ok (Call.Generate w) →
+        ((served : TheServed) → served_script (script_of w.seed w.size) ≡ Ok served → ⊥) →
+        RunsNothing result.book.entries gates result.gates }
     ensures generate { AsksGenerate words.now → IsScriptRun result.status }
     ensures unread { AsksGenerate words.now → input.new ≡ input.old }
 
@@ -159,23 +177,23 @@ where
     ensures serve { AsksServe words.now → IsServeStatus result.status }
     ensures untouched { AsksServe words.now → (input.new ≡ input.old) × (out.new ≡ out.old) }
 
-    // For `check`: 0 and `valid`, or 1 and the first fault; and at 4 a front of that line.
+    // For `check`: 0 and `valid`, or 1 and the first fault; and at 4 a front of that line. It is said of
+    // all that the source had left, and of some bytes where it doesn't tell that.
     ensures valid { AsksCheck words.now → result.status ≡ 0 →
-        OfKnown (IsChecked (Appends (K.written out.old) (K.written out.new)) 0)
+        OfSome (IsChecked (Appends (K.written out.old) (K.written out.new)) 0)
         (S.left input.old) }
     ensures invalid { AsksCheck words.now → result.status ≡ 1 →
-        OfKnown (IsChecked (Appends (K.written out.old) (K.written out.new)) 1)
+        OfSome (IsChecked (Appends (K.written out.old) (K.written out.new)) 1)
         (S.left input.old) }
     ensures told { AsksCheck words.now → result.status ≡ 4 →
-        OfKnown (IsTold (AppendsFront (K.written out.old) (K.written out.new)))
+        OfSome (IsTold (AppendsFront (K.written out.old) (K.written out.new)))
         (S.left input.old) }
     ensures check { AsksCheck words.now → IsCheckStatus result.status }
 {
     match read_words(alloc, words) {
         Ok(Call::Run(options)) => {
-            let wanted = Wanted::Answers {
-                journal: options.journal,
-            };
+            let journal = options.journal;
+            let wanted = Wanted::Answers { journal };
             let folder = options.repository;
             let Finished {
                 status,
@@ -190,10 +208,7 @@ where
                 door,
             }
         }
-        Ok(Call::Check) => {
-            let status = run_check(rt, alloc, input, out, err);
-            stopped(alloc, status, gates, door)
-        }
+        Ok(Call::Check) => stopped(alloc, run_check(rt, alloc, input, out, err), gates, door),
         Ok(Call::Generate(workload)) => {
             let Finished {
                 status,

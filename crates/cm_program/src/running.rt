@@ -112,6 +112,7 @@ fn print<R: Threads + Wait + Sync, K: Sink>(
         sheet.now.head.now sheet.now.entries.now) said.now result (K.written out.old)
         (K.written out.new) }
     ensures cause { result ≡ 4 → Rose (K.faults out.old) (K.faults out.new) }
+    ensures whole { result ≢ 4 → result ≢ 6 → K.faults out.new ≡ K.faults out.old }
     ensures others { IsScriptRun result }
 {
     let Ok(text) = text_of(alloc, phases, said, sheet) else {
@@ -157,6 +158,7 @@ fn print_performed<R: Threads + Wait + Sync, K: Sink, E: Sink, G>(
     ensures book { result.book ≡ done.book }
     ensures gates { result.gates ≡ done.gates }
     ensures cause { result.status ≡ 4 → Rose (K.faults out.old) (K.faults out.new) }
+    ensures whole { result.status ≢ 4 → result.status ≢ 6 → K.faults out.new ≡ K.faults out.old }
     ensures err { Says E.written E.faults err.old err.new result.status }
     ensures others { IsScriptRun result.status }
 {
@@ -201,6 +203,7 @@ pub fn run_served<R: Threads + Wait + Sync, K: Sink, E: Sink, G: Gates + Send + 
     ensures runs { RunsScript G.log G.faults wanted repo served gates result.gates
         result.book.entries result.status (K.written out.old) (K.written out.new) }
     ensures cause { result.status ≡ 4 → Rose (K.faults out.old) (K.faults out.new) }
+    ensures whole { result.status ≢ 4 → result.status ≢ 6 → K.faults out.new ≡ K.faults out.old }
     ensures err { Says E.written E.faults err.old err.new result.status }
     ensures others { IsScriptRun result.status }
 {

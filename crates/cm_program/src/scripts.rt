@@ -1,16 +1,16 @@
 //! The run of a script that a source gives.
 
-ghost use Rattle.std.specs.Prelude.{◌≡◌, ◌⊎◌, All, IfOk, IfErr, length};
+ghost use Rattle.std.specs.Prelude.{◌≡◌, ◌≢◌, ◌⊎◌, All, IfOk, IfErr, length};
 ghost use Rattle.std.specs.Io.KnownBytes.{Keeps};
 ghost use Rattle.cm_io.specs.Outside.{Rose};
 ghost use Rattle.cm_lanes.specs.Script.{IsFit};
 ghost use Rattle.cm_program.specs.Headline.{IsHistory, RunsNothing, RunsScript};
 ghost use Rattle.cm_program.specs.Run.{IsFaulty, IsRefusal, IsRefused, IsScriptRun};
-ghost use Rattle.cm_program.specs.Run.{IsScriptStatus, RunsAsServed, Stops};
+ghost use Rattle.cm_program.specs.Run.{IsScriptStatus, RunsAsServed, RunsSome, Stops};
 ghost use Rattle.cm_program.specs.Run as run;
 ghost use Rattle.cm_program.specs.Stock.{Serves};
 ghost use Rattle.cm_program.specs.Texts as spec;
-ghost use Rattle.cm_program.specs.Written.{IsSaid, OfKnown, Says};
+ghost use Rattle.cm_program.specs.Written.{IsSaid, OfKnown, OfSome, Says};
 
 use crate::fault::Fault;
 use crate::ran::{Finished, ended, read_fault, tell, want_of_memory};
@@ -55,7 +55,7 @@ fn read_served<R: Threads + Wait + Sync, S: Source>(
     source: &mut S,
 ) -> Result<Served, Stop>
     ensures good { IfOk result
-        (λ served. OfKnown (λ bytes. Serves bytes served) (S.left source.old)) }
+        (λ served. OfSome (λ bytes. Serves bytes served) (S.left source.old)) }
     ensures fit { IfOk result (λ served. All (λ lines. All IsFit lines) served.phases) }
     ensures bad { IfErr result (λ stop. Stops stop (S.left source.old)) }
     ensures fault { IfErr result (λ stop. stop ≡ Stop.ReadFault →
@@ -114,6 +114,7 @@ pub fn run_script<R: Threads + Wait + Sync, S: Source, K: Sink, E: Sink, G: Gate
     ensures gates { length result.gates ≡ 16 }
     ensures read { result.status ≡ 3 → Rose (S.faults script.old) (S.faults script.new) }
     ensures write { result.status ≡ 4 → Rose (K.faults out.old) (K.faults out.new) }
+    ensures whole { result.status ≢ 4 → result.status ≢ 6 → K.faults out.new ≡ K.faults out.old }
     ensures refused { result.status ≡ 7 →
         IsRefused E.written E.faults (S.left script.old) err.old err.new }
     ensures faulty { OfKnown (λ bytes. IsFaulty bytes →
@@ -122,6 +123,11 @@ pub fn run_script<R: Threads + Wait + Sync, S: Source, K: Sink, E: Sink, G: Gate
         OfKnown (RunsAsServed (λ served. RunsScript G.log G.faults wanted repo served gates
         result.gates result.book.entries result.status (K.written out.old)
         (K.written out.new))) (S.left script.old) }
+    ensures some { IsScriptRun result.status →
+        RunsSome (λ served. RunsScript G.log G.faults wanted repo served gates result.gates
+        result.book.entries result.status (K.written out.old) (K.written out.new))
+        (RunsNothing result.book.entries gates result.gates
+        × Keeps (K.written out.old) (K.written out.new)) result.status (S.left script.old) }
     ensures history { IsHistory result.book.entries }
     ensures empty { (result.status ≡ 3) ⊎ (result.status ≡ 7) →
         RunsNothing result.book.entries gates result.gates }

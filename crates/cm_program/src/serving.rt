@@ -149,6 +149,9 @@ where
     let mut door = door;
     match door.listen(rt, socket.as_str()) {
         Listen::Ready => serve_door(rt, alloc, service, err, door, gates),
-        Listen::Failed => stopped(alloc, door_fault(rt, err), gates, door),
+        Listen::Failed => {
+            drop(service);
+            stopped(alloc, door_fault(rt, err), gates, door)
+        }
     }
 }

@@ -1,6 +1,6 @@
 -- What a manifest declares is readable, and so well formed.
 use Rattle.std.proofs.Common.{◌≡◌, ℕ, ◌≤◌, List, [], length, codes, Bool, true, false, not, ◌&&◌, nat_le, Option, Some, None, Ok, Err, IsTrue, refl, arith, rules}
-use Rattle.std.specs.Prelude.{IfOk, IfSome, All, ok_or}
+use Rattle.std.specs.Prelude.{IfOk, All, ok_or}
 use Rattle.std.specs.List.{list_all}
 use Rattle.std.proofs.lemmas.Result.{IfOk-at_ok}
 use Rattle.std.proofs.lemmas.List.Elements.{All-nil, All-append}
@@ -133,58 +133,6 @@ offer_count [] = refl
 offer_count (offered.Offer o ∷ rows) = omega (arith, offer_count rows)
 offer_count (offered.Storage o ∷ rows) = omega (arith, offer_count rows)
 
-are_capabilities : (rows : List CapabilityRow) → All IsCapabilityRow rows → All IsCapability (filter_map capability_in rows)
-are_capabilities rows h = taken IsCapabilityRow IsCapability capability_in rows by h
-  where
-    by : (x : CapabilityRow) → IsCapabilityRow x → IfSome (capability_in x) IsCapability
-    by (capability_row.Capability c) p = p
-    by (capability_row.Storage s) p = tt
-
-are_storages : (rows : List CapabilityRow) → All IsCapabilityRow rows → All IsStorage (filter_map storage_in rows)
-are_storages rows h = taken IsCapabilityRow IsStorage storage_in rows by h
-  where
-    by : (x : CapabilityRow) → IsCapabilityRow x → IfSome (storage_in x) IsStorage
-    by (capability_row.Capability c) p = tt
-    by (capability_row.Storage s) p = p
-
-are_uses : (rows : List UseRow) → All IsUseRow rows → All IsUsage (filter_map usage_in rows)
-are_uses rows h = taken IsUseRow IsUsage usage_in rows by h
-  where
-    by : (x : UseRow) → IsUseRow x → IfSome (usage_in x) IsUsage
-    by (use_row.Usage u) p = p
-    by (use_row.Debug u) p = tt
-    by (use_row.Storage u) p = tt
-
-are_debug_uses : (rows : List UseRow) → All IsUseRow rows → All IsDebugUse (filter_map debug_use_in rows)
-are_debug_uses rows h = taken IsUseRow IsDebugUse debug_use_in rows by h
-  where
-    by : (x : UseRow) → IsUseRow x → IfSome (debug_use_in x) IsDebugUse
-    by (use_row.Usage u) p = tt
-    by (use_row.Debug u) p = p
-    by (use_row.Storage u) p = tt
-
-are_storage_uses : (rows : List UseRow) → All IsUseRow rows → All IsStorageUse (filter_map storage_use_in rows)
-are_storage_uses rows h = taken IsUseRow IsStorageUse storage_use_in rows by h
-  where
-    by : (x : UseRow) → IsUseRow x → IfSome (storage_use_in x) IsStorageUse
-    by (use_row.Usage u) p = tt
-    by (use_row.Debug u) p = tt
-    by (use_row.Storage u) p = p
-
-are_offers : (rows : List OfferRow) → All IsOfferRow rows → All IsOffer (filter_map offer_in rows)
-are_offers rows h = taken IsOfferRow IsOffer offer_in rows by h
-  where
-    by : (x : OfferRow) → IsOfferRow x → IfSome (offer_in x) IsOffer
-    by (offered.Offer o) p = p
-    by (offered.Storage o) p = tt
-
-are_storage_offers : (rows : List OfferRow) → All IsOfferRow rows → All IsStorageOffer (filter_map storage_offer_in rows)
-are_storage_offers rows h = taken IsOfferRow IsStorageOffer storage_offer_in rows by h
-  where
-    by : (x : OfferRow) → IsOfferRow x → IfSome (storage_offer_in x) IsStorageOffer
-    by (offered.Offer o) p = tt
-    by (offered.Storage o) p = p
-
 declared_is : (runner : Option (List ℕ)) (r : SectionRows) → ForSomeOf runner IsName → AreSectionRows r
     → IsReadable (declared_by runner r)
 declared_is runner r named h = record {
@@ -193,22 +141,22 @@ declared_is runner r named h = record {
   collections = h.collections;
   capabilities = record {
     limit = omega (arith, capability_count r.capabilities, h.capabilities.limit);
-    each = are_capabilities r.capabilities h.capabilities.each;
+    each = taken IsCapabilityRow IsCapability capability_in r.capabilities (λ row is. is.0) h.capabilities.each;
   };
   uses = record {
     limit = omega (arith, use_count r.uses, h.uses.limit);
-    each = are_uses r.uses h.uses.each;
+    each = taken IsUseRow IsUsage usage_in r.uses (λ row is. is.0) h.uses.each;
   };
   offers = record {
     limit = omega (arith, offer_count r.offers, h.offers.limit);
-    each = are_offers r.offers h.offers.each;
+    each = taken IsOfferRow IsOffer offer_in r.offers (λ row is. is.0) h.offers.each;
   };
   exposes = h.exposes;
   environments = h.environments;
-  debug_uses = are_debug_uses r.uses h.uses.each;
-  storages = are_storages r.capabilities h.capabilities.each;
-  storage_uses = are_storage_uses r.uses h.uses.each;
-  storage_offers = are_storage_offers r.offers h.offers.each;
+  debug_uses = taken IsUseRow IsDebugUse debug_use_in r.uses (λ row is. is.1.0) h.uses.each;
+  storages = taken IsCapabilityRow IsStorage storage_in r.capabilities (λ row is. is.1) h.capabilities.each;
+  storage_uses = taken IsUseRow IsStorageUse storage_use_in r.uses (λ row is. is.1.1) h.uses.each;
+  storage_offers = taken IsOfferRow IsStorageOffer storage_offer_in r.offers (λ row is. is.1) h.offers.each;
   capability_rows = omega (arith, capability_count r.capabilities, h.capabilities.limit);
   use_rows = omega (arith, use_count r.uses, h.uses.limit);
   offer_rows = omega (arith, offer_count r.offers, h.offers.limit);

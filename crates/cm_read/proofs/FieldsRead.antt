@@ -16,7 +16,8 @@ use Rattle.cm_decl.specs.declared.origin.Origin.{Origin}
 use Rattle.cm_decl.specs.declared.origin.Origin.TheVariants as origin
 use Rattle.cm_read.specs.declared.fault.Place.{Place}
 use Rattle.cm_read.specs.Numbers.{wrong_type, bad_name, bad_path, unknown_word}
-use Rattle.cm_read.specs.Reading.{bad, ◌>>=◌}
+use Rattle.cm_names.specs.Steps.{◌>>=◌}
+use Rattle.cm_read.specs.Reading.{bad}
 use Rattle.cm_read.specs.Fields.{needed_at, text_at, name_from, name_in_at, name_at, url_at, path_in_at, path_at, subdir_in_at, subdir_at, texts_in_at, texts_at, names_at, behind_mark, reference_from, references_at, rights_from, rights_in_at, rights_at}
 use Rattle.std.specs.Prelude.{◌≢◌, not, ◌&&◌, if◌then◌else◌}
 use Rattle.cm_names.specs.declared.availability.Availability.TheVariants.{Required, Optional, Transitional}

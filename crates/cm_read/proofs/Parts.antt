@@ -8,7 +8,8 @@ use Rattle.cm_read.specs.declared.fault.Place.{Place}
 use Rattle.cm_read.specs.declared.rows.CapabilityRow.{CapabilityRow}
 use Rattle.cm_read.specs.declared.rows.UseRow.{UseRow}
 use Rattle.cm_read.specs.declared.rows.OfferRow.{OfferRow}
-use Rattle.cm_read.specs.Reading.{Read, ◌>>=◌, Gives}
+use Rattle.cm_names.specs.Steps.{◌>>=◌}
+use Rattle.cm_read.specs.Reading.{Read, Gives}
 use Rattle.cm_read.specs.Fields.{path_at, rights_at, subdir_at}
 use Rattle.cm_read.specs.Words.{availability_at, dependency_at, given_availability_at, source_unknown_at}
 use Rattle.cm_read.specs.Words.{expose_to_at, use_from_at, offer_from_at, expose_from_at, static_from_at}

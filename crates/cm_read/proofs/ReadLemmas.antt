@@ -8,7 +8,8 @@ use Rattle.serde_json.specs.Data.{Data}
 use Rattle.cm_read.specs.declared.fault.Place.{Place}
 use Rattle.cm_read.specs.declared.fault.ReadFault.{ReadFault}
 use Rattle.cm_read.specs.Numbers.{not_with_many, unknown_word}
-use Rattle.cm_read.specs.Reading.{Read, ◌>>=◌, bad}
+use Rattle.cm_names.specs.Steps.{◌>>=◌}
+use Rattle.cm_read.specs.Reading.{Read, bad}
 use Rattle.cm_read.specs.Fields.{or_default, if_there, unless_fault, each, text_at, listed_at}
 use Rattle.cm_read.specs.Items.{alone}
 use Rattle.cm_read.specs.Readable.{ForSomeOf}

@@ -1,6 +1,6 @@
 -- What the items of each section give.
 use Rattle.std.proofs.Common.{◌≡◌, ℕ, List, codes, Bool, true, false, Option, Some, None, Ok, IsTrue, refl, sym, ap, ◌∙◌, true≢false, Ordering, Less, Equal, Greater, if◌then◌else◌}
-use Rattle.std.specs.Prelude.{All, map, unwrap_or}
+use Rattle.std.specs.Prelude.{All, IfSome, map, unwrap_or}
 use Rattle.std.specs.Ordering.{nat_cmp, match_ordering, is_eq}
 use Rattle.std.specs.Cmp.Lexicographic.{slice_cmp}
 use Rattle.std.specs.Option.{is_some}
@@ -50,7 +50,8 @@ use Rattle.cm_read.specs.Items.{protocol_use_row, protocol_use_at, directory_use
 use Rattle.cm_read.specs.Items.{use_of_sort, use_at, as_in_at, as_at, given_rights_at, give_row, offer_fields}
 use Rattle.cm_read.specs.Items.{targets_at, offer_row, offer_rows, routed_offer_at, storage_offer}
 use Rattle.cm_read.specs.Items.{storage_offer_rows, storage_offer_at, offer_of_sort, offer_at, expose_fields}
-use Rattle.cm_read.specs.Items.{expose_at}
+use Rattle.cm_read.specs.Items.{expose_at, capability_in, storage_in, usage_in, debug_use_in, storage_use_in}
+use Rattle.cm_read.specs.Items.{offer_in, storage_offer_in}
 use Rattle.cm_read.specs.Readable.{AreRights, IsSubDir, IsOrigin, IsStorageSource, ForSomeOf}
 use Rattle.cm_read.specs.Readable.{MayHave, IsChild, IsCollection, IsCapability, IsUsage, IsGive, IsOffer}
 use Rattle.cm_read.specs.Readable.{IsExpose, IsDebugUse, IsStorage, IsStorageUse, IsStorageOffer}
@@ -128,14 +129,13 @@ path_is_path (Some path) name p n = p
 
 -- ---- capabilities
 
--- a row of `capabilities` of either sort
+-- a row of `capabilities`, of which each sort has its own fact
 abbrev pub IsCapabilityRow : CapabilityRow → Type 0
-IsCapabilityRow (capability_row.Capability c) = IsCapability c
-IsCapabilityRow (capability_row.Storage s) = IsStorage s
+IsCapabilityRow row = IfSome (capability_in row) IsCapability × IfSome (storage_in row) IsStorage
 
 protocol_is_row : (path : Option (List ℕ)) (name : List ℕ) → ForSomeOf path IsPath → IsName name
     → IsCapabilityRow (protocol_capability_row path name)
-protocol_is_row path name p n = record { name = n; path = path_is_path path name p n; rights = refl }
+protocol_is_row path name p n = (record { name = n; path = path_is_path path name p n; rights = refl }, tt)
 
 protocol_capability_reads : (at : Place) (d : Data) → Reads (All IsCapabilityRow) (protocol_capability_at at d)
 unfolding protocol_capability_at
@@ -153,7 +153,7 @@ directory_capability_reads at d =
     next (rights_reads at (codes "rights") d) (λ rights r.
     gives (one_row IsCapabilityRow
     (capability_row.Capability (record { kind = kind.Directory; name = name; path = path; rights = Some rights }))
-    (record { name = n; path = p; rights = r })))))
+    (record { name = n; path = p; rights = r }, tt)))))
 
 storage_reads : (at : Place) (d : Data) → Reads (All IsCapabilityRow) (storage_at at d)
 unfolding storage_at
@@ -165,7 +165,7 @@ storage_reads at d =
     next (any (storage_id_at at d)) (λ by_moniker _.
     gives (one_row IsCapabilityRow
     (capability_row.Storage (record { name = name; from = from; backing = backing; subdir = subdir; by_moniker = by_moniker }))
-    (record { name = n; from = f; backing = b; subdir = s })))))))
+    (tt, record { name = n; from = f; backing = b; subdir = s })))))))
 
 capability_of_sort_reads : (s : Sort) (at : Place) (d : Data) → Reads (All IsCapabilityRow) (capability_of_sort s at d)
 capability_of_sort_reads (sort.Routed kind.Protocol) at d = protocol_capability_reads at d
@@ -182,18 +182,18 @@ capability_reads at d =
 
 -- ---- uses
 
--- a row of `use` of one of the three sorts
+-- a row of `use`, of which each sort has its own fact
 abbrev pub IsUseRow : UseRow → Type 0
-IsUseRow (use_row.Usage u) = IsUsage u
-IsUseRow (use_row.Debug u) = IsDebugUse u
-IsUseRow (use_row.Storage u) = IsStorageUse u
+IsUseRow row =
+    IfSome (usage_in row) IsUsage × (IfSome (debug_use_in row) IsDebugUse × IfSome (storage_use_in row) IsStorageUse)
 
 protocol_is_use : (from : UseSource) (path : Option (List ℕ)) (dependency : Dependency) (a : Availability) (name : List ℕ)
     → IsUseSource from → ForSomeOf path IsPath → a ≢ SameAsTarget → IsName name
     → IsUseRow (protocol_use_row from path dependency a name)
 protocol_is_use (source.From from) path dependency a name f p s n =
-    record { name = n; from = f; path = path_is_path path name p n; rights = refl; subdir = refl; availability = s }
-protocol_is_use source.Debug path dependency a name f p s n = record { name = n; path = path_is_path path name p n }
+    (record { name = n; from = f; path = path_is_path path name p n; rights = refl; subdir = refl; availability = s }, (tt, tt))
+protocol_is_use source.Debug path dependency a name f p s n =
+    (tt, (record { name = n; path = path_is_path path name p n }, tt))
 
 protocol_use_reads : (at : Place) (d : Data) → Reads (All IsUseRow) (protocol_use_at at d)
 unfolding protocol_use_at
@@ -217,7 +217,7 @@ directory_use_reads at d =
     next (any (dependency_at at d)) (λ dependency _.
     next (availability_reads at d) (λ availability a.
     gives (one_row IsUseRow (use_row.Usage (record { kind = kind.Directory; name = name; from = from; path = path; rights = Some rights; subdir = subdir; dependency = dependency; availability = availability }))
-    (record { name = n; from = f; path = p; rights = r; subdir = s; availability = a })))))))))
+    (record { name = n; from = f; path = p; rights = r; subdir = s; availability = a }, (tt, tt))))))))))
 
 storage_use_reads : (at : Place) (d : Data) → Reads (All IsUseRow) (storage_use_at at d)
 unfolding storage_use_at
@@ -226,7 +226,7 @@ storage_use_reads at d =
     next (any (storage_use_from_at at d)) (λ from _.
     next (path_reads at (codes "path") d) (λ path p.
     next (availability_reads at d) (λ availability _.
-    gives (one_row IsUseRow (use_row.Storage (record { name = name; path = path })) (record { name = n; path = p }))))))
+    gives (one_row IsUseRow (use_row.Storage (record { name = name; path = path })) (tt, (tt, record { name = n; path = p })))))))
 
 use_of_sort_reads : (s : Sort) (at : Place) (d : Data) → Reads (All IsUseRow) (use_of_sort s at d)
 use_of_sort_reads (sort.Routed kind.Protocol) at d = protocol_use_reads at d
@@ -328,16 +328,15 @@ targets_reads : (at : Place) (d : Data) → Reads (All IsName) (targets_at at d)
 unfolding targets_at
 targets_reads at d = next (any (needed_at at (codes "to") d)) (λ value _. references_reads at (codes "to") value)
 
--- a row of `offer` of either sort
+-- a row of `offer`, of which each sort has its own fact
 abbrev pub IsOfferRow : OfferRow → Type 0
-IsOfferRow (offered.Offer o) = IsOffer o
-IsOfferRow (offered.Storage o) = IsStorageOffer o
+IsOfferRow row = IfSome (offer_in row) IsOffer × IfSome (storage_offer_in row) IsStorageOffer
 
 offers_are : (targets : List (List ℕ)) (t : Terms) (names : List (List ℕ)) → All IsName targets → AreTerms true t
     → All IsName names → All IsOfferRow (flat_map (offer_rows targets) (map (give_row t) names))
 offers_are targets t names ts h ns =
     all_in_turn (IsGive true) IsOfferRow (offer_rows targets) (map (give_row t) names)
-    (λ give g. all_mapped IsName IsOfferRow (λ to. offered.Offer (offer_row give to)) targets (λ to o. record { to = o; give = g }) ts)
+    (λ give g. all_mapped IsName IsOfferRow (λ to. offered.Offer (offer_row give to)) targets (λ to o. (record { to = o; give = g }, tt)) ts)
     (all_mapped IsName (IsGive true) (give_row t) names (λ name n. row_is_give true t name h n) ns)
 
 unknown_in_offer : (k : Kind) (key : List ℕ)
@@ -368,7 +367,7 @@ storage_offers_are : (from : Origin) (target : Option (List ℕ)) (targets names
 storage_offers_are from target targets names f t ts ns =
     all_in_turn IsName IsOfferRow (storage_offer_rows from target targets) names
     (λ name n. all_mapped IsName IsOfferRow (λ to. offered.Storage (storage_offer from target name to)) targets
-    (λ to o. record { to = o; source_name = n; from = f; target_name = target_is_name target name t n }) ts) ns
+    (λ to o. (tt, record { to = o; source_name = n; from = f; target_name = target_is_name target name t n })) ts) ns
 
 storage_offer_reads : (at : Place) (d : Data) → Reads (All IsOfferRow) (storage_offer_at at d)
 unfolding storage_offer_at

@@ -12,7 +12,8 @@ use Rattle.cm_read.specs.declared.fault.ReadFault.TheVariants.{Bad, Memory}
 use Rattle.cm_read.specs.declared.rows.Registry.{Registry}
 use Rattle.cm_read.specs.declared.rows.Registry.TheVariants.{Runners, Debug}
 use Rattle.cm_read.specs.Numbers.{wrong_type}
-use Rattle.cm_read.specs.Reading.{Read, ◌>>=◌, bad}
+use Rattle.cm_names.specs.Steps.{◌>>=◌}
+use Rattle.cm_read.specs.Reading.{Read, bad}
 use Rattle.cm_read.specs.Fields.{or_default, name_at, object_at, known_at}
 use Rattle.cm_read.specs.Words.{extends_at, static_from_at}
 use Rattle.cm_read.specs.Items.{item_names_at, as_at}

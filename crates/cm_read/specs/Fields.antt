@@ -15,7 +15,8 @@ use Rattle.cm_read.specs.declared.fault.Place.{Place}
 use Rattle.cm_read.specs.declared.fault.ReadFault.{ReadFault}
 use Rattle.cm_read.specs.Numbers.{unknown_field, missing, wrong_type, bad_name, bad_path, bad_rights}
 use Rattle.cm_read.specs.Numbers.{unknown_word}
-use Rattle.cm_read.specs.Reading.{Read, ◌>>=◌, bad}
+use Rattle.cm_names.specs.Steps.{◌>>=◌}
+use Rattle.cm_read.specs.Reading.{Read, bad}
 
 -- ---- whether a field is there
 

@@ -36,7 +36,8 @@ use Rattle.cm_read.specs.declared.rows.UseSource.TheVariants as source
 use Rattle.cm_read.specs.declared.fault.Place.{Place}
 use Rattle.cm_read.specs.declared.rows.Terms.{Terms}
 use Rattle.cm_read.specs.Numbers.{kind_count, not_with_many}
-use Rattle.cm_read.specs.Reading.{Read, ◌>>=◌, bad}
+use Rattle.cm_names.specs.Steps.{◌>>=◌}
+use Rattle.cm_read.specs.Reading.{Read, bad}
 use Rattle.cm_read.specs.Fields.{needed_at, if_there, name_in_at, name_at, url_at, path_in_at, path_at}
 use Rattle.cm_read.specs.Fields.{subdir_at, names_at, references_at, rights_in_at, rights_at, object_at}
 use Rattle.cm_read.specs.Fields.{known_at}

@@ -1,5 +1,6 @@
 pub mod Numbers
 pub mod Reading
+pub mod Both
 pub mod Fields
 pub mod Words
 pub mod Items
@@ -7,6 +8,7 @@ pub mod Environments
 pub mod Parts
 pub mod Sections
 pub mod Manifest
+pub mod Known
 pub mod Texts
 pub mod Writing
 pub mod Readable

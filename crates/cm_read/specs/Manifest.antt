@@ -12,7 +12,8 @@ use Rattle.cm_decl.specs.declared.rows.Child.{Child}
 use Rattle.cm_decl.specs.declared.decl.Decl.{Decl}
 use Rattle.cm_read.specs.declared.fault.ReadFault.{ReadFault}
 use Rattle.cm_read.specs.Numbers.{not_utf8, not_json, not_object, too_large, max_bytes}
-use Rattle.cm_read.specs.Reading.{Read, ◌>>=◌, bad, start}
+use Rattle.cm_names.specs.Steps.{◌>>=◌}
+use Rattle.cm_read.specs.Reading.{Read, bad, start}
 use Rattle.cm_read.specs.Fields.{if_there, object_at, known_at, name_at}
 use Rattle.cm_read.specs.Sections.{section_at}
 use Rattle.cm_read.specs.declared.rows.SectionRows.{SectionRows}

@@ -1,6 +1,6 @@
 -- Parts of items, for the functions that read an item in steps: the fields behind others, and the item made
 -- of its parts. An item by its parts is read as the definitions in `Items` and `Environments` read it.
-use Rattle.std.specs.Prelude.{ℕ, List, [], ◌∷◌, map, codes, Some, Ok}
+use Rattle.std.specs.Prelude.{ℕ, List, [], ◌∷◌, ◌++◌, map, filter_map, codes, Some, Ok}
 use Rattle.std.specs.List.{flat_map}
 use Rattle.serde_json.specs.Data.{Data}
 use Rattle.cm_names.specs.declared.dependency.Dependency.TheVariants.{Strong}
@@ -12,6 +12,7 @@ use Rattle.cm_decl.specs.declared.rows.Collection.{Collection}
 use Rattle.cm_decl.specs.declared.rows.Give.{Give}
 use Rattle.cm_decl.specs.declared.environment.Environment.{Environment}
 use Rattle.cm_decl.specs.declared.environment.Registration.{Registration}
+use Rattle.cm_decl.specs.declared.decl.Decl.{Decl}
 use Rattle.cm_read.specs.declared.fault.Place.{Place}
 use Rattle.cm_read.specs.declared.rows.Asked.{Asked}
 use Rattle.cm_read.specs.declared.rows.Terms.{Terms}
@@ -23,7 +24,8 @@ use Rattle.cm_read.specs.declared.rows.Registry.TheVariants as registry
 use Rattle.cm_read.specs.declared.rows.UseRow.{UseRow}
 use Rattle.cm_read.specs.declared.rows.UseRow.TheVariants as use_row
 use Rattle.cm_read.specs.declared.rows.OfferRow.{OfferRow}
-use Rattle.cm_read.specs.Reading.{Read, ◌>>=◌}
+use Rattle.cm_names.specs.Steps.{◌>>=◌}
+use Rattle.cm_read.specs.Reading.{Read}
 use Rattle.cm_read.specs.Fields.{name_at, url_at, path_at, rights_at, subdir_at}
 use Rattle.cm_read.specs.Words.{startup_at, durability_at, allowed_offers_at, environment_at, extends_at}
 use Rattle.cm_read.specs.Words.{availability_at, dependency_at, given_availability_at, source_unknown_at}
@@ -32,6 +34,8 @@ use Rattle.cm_read.specs.Words.{expose_from_at, static_from_at, storage_from_at,
 use Rattle.cm_read.specs.Items.{directory_name_at, item_names_at, storage_name_at, backing_at}
 use Rattle.cm_read.specs.Items.{protocol_path_at, protocol_use_row, as_at, given_rights_at, targets_at}
 use Rattle.cm_read.specs.Items.{give_row, offer_rows, storage_offer_rows}
+use Rattle.cm_read.specs.Items.{capability_in, storage_in, usage_in, debug_use_in, storage_use_in, offer_in}
+use Rattle.cm_read.specs.Items.{storage_offer_in}
 use Rattle.cm_read.specs.Environments.{registration, registry_at}
 
 -- ---- children, collections and environments, whose fields are known
@@ -239,3 +243,17 @@ registered_at at names d = do
   from ← static_from_at at d
   target ← as_at at names d
   Ok (map (registration from target) names)
+
+-- ---- declarations
+
+-- the declaration with the rows of these sections at the ends of the lists of their kinds
+abbrev pub with_rows : Decl → List CapabilityRow → List UseRow → List OfferRow → Decl
+with_rows decl capabilities uses offers = record decl {
+  capabilities = decl.capabilities ++ filter_map capability_in capabilities;
+  storages = decl.storages ++ filter_map storage_in capabilities;
+  uses = decl.uses ++ filter_map usage_in uses;
+  debug_uses = decl.debug_uses ++ filter_map debug_use_in uses;
+  storage_uses = decl.storage_uses ++ filter_map storage_use_in uses;
+  offers = decl.offers ++ filter_map offer_in offers;
+  storage_offers = decl.storage_offers ++ filter_map storage_offer_in offers;
+}

@@ -9,12 +9,6 @@ use Rattle.cm_read.specs.declared.fault.ReadFault.TheVariants.{Bad, Memory}
 abbrev pub Read : Type 0 → Type 0
 Read A = Result A ReadFault
 
--- reading goes on with what was read, unless there was a fault
-infixl 10 ◌>>=◌
-abbrev pub ◌>>=◌ : {A B : Type 0} → Read A → (A → Read B) → Read B
-(Ok x) >>= f = f x
-(Err e) >>= f = Err e
-
 -- the fault of that number, at that field of the item at that place
 abbrev pub bad : Place → ℕ → List ℕ → ReadFault
 bad at number field = Bad number at.section at.index field

@@ -6,7 +6,8 @@ use Rattle.serde_json.specs.Find.{as_array}
 use Rattle.cm_decl.specs.declared.section.Section.{Section}
 use Rattle.cm_read.specs.declared.fault.Place.{Place}
 use Rattle.cm_read.specs.Numbers.{wrong_type, too_many_rows, max_rows}
-use Rattle.cm_read.specs.Reading.{Read, ◌>>=◌, bad, start}
+use Rattle.cm_names.specs.Steps.{◌>>=◌}
+use Rattle.cm_read.specs.Reading.{Read, bad, start}
 
 -- the place of the next item; the index stands still at the greatest one
 abbrev pub next : Place → Place

@@ -20,7 +20,8 @@ use Rattle.cm_read.specs.declared.fault.Place.{Place}
 use Rattle.cm_read.specs.declared.rows.UseSource.{UseSource}
 use Rattle.cm_read.specs.declared.rows.UseSource.TheVariants as source
 use Rattle.cm_read.specs.Numbers.{unknown_word, bad_name}
-use Rattle.cm_read.specs.Reading.{Read, ◌>>=◌, bad}
+use Rattle.cm_names.specs.Steps.{◌>>=◌}
+use Rattle.cm_read.specs.Reading.{Read, bad}
 use Rattle.cm_read.specs.Fields.{needed_at, or_default, if_there, text_at, name_from, listed_at, behind_mark}
 
 -- ---- what the words mean
@@ -124,7 +125,22 @@ storage_id_named t =
 unfoldable pub expose_target_named : List ℕ → Option (Unit {0})
 expose_target_named t = if bytes_eq t (codes "parent") then Some tt else None
 
+-- what one of two words says
+abbrev pub flag_named : List ℕ → List ℕ → List ℕ → Option Bool
+flag_named off on t =
+    if bytes_eq t off then Some false
+    else if bytes_eq t on then Some true
+    else None
+
 -- ---- fields
+
+-- a field with one of two words, by default the first
+abbrev pub flag_at : List ℕ → List ℕ → List ℕ → Place → Data → Read Bool
+flag_at key off on at d = or_default (get key d) false (listed_at (flag_named off on) at key)
+
+-- a field that says the parent alone, by default
+abbrev pub parent_alone : List ℕ → Place → Data → Read (Unit {0})
+parent_alone key at d = or_default (get key d) tt (listed_at expose_target_named at key)
 
 -- `startup`, by default `lazy`
 unfoldable pub startup_at : Place → Data → Read Bool

@@ -160,6 +160,11 @@ storage_pairs s =
     ∷ (codes "storage_id", string (storage_id_word s.by_moniker))
     ∷ subdir_pair s.subdir
 
+-- a use of which nothing but the name, the source and the path is kept
+abbrev pub plain_use : List ℕ → List ℕ → List ℕ → List ℕ → Data
+plain_use key name from path =
+    object_of ((key, string name) ∷ (codes "from", string from) ∷ (codes "path", string path) ∷ [])
+
 -- the members of a debug use in `use`
 abbrev pub debug_use_pairs : DebugUse → Pairs
 debug_use_pairs u =

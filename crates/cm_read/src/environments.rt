@@ -8,11 +8,12 @@ ghost use Rattle.cm_read.specs.Reading.{Gives, IsFault};
 ghost use Rattle.cm_read.specs.Writing as writing;
 ghost use Rattle.cm_read.specs.Writing.{Puts};
 
+use crate::both::both;
 use crate::fault::{Place, ReadFault, fault};
 use crate::fields::{name_of, object_of};
 use crate::gives::as_of;
 use crate::items::item_names_of;
-use crate::known::{environment_known, registration_known};
+use crate::known::{Object, check_keys};
 use crate::number::WRONG_TYPE;
 use crate::puts::{Row, extends_word, put_from, put_text};
 use crate::rows::{Registry, one_row, registrations_from};
@@ -39,7 +40,7 @@ fn runner_names_of(alloc: Global, at: Place, item: &Value) -> Result<List<Name>,
     ensures { Gives result (spec.runner_names_at at (view item.now)) }
 {
     let name = name_of(alloc, at, item, "runner")?;
-    Ok(one_row(alloc, name)?)
+    one_row(alloc, name)
 }
 
 /// The names of a registration: one runner, or one or more protocols.
@@ -83,7 +84,7 @@ fn registration_of(
     ensures { Gives result (spec.registration_at which at (view item.now)) }
 {
     let members = object_of(alloc, at, item)?;
-    registration_known(alloc, at, which, members)?;
+    check_keys(alloc, at, Object::Registration(which), members)?;
     let names = registration_names_of(alloc, which, at, item)?;
     registered(alloc, at, names.as_slice(), item)
 }
@@ -158,17 +159,24 @@ fn registry_of(
 fn environment_row(alloc: Global, at: Place, item: &Value) -> Result<List<Environment>, ReadFault>
     ensures { Gives result (parts.environment_row_at at (view item.now)) }
 {
-    let name = name_of(alloc, at, item, "name")?;
-    let extends = extends_of(alloc, at, item)?;
-    let runners = registry_of(alloc, Registry::Runners, at, item)?;
-    let debug = registry_of(alloc, Registry::Debug, at, item)?;
+    let read = both(
+        both(
+            name_of(alloc, at, item, "name"),
+            extends_of(alloc, at, item),
+        ),
+        both(
+            registry_of(alloc, Registry::Runners, at, item),
+            registry_of(alloc, Registry::Debug, at, item),
+        ),
+    )?;
+    let ((name, extends), (runners, debug)) = read;
     let row = Environment {
         name,
         extends,
         runners,
         debug,
     };
-    Ok(one_row(alloc, row)?)
+    one_row(alloc, row)
 }
 
 impl Item for Environment {
@@ -184,7 +192,7 @@ impl Item for Environment {
         item: &Value,
     ) -> Result<List<Environment>, ReadFault> {
         let members = object_of(alloc, at, item)?;
-        environment_known(alloc, at, members)?;
+        check_keys(alloc, at, Object::Environment, members)?;
         environment_row(alloc, at, item)
     }
 }

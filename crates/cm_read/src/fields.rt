@@ -12,6 +12,7 @@ use crate::fault::{Place, ReadFault, fault};
 use crate::number::{
     BAD_NAME, BAD_PATH, BAD_RIGHTS, MISSING, UNKNOWN_FIELD, UNKNOWN_WORD, WRONG_TYPE,
 };
+use crate::rows::one_row;
 use cm_names::url::is_url_text;
 use cm_names::{CapPath, List, Name, NameFault, PathFault, Rights, SubDir, Text};
 use serde_json::{Map, Value};
@@ -182,10 +183,7 @@ fn texts_of(alloc: Global, at: Place, value: &Value, key: &str) -> Result<List<T
         }
         _ => {
             let text = text_of(alloc, at, value, key)?;
-            let text = Text::from_str(alloc, text)?;
-            let mut texts = List::new(alloc);
-            texts.push(text)?;
-            Ok(texts)
+            one_row(alloc, Text::from_str(alloc, text)?)
         }
     }
 }

@@ -7,10 +7,11 @@ ghost use Rattle.cm_read.specs.Items as spec;
 ghost use Rattle.cm_read.specs.Parts as parts;
 ghost use Rattle.cm_read.specs.Reading.{Gives};
 
+use crate::both::both;
 use crate::fault::{Place, ReadFault, fault};
 use crate::fields::{name_in, needed, object_of, references_of, rights_in, subdir_of};
 use crate::items::{item_names_of, kind_of, sort_of};
-use crate::known::{expose_known, offer_known};
+use crate::known::{Object, check_keys};
 use crate::number::NOT_WITH_MANY;
 use crate::rows::{Asked, OfferRow, Sort, Terms, give_rows, offer_rows, storage_offers_from};
 use crate::sections::Item;
@@ -199,10 +200,17 @@ fn storages_offered(
 ) -> Result<List<OfferRow>, ReadFault>
     ensures { Gives result (parts.storages_offered_at at names.now (view item.now)) }
 {
-    let from = storage_from_of(alloc, at, item)?;
-    let targets = targets_of(alloc, at, item)?;
-    let target = as_of(alloc, at, names, item)?;
-    given_availability_of(alloc, at, item)?;
+    let read = both(
+        both(
+            storage_from_of(alloc, at, item),
+            targets_of(alloc, at, item),
+        ),
+        both(
+            as_of(alloc, at, names, item),
+            given_availability_of(alloc, at, item),
+        ),
+    )?;
+    let ((from, targets), (target, _)) = read;
     Ok(storage_offers_from(alloc, from, target, targets, names)?)
 }
 
@@ -229,7 +237,7 @@ impl Item for OfferRow {
     ) -> Result<List<OfferRow>, ReadFault> {
         let members = object_of(alloc, at, item)?;
         let sort = sort_of(alloc, at, item)?;
-        offer_known(alloc, at, sort, members)?;
+        check_keys(alloc, at, Object::Offer(sort), members)?;
         match sort {
             Sort::Routed(kind) => routed_offer(alloc, kind, at, children, item),
             Sort::Storage => storage_offer(alloc, at, item),
@@ -290,7 +298,7 @@ impl Item for Give {
     ) -> Result<List<Give>, ReadFault> {
         let members = object_of(alloc, at, item)?;
         let kind = kind_of(alloc, at, item)?;
-        expose_known(alloc, at, kind, members)?;
+        check_keys(alloc, at, Object::Expose(kind), members)?;
         exposed(alloc, kind, at, children, item)
     }
 }

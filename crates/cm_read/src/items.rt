@@ -7,11 +7,12 @@ ghost use Rattle.cm_read.specs.Items as spec;
 ghost use Rattle.cm_read.specs.Parts as parts;
 ghost use Rattle.cm_read.specs.Reading.{Gives};
 
+use crate::both::both;
 use crate::fault::{Place, ReadFault, fault};
 use crate::fields::{
     name_of, names_of, needed, object_of, path_in, path_of, rights_of, subdir_of, url_of,
 };
-use crate::known::{capability_known, child_known, collection_known, use_known};
+use crate::known::{Object, check_keys};
 use crate::number::{KIND_COUNT, NOT_WITH_MANY};
 use crate::rows::{CapabilityRow, Reach, Sort, UseRow, one_row, protocol_rows, uses_from};
 use crate::sections::Item;
@@ -30,17 +31,21 @@ use std::alloc::Global;
 fn child_row(alloc: Global, at: Place, item: &Value) -> Result<List<Child>, ReadFault>
     ensures { Gives result (parts.child_row_at at (view item.now)) }
 {
-    let name = name_of(alloc, at, item, "name")?;
-    let url = url_of(alloc, at, item, "url")?;
-    let eager = startup_of(alloc, at, item)?;
-    let environment = environment_of(alloc, at, item)?;
+    let read = both(
+        both(
+            name_of(alloc, at, item, "name"),
+            url_of(alloc, at, item, "url"),
+        ),
+        both(startup_of(alloc, at, item), environment_of(alloc, at, item)),
+    )?;
+    let ((name, url), (eager, environment)) = read;
     let row = Child {
         name,
         url,
         eager,
         environment,
     };
-    Ok(one_row(alloc, row)?)
+    one_row(alloc, row)
 }
 
 impl Item for Child {
@@ -56,7 +61,7 @@ impl Item for Child {
         item: &Value,
     ) -> Result<List<Child>, ReadFault> {
         let members = object_of(alloc, at, item)?;
-        child_known(alloc, at, members)?;
+        check_keys(alloc, at, Object::Child, members)?;
         child_row(alloc, at, item)
     }
 }
@@ -66,17 +71,24 @@ impl Item for Child {
 fn collection_row(alloc: Global, at: Place, item: &Value) -> Result<List<Collection>, ReadFault>
     ensures { Gives result (parts.collection_row_at at (view item.now)) }
 {
-    let name = name_of(alloc, at, item, "name")?;
-    let durability = durability_of(alloc, at, item)?;
-    let dynamic_offers = allowed_offers_of(alloc, at, item)?;
-    let environment = environment_of(alloc, at, item)?;
+    let read = both(
+        both(
+            name_of(alloc, at, item, "name"),
+            durability_of(alloc, at, item),
+        ),
+        both(
+            allowed_offers_of(alloc, at, item),
+            environment_of(alloc, at, item),
+        ),
+    )?;
+    let ((name, durability), (dynamic_offers, environment)) = read;
     let row = Collection {
         name,
         durability,
         dynamic_offers,
         environment,
     };
-    Ok(one_row(alloc, row)?)
+    one_row(alloc, row)
 }
 
 impl Item for Collection {
@@ -92,7 +104,7 @@ impl Item for Collection {
         item: &Value,
     ) -> Result<List<Collection>, ReadFault> {
         let members = object_of(alloc, at, item)?;
-        collection_known(alloc, at, members)?;
+        check_keys(alloc, at, Object::Collection, members)?;
         collection_row(alloc, at, item)
     }
 }
@@ -224,7 +236,7 @@ fn directory_capability(
         path,
         rights: Some(rights),
     });
-    Ok(one_row(alloc, row)?)
+    one_row(alloc, row)
 }
 
 impl Item for CapabilityRow {
@@ -241,7 +253,7 @@ impl Item for CapabilityRow {
     ) -> Result<List<CapabilityRow>, ReadFault> {
         let members = object_of(alloc, at, item)?;
         let sort = sort_of(alloc, at, item)?;
-        capability_known(alloc, at, sort, members)?;
+        check_keys(alloc, at, Object::Capability(sort), members)?;
         match sort {
             Sort::Routed(Kind::Protocol) => protocol_capability(alloc, at, item),
             Sort::Routed(Kind::Directory) => directory_capability(alloc, at, item),
@@ -313,7 +325,7 @@ fn directory_use_by_parts(alloc: Global, at: Place, item: &Value) -> Result<List
         dependency: reach.dependency,
         availability: reach.availability,
     });
-    Ok(one_row(alloc, row)?)
+    one_row(alloc, row)
 }
 
 /// The row of a directory that is used.
@@ -337,7 +349,7 @@ impl Item for UseRow {
     ) -> Result<List<UseRow>, ReadFault> {
         let members = object_of(alloc, at, item)?;
         let sort = sort_of(alloc, at, item)?;
-        use_known(alloc, at, sort, members)?;
+        check_keys(alloc, at, Object::Use(sort), members)?;
         match sort {
             Sort::Routed(Kind::Protocol) => protocol_use(alloc, at, item),
             Sort::Routed(Kind::Directory) => directory_use(alloc, at, item),

@@ -1,16 +1,10 @@
-//! The fields that are known in an item, and the sections in a manifest.
+//! The keys that are known in an object of a manifest.
 
 ghost use Rattle.std.specs.Prelude.{◌≡◌};
 ghost use Rattle.serde_json.specs.View.{members_view};
-ghost use Rattle.cm_decl.specs.declared.kind.Kind.TheVariants as kind;
-ghost use Rattle.cm_read.specs.declared.rows.Sort.TheVariants as sort;
-ghost use Rattle.cm_read.specs.declared.rows.Registry.TheVariants as registry;
-ghost use Rattle.cm_read.specs.Items.{child_fields, collection_fields, capability_fields};
-ghost use Rattle.cm_read.specs.Items.{use_fields};
-ghost use Rattle.cm_read.specs.Items.{offer_fields, expose_fields};
-ghost use Rattle.cm_read.specs.Environments.{registration_fields, environment_fields};
-ghost use Rattle.cm_read.specs.Manifest as manifest;
-ghost use Rattle.cm_read.specs.Fields.{known_at};
+ghost use Rattle.cm_read.specs.Fields.{known_at, map_now};
+ghost use Rattle.cm_read.specs.Items.{capability_fields, use_fields, offer_fields, expose_fields};
+ghost use Rattle.cm_read.specs.Known as spec;
 ghost use Rattle.cm_read.specs.Reading.{Gives};
 
 use crate::fault::{Place, ReadFault};
@@ -20,108 +14,47 @@ use cm_decl::Kind;
 use serde_json::{Map, Value};
 use std::alloc::Global;
 
-/// An item of `children` has known fields alone.
-pub fn child_known(alloc: Global, at: Place, members: &Map<String, Value>) -> Result<(), ReadFault>
-    ensures { Gives result (known_at at child_fields (members_view members.now.entries)) }
-{
-    check_known(
-        alloc,
-        at,
-        members,
-        ["name", "url", "startup", "environment"].as_slice(),
-    )
+/// An object of a manifest.
+#[derive(Clone, Copy)]
+pub enum Object {
+    /// The manifest, whose keys are its sections.
+    Manifest,
+    /// An item of `children`.
+    Child,
+    /// An item of `collections`.
+    Collection,
+    /// An item of `capabilities`, by what it is about.
+    Capability(Sort),
+    /// An item of `use`, by what it is about.
+    Use(Sort),
+    /// An item of `offer`, by what it is about.
+    Offer(Sort),
+    /// An item of `expose`, by its kind.
+    Expose(Kind),
+    /// An item of `environments`.
+    Environment,
+    /// A registration in an environment.
+    Registration(Registry),
 }
 
-/// An item of `collections` has known fields alone.
-pub fn collection_known(
-    alloc: Global,
-    at: Place,
-    members: &Map<String, Value>,
-) -> Result<(), ReadFault>
-    ensures { Gives result (known_at at collection_fields (members_view members.now.entries)) }
+/// The keys that are known in an item of `capabilities`.
+fn capability_keys(sort: Sort) -> &'static [&'static str]
+    ensures { map_now result.now ≡ capability_fields sort }
 {
-    check_known(
-        alloc,
-        at,
-        members,
-        ["name", "durability", "allowed_offers", "environment"].as_slice(),
-    )
+    match sort {
+        Sort::Routed(Kind::Protocol) => &["protocol", "path"],
+        Sort::Routed(Kind::Directory) => &["directory", "path", "rights"],
+        Sort::Storage => &["storage", "from", "backing_dir", "subdir", "storage_id"],
+    }
 }
 
-/// A protocol of `capabilities` has known fields alone.
-fn protocol_capability_known(
-    alloc: Global,
-    at: Place,
-    members: &Map<String, Value>,
-) -> Result<(), ReadFault>
-    ensures { Gives result
-        (known_at at (capability_fields (sort.Routed kind.Protocol))
-        (members_view members.now.entries)) }
+/// The keys that are known in an item of `use`.
+fn use_keys(sort: Sort) -> &'static [&'static str]
+    ensures { map_now result.now ≡ use_fields sort }
 {
-    check_known(alloc, at, members, ["protocol", "path"].as_slice())
-}
-
-/// A directory of `capabilities` has known fields alone.
-fn directory_capability_known(
-    alloc: Global,
-    at: Place,
-    members: &Map<String, Value>,
-) -> Result<(), ReadFault>
-    ensures { Gives result
-        (known_at at (capability_fields (sort.Routed kind.Directory))
-        (members_view members.now.entries)) }
-{
-    check_known(
-        alloc,
-        at,
-        members,
-        ["directory", "path", "rights"].as_slice(),
-    )
-}
-
-/// A storage of `capabilities` has known fields alone.
-fn storage_known(alloc: Global, at: Place, members: &Map<String, Value>) -> Result<(), ReadFault>
-    ensures { Gives result (known_at at (capability_fields sort.Storage) (members_view members.now.entries)) }
-{
-    check_known(
-        alloc,
-        at,
-        members,
-        ["storage", "from", "backing_dir", "subdir", "storage_id"].as_slice(),
-    )
-}
-
-/// A protocol of `use` has known fields alone.
-fn protocol_use_known(
-    alloc: Global,
-    at: Place,
-    members: &Map<String, Value>,
-) -> Result<(), ReadFault>
-    ensures { Gives result
-        (known_at at (use_fields (sort.Routed kind.Protocol)) (members_view members.now.entries)) }
-{
-    check_known(
-        alloc,
-        at,
-        members,
-        ["protocol", "from", "path", "dependency", "availability"].as_slice(),
-    )
-}
-
-/// A directory of `use` has known fields alone.
-fn directory_use_known(
-    alloc: Global,
-    at: Place,
-    members: &Map<String, Value>,
-) -> Result<(), ReadFault>
-    ensures { Gives result
-        (known_at at (use_fields (sort.Routed kind.Directory)) (members_view members.now.entries)) }
-{
-    check_known(
-        alloc,
-        at,
-        members,
-        [
+    match sort {
+        Sort::Routed(Kind::Protocol) => &["protocol", "from", "path", "dependency", "availability"],
+        Sort::Routed(Kind::Directory) => &[
             "directory",
             "from",
             "path",
@@ -129,41 +62,17 @@ fn directory_use_known(
             "subdir",
             "dependency",
             "availability",
-        ]
-        .as_slice(),
-    )
+        ],
+        Sort::Storage => &["storage", "from", "path", "availability"],
+    }
 }
 
-/// A storage of `use` has known fields alone.
-fn storage_use_known(
-    alloc: Global,
-    at: Place,
-    members: &Map<String, Value>,
-) -> Result<(), ReadFault>
-    ensures { Gives result (known_at at (use_fields sort.Storage) (members_view members.now.entries)) }
+/// The keys that are known in an item of `offer`.
+fn offer_keys(sort: Sort) -> &'static [&'static str]
+    ensures { map_now result.now ≡ offer_fields sort }
 {
-    check_known(
-        alloc,
-        at,
-        members,
-        ["storage", "from", "path", "availability"].as_slice(),
-    )
-}
-
-/// A protocol of `offer` has known fields alone.
-fn protocol_offer_known(
-    alloc: Global,
-    at: Place,
-    members: &Map<String, Value>,
-) -> Result<(), ReadFault>
-    ensures { Gives result
-        (known_at at (offer_fields (sort.Routed kind.Protocol)) (members_view members.now.entries)) }
-{
-    check_known(
-        alloc,
-        at,
-        members,
-        [
+    match sort {
+        Sort::Routed(Kind::Protocol) => &[
             "protocol",
             "from",
             "to",
@@ -171,25 +80,8 @@ fn protocol_offer_known(
             "dependency",
             "availability",
             "source_availability",
-        ]
-        .as_slice(),
-    )
-}
-
-/// A directory of `offer` has known fields alone.
-fn directory_offer_known(
-    alloc: Global,
-    at: Place,
-    members: &Map<String, Value>,
-) -> Result<(), ReadFault>
-    ensures { Gives result
-        (known_at at (offer_fields (sort.Routed kind.Directory)) (members_view members.now.entries)) }
-{
-    check_known(
-        alloc,
-        at,
-        members,
-        [
+        ],
+        Sort::Routed(Kind::Directory) => &[
             "directory",
             "from",
             "to",
@@ -199,66 +91,25 @@ fn directory_offer_known(
             "dependency",
             "availability",
             "source_availability",
-        ]
-        .as_slice(),
-    )
+        ],
+        Sort::Storage => &["storage", "from", "to", "as", "availability"],
+    }
 }
 
-/// A storage of `offer` has known fields alone.
-fn storage_offer_known(
-    alloc: Global,
-    at: Place,
-    members: &Map<String, Value>,
-) -> Result<(), ReadFault>
-    ensures { Gives result (known_at at (offer_fields sort.Storage) (members_view members.now.entries)) }
+/// The keys that are known in an item of `expose`.
+fn expose_keys(kind: Kind) -> &'static [&'static str]
+    ensures { map_now result.now ≡ expose_fields kind }
 {
-    check_known(
-        alloc,
-        at,
-        members,
-        ["storage", "from", "to", "as", "availability"].as_slice(),
-    )
-}
-
-/// A protocol of `expose` has known fields alone.
-fn protocol_expose_known(
-    alloc: Global,
-    at: Place,
-    members: &Map<String, Value>,
-) -> Result<(), ReadFault>
-    ensures { Gives result
-        (known_at at (expose_fields kind.Protocol) (members_view members.now.entries)) }
-{
-    check_known(
-        alloc,
-        at,
-        members,
-        [
+    match kind {
+        Kind::Protocol => &[
             "protocol",
             "from",
             "to",
             "as",
             "availability",
             "source_availability",
-        ]
-        .as_slice(),
-    )
-}
-
-/// A directory of `expose` has known fields alone.
-fn directory_expose_known(
-    alloc: Global,
-    at: Place,
-    members: &Map<String, Value>,
-) -> Result<(), ReadFault>
-    ensures { Gives result
-        (known_at at (expose_fields kind.Directory) (members_view members.now.entries)) }
-{
-    check_known(
-        alloc,
-        at,
-        members,
-        [
+        ],
+        Kind::Directory => &[
             "directory",
             "from",
             "to",
@@ -267,64 +118,16 @@ fn directory_expose_known(
             "subdir",
             "availability",
             "source_availability",
-        ]
-        .as_slice(),
-    )
+        ],
+    }
 }
 
-/// A registration of a runner has known fields alone.
-fn runner_known(alloc: Global, at: Place, members: &Map<String, Value>) -> Result<(), ReadFault>
-    ensures { Gives result
-        (known_at at (registration_fields registry.Runners) (members_view members.now.entries)) }
+/// The keys that are known in an object.
+fn keys_of(object: Object) -> &'static [&'static str]
+    ensures { map_now result.now ≡ spec.keys_of object }
 {
-    check_known(alloc, at, members, ["runner", "from", "as"].as_slice())
-}
-
-/// A registration of debug protocols has known fields alone.
-fn debug_known(alloc: Global, at: Place, members: &Map<String, Value>) -> Result<(), ReadFault>
-    ensures { Gives result
-        (known_at at (registration_fields registry.Debug) (members_view members.now.entries)) }
-{
-    check_known(alloc, at, members, ["protocol", "from", "as"].as_slice())
-}
-
-/// An item of `environments` has known fields alone.
-pub fn environment_known(
-    alloc: Global,
-    at: Place,
-    members: &Map<String, Value>,
-) -> Result<(), ReadFault>
-    ensures { Gives result (known_at at environment_fields (members_view members.now.entries)) }
-{
-    check_known(
-        alloc,
-        at,
-        members,
-        [
-            "name",
-            "extends",
-            "runners",
-            "debug",
-            "resolvers",
-            "__stop_timeout_ms",
-        ]
-        .as_slice(),
-    )
-}
-
-/// A manifest has known sections alone.
-pub fn section_known(
-    alloc: Global,
-    at: Place,
-    members: &Map<String, Value>,
-) -> Result<(), ReadFault>
-    ensures { Gives result (known_at at manifest.section_names (members_view members.now.entries)) }
-{
-    check_known(
-        alloc,
-        at,
-        members,
-        [
+    match object {
+        Object::Manifest => &[
             "program",
             "children",
             "collections",
@@ -334,87 +137,34 @@ pub fn section_known(
             "expose",
             "facets",
             "environments",
-        ]
-        .as_slice(),
-    )
-}
-
-/// An item of `capabilities` has fields alone that are known of what it is about.
-pub fn capability_known(
-    alloc: Global,
-    at: Place,
-    sort: Sort,
-    members: &Map<String, Value>,
-) -> Result<(), ReadFault>
-    ensures { Gives result (known_at at (capability_fields sort) (members_view members.now.entries)) }
-{
-    match sort {
-        Sort::Routed(Kind::Protocol) => protocol_capability_known(alloc, at, members),
-        Sort::Routed(Kind::Directory) => directory_capability_known(alloc, at, members),
-        Sort::Storage => storage_known(alloc, at, members),
+        ],
+        Object::Child => &["name", "url", "startup", "environment"],
+        Object::Collection => &["name", "durability", "allowed_offers", "environment"],
+        Object::Capability(sort) => capability_keys(sort),
+        Object::Use(sort) => use_keys(sort),
+        Object::Offer(sort) => offer_keys(sort),
+        Object::Expose(kind) => expose_keys(kind),
+        Object::Environment => &[
+            "name",
+            "extends",
+            "runners",
+            "debug",
+            "resolvers",
+            "__stop_timeout_ms",
+        ],
+        Object::Registration(Registry::Runners) => &["runner", "from", "as"],
+        Object::Registration(Registry::Debug) => &["protocol", "from", "as"],
     }
 }
 
-/// An item of `use` has fields alone that are known of what it is about.
-pub fn use_known(
+/// The members of an object have known keys alone.
+pub fn check_keys(
     alloc: Global,
     at: Place,
-    sort: Sort,
+    object: Object,
     members: &Map<String, Value>,
 ) -> Result<(), ReadFault>
-    ensures { Gives result (known_at at (use_fields sort) (members_view members.now.entries)) }
+    ensures { Gives result (known_at at (spec.keys_of object) (members_view members.now.entries)) }
 {
-    match sort {
-        Sort::Routed(Kind::Protocol) => protocol_use_known(alloc, at, members),
-        Sort::Routed(Kind::Directory) => directory_use_known(alloc, at, members),
-        Sort::Storage => storage_use_known(alloc, at, members),
-    }
-}
-
-/// An item of `offer` has fields alone that are known of what it is about.
-pub fn offer_known(
-    alloc: Global,
-    at: Place,
-    sort: Sort,
-    members: &Map<String, Value>,
-) -> Result<(), ReadFault>
-    ensures { Gives result (known_at at (offer_fields sort) (members_view members.now.entries)) }
-{
-    match sort {
-        Sort::Routed(Kind::Protocol) => protocol_offer_known(alloc, at, members),
-        Sort::Routed(Kind::Directory) => directory_offer_known(alloc, at, members),
-        Sort::Storage => storage_offer_known(alloc, at, members),
-    }
-}
-
-/// An item of `expose` has fields alone that its kind knows.
-pub fn expose_known(
-    alloc: Global,
-    at: Place,
-    kind: Kind,
-    members: &Map<String, Value>,
-) -> Result<(), ReadFault>
-    ensures { Gives result
-        (known_at at (expose_fields kind) (members_view members.now.entries)) }
-{
-    match kind {
-        Kind::Protocol => protocol_expose_known(alloc, at, members),
-        Kind::Directory => directory_expose_known(alloc, at, members),
-    }
-}
-
-/// A registration has known fields alone.
-pub fn registration_known(
-    alloc: Global,
-    at: Place,
-    which: Registry,
-    members: &Map<String, Value>,
-) -> Result<(), ReadFault>
-    ensures { Gives result
-        (known_at at (registration_fields which) (members_view members.now.entries)) }
-{
-    match which {
-        Registry::Runners => runner_known(alloc, at, members),
-        Registry::Debug => debug_known(alloc, at, members),
-    }
+    check_known(alloc, at, members, keys_of(object))
 }

@@ -12,6 +12,7 @@
 #![tactic(auto)]
 
 mod apart;
+mod both;
 mod environments;
 mod fault;
 mod fields;

@@ -10,14 +10,14 @@ ghost use Rattle.cm_read.specs.Readable.{IsReadable};
 ghost use Rattle.cm_read.specs.Reading.{Gives, GivesBy};
 ghost use Rattle.cm_read.specs.Sections.{section_at};
 
-use crate::apart::{Parted, Uses, part_rows};
+use crate::apart::put_rows;
 use crate::fault::{ReadFault, start, whole};
 use crate::fields::{name_of, object_of};
-use crate::known::section_known;
+use crate::known::{Object, check_keys};
 use crate::number::{NOT_JSON, NOT_OBJECT, NOT_UTF8, TOO_LARGE};
-use crate::rows::{CapabilityRow, OfferRow, SectionRows, UseRow};
+use crate::rows::SectionRows;
 use crate::sections::{Item, section_of};
-use cm_decl::{Child, Collection, Decl, Environment, Give, Section};
+use cm_decl::{Child, Decl, Section};
 use cm_names::{List, Memory, Name, Text};
 use cm_text::TextFault;
 use serde_json::Value;
@@ -55,7 +55,7 @@ fn check_sections(alloc: Global, value: &Value) -> Result<(), ReadFault>
     let Some(members) = value.as_object() else {
         return Err(whole(alloc, NOT_OBJECT));
     };
-    section_known(alloc, start(Section::Manifest), members)
+    check_keys(alloc, start(Section::Manifest), Object::Manifest, members)
 }
 
 /// The rows of `children`.
@@ -72,100 +72,120 @@ fn children_of(alloc: Global, value: &Value) -> Result<List<Child>, ReadFault>
     )
 }
 
-/// The rows of a section beside these declared children.
-fn rows_in<T: Item>(
+/// Reads the rows of a section beside these declared children.
+fn read_rows<T: Item>(
     alloc: Global,
     value: &Value,
     section: Section,
     key: &str,
     children: &List<Child>,
-) -> Result<List<T>, ReadFault>
-    ensures { Gives result
+    rows: &mut List<T>,
+) -> Result<(), ReadFault>
+    ensures { GivesBy (λ _. rows.new) result
         (section_at (T.reads children.now) section (get key.now (view value.now))) }
 {
-    section_of::<T>(alloc, section, children.as_slice(), value.get(key))
+    *rows = section_of::<T>(alloc, section, children.as_slice(), value.get(key))?;
+    Ok(())
 }
 
-/// The rows of all sections that list them, in the order of the sections.
+/// Reads the rows of all sections that list them, in the order of the sections.
 #[tactic(auto, unfolding(crate::specs::Manifest::section_rows_at))]
-fn section_rows_of(alloc: Global, value: &Value) -> Result<SectionRows, ReadFault>
-    ensures { Gives result (spec.section_rows_at (view value.now)) }
+fn read_sections(alloc: Global, value: &Value, rows: &mut SectionRows) -> Result<(), ReadFault>
+    ensures { GivesBy (λ _. rows.new) result (spec.section_rows_at (view value.now)) }
 {
-    let children = children_of(alloc, value)?;
-    let collections = rows_in::<Collection>(
+    rows.children = children_of(alloc, value)?;
+    let children = &rows.children;
+    read_rows(
         alloc,
         value,
         Section::Collections,
         "collections",
-        &children,
+        children,
+        &mut rows.collections,
     )?;
-    let capabilities = rows_in::<CapabilityRow>(
+    read_rows(
         alloc,
         value,
         Section::Capabilities,
         "capabilities",
-        &children,
+        children,
+        &mut rows.capabilities,
     )?;
-    let uses = rows_in::<UseRow>(alloc, value, Section::Uses, "use", &children)?;
-    let offers = rows_in::<OfferRow>(alloc, value, Section::Offers, "offer", &children)?;
-    let exposes = rows_in::<Give>(alloc, value, Section::Exposes, "expose", &children)?;
-    let environments = rows_in::<Environment>(
+    read_rows(alloc, value, Section::Uses, "use", children, &mut rows.uses)?;
+    read_rows(
+        alloc,
+        value,
+        Section::Offers,
+        "offer",
+        children,
+        &mut rows.offers,
+    )?;
+    read_rows(
+        alloc,
+        value,
+        Section::Exposes,
+        "expose",
+        children,
+        &mut rows.exposes,
+    )?;
+    read_rows(
         alloc,
         value,
         Section::Environments,
         "environments",
-        &children,
-    )?;
-    Ok(SectionRows {
         children,
-        collections,
-        capabilities,
-        uses,
-        offers,
-        exposes,
-        environments,
-    })
+        &mut rows.environments,
+    )?;
+    Ok(())
+}
+
+/// The rows of all sections that list them.
+fn section_rows_of(alloc: Global, value: &Value) -> Result<SectionRows, ReadFault>
+    ensures { Gives result (spec.section_rows_at (view value.now)) }
+{
+    let mut rows = SectionRows {
+        children: List::new(alloc),
+        collections: List::new(alloc),
+        capabilities: List::new(alloc),
+        uses: List::new(alloc),
+        offers: List::new(alloc),
+        exposes: List::new(alloc),
+        environments: List::new(alloc),
+    };
+    match read_sections(alloc, value, &mut rows) {
+        Ok(()) => Ok(rows),
+        Err(fault) => {
+            drop(rows);
+            Err(fault)
+        }
+    }
 }
 
 /// The declaration of a runner and these rows.
 fn declared_by(alloc: Global, runner: Option<Name>, rows: SectionRows) -> Result<Decl, Memory>
     ensures { IfOk result (λ decl. decl ≡ spec.declared_by runner rows) }
 {
-    let SectionRows {
-        children,
-        collections,
-        capabilities,
-        uses,
-        offers,
-        exposes,
-        environments,
-    } = rows;
-    let Parted {
-        capabilities,
-        storages,
-        uses,
-        offers,
-        storage_offers,
-    } = part_rows(alloc, capabilities, uses, offers)?;
-    let Uses {
-        routed: uses,
-        debug: debug_uses,
-        storages: storage_uses,
-    } = uses;
-    Ok(Decl {
+    let mut decl = Decl {
         runner,
-        children,
-        collections,
-        capabilities,
-        uses,
-        offers,
-        exposes,
-        environments,
-        debug_uses,
-        storages,
-        storage_uses,
-        storage_offers,
-    })
+        children: rows.children,
+        collections: rows.collections,
+        capabilities: List::new(alloc),
+        uses: List::new(alloc),
+        offers: List::new(alloc),
+        exposes: rows.exposes,
+        environments: rows.environments,
+        debug_uses: List::new(alloc),
+        storages: List::new(alloc),
+        storage_uses: List::new(alloc),
+        storage_offers: List::new(alloc),
+    };
+    match put_rows(&mut decl, rows.capabilities, rows.uses, rows.offers) {
+        Ok(()) => Ok(decl),
+        Err(memory) => {
+            drop(decl);
+            Err(memory)
+        }
+    }
 }
 
 /// The declaration that a value is.

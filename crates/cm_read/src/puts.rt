@@ -8,7 +8,7 @@ ghost use Rattle.cm_read.specs.Writing as spec;
 ghost use Rattle.cm_read.specs.Writing.{Puts};
 
 use cm_decl::{Durability, Origin};
-use cm_names::{Availability, Dependency, Memory, Name, Rights, SubDir, Text};
+use cm_names::{Availability, CapPath, Dependency, Memory, Name, Rights, SubDir, Text};
 use serde_json::{Map, Value};
 use std::alloc::{AllocError, Global};
 
@@ -264,6 +264,24 @@ pub fn put_subdir(
         Some(subdir) => Ok(put_text(alloc, members, "subdir", subdir.as_str())?),
         None => Ok(()),
     }
+}
+
+/// A use of which nothing but the name, the source and the path is kept.
+pub fn plain_use(
+    alloc: Global,
+    key: &str,
+    name: &Name,
+    from: &str,
+    path: &CapPath,
+) -> Result<Value, Memory>
+    ensures { IfOk result
+        (λ v. view v ≡ spec.plain_use key.now name.now from.now path.now) }
+{
+    let mut members = Map::new(alloc);
+    put_text(alloc, &mut members, key, name.as_str())?;
+    put_text(alloc, &mut members, "from", from)?;
+    put_text(alloc, &mut members, "path", path.as_str())?;
+    Ok(Value::from(members))
 }
 
 /// Puts `rights` and `subdir` among the members, where they are there.

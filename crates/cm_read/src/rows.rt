@@ -1,10 +1,12 @@
 //! The rows that an item gives.
 
-ghost use Rattle.std.specs.Prelude.{◌≡◌, [], ◌∷◌, ◌++◌, map, IfOk, OnOk, unwrap_or};
+ghost use Rattle.std.specs.Prelude.{◌≡◌, [], ◌∷◌, ◌++◌, map, IfOk, OnOk, unwrap_or, Ok};
 ghost use Rattle.std.specs.List.{flat_map};
 ghost use Rattle.cm_read.specs.Environments as environments;
 ghost use Rattle.cm_read.specs.Items as spec;
+ghost use Rattle.cm_read.specs.Reading.{Gives};
 
+use crate::fault::ReadFault;
 use cm_decl::copies::{three, two};
 use cm_decl::{
     Capability, Child, Collection, DebugUse, Environment, Give, Kind, Offer, Origin, Registration,
@@ -115,8 +117,8 @@ pub struct SectionRows {
 }
 
 /// The list of one row.
-pub fn one_row<T: Drop>(alloc: Global, row: T) -> Result<List<T>, Memory>
-    ensures { IfOk result (λ rows. rows ≡ row ∷ []) }
+pub fn one_row<T: Drop>(alloc: Global, row: T) -> Result<List<T>, ReadFault>
+    ensures { Gives result (Ok (row ∷ [])) }
 {
     let mut rows = List::new(alloc);
     rows.push(row)?;

@@ -5,9 +5,10 @@ ghost use Rattle.cm_read.specs.Items as spec;
 ghost use Rattle.cm_read.specs.Parts as parts;
 ghost use Rattle.cm_read.specs.Reading.{Gives};
 
+use crate::both::both;
 use crate::fault::{Place, ReadFault};
 use crate::fields::{name_of, names_of, needed, path_of, subdir_of};
-use crate::puts::{Row, put_from, put_subdir, put_text, put_to, storage_id_word};
+use crate::puts::{Row, plain_use, put_from, put_subdir, put_text, put_to, storage_id_word};
 use crate::rows::{Backing, CapabilityRow, UseRow, one_row};
 use crate::words::{availability_of, static_from_of, storage_id_of, storage_use_from_of};
 use cm_decl::{Storage, StorageOffer, StorageUse};
@@ -15,28 +16,12 @@ use cm_names::{List, Memory, Name};
 use serde_json::{Map, Value};
 use std::alloc::Global;
 
-/// The name of a storage that is provided or used.
-#[tactic(auto, unfolding(crate::specs::Items::storage_name_at))]
-fn storage_name_of(alloc: Global, at: Place, item: &Value) -> Result<Name, ReadFault>
-    ensures { Gives result (spec.storage_name_at at (view item.now)) }
-{
-    name_of(alloc, at, item, "storage")
-}
-
-/// The name that the directory of a storage has at its source.
-#[tactic(auto, unfolding(crate::specs::Items::backing_at))]
-fn backing_of(alloc: Global, at: Place, item: &Value) -> Result<Name, ReadFault>
-    ensures { Gives result (spec.backing_at at (view item.now)) }
-{
-    name_of(alloc, at, item, "backing_dir")
-}
-
 /// What a storage says of its directory.
-#[tactic(auto, unfolding(crate::specs::Parts::backing_part_at))]
+#[tactic(auto, unfolding(crate::specs::Parts::backing_part_at, crate::specs::Items::backing_at))]
 fn backing_part(alloc: Global, at: Place, item: &Value) -> Result<Backing, ReadFault>
     ensures { Gives result (parts.backing_part_at at (view item.now)) }
 {
-    let backing = backing_of(alloc, at, item)?;
+    let backing = name_of(alloc, at, item, "backing_dir")?;
     let subdir = subdir_of(alloc, at, item, "subdir")?;
     let by_moniker = storage_id_of(alloc, at, item)?;
     Ok(Backing {
@@ -47,7 +32,7 @@ fn backing_part(alloc: Global, at: Place, item: &Value) -> Result<Backing, ReadF
 }
 
 /// The row of a storage that is provided, by its parts.
-#[tactic(auto, unfolding(crate::specs::Parts::storage_by_parts_at))]
+#[tactic(auto, unfolding(crate::specs::Parts::storage_by_parts_at, crate::specs::Items::storage_name_at))]
 fn storage_by_parts(
     alloc: Global,
     at: Place,
@@ -55,9 +40,14 @@ fn storage_by_parts(
 ) -> Result<List<CapabilityRow>, ReadFault>
     ensures { Gives result (parts.storage_by_parts_at at (view item.now)) }
 {
-    let name = storage_name_of(alloc, at, item)?;
-    let from = static_from_of(alloc, at, item)?;
-    let part = backing_part(alloc, at, item)?;
+    let read = both(
+        both(
+            name_of(alloc, at, item, "storage"),
+            static_from_of(alloc, at, item),
+        ),
+        backing_part(alloc, at, item),
+    )?;
+    let ((name, from), part) = read;
     let row = CapabilityRow::Storage(Storage {
         name,
         from,
@@ -65,7 +55,7 @@ fn storage_by_parts(
         subdir: part.subdir,
         by_moniker: part.by_moniker,
     });
-    Ok(one_row(alloc, row)?)
+    one_row(alloc, row)
 }
 
 /// The row of a storage that is provided.
@@ -80,15 +70,22 @@ pub fn storage_capability(
 }
 
 /// The row of a storage that is used; its availability isn't kept.
-#[tactic(auto, unfolding(crate::specs::Items::storage_use_at))]
+#[tactic(auto, unfolding(crate::specs::Items::storage_use_at, crate::specs::Items::storage_name_at))]
 pub fn storage_use(alloc: Global, at: Place, item: &Value) -> Result<List<UseRow>, ReadFault>
     ensures { Gives result (spec.storage_use_at at (view item.now)) }
 {
-    let name = storage_name_of(alloc, at, item)?;
-    storage_use_from_of(alloc, at, item)?;
-    let path = path_of(alloc, at, item, "path")?;
-    availability_of(alloc, at, item)?;
-    Ok(one_row(alloc, UseRow::Storage(StorageUse { name, path }))?)
+    let read = both(
+        both(
+            name_of(alloc, at, item, "storage"),
+            storage_use_from_of(alloc, at, item),
+        ),
+        both(
+            path_of(alloc, at, item, "path"),
+            availability_of(alloc, at, item),
+        ),
+    )?;
+    let ((name, ()), (path, _)) = read;
+    one_row(alloc, UseRow::Storage(StorageUse { name, path }))
 }
 
 /// The names of storages that are offered, one or more.
@@ -127,11 +124,7 @@ impl Row for StorageUse {
     ghost writes = { storage_use_data };
 
     fn write(&self, alloc: Global) -> Result<Value, Memory> {
-        let mut members = Map::new(alloc);
-        put_text(alloc, &mut members, "storage", self.name.as_str())?;
-        put_text(alloc, &mut members, "from", "parent")?;
-        put_text(alloc, &mut members, "path", self.path.as_str())?;
-        Ok(Value::from(members))
+        plain_use(alloc, "storage", &self.name, "parent", &self.path)
     }
 }
 

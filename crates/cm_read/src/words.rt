@@ -16,15 +16,16 @@ use cm_names::{Availability, ChildName, Dependency, Name};
 use serde_json::Value;
 use std::alloc::Global;
 
-/// Whether the child starts together with its parent.
-#[tactic(auto, unfolding(crate::specs::Words::startup_named))]
-fn startup_named(text: &str) -> Option<bool>
-    ensures { result ≡ spec.startup_named text.now }
+/// What one of two words says.
+fn flag_named(off: &str, on: &str, text: &str) -> Option<bool>
+    ensures { result ≡ spec.flag_named off.now on.now text.now }
 {
-    match text {
-        "lazy" => Some(false),
-        "eager" => Some(true),
-        _ => None,
+    if text == off {
+        Some(false)
+    } else if text == on {
+        Some(true)
+    } else {
+        None
     }
 }
 
@@ -36,18 +37,6 @@ fn durability_named(text: &str) -> Option<Durability>
     match text {
         "transient" => Some(Durability::Transient),
         "single_run" => Some(Durability::SingleRun),
-        _ => None,
-    }
-}
-
-/// Whether a child may be created with offers of its own.
-#[tactic(auto, unfolding(crate::specs::Words::offers_named))]
-fn offers_named(text: &str) -> Option<bool>
-    ensures { result ≡ spec.offers_named text.now }
-{
-    match text {
-        "static_only" => Some(false),
-        "static_and_dynamic" => Some(true),
         _ => None,
     }
 }
@@ -85,18 +74,6 @@ fn given_availability_named(text: &str) -> Option<Availability>
     match text {
         "same_as_target" => Some(Availability::SameAsTarget),
         _ => availability_named(text),
-    }
-}
-
-/// Whether the source of an offer or an expose may be missing.
-#[tactic(auto, unfolding(crate::specs::Words::source_named))]
-fn source_named(text: &str) -> Option<bool>
-    ensures { result ≡ spec.source_named text.now }
-{
-    match text {
-        "required" => Some(false),
-        "unknown" => Some(true),
-        _ => None,
     }
 }
 
@@ -160,18 +137,6 @@ fn storage_origin_named(text: &str) -> Option<Origin>
     }
 }
 
-/// Whether an environment extends that of its component.
-#[tactic(auto, unfolding(crate::specs::Words::extends_named))]
-fn extends_named(text: &str) -> Option<bool>
-    ensures { result ≡ spec.extends_named text.now }
-{
-    match text {
-        "none" => Some(false),
-        "realm" => Some(true),
-        _ => None,
-    }
-}
-
 /// Whether an instance without an id gets a place by its moniker.
 #[tactic(auto, unfolding(crate::specs::Words::storage_id_named))]
 fn storage_id_named(text: &str) -> Option<bool>
@@ -205,16 +170,30 @@ fn listed<T: Drop>(alloc: Global, at: Place, key: &str, named: Option<T>) -> Res
     }
 }
 
+/// A field with one of two words, by default the first.
+fn flag_of(
+    alloc: Global,
+    at: Place,
+    item: &Value,
+    key: &str,
+    off: &str,
+    on: &str,
+) -> Result<bool, ReadFault>
+    ensures { Gives result (spec.flag_at key.now off.now on.now at (view item.now)) }
+{
+    let Some(value) = item.get(key) else {
+        return Ok(false);
+    };
+    let text = text_of(alloc, at, value, key)?;
+    listed(alloc, at, key, flag_named(off, on, text))
+}
+
 /// `startup`, by default `lazy`.
-#[tactic(auto, unfolding(crate::specs::Words::startup_at))]
+#[tactic(auto, unfolding(crate::specs::Words::startup_at, crate::specs::Words::startup_named))]
 pub fn startup_of(alloc: Global, at: Place, item: &Value) -> Result<bool, ReadFault>
     ensures { Gives result (spec.startup_at at (view item.now)) }
 {
-    let Some(value) = item.get("startup") else {
-        return Ok(false);
-    };
-    let text = text_of(alloc, at, value, "startup")?;
-    listed(alloc, at, "startup", startup_named(text))
+    flag_of(alloc, at, item, "startup", "lazy", "eager")
 }
 
 /// `durability`, which has to be there.
@@ -228,15 +207,18 @@ pub fn durability_of(alloc: Global, at: Place, item: &Value) -> Result<Durabilit
 }
 
 /// `allowed_offers`, by default `static_only`.
-#[tactic(auto, unfolding(crate::specs::Words::allowed_offers_at))]
+#[tactic(auto, unfolding(crate::specs::Words::allowed_offers_at, crate::specs::Words::offers_named))]
 pub fn allowed_offers_of(alloc: Global, at: Place, item: &Value) -> Result<bool, ReadFault>
     ensures { Gives result (spec.allowed_offers_at at (view item.now)) }
 {
-    let Some(value) = item.get("allowed_offers") else {
-        return Ok(false);
-    };
-    let text = text_of(alloc, at, value, "allowed_offers")?;
-    listed(alloc, at, "allowed_offers", offers_named(text))
+    flag_of(
+        alloc,
+        at,
+        item,
+        "allowed_offers",
+        "static_only",
+        "static_and_dynamic",
+    )
 }
 
 /// `dependency`, by default `strong`.
@@ -280,15 +262,29 @@ pub fn given_availability_of(
 }
 
 /// `source_availability`, by default `required`.
-#[tactic(auto, unfolding(crate::specs::Words::source_unknown_at))]
+#[tactic(auto, unfolding(crate::specs::Words::source_unknown_at, crate::specs::Words::source_named))]
 pub fn source_unknown_of(alloc: Global, at: Place, item: &Value) -> Result<bool, ReadFault>
     ensures { Gives result (spec.source_unknown_at at (view item.now)) }
 {
-    let Some(value) = item.get("source_availability") else {
-        return Ok(false);
+    flag_of(
+        alloc,
+        at,
+        item,
+        "source_availability",
+        "required",
+        "unknown",
+    )
+}
+
+/// A field that says the parent alone, by default.
+fn parent_alone(alloc: Global, at: Place, item: &Value, key: &str) -> Result<(), ReadFault>
+    ensures { Gives result (spec.parent_alone key.now at (view item.now)) }
+{
+    let Some(value) = item.get(key) else {
+        return Ok(());
     };
-    let text = text_of(alloc, at, value, "source_availability")?;
-    listed(alloc, at, "source_availability", source_named(text))
+    let text = text_of(alloc, at, value, key)?;
+    listed(alloc, at, key, expose_target_named(text))
 }
 
 /// `to` of an expose, by default `parent`.
@@ -296,11 +292,7 @@ pub fn source_unknown_of(alloc: Global, at: Place, item: &Value) -> Result<bool,
 pub fn expose_to_of(alloc: Global, at: Place, item: &Value) -> Result<(), ReadFault>
     ensures { Gives result (spec.expose_to_at at (view item.now)) }
 {
-    let Some(value) = item.get("to") else {
-        return Ok(());
-    };
-    let text = text_of(alloc, at, value, "to")?;
-    listed(alloc, at, "to", expose_target_named(text))
+    parent_alone(alloc, at, item, "to")
 }
 
 /// Whether a child of that name is declared.
@@ -472,23 +464,15 @@ pub fn storage_from_of(alloc: Global, at: Place, item: &Value) -> Result<Origin,
 pub fn storage_use_from_of(alloc: Global, at: Place, item: &Value) -> Result<(), ReadFault>
     ensures { Gives result (spec.storage_use_from_at at (view item.now)) }
 {
-    let Some(value) = item.get("from") else {
-        return Ok(());
-    };
-    let text = text_of(alloc, at, value, "from")?;
-    listed(alloc, at, "from", expose_target_named(text))
+    parent_alone(alloc, at, item, "from")
 }
 
 /// `extends`, by default `none`.
-#[tactic(auto, unfolding(crate::specs::Words::extends_at))]
+#[tactic(auto, unfolding(crate::specs::Words::extends_at, crate::specs::Words::extends_named))]
 pub fn extends_of(alloc: Global, at: Place, item: &Value) -> Result<bool, ReadFault>
     ensures { Gives result (spec.extends_at at (view item.now)) }
 {
-    let Some(value) = item.get("extends") else {
-        return Ok(false);
-    };
-    let text = text_of(alloc, at, value, "extends")?;
-    listed(alloc, at, "extends", extends_named(text))
+    flag_of(alloc, at, item, "extends", "none", "realm")
 }
 
 /// `storage_id`, which has to be there.

@@ -10,7 +10,7 @@ ghost use Rattle.cm_read.specs.Writing.{Puts};
 
 use crate::items::word_of;
 use crate::puts::{
-    Row, availability_word, dependency_word, durability_word, offers_word, push_each,
+    Row, availability_word, dependency_word, durability_word, offers_word, plain_use, push_each,
     put_environment, put_from, put_limits, put_list, put_rights, put_text, put_to, put_values,
     startup_word,
 };
@@ -136,11 +136,7 @@ impl Row for DebugUse {
     ghost writes = { debug_use_data };
 
     fn write(&self, alloc: Global) -> Result<Value, Memory> {
-        let mut members = Map::new(alloc);
-        put_text(alloc, &mut members, "protocol", self.name.as_str())?;
-        put_text(alloc, &mut members, "from", "debug")?;
-        put_text(alloc, &mut members, "path", self.path.as_str())?;
-        Ok(Value::from(members))
+        plain_use(alloc, "protocol", &self.name, "debug", &self.path)
     }
 }
 

@@ -1,17 +1,17 @@
 //! The texts of answers to commands.
 
-ghost use Rattle.std.specs.Prelude.{◌≡◌, ◌++◌, codes, IfOk};
+ghost use Rattle.std.specs.Prelude.{◌≡◌, ◌++◌, IfOk};
 ghost use Rattle.cm_world.specs.declared.answer.Answer.TheVariants as answer;
-ghost use Rattle.cm_reply.specs.Routes as routes;
 ghost use Rattle.cm_reply.specs.Answers as spec;
 
 use crate::lists::{Item, push_each, written};
 use crate::refusals::refusal_text;
 use crate::routes::{place_text, route_text};
 use crate::states::{look_text, when};
+use crate::words::{named, numbered, worded};
 use cm_command::Command;
 use cm_command::writer::target_text;
-use cm_names::{CapPath, Memory, Text};
+use cm_names::{CapPath, Memory, Shared, Text};
 use cm_world::{Answer, Checked, Kid, Look, Refusal, Route, Target};
 use std::alloc::Global;
 
@@ -90,11 +90,8 @@ fn answer_text(alloc: Global, command: &Command, answer: &Answer) -> Result<Text
         Answer::Created(inc) => created_text(alloc, command, *inc),
         Answer::Destroyed => of_target(alloc, "destroyed", command),
         Answer::Children(kids) => children_text(alloc, command, kids.as_slice()),
-        Answer::Opened(route) => {
-            let place = place_text(alloc, route)?;
-            written(alloc, format_args!("opened {place}"))
-        }
-        Answer::Routed(route) => routed_text(alloc, route),
+        Answer::Opened(route) => worded(alloc, "opened", place_text(alloc, route.get())?),
+        Answer::Routed(route) => worded(alloc, "route", route_text(alloc, route.get())?),
         Answer::Shown(look) => shown_text(alloc, command, look),
         Answer::Surveyed(rows) => counted_text(alloc, "survey", command, rows.as_slice()),
         Answer::Doctored(lines) => counted_text(alloc, "doctor", command, lines.as_slice()),
@@ -132,8 +129,7 @@ fn target_of(command: &Command) -> &Target
 fn of_target(alloc: Global, word: &str, command: &Command) -> Result<Text, Memory>
     ensures { IfOk result (λ text. text ≡ spec.of_target word.now command.now) }
 {
-    let target = target_text(alloc, target_of(command))?;
-    written(alloc, format_args!("{word} {target}"))
+    worded(alloc, word, target_text(alloc, target_of(command))?)
 }
 
 /// The action that did it, or that it was so before.
@@ -142,7 +138,7 @@ fn done_by(alloc: Global, action: Option<u64>) -> Result<Text, Memory>
 {
     match action {
         None => Text::from_str(alloc, " already"),
-        Some(action) => written(alloc, format_args!(" action {action}")),
+        Some(action) => numbered(alloc, " action", action),
     }
 }
 
@@ -203,7 +199,7 @@ fn created_text(alloc: Global, command: &Command, inc: u64) -> Result<Text, Memo
 {
     let text = of_target(alloc, "created", command)?;
     let child = child_text(alloc, command)?;
-    written(alloc, format_args!("{text} {child} incarnation {inc}"))
+    named(alloc, text.as_str(), child.as_str(), inc)
 }
 
 /// The children of the collection that the command names.
@@ -214,14 +210,6 @@ fn children_text(alloc: Global, command: &Command, kids: &[Kid]) -> Result<Text,
     let collection = collection_text(alloc, command)?;
     let lines = counted(alloc, kids)?;
     written(alloc, format_args!("{text} {collection}{lines}"))
-}
-
-/// The route of a use.
-fn routed_text(alloc: Global, route: &Route) -> Result<Text, Memory>
-    ensures { IfOk result (λ text. text ≡ codes "route " ++ routes.route_text route.now) }
-{
-    let route = route_text(alloc, route)?;
-    written(alloc, format_args!("route {route}"))
 }
 
 /// How the instance is.
@@ -281,7 +269,7 @@ impl Item for Checked {
 fn checked_words(
     alloc: Global,
     path: &Option<CapPath>,
-    found: &Result<Route, Refusal>,
+    found: &Result<Shared<Route>, Refusal>,
 ) -> Result<Text, Memory>
     ensures { IfOk result (λ text. text ≡ spec.checked_words path.now found.now) }
 {
@@ -293,11 +281,11 @@ fn checked_words(
 }
 
 /// The route of a use, or why it has none.
-fn found_text(alloc: Global, found: &Result<Route, Refusal>) -> Result<Text, Memory>
+fn found_text(alloc: Global, found: &Result<Shared<Route>, Refusal>) -> Result<Text, Memory>
     ensures { IfOk result (λ text. text ≡ spec.found_text found.now) }
 {
     match found {
-        Ok(route) => routed_text(alloc, route),
+        Ok(route) => worded(alloc, "route", route_text(alloc, route.get())?),
         Err(refusal) => refusal_text(alloc, refusal),
     }
 }

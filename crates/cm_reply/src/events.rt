@@ -5,6 +5,7 @@ ghost use Rattle.cm_reply.specs.Events as spec;
 
 use crate::lists::written;
 use crate::states::{act_word, outcome_text};
+use crate::words::{noted, numbered, numbers, worded};
 use cm_command::writer::push_gives;
 use cm_decl::Give;
 use cm_names::{List, Memory, Text};
@@ -17,19 +18,15 @@ pub fn event_text(alloc: Global, event: &Event) -> Result<Text, Memory>
     ensures { IfOk result (λ text. text ≡ spec.event_text event.now) }
 {
     match event {
-        Event::Find(moniker) => {
-            let moniker = moniker.write(alloc)?;
-            written(alloc, format_args!("find {moniker}"))
-        }
+        Event::Find(moniker) => worded(alloc, "find", moniker.write(alloc)?),
         Event::Begin(kind, inc) => {
-            let word = act_word(*kind);
-            written(alloc, format_args!("begin {word} {inc}"))
+            worded(alloc, "begin", numbered(alloc, act_word(*kind), *inc)?)
         }
         Event::End(action, finish) => {
             let finish = finish_text(alloc, finish)?;
-            written(alloc, format_args!("end {action} {finish}"))
+            noted(alloc, "end", *action, finish.as_str())
         }
-        Event::Await(action) => written(alloc, format_args!("await {action}")),
+        Event::Await(action) => numbered(alloc, "await", *action),
         Event::Create(inc, coll, name, url, gives) => {
             let groups = groups_text(alloc, gives)?;
             written(
@@ -37,19 +34,19 @@ pub fn event_text(alloc: Global, event: &Event) -> Result<Text, Memory>
                 format_args!("create {inc} {coll} {name} {url}{groups}"),
             )
         }
-        Event::Mark(true, inc) => written(alloc, format_args!("mark doomed {inc}")),
-        Event::Mark(false, inc) => written(alloc, format_args!("mark closing {inc}")),
-        Event::Pick(inc) => written(alloc, format_args!("pick {inc}")),
-        Event::Purge(inc) => written(alloc, format_args!("purge {inc}")),
-        Event::Route(inc, path) => written(alloc, format_args!("route {inc} {path}")),
-        Event::OpenUse(inc, path) => written(alloc, format_args!("open {inc} {path}")),
-        Event::OpenExposed(inc, name) => written(alloc, format_args!("open-exposed {inc} {name}")),
-        Event::Listing(inc, coll) => written(alloc, format_args!("list {inc} {coll}")),
-        Event::Show(inc) => written(alloc, format_args!("show {inc}")),
-        Event::Survey(inc) => written(alloc, format_args!("survey {inc}")),
-        Event::Exited(inc) => written(alloc, format_args!("exited {inc}")),
-        Event::Tail(inc, from) => written(alloc, format_args!("tail {inc} {from}")),
-        Event::Reap(inc) => written(alloc, format_args!("reap {inc}")),
+        Event::Mark(true, inc) => numbered(alloc, "mark doomed", *inc),
+        Event::Mark(false, inc) => numbered(alloc, "mark closing", *inc),
+        Event::Pick(inc) => numbered(alloc, "pick", *inc),
+        Event::Purge(inc) => numbered(alloc, "purge", *inc),
+        Event::Route(inc, path) => noted(alloc, "route", *inc, path.as_str()),
+        Event::OpenUse(inc, path) => noted(alloc, "open", *inc, path.as_str()),
+        Event::OpenExposed(inc, name) => noted(alloc, "open-exposed", *inc, name.as_str()),
+        Event::Listing(inc, coll) => noted(alloc, "list", *inc, coll.as_str()),
+        Event::Show(inc) => numbered(alloc, "show", *inc),
+        Event::Survey(inc) => numbered(alloc, "survey", *inc),
+        Event::Exited(inc) => numbered(alloc, "exited", *inc),
+        Event::Tail(inc, from) => numbers(alloc, "tail", *inc, *from),
+        Event::Reap(inc) => numbered(alloc, "reap", *inc),
     }
 }
 
@@ -68,7 +65,7 @@ fn finish_text(alloc: Global, finish: &Finish) -> Result<Text, Memory>
 {
     match finish {
         Finish::Resolved(url, decl) => {
-            let decl = write_decl(alloc, decl)?;
+            let decl = write_decl(alloc, decl.get())?;
             written(alloc, format_args!("resolved {url} {decl}"))
         }
         Finish::Other(outcome) => outcome_text(alloc, *outcome),

@@ -29,6 +29,7 @@ mod refusals;
 mod replies;
 mod routes;
 mod states;
+mod words;
 
 pub use answers::reply_text;
 pub use journal::{entry_text, header_text};

@@ -9,6 +9,7 @@ ghost use Rattle.cm_reply.specs.Refusals as spec;
 use crate::lists::{Item, push_each, written};
 use crate::routes::failure_text;
 use crate::states::outcome_text;
+use crate::words::{noted, numbered, numbers, worded};
 use cm_decl::Node;
 use cm_names::{Memory, Text};
 use cm_world::{Outcome, Refusal};
@@ -42,67 +43,53 @@ pub fn refusal_text(alloc: Global, refusal: &Refusal) -> Result<Text, Memory>
     ensures { IfOk result (λ text. text ≡ spec.refusal_text refusal.now) }
 {
     match refusal {
-        Refusal::CollectionNotFound => refused(alloc, "60 collection-not-found"),
-        Refusal::AlreadyExists(inc) => refused_at(alloc, "61 already-exists", *inc),
-        Refusal::DynamicOffersRefused => refused(alloc, "62 dynamic-offers-refused"),
+        Refusal::CollectionNotFound => Text::from_str(alloc, "refused 60 collection-not-found"),
+        Refusal::AlreadyExists(inc) => {
+            numbered(alloc, "refused 61 already-exists incarnation", *inc)
+        }
+        Refusal::DynamicOffersRefused => {
+            Text::from_str(alloc, "refused 62 dynamic-offers-refused")
+        }
         Refusal::BadOffer(index, number) => {
-            written(alloc, format_args!("refused 63 bad-offer {index} {number}"))
+            let number = u64::from(*number);
+            numbers(alloc, "refused 63 bad-offer", u64::from(*index), number)
         }
         Refusal::OfferCycle(nodes) => {
             cycle_text(alloc, "refused 64 offer-cycle", nodes.as_slice())
         }
-        Refusal::ParentClosing(inc) => refused_at(alloc, "65 parent-closing", *inc),
-        Refusal::Full => refused(alloc, "67 full"),
-        Refusal::NotDynamic => refused(alloc, "68 not-dynamic"),
-        Refusal::HistoryFull => refused(alloc, "69 history-full"),
-        Refusal::NotFound(moniker) => {
-            refused_with(alloc, "80 not-found in", moniker.write(alloc)?)
+        Refusal::ParentClosing(inc) => {
+            numbered(alloc, "refused 65 parent-closing incarnation", *inc)
         }
-        Refusal::Gone(inc) => refused_at(alloc, "81 gone", *inc),
-        Refusal::Shut(inc) => refused_at(alloc, "82 shut", *inc),
+        Refusal::Full => Text::from_str(alloc, "refused 67 full"),
+        Refusal::NotDynamic => Text::from_str(alloc, "refused 68 not-dynamic"),
+        Refusal::HistoryFull => Text::from_str(alloc, "refused 69 history-full"),
+        Refusal::NotFound(moniker) => {
+            worded(alloc, "refused 80 not-found in", moniker.write(alloc)?)
+        }
+        Refusal::Gone(inc) => numbered(alloc, "refused 81 gone incarnation", *inc),
+        Refusal::Shut(inc) => numbered(alloc, "refused 82 shut incarnation", *inc),
         Refusal::CannotResolve(action, outcome) => {
-            refused_by(alloc, "83 cannot-resolve action", *action, *outcome)
+            ended_text(alloc, "refused 83 cannot-resolve action", *action, *outcome)
         }
         Refusal::CannotStart(action, outcome) => {
-            refused_by(alloc, "84 cannot-start action", *action, *outcome)
+            ended_text(alloc, "refused 84 cannot-start action", *action, *outcome)
         }
-        Refusal::ClientOff => refused(alloc, "85 client-off"),
-        Refusal::NoSuchUse => refused(alloc, "86 no-such-use"),
-        Refusal::NoRoute(hop, why) => { refused_with(alloc, "87", failure_text(alloc, hop, *why)?) }
-        Refusal::VoidSource(hop) => refused_with(alloc, "88 void at", hop.text(alloc)?),
-        Refusal::SourceShut(inc) => refused_at(alloc, "89 source-shut", *inc),
-        Refusal::Memory => refused(alloc, "want-of-memory"),
+        Refusal::ClientOff => Text::from_str(alloc, "refused 85 client-off"),
+        Refusal::NoSuchUse => Text::from_str(alloc, "refused 86 no-such-use"),
+        Refusal::NoRoute(hop, why) => {
+            worded(alloc, "refused 87", failure_text(alloc, hop.get(), *why)?)
+        }
+        Refusal::VoidSource(hop) => worded(alloc, "refused 88 void at", hop.get().text(alloc)?),
+        Refusal::SourceShut(inc) => { numbered(alloc, "refused 89 source-shut incarnation", *inc) }
+        Refusal::Memory => Text::from_str(alloc, "refused want-of-memory"),
     }
 }
 
-/// `refused` and the words.
-fn refused(alloc: Global, words: &str) -> Result<Text, Memory>
-    ensures { IfOk result (λ text. text ≡ codes "refused " ++ words.now) }
-{
-    written(alloc, format_args!("refused {words}"))
-}
-
-/// `refused`, the words and an instance.
-fn refused_at(alloc: Global, words: &str, inc: u64) -> Result<Text, Memory>
-    ensures { IfOk result (λ text. text ≡ codes "refused " ++ (words.now
-        ++ states.incarnation_text inc)) }
-{
-    written(alloc, format_args!("refused {words} incarnation {inc}"))
-}
-
-/// `refused`, the words, and what belongs to them.
-fn refused_with(alloc: Global, words: &str, part: Text) -> Result<Text, Memory>
-    ensures { IfOk result (λ text. text ≡ codes "refused " ++ (words.now ++ (codes " " ++ part))) }
-{
-    written(alloc, format_args!("refused {words} {part}"))
-}
-
-/// `refused`, the words, the number of an action, and how it came out.
-fn refused_by(alloc: Global, words: &str, action: u64, outcome: Outcome) -> Result<Text, Memory>
-    ensures { IfOk result (λ text. text ≡ codes "refused " ++ (words.now ++ (codes " "
-        ++ (decimal action ++ (codes " " ++ states.outcome_text outcome))))) }
+/// The words, the number of an action, and how it came out.
+fn ended_text(alloc: Global, words: &str, action: u64, outcome: Outcome) -> Result<Text, Memory>
+    ensures { IfOk result (λ text. text ≡ words.now ++ (codes " " ++ (decimal action
+        ++ (codes " " ++ states.outcome_text outcome)))) }
 {
     let outcome = outcome_text(alloc, outcome)?;
-    let ended = written(alloc, format_args!("{action} {outcome}"))?;
-    refused_with(alloc, words, ended)
+    noted(alloc, words, action, outcome.as_str())
 }

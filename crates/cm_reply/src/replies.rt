@@ -3,14 +3,14 @@
 ghost use Rattle.std.specs.Prelude.{◌≡◌, ◌++◌, length, codes, decimal, IfOk};
 ghost use Rattle.cm_reply.specs.Lists.{bracketed};
 ghost use Rattle.cm_reply.specs.Replies as spec;
-ghost use Rattle.cm_reply.specs.Routes as routes;
 
 use crate::lists::{Item, push_bracketed, push_each, written};
 use crate::refusals::cycle_text;
 use crate::routes::{failure_text, route_text};
 use crate::states::{look_text, outcome_text};
+use crate::words::{numbered, numbers, worded};
 use cm_names::{Memory, Text};
-use cm_world::{Reply, Route};
+use cm_world::Reply;
 use std::alloc::Global;
 
 /// The reply as a journal has it. `Err` where memory runs out.
@@ -22,17 +22,11 @@ pub fn replied_text(alloc: Global, reply: &Reply) -> Result<Text, Memory>
         Reply::Need(inc) => numbered(alloc, "need", *inc),
         Reply::Shut(inc) => numbered(alloc, "shut", *inc),
         Reply::Gone(inc) => numbered(alloc, "gone", *inc),
-        Reply::NotFound(moniker) => {
-            let moniker = moniker.write(alloc)?;
-            written(alloc, format_args!("not-found {moniker}"))
-        }
+        Reply::NotFound(moniker) => worded(alloc, "not-found", moniker.write(alloc)?),
         Reply::Begun(work) => numbered(alloc, "begun", work.action),
         Reply::Joined(action) => numbered(alloc, "joined", *action),
         Reply::Already => Text::from_str(alloc, "already"),
-        Reply::Ended(outcome) => {
-            let outcome = outcome_text(alloc, *outcome)?;
-            written(alloc, format_args!("ended {outcome}"))
-        }
+        Reply::Ended(outcome) => worded(alloc, "ended", outcome_text(alloc, *outcome)?),
         Reply::Created(inc) => numbered(alloc, "created", *inc),
         Reply::Closing(inc) => numbered(alloc, "closing", *inc),
         Reply::NoCollection => Text::from_str(alloc, "no-collection"),
@@ -75,21 +69,12 @@ fn other_text(alloc: Global, reply: &Reply) -> Result<Text, Memory>
         Reply::ClientOff => Text::from_str(alloc, "client-off"),
         Reply::SourceShut(inc) => numbered(alloc, "source-shut", *inc),
         Reply::NeedStart(inc) => numbered(alloc, "need-start", *inc),
-        Reply::Failed(hop, why) => {
-            let failure = failure_text(alloc, hop, *why)?;
-            written(alloc, format_args!("failed {failure}"))
-        }
-        Reply::Void(hop) => {
-            let hop = hop.text(alloc)?;
-            written(alloc, format_args!("void at {hop}"))
-        }
-        Reply::Given(route) => routed_text(alloc, "given", route),
-        Reply::Opened(route) => routed_text(alloc, "opened", route),
+        Reply::Failed(hop, why) => worded(alloc, "failed", failure_text(alloc, hop.get(), *why)?),
+        Reply::Void(hop) => worded(alloc, "void at", hop.get().text(alloc)?),
+        Reply::Given(route) => worded(alloc, "given", route_text(alloc, route.get())?),
+        Reply::Opened(route) => worded(alloc, "opened", route_text(alloc, route.get())?),
         Reply::Listed(kids) => listed_text(alloc, "listed", kids.as_slice()),
-        Reply::Shown(look) => {
-            let look = look_text(alloc, look)?;
-            written(alloc, format_args!("shown {look}"))
-        }
+        Reply::Shown(look) => worded(alloc, "shown", look_text(alloc, look)?),
         Reply::Surveyed(rows) => listed_text(alloc, "surveyed", rows.as_slice()),
         Reply::Left(_) => Text::from_str(alloc, "left"),
         Reply::Tailed(count) => numbered(alloc, "tailed", *count),
@@ -100,29 +85,6 @@ fn other_text(alloc: Global, reply: &Reply) -> Result<Text, Memory>
         }
         _ => Ok(Text::new(alloc)),
     }
-}
-
-/// The word and the number.
-fn numbered(alloc: Global, word: &str, number: u64) -> Result<Text, Memory>
-    ensures { IfOk result (λ text. text ≡ word.now ++ (codes " " ++ decimal number)) }
-{
-    written(alloc, format_args!("{word} {number}"))
-}
-
-/// The word and two numbers.
-fn numbers(alloc: Global, word: &str, first: u64, second: u64) -> Result<Text, Memory>
-    ensures { IfOk result (λ text. text ≡ word.now ++ (codes " " ++ (decimal first
-        ++ (codes " " ++ decimal second)))) }
-{
-    written(alloc, format_args!("{word} {first} {second}"))
-}
-
-/// The word and the route.
-fn routed_text(alloc: Global, word: &str, route: &Route) -> Result<Text, Memory>
-    ensures { IfOk result (λ text. text ≡ word.now ++ (codes " " ++ routes.route_text route.now)) }
-{
-    let route = route_text(alloc, route)?;
-    written(alloc, format_args!("{word} {route}"))
 }
 
 /// The word, how many items there are, and each between brackets.

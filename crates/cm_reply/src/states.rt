@@ -1,10 +1,11 @@
 //! The texts of actions and of the states of instances.
 
-ghost use Rattle.std.specs.Prelude.{◌≡◌, IfOk};
+ghost use Rattle.std.specs.Prelude.{◌≡◌, ◌++◌, codes, IfOk};
 ghost use Rattle.cm_reply.specs.Lists.{when, when_some};
 ghost use Rattle.cm_reply.specs.States as spec;
 
 use crate::lists::{Item, written};
+use crate::words::standing;
 use cm_names::{Memory, Text};
 use cm_read::ReadFault;
 use cm_world::{ActKind, FaultNote, Kid, Look, Outcome, SurveyRow};
@@ -101,6 +102,17 @@ pub fn look_text(alloc: Global, look: &Look) -> Result<Text, Memory>
     )
 }
 
+/// How an instance of a survey is. `Err` where memory runs out.
+fn state_text(alloc: Global, row: &SurveyRow) -> Result<Text, Memory>
+    ensures { IfOk result (λ text. text ≡ spec.resolved_word row.now.resolved
+        ++ (spec.on_word row.now.on ++ when row.now.shut (codes " shut"))) }
+{
+    let resolved = resolved_word(row.resolved);
+    let on = on_word(row.on);
+    let shut = when(row.shut, " shut");
+    written(alloc, format_args!("{resolved}{on}{shut}"))
+}
+
 /// It is written as `MONIKER incarnation N` and how it is.
 impl Item for SurveyRow {
     ghost use Rattle.cm_reply.specs.States.{survey_text};
@@ -108,13 +120,9 @@ impl Item for SurveyRow {
     ghost written = { survey_text };
 
     fn text(&self, alloc: Global) -> Result<Text, Memory> {
+        let state = state_text(alloc, self)?;
         let moniker = self.moniker.write(alloc)?;
-        let inc = self.inc;
-        let resolved = resolved_word(self.resolved);
-        let on = on_word(self.on);
-        let shut = when(self.shut, " shut");
-        let state = written(alloc, format_args!("{resolved}{on}{shut}"))?;
-        written(alloc, format_args!("{moniker} incarnation {inc} {state}"))
+        standing(alloc, moniker.as_str(), self.inc, state.as_str())
     }
 }
 

@@ -1,11 +1,5 @@
--- Answers in steps, each of which may be refused, and calls that may run out of memory besides.
+-- Calls that may run out of memory, or be refused as is expected.
 use Rattle.std.specs.Prelude.{◌≡◌, ◌⊎◌, Result, Ok, Err, MatchResult}
-
-infixl 10 ◌>>=◌
--- the next step with what this one gave, unless this one was refused
-abbrev pub ◌>>=◌ : {A B E : Type 0} → Result A E → (A → Result B E) → Result B E
-(Ok x) >>= next = next x
-(Err fault) >>= next = Err fault
 
 -- the fault is want of memory, or the expected refusal
 abbrev pub IsRefusal : {A E : Type 0} → E → E → Result A E → Type 0

@@ -5,7 +5,7 @@ use Rattle.std.specs.Map.{lookup}
 use Rattle.std.specs.Result.{result_map_both}
 use Rattle.std.specs.Str.{bytes_eq}
 use Rattle.std.specs.declared.alloc.Global.{Global}
-use Rattle.cm_repo.specs.Answers.{◌>>=◌}
+use Rattle.cm_names.specs.Steps.{◌>>=◌}
 use Rattle.cm_repo.specs.Urls.{key_of}
 use Rattle.cm_repo.specs.declared.fault.UrlFault.{UrlFault}
 use Rattle.cm_repo.specs.declared.fault.UrlFault.TheVariants as url

@@ -4,7 +4,7 @@ use Rattle.std.specs.Prelude.{Result, Ok, Err, ◌==◌, if◌then◌else◌}
 use Rattle.url.specs.Parser.{parse_url, Parsed}
 use Rattle.url.specs.Parts.{Parts, serialize}
 use Rattle.cm_names.specs.Urls.{is_url_text}
-use Rattle.cm_repo.specs.Answers.{◌>>=◌}
+use Rattle.cm_names.specs.Steps.{◌>>=◌}
 use Rattle.cm_repo.specs.declared.fault.UrlFault.{UrlFault}
 use Rattle.cm_repo.specs.declared.fault.UrlFault.TheVariants.{BadUrl, NoFragment}
 

@@ -1,6 +1,6 @@
 //! Manifests by URL.
 
-ghost use Rattle.std.specs.Prelude.{◌≡◌, [], Ok, OnOk, OnErr, IfErr};
+ghost use Rattle.std.specs.Prelude.{◌≡◌, [], Ok, OnOk, OnErr, IfOk, IfErr, string_bytes};
 ghost use Rattle.std.specs.Option.{option_copied};
 ghost use Rattle.cm_repo.specs.Answers.{IsRefusal};
 ghost use Rattle.cm_repo.specs.Blocks.{added, block_at, FindsAlso};
@@ -8,7 +8,7 @@ ghost use Rattle.cm_repo.specs.declared.fault.RepoFault.TheVariants.{Memory};
 
 use crate::RepoFault;
 use crate::urls::key;
-use cm_names::Bytes;
+use cm_names::{Bytes, Text};
 use indexmap::IndexMap;
 use std::alloc::Global;
 use std::marker::Model;
@@ -71,7 +71,19 @@ impl Repository {
         if self.blocks.contains_key(key.as_str()) {
             return Err(RepoFault::Repeated);
         }
-        self.blocks.insert(key.into_string(), bytes)?;
+        let text = string_of(key)?;
+        self.blocks.insert(text, bytes)?;
         Ok(())
+    }
+}
+
+/// The string of a key.
+fn string_of(key: Text) -> Result<String, RepoFault>
+    ensures ok { IfOk result (λ text. string_bytes text ≡ key) }
+    ensures err { IfErr result (λ fault. fault ≡ Memory) }
+{
+    match key.into_string() {
+        Ok(text) => Ok(text),
+        Err(_) => Err(RepoFault::Memory),
     }
 }

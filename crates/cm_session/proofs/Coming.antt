@@ -84,11 +84,3 @@ module _ {D L G : Type 0} (log_of : G → Option (List Asked)) (faults_of : G �
         fault = fault_rose log_of faults_of view shelf workers lock o passes at_door gates parts team.0 pl sixteen new (counts door) refl some (counts back.door) (length back.links) back.cause closes;
         sound = done_sound log_of faults_of view shelf workers lock o passes at_door gates parts team.0 pl sixteen new (counts door) refl some (counts back.door) (length back.links) back.cause closes;
       }
-
--- what is as it was is kept
-pub kept_same : {G : Type 0} (log_of : G → Option (List Asked)) (faults_of : G → ℕ) (shelf : Shelf) (passes passes' : List RealmPass) (gates gates' : List G) → passes' ≡ passes → gates' ≡ gates → All IsOwnPass passes → KeepsEach log_of faults_of shelf passes passes' gates gates'
-kept_same log_of faults_of shelf passes passes' gates gates' passes_is gates_is own =
-    subst (λ (l : List RealmPass). KeepsEach log_of faults_of shelf passes l gates gates') (sym passes_is) (subst (λ (l : List _). KeepsEach log_of faults_of shelf passes passes gates l) (sym gates_is) (keeps_all log_of faults_of shelf passes gates own))
-
-pub ended_same : (passes passes' : List RealmPass) → passes' ≡ passes → All (λ (p : RealmPass). HasEnds p.mine) passes → All (λ (p : RealmPass). HasEnds p.mine) passes'
-ended_same passes passes' is ends = subst (λ (l : List RealmPass). All (λ (p : RealmPass). HasEnds p.mine) l) (sym is) ends

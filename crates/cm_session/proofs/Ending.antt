@@ -1,5 +1,5 @@
 -- From passes, gates and links to workers, and back.
-use Rattle.std.proofs.Common.{◌≡◌, ◌≢◌, ℕ, zero, suc, ◌<◌, ◌≤◌, List, [], ◌∷◌, ◌++◌, All, Any, take, drop, length, get_or, true, false, Option, Some, refl, sym, ap, ◌∙◌, subst, append-nil, arith}
+use Rattle.std.proofs.Common.{◌≡◌, ◌≢◌, ℕ, zero, suc, ◌<◌, ◌≤◌, List, [], ◌∷◌, ◌++◌, All, Any, map, take, drop, length, get_or, true, false, Option, Some, refl, sym, ap, ◌∙◌, subst, append-nil, arith}
 use mathlib.Core.Logic.{dite}
 use native.Mathlib.Decide.{dec_lt}
 use Rattle.std.specs.List.{slice_get}
@@ -22,7 +22,7 @@ use Rattle.cm_session.specs.declared.workers.Worker.{Worker}
 use Rattle.cm_session.specs.Crew.{CrewWorked, DidWork, HasServed, IsReady, Worked}
 use Rattle.cm_session.specs.Doorway.{DoorPass, IsOver, sessions_of}
 use Rattle.cm_session.specs.Links.{LinkView}
-use Rattle.cm_session.specs.Parts.{AreParts, HasPasses, HasRooms, Links}
+use Rattle.cm_session.specs.Parts.{AreParts, HasPasses, HasRoomIn, HasRooms, Links}
 use Rattle.cm_session.specs.Serving.{IsLost, Visit}
 use Rattle.cm_session.proofs.Making.{Made}
 use Rattle.cm_session.proofs.Places.{all_places, any_place, as_long, at_map, at_place, field_at, item_at, there_at}
@@ -199,6 +199,11 @@ module _ {G L : Type 0} (log_of : G → Option (List Asked)) (faults_of : G → 
   have_passes xs ys did k d lt =
       let w = did.each k d (grind (arith, did.long, lt)) in
       record { pass = w.worked.q; there = w.worked.now; at_door = w.worked.e; there_too = w.worked.now_at_door }
+
+  -- they are as many as there is room for
+  pub room_left : (realm : LockView) (passes : List RealmPass) (xs ys : List (Worker G L)) (parts : Parts G L) → AreSixteen realm passes → map (λ (w : Worker G L). w.pass) xs ≡ map Some passes → CrewWorked log_of faults_of view shelf workers xs ys → HasRoomIn 16 parts → HasRoomIn (length ys) parts
+  room_left realm passes xs ys parts are made did room =
+      subst (λ (n : ℕ). HasRoomIn n parts) (sym (did.long ∙ as_long (λ (w : Worker G L). w.pass) Some xs passes made ∙ sixteen_long realm passes are)) room
 
   -- the workers of a slice that took the place of a whole vector
   pub crew_worked : (xs s ys : List (Worker G L)) (n : ℕ) → s ≡ xs → n ≡ length xs → length ys ≡ length s → ((k : ℕ) (d : Worker G L) → k < length s → DidWork log_of faults_of view shelf workers (get_or s k d) (get_or ys k d)) → CrewWorked log_of faults_of view shelf workers xs (take n (ys ++ drop (length ys) xs))

@@ -416,17 +416,24 @@ line-step shelf p q g h before after old mid new line given end gave later once 
       (subst (λ (x : AsSink). ServedOrNot shelf p q g h line x new.sink end) same v);
 }
 
--- the line that ends the session was taken
-pub quit-step : (shelf : Shelf) (p : RealmPass) (g : GatesView) (before after : Reader) (old new : LinkView) (line given : Text)
+-- no line was served
+pub silent-step : (shelf : Shelf) (p : RealmPass) (g : GatesView) (before after : Reader) (old new : LinkView) (given : Text) (end : Option Ended)
     → Moves old.source new.source given → old.source.faults ≤ new.source.faults → EndsOnce before after old.source new.source given → new.sink ≡ old.sink
-    → IsFirstLine (before.held ++ given) after line → line ≡ quit → Stepped shelf p p g g before after old new (Some ended.Quit)
-quit-step shelf p g before after old new line given gave later once same first is = record {
+    → (IsSilent p p g g old.sink new.sink → StepBy shelf p p g g (before.held ++ given) after old new end) → Stepped shelf p p g g before after old new end
+silent-step shelf p g before after old new given end gave later once same by = record {
   given = given;
   gave = gave;
   later = later;
   once = once;
-  by = (subst (λ (t : Text). IsFirstLine (before.held ++ given) after t) is first, record { pass = refl; gates = refl; sink = same });
+  by = by (record { pass = refl; gates = refl; sink = same });
 }
+
+-- the line that ends the session was taken
+pub quit-step : (shelf : Shelf) (p : RealmPass) (g : GatesView) (before after : Reader) (old new : LinkView) (line given : Text)
+    → Moves old.source new.source given → old.source.faults ≤ new.source.faults → EndsOnce before after old.source new.source given → new.sink ≡ old.sink
+    → IsFirstLine (before.held ++ given) after line → line ≡ quit → Stepped shelf p p g g before after old new (Some ended.Quit)
+quit-step shelf p g before after old new line given gave later once same first is =
+    silent-step shelf p g before after old new given (Some ended.Quit) gave later once same (λ silent. (subst (λ (t : Text). IsFirstLine (before.held ++ given) after t) is first, silent))
 
 -- a line that is too long isn't the one that ends the session
 long-is-no-quit : (line : Text) → 65536 < length line → line ≡ quit → ⊥

@@ -131,6 +131,7 @@ fn serve_command<R: Threads + Wait + Sync, G: Gates, L: Link>(
         Ok(text) => put_reply(rt, link, text.as_str().as_bytes(), wanting),
         Err(Memory) => put_reply(rt, link, WANTING, true),
     };
+    drop(answer);
     (pass, ended)
 }
 
@@ -155,7 +156,11 @@ fn serve_line<R: Threads + Wait + Sync, G: Gates, L: Link>(
         ≡ source_view L.left L.given L.written L.Source.faults L.Sink.faults link.old }
 {
     match read_command(alloc, line) {
-        Ok(command) => serve_command(rt, alloc, manager, pass, gates, link, &command),
+        Ok(command) => {
+            let served = serve_command(rt, alloc, manager, pass, gates, link, &command);
+            drop(command);
+            served
+        }
         Err(CommandFault::BadCommand(at)) => {
             let ended = refuse(rt, alloc, link, at);
             (pass, ended)

@@ -91,7 +91,7 @@ expired_closed rows i closed =
     each_same (λ r. cond (goes_with rows i r && not r.doomed) (set_doomed r) r)
     (λ r. ap (λ b. cond (cond b false (cond (runs_once rows i) (r.inc == i) (has_parent i r && is_dynamic r)) && not r.doomed) (set_doomed r) r) closed) rows
 
-open_goes : (rows : List Row) (i : ℕ) (once : Bool) → is_closed rows i ≡ false → runs_once rows i ≡ once → (r : Row) → goes_with rows i r ≡ cond once (r.inc == i) (has_parent i r && is_dynamic r)
+pub open_goes : (rows : List Row) (i : ℕ) (once : Bool) → is_closed rows i ≡ false → runs_once rows i ≡ once → (r : Row) → goes_with rows i r ≡ cond once (r.inc == i) (has_parent i r && is_dynamic r)
 open_goes rows i once unclosed is r =
     ap (λ b. cond b false (cond (runs_once rows i) (r.inc == i) (has_parent i r && is_dynamic r))) unclosed
     ∙ ap (λ b. cond b (r.inc == i) (has_parent i r && is_dynamic r)) is

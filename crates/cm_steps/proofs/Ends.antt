@@ -34,7 +34,9 @@ use Rattle.cm_steps.proofs.Counts.{open_less, resolve_less, count_le, count_one,
 use Rattle.cm_laws.proofs.actions.Tasks.{numbered_ended}
 use Rattle.cm_laws.proofs.actions.Ends.{kind_of_resolve, tasked_by}
 use Rattle.cm_laws.proofs.sound.Expiries.{tasked_expired_by}
+use Rattle.cm_cache.specs.Beside.{followed, IsTold, IsBeside}
 use Rattle.cm_steps.proofs.Going.{goes_on, one_longer}
+use Rattle.cm_steps.proofs.Keepers.{goes_beside}
 
 -- ---- what it leaves
 
@@ -100,6 +102,9 @@ pub record IsEnded (old new : Inside) (caller a i : ℕ) (f : Finish) (o : Outco
   pub entries : new.book.entries ≡ old.book.entries ++ entry_of caller (End a f) (Ended o) ∷ []
   pub reserved : new.book.reserved ≡ old.book.reserved - 1
   pub most : new.book.limit ≡ old.book.limit
+  pub doomed : Bool
+  pub told : IsTold (world_in old) (entry_of caller (End a f) (Ended o)) doomed
+  pub keeper : new.keeper ≡ followed (End a f) (Ended o) doomed old.keeper
 
 -- then they are the tree that the end leaves
 world_ended : (old new : Inside) (caller a : ℕ) (f : Finish) (o : Outcome) (x : Act) → act_of old.acts.items a ≡ Some x → IsEnded old new caller a x.inc f o → after (world_in old) (entry_of caller (End a f) (Ended o)) ≡ world_in new
@@ -149,4 +154,7 @@ kept_ended old new caller a f o may named kept e = record {
       (subst (λ rs. IsTasked rs (ended a o old.acts.items)) (sym e.rows)
       (tasked_expired_by o may.act.inc (rows_by may.act.inc old.table.next_inc f o old.table.rows) (ended a o old.acts.items)
       (tasked_by old.table.rows old.acts.items caller a old.table.next_inc f o may kept.tasks)));
+  beside =
+      subst (λ (fr : Frame). IsBeside fr new.book.entries new.keeper) (sym e.frame)
+      (goes_beside old (entry_of caller (End a f) (Ended o)) e.doomed new.book.entries new.keeper kept.stands kept.beside e.entries refl e.told e.keeper);
 }

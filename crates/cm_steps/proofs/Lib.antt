@@ -15,3 +15,6 @@ pub mod Joined
 pub mod Waits
 pub mod Ends
 pub mod Numbered
+pub mod Keepers
+pub mod Goers
+pub mod Askers

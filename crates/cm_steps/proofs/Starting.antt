@@ -14,6 +14,8 @@ use Rattle.cm_steps.specs.Tasks.{is_open_resolve}
 use Rattle.cm_steps.specs.Inside.{story_of, world_in, Stands, IsKept}
 use Rattle.cm_steps.specs.declared.realm.Realm.TheInside.{Inside}
 use Rattle.cm_laws.proofs.actions.Tasks.{tasked_new}
+use Rattle.cm_cache.specs.Beside.{nothing_held}
+use Rattle.cm_steps.proofs.Keepers.{beside_new}
 
 stands_new : (a : Inside) → a.table ≡ first_tree a.frame.root a.frame.builtins a.frame.limits.rows → a.acts.items ≡ [] → a.joins.items ≡ [] → a.book.entries ≡ [] → Stands (story_of a) (world_in a)
 unfolding world_of IsLegal
@@ -30,8 +32,8 @@ stands_new a table acts joins entries =
     }
 
 -- the fields of a new realm are the tree that no entry leaves
-pub kept_new : (a : Inside) → a.table ≡ first_tree a.frame.root a.frame.builtins a.frame.limits.rows → a.acts.items ≡ [] → a.resolves ≡ 0 → a.joins.items ≡ [] → a.book ≡ record { entries = []; reserved = 0; limit = a.frame.limits.entries } → IsKept a
-kept_new a table acts resolves joins book = record {
+pub kept_new : (a : Inside) → a.table ≡ first_tree a.frame.root a.frame.builtins a.frame.limits.rows → a.acts.items ≡ [] → a.resolves ≡ 0 → a.joins.items ≡ [] → a.book ≡ record { entries = []; reserved = 0; limit = a.frame.limits.entries } → a.keeper ≡ nothing_held → IsKept a
+kept_new a table acts resolves joins book held = record {
   stands = stands_new a table acts joins (ap (λ (h : History). h.entries) book);
   owes = ap (λ (h : History). h.reserved) book ∙ sym (ap (λ xs. owed xs a.joins.items) acts ∙ ap (owed []) joins);
   counted = resolves ∙ ap (count_by is_open_resolve) (sym acts);
@@ -41,4 +43,5 @@ kept_new a table acts resolves joins book = record {
   builtins = ap (λ (t : Tree). t.builtins) table;
   numbers = subst (IsNumbered 1) (sym acts) tt;
   tasks = subst (λ xs. IsTasked a.table.rows xs) (sym acts) (subst (λ (t : Tree). IsTasked t.rows []) (sym table) (tasked_new a.frame.root));
+  beside = beside_new a.frame a.book.entries a.keeper (ap (λ (h : History). h.entries) book) held;
 }

@@ -1,5 +1,5 @@
 -- A step that changes rows alone.
-use Rattle.std.proofs.Common.{◌≡◌, ℕ, ◌+◌, ◌-◌, List, [], ◌∷◌, ◌++◌, length, sym, ◌∙◌, ap, subst, arith}
+use Rattle.std.proofs.Common.{◌≡◌, ℕ, ◌+◌, ◌-◌, List, [], ◌∷◌, ◌++◌, length, Bool, None, sym, ◌∙◌, ap, subst, arith}
 use Rattle.std.specs.List.{count_by}
 use Rattle.cm_book.specs.History.{History}
 use Rattle.cm_table.specs.Tree.{Tree}
@@ -18,7 +18,10 @@ use Rattle.cm_laws.specs.Tasks.{IsNumbered, IsTasked}
 use Rattle.cm_steps.specs.Tasks.{is_open_resolve}
 use Rattle.cm_steps.specs.Inside.{story_of, world_in, IsKept}
 use Rattle.cm_steps.specs.declared.realm.Realm.TheInside.{Inside}
+use Rattle.cm_cache.specs.Keeping.{asked_by}
+use Rattle.cm_cache.specs.Beside.{followed, IsTold, IsBeside}
 use Rattle.cm_steps.proofs.Going.{goes_on, one_longer}
+use Rattle.cm_steps.proofs.Keepers.{goes_beside}
 
 -- with one entry that room was reserved for just before
 pub one_pushed : (old mid new : History) (e : Entry) → mid ≡ record old { reserved = old.reserved + 1 } → new ≡ record mid { entries = mid.entries ++ e ∷ []; reserved = mid.reserved - 1 } → new ≡ record old { entries = old.entries ++ e ∷ [] }
@@ -36,6 +39,10 @@ pub record IsRowStep (old new : Inside) (e : Entry) (rows : List Row) (next : �
   pub resolves : new.resolves ≡ old.resolves
   pub joins : new.joins.items ≡ old.joins.items
   pub book : new.book ≡ record old.book { entries = old.book.entries ++ e ∷ [] }
+  pub doomed : Bool
+  pub unasked : asked_by (world_in old) e.event ≡ None
+  pub told : IsTold (world_in old) e doomed
+  pub keeper : new.keeper ≡ followed e.event e.reply doomed old.keeper
 
 -- where the entry changes just these, the fields are the tree that it leaves
 world_stepped : (old new : Inside) (e : Entry) (rows : List Row) (next : ℕ) → moved (world_in old) e.caller e.event e.reply ≡ record (world_in old) { rows = rows; next_inc = next } → IsRowStep old new e rows next → after (world_in old) e ≡ world_in new
@@ -73,6 +80,9 @@ kept_rows old new e rows next kept step moves tasked s = record {
   builtins = ap (λ (t : Tree). t.builtins) s.table ∙ kept.builtins ∙ ap (λ (fr : Frame). fr.builtins) (sym s.frame);
   numbers = subst (IsNumbered 1) (sym s.acts) kept.numbers;
   tasks = subst (IsTasked new.table.rows) (sym s.acts) (subst (λ (t : Tree). IsTasked t.rows old.acts.items) (sym s.table) tasked);
+  beside =
+      subst (λ (fr : Frame). IsBeside fr new.book.entries new.keeper) (sym s.frame)
+      (goes_beside old e s.doomed new.book.entries new.keeper kept.stands kept.beside (ap (λ (h : History). h.entries) s.book) s.unasked s.told s.keeper);
 }
 
 -- the tree that the fields are is sound, as that of every legal history is

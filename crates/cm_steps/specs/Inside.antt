@@ -3,6 +3,7 @@ use Rattle.std.specs.Prelude.{◌≡◌, ◌+◌, ◌≤◌, length, count_by}
 use Rattle.cm_world.specs.World.{World, owed}
 use Rattle.cm_laws.specs.Story.{Story, world_of, IsLegal}
 use Rattle.cm_laws.specs.Tasks.{IsNumbered, IsTasked}
+use Rattle.cm_cache.specs.Beside.{IsBeside}
 use Rattle.cm_steps.specs.Tasks.{is_open_resolve}
 use Rattle.cm_steps.specs.declared.realm.Realm.TheInside.{Inside}
 
@@ -28,7 +29,7 @@ pub record Stands (s : Story) (w : World) : Type 0 where
   pub world : world_of s ≡ w
 
 -- the fields are the tree that the book leaves; open resolves are counted, and room is kept for each of them
--- and for the entries that are owed
+-- and for the entries that are owed; the keeper's answers are those of the book's history
 pub record IsKept (a : Inside) : Type 0 where
   pub stands : Stands (story_of a) (world_in a)
   pub owes : a.book.reserved ≡ owed a.acts.items a.joins.items
@@ -39,3 +40,4 @@ pub record IsKept (a : Inside) : Type 0 where
   pub builtins : a.table.builtins ≡ a.frame.builtins
   pub numbers : IsNumbered 1 a.acts.items
   pub tasks : IsTasked a.table.rows a.acts.items
+  pub beside : IsBeside a.frame a.book.entries a.keeper

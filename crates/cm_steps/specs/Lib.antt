@@ -7,3 +7,4 @@ pub mod Reporting
 pub mod Expiring
 pub mod Answers
 pub mod Ends
+pub mod Asking

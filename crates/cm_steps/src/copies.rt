@@ -1,4 +1,4 @@
-//! Copies of plain values, and values that are let go.
+//! Copies of plain values.
 
 ghost use Rattle.std.specs.Prelude.{◌≡◌, ◌++◌, ◌∷◌, [], IfOk, OnOk};
 
@@ -18,6 +18,3 @@ pub fn push_copy<T: Plain>(list: &mut List<T>, item: &T) -> Result<(), Memory>
     let copy = copied(item)?;
     list.push(copy)
 }
-
-/// Drops the value. However large its type is, the function that lets it go stays small.
-pub fn let_go<T: Drop>(_value: T) {}

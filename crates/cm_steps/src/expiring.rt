@@ -7,12 +7,14 @@
 //! callers shut it down and remove it.
 
 ghost use Rattle.std.specs.Prelude.{◌≡◌, ◌&&◌, not, false, Some};
+ghost use Rattle.std.specs.List.{list_any};
 ghost use Rattle.std.specs.Option.{option_map_or};
-ghost use Rattle.cm_world.specs.Rows.{row_of};
+ghost use Rattle.cm_world.specs.Rows.{row_of, has_parent};
 ghost use Rattle.cm_world.specs.Marks.{is_dynamic};
 ghost use Rattle.cm_world.specs.Expiring as spec;
 ghost use Rattle.cm_world.specs.Sound.{IsOrderly};
 ghost use Rattle.cm_table.specs.Change.{with_changed};
+ghost use Rattle.cm_cache.specs.Beside as beside;
 ghost use Rattle.cm_steps.specs.Expiring.{doomed_if_dynamic, doomed_below};
 
 use crate::replies::listing::collection;
@@ -61,6 +63,46 @@ fn is_single_run(durability: Durability) -> bool
         Durability::SingleRun => true,
         Durability::Transient => false,
     }
+}
+
+/// Whether something goes with an instance at which an action has ended so.
+pub(crate) fn goes_some_by<V: View>(view: &V, inc: u64, outcome: Outcome) -> bool
+    ensures { result ≡ beside.goes_some_by outcome (V.rows view.now) inc }
+{
+    match outcome {
+        Outcome::Stopped | Outcome::Killed => goes_some(view, inc),
+        _ => false,
+    }
+}
+
+/// Whether something that isn't being destroyed yet goes with an instance that is off: a child in a
+/// collection, or it itself.
+pub(crate) fn goes_some<V: View>(view: &V, inc: u64) -> bool
+    ensures { result ≡ beside.goes_some (V.rows view.now) inc }
+{
+    if closed(view, inc) {
+        return false;
+    }
+    if runs_once(view, inc) {
+        return may_go(view, inc);
+    }
+    child_goes(view, inc)
+}
+
+/// Whether an instance has a child in a collection that isn't being destroyed itself.
+fn child_goes<V: View>(view: &V, inc: u64) -> bool
+    requires orderly { IsOrderly (V.rows view.now) (V.next_inc view.now) }
+    ensures { result
+        ≡ list_any (λ r. has_parent inc r && is_dynamic r && not r.doomed) (V.rows view.now) }
+{
+    let mut after = None;
+    'next: while let Some(child) = view.next_child(inc, after) {
+        if may_go(view, child) {
+            return true;
+        }
+        after = Some(child);
+    }
+    false
 }
 
 /// Lets others go with an instance at which an action has ended so. It takes no memory.

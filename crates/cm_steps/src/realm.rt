@@ -1,13 +1,16 @@
 //! The realm.
 
-ghost use Rattle.std.specs.Prelude.{◌≡◌, ◌↔◌, [], false, Some, IsTrue, IfOk, IfErr, OnOk, OnErr};
+ghost use Rattle.std.specs.Prelude.{◌≡◌, ◌↔◌, [], false, Some, None, IsTrue, IfOk, IfErr, OnOk, OnErr};
 ghost use Rattle.cm_world.specs.World.{start};
 ghost use Rattle.cm_world.specs.Begin.{begin_reply};
 ghost use Rattle.cm_world.specs.Reports.{exit_reply};
 ghost use Rattle.cm_world.specs.Legal.{Legal, IsStep};
 ghost use Rattle.cm_world.specs.After.{moves, moved, with_action};
+ghost use Rattle.cm_cache.specs.Keeping.{IsKeptNumber, asked_by};
+ghost use Rattle.cm_cache.specs.Steps.{may_doom};
 ghost use Rattle.cm_table.specs.Tree.{first_tree};
 ghost use Rattle.cm_laws.specs.Story.{world_of, Tells, entry_of};
+ghost use Rattle.cm_steps.specs.Asking.{may_ask, event_of as event_by};
 ghost use Rattle.cm_steps.specs.Tasks.{IsIdleAt};
 ghost use Rattle.cm_steps.specs.Answers.{BeginsBy, ExitsBy};
 ghost use Rattle.cm_steps.specs.Steps.{HasRoom, Refuses, RefusesQuiet, WaitsToBegin, WaitsToExit};
@@ -17,8 +20,9 @@ mod ends;
 mod marks;
 mod picking;
 
-use crate::copies::{copied, let_go};
-use crate::expiring::expire;
+use crate::asking::{Answered, Asking, answer, asks, event_of, reply_of, tell_found};
+use crate::copies::copied;
+use crate::expiring::{expire, goes_some};
 use crate::nostep::NoStep;
 use crate::replies::beginning::{BeginAnswer, begin_answer};
 use crate::replies::finding::found;
@@ -26,8 +30,9 @@ use crate::replies::listing::listed;
 use crate::replies::opening::{open_exposed_reply, open_use_reply, route_reply};
 use crate::replies::showing::{ExitAnswer, exit_answer, shown, tailed};
 use crate::replies::surveying::surveyed;
-use crate::rooms::{add_join, copy_in_room, make_room, next_action};
+use crate::rooms::{add_join, copy_in_room, make_room, next_action, put_down};
 use cm_book::Book;
+use cm_cache::Keeper;
 use cm_names::{CapPath, List, Memory, Moniker, Name, Text};
 use cm_table::Table;
 use cm_turn::Storied;
@@ -45,6 +50,7 @@ pub struct Realm {
     resolves: u32,
     joins: Vec<Join>,
     book: Book,
+    keeper: Keeper,
 }
 
 impl Model for Realm {
@@ -86,6 +92,7 @@ impl Realm {
         }) }
     {
         let table = first_table(alloc, &root, &builtins, limits.rows)?;
+        let keeper = Keeper::new(alloc)?;
         Ok(Realm {
             frame: Frame {
                 root,
@@ -97,6 +104,7 @@ impl Realm {
             resolves: 0,
             joins: Vec::new(alloc),
             book: Book::new(alloc, limits.entries),
+            keeper,
         })
     }
 
@@ -120,8 +128,20 @@ impl Realm {
             resolves: _,
             joins: _,
             book,
+            keeper: _,
         } = self;
         book
+    }
+
+    /// How many routes and openings of the history asked for a use whose answer was still there.
+    /// What a walk comes to is kept, unless it waits for a declaration or is a route of more than 64
+    /// hops; of 16,384 answers all go before one more. All go, too, where an instance is resolved,
+    /// created, removed or doomed.
+    pub fn kept(&self) -> u64
+        ensures { IsKeptNumber self.now.frame self.now.entries result }
+    {
+        let _table = &self.table;
+        self.keeper.number()
     }
 
     /// Whether the history takes so many entries more, besides those that are owed.
@@ -132,9 +152,11 @@ impl Realm {
         self.book.fits(need)
     }
 
-    /// Puts down an event that changes no row, no action and no join, and hands its reply back.
+    /// Puts down an event that changes no row, no action and no join, and is no route or opening
+    /// that a walk answers, and hands its reply back.
     fn tell(&mut self, caller: u32, event: Event, reply: Reply) -> Result<Reply, NoStep>
         requires quiet { moves event reply ≡ false }
+        requires unasked { asked_by (world_of self.old) event ≡ None }
         requires step { IsStep (world_of self.old) (entry_of caller event reply) }
         ensures step { IfOk result (λ told. Tells self.old self.new caller event told) }
         ensures room { OnOk result (HasRoom self.old 1) }
@@ -143,19 +165,52 @@ impl Realm {
     {
         match copy_in_room(&mut self.book, &reply) {
             Ok(told) => {
-                self.book.push_reserved(Entry {
+                let entry = Entry {
                     caller,
                     event,
                     reply,
-                });
+                };
+                put_down(&mut self.book, &mut self.keeper, entry, false);
                 Ok(told)
             }
             Err(fault) => {
-                let_go(event);
-                let_go(reply);
+                drop(event);
+                drop(reply);
                 Err(fault)
             }
         }
+    }
+
+    /// Answers who asks for a use of an instance that isn't gone and is resolved, and for an opening
+    /// is on, by the answer that is kept, and else by a walk.
+    fn ask(
+        &mut self,
+        alloc: Global,
+        caller: u32,
+        asking: Asking,
+        inc: u64,
+        path: CapPath,
+    ) -> Result<Reply, NoStep>
+        requires { IsTrue (may_ask asking (world_of self.old).rows inc) }
+        ensures step { IfOk result (λ reply.
+            Tells self.old self.new caller (event_by asking inc path) reply) }
+        ensures room { OnOk result (HasRoom self.old 1) }
+        ensures refused { IfErr result (RefusesQuiet self.old) }
+        ensures err { OnErr result (self.new ≡ self.old) }
+    {
+        let answered = answer(alloc, &self.table, &self.keeper, inc, &path)?;
+        let Answered { walked, found } = answered;
+        let reply = reply_of(&self.table, asking, walked);
+        let event = event_of(asking, inc, path);
+        let told = tell_found(
+            &mut self.book,
+            &mut self.keeper,
+            caller,
+            event,
+            reply,
+            found,
+        )?;
+        Ok(told)
     }
 
     /// Which instance stands at the moniker: `Found` with its incarnation; `NotFound` with the
@@ -268,6 +323,9 @@ impl Realm {
         ensures refused { IfErr result (RefusesQuiet self.old) }
         ensures err { OnErr result (self.new ≡ self.old) }
     {
+        if asks(&self.table, Asking::Route, inc) {
+            return self.ask(alloc, caller, Asking::Route, inc, path);
+        }
         let reply = route_reply(alloc, &self.table, inc, &path)?;
         self.tell(caller, Event::Route(inc, path), reply)
     }
@@ -291,6 +349,9 @@ impl Realm {
         ensures refused { IfErr result (RefusesQuiet self.old) }
         ensures err { OnErr result (self.new ≡ self.old) }
     {
+        if asks(&self.table, Asking::Opening, inc) {
+            return self.ask(alloc, caller, Asking::Opening, inc, path);
+        }
         let reply = open_use_reply(alloc, &self.table, inc, &path)?;
         self.tell(caller, Event::OpenUse(inc, path), reply)
     }
@@ -390,11 +451,12 @@ impl Realm {
         ensures err { OnErr result (self.new ≡ self.old) }
     {
         add_join(&mut self.joins, &mut self.book, caller, action)?;
-        self.book.push_reserved(Entry {
+        let entry = Entry {
             caller,
             event: Event::Begin(kind, inc),
             reply: Reply::Joined(action),
-        });
+        };
+        put_down(&mut self.book, &mut self.keeper, entry, false);
         Ok(Reply::Joined(action))
     }
 
@@ -412,13 +474,15 @@ impl Realm {
         requires begins { let w = world_of self.old in
             moved w caller event reply ≡ with_action w caller kind inc }
         requires idle { IsIdleAt (world_of self.old).rows kind inc }
+        requires unasked { asked_by (world_of self.old) event ≡ None }
+        requires undoomed { may_doom event reply ≡ false }
         ensures step { IfOk result (λ told. Tells self.old self.new caller event told) }
         ensures refused { IfErr result (Refuses self.old 2 (λ a. ⊥)) }
         ensures err { OnErr result (self.new ≡ self.old) }
     {
         let Ok(told) = copied(&reply) else {
-            let_go(event);
-            let_go(reply);
+            drop(event);
+            drop(reply);
             return Err(NoStep::Memory);
         };
         let room = make_room(
@@ -440,17 +504,18 @@ impl Realm {
                     by: caller,
                     outcome: None,
                 });
-                self.book.push_reserved(Entry {
+                let entry = Entry {
                     caller,
                     event,
                     reply,
-                });
+                };
+                put_down(&mut self.book, &mut self.keeper, entry, false);
                 Ok(told)
             }
             Err(fault) => {
-                let_go(told);
-                let_go(event);
-                let_go(reply);
+                drop(told);
+                drop(event);
+                drop(reply);
                 Err(fault)
             }
         }
@@ -506,12 +571,14 @@ impl Realm {
     {
         let told = copy_in_room(&mut self.book, &moniker)?;
         self.table.set_on(inc, false);
+        let doomed = goes_some(&self.table, inc);
         expire(&mut self.table, inc);
-        self.book.push_reserved(Entry {
+        let entry = Entry {
             caller,
             event: Event::Exited(inc),
             reply: Reply::Left(moniker),
-        });
+        };
+        put_down(&mut self.book, &mut self.keeper, entry, doomed);
         Ok(Reply::Left(told))
     }
 }

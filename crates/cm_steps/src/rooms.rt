@@ -1,7 +1,7 @@
 //! Room for what a step needs and leaves to come: entries, also those of ends and awaits, and rows.
 
-ghost use Rattle.std.specs.Prelude.{◌≡◌, ◌+◌, ◌-◌, ◌≤◌, ◌<◌, ◌^◌, length, cond, count_by};
-ghost use Rattle.std.specs.Prelude.{IsTrue, IfOk, OnOk, OnErr, IfErr, false};
+ghost use Rattle.std.specs.Prelude.{◌≡◌, ◌+◌, ◌-◌, ◌≤◌, ◌<◌, ◌^◌, [], ◌∷◌, ◌++◌, length, cond};
+ghost use Rattle.std.specs.Prelude.{IsTrue, IfOk, OnOk, OnErr, IfErr, false, count_by};
 ghost use Rattle.std.specs.Option.{option_map_or};
 ghost use Rattle.std.specs.List.{list_any};
 ghost use Rattle.std.specs.Vec.{vec_len, vec_capacity};
@@ -16,6 +16,7 @@ ghost use Rattle.cm_world.specs.After.{joined};
 ghost use Rattle.cm_book.specs.Refusal.{Fits};
 ghost use Rattle.cm_table.specs.Change.{with_row};
 ghost use Rattle.cm_table.specs.Tree.{fit};
+ghost use Rattle.cm_cache.specs.Beside.{followed};
 ghost use Rattle.cm_dynamic.specs.Laws.{CanTake};
 ghost use Rattle.cm_steps.specs.Tasks as tasks;
 ghost use Rattle.cm_steps.specs.Rooms.{Lacks};
@@ -25,10 +26,11 @@ use crate::nostep::NoStep;
 use crate::pending::{act_at, join_place};
 use crate::replies::creating::child_name;
 use cm_book::Book;
+use cm_cache::Keeper;
 use cm_decl::Give;
 use cm_names::{List, Memory, Name, Plain, Text};
 use cm_table::{Table, TableFault};
-use cm_world::{Act, ActKind, Join};
+use cm_world::{Act, ActKind, Entry, Join};
 use std::alloc::Global;
 
 /// The number of the next action.
@@ -44,12 +46,25 @@ pub fn copy_in_room<T: Plain>(book: &mut Book, value: &T) -> Result<T, NoStep>
     ensures book { let reserved = book.old.reserved + 1 in
         OnOk result (book.new ≡ record book.old { reserved = reserved }) }
     ensures fits { OnOk result (Fits book.old 1) }
+    ensures bound { OnOk result (book.old.limit < 2 ^ 64) }
     ensures err { OnErr result (book.new ≡ book.old) }
     ensures refused { IfErr result (Lacks book.old 1) }
 {
     let copy = copied(value)?;
     book.reserve(1)?;
     Ok(copy)
+}
+
+/// Puts down an entry that asks for no use, in room that is reserved, and forgets the answers that
+/// are kept where it changes what walks read; whether it dooms an instance is told.
+pub fn put_down(book: &mut Book, keeper: &mut Keeper, entry: Entry, doomed: bool)
+    requires { 0 < book.old.reserved }
+    ensures book { let entries = book.old.entries ++ entry ∷ [] in
+        book.new ≡ record book.old { entries = entries; reserved = book.old.reserved - 1 } }
+    ensures keeper { keeper.new ≡ followed entry.event entry.reply doomed keeper.old }
+{
+    keeper.follow(&entry.event, &entry.reply, doomed);
+    book.push_reserved(entry);
 }
 
 /// Makes room for an action more: for itself, for the entries of its begin and its end, and,

@@ -1,14 +1,13 @@
 -- Items that are changed, or taken away, at the place that was found by halves.
-use Rattle.std.proofs.Common.{◌≡◌, ℕ, zero, suc, ◌<◌, ◌≤◌, List, [], ◌∷◌, ◌++◌, length, Bool, true, false, cond, ◌==◌, true≢false, Option, Some, None, is_some, refl, sym, ap, ◌∙◌, arith, get_or, set, zero-lt-suc, ◌-◌, le_of_suc-le-suc}
+use Rattle.std.proofs.Common.{◌≡◌, ℕ, zero, suc, ◌<◌, ◌≤◌, List, [], ◌∷◌, ◌++◌, length, Bool, true, false, cond, ◌==◌, true≢false, Option, Some, None, is_some, refl, sym, ap, ◌∙◌, subst, arith, get_or, set, zero-lt-suc, le_of_suc-le-suc}
 use Rattle.std.specs.Prelude.{remove}
 use Rattle.std.specs.List.{flat_map}
 use Rattle.std.specs.Cmp.{unsigned_Decides}
-use Rattle.std.proofs.lemmas.List.{set-get_or}
 use Rattle.cm_world.specs.Edits.{edit_first, drop_first}
-use Rattle.cm_table.specs.Keys.{item_of, alone, Rising, Filled, AreFilledBut, IsPlace}
+use Rattle.cm_table.specs.Keys.{item_of, Rising, Filled, AreFilledBut, IsAt, IsPlace}
 use Rattle.cm_table.proofs.Edits.{edit_first-at}
 use Rattle.cm_table.proofs.Drops.{drop_first-at}
-use Rattle.cm_table.proofs.Halves.{rising_back, none_at_zero, none_in_front, tail_place, place_before, others_before}
+use Rattle.cm_table.proofs.Halves.{rising_back, none_at_zero, none_in_front, tail_place, others_before}
 
 -- what becomes of a list where the item of a key is changed or taken away: it is the same where
 -- there is none, and on two lists it acts on the one that has it
@@ -94,20 +93,19 @@ module _ {Y : Type 0} (key : Y → ℕ) where
         ap (λ l. f z ++ l) (act_last i act acts zs k d y filled.1 (rising_back key (f z) (flat_map f zs) r) (tail_place key f z zs i (suc k) p) e)
         ∙ sym (acts.back (f z) (flat_map f zs) (none_in_front key f z zs i k filled r p))
 
-    -- a part that was changed, at the place before the count
-    pub act_part : (i : ℕ) (act : List Y → List Y) → ActsAt key i act → (bs : List X) (k : ℕ) (b c : X) → Filled f bs → Rising key (flat_map f bs) → (k ≡ 0 → ⊥) → IsPlace key f bs i k → b ≡ get_or bs (k - 1) b → f c ≡ act (f b) → flat_map f (set bs (k - 1) c) ≡ act (flat_map f bs)
-    act_part i act acts bs k b c filled r differ p is write =
-        act_last i act acts bs (k - 1) b c filled r (place_before key f bs i k differ p) (write ∙ ap (λ z. act (f z)) is)
+    -- a part that was changed at its place
+    pub act_part : (i : ℕ) (act : List Y → List Y) → ActsAt key i act → (bs : List X) (k : ℕ) (b c : X) → Filled f bs → Rising key (flat_map f bs) → IsPlace key f bs i (suc k) → b ≡ get_or bs k b → f c ≡ act (f b) → flat_map f (set bs k c) ≡ act (flat_map f bs)
+    act_part i act acts bs k b c filled r p is write = act_last i act acts bs k b c filled r p (write ∙ ap (λ z. act (f z)) is)
 
 -- ---- parts that aren't empty
 
 module _ {X Y : Type 0} (f : X → List Y) where
-  pub filled_set : (xs : List X) (k : ℕ) (y : X) → 0 < length (f y) → Filled f xs → Filled f (set xs k y)
+  filled_set : (xs : List X) (k : ℕ) (y : X) → 0 < length (f y) → Filled f xs → Filled f (set xs k y)
   filled_set [] k y h filled = tt
   filled_set (z ∷ zs) zero y h filled = (h, filled.1)
   filled_set (z ∷ zs) (suc k) y h filled = (filled.0, filled_set zs k y h filled.1)
 
-  pub part_filled : (xs : List X) (k : ℕ) (d : X) → k < length xs → Filled f xs → 0 < length (f (get_or xs k d))
+  part_filled : (xs : List X) (k : ℕ) (d : X) → k < length xs → Filled f xs → 0 < length (f (get_or xs k d))
   part_filled [] k d lt filled = absurd (omega arith)
   part_filled (z ∷ zs) zero d lt filled = filled.0
   part_filled (z ∷ zs) (suc k) d lt filled = part_filled zs k d (le_of_suc-le-suc lt) filled.1
@@ -139,36 +137,31 @@ module _ {X Y : Type 0} (f : X → List Y) where
 
 -- ---- what the code writes among items
 
-pub before_end : {Y : Type 0} (ss : List Y) (k : ℕ) → (k ≡ 0 → ⊥) → k ≤ length ss → k - 1 < length ss
-before_end ss k differ le = omega arith
+-- the item of the key is changed at its place
+pub edit_at : {Y : Type 0} (key : Y → ℕ) (ss : List Y) (i k : ℕ) (f : Y → Y) (s y : Y) → Rising key ss → IsAt key ss i k → s ≡ get_or ss k s → y ≡ f s → set ss k y ≡ edited key i f ss
+edit_at key ss i k f s y r at is write =
+    ap (set ss k) (write ∙ ap f is)
+    ∙ edit_first-at (λ z. key z == i) f ss k s at.bound ((unsigned_Decides (key (get_or ss k s)) i).1 (at.own s)) (λ j less. others_before key ss k s i r at.bound (at.own s) j less)
 
--- the item at the place before the count has the key, and is changed
-pub edit_here : {Y : Type 0} (key : Y → ℕ) (ss : List Y) (i k : ℕ) (f : Y → Y) (s y : Y) → Rising key ss → (k ≡ 0 → ⊥) → IsPlace key alone ss i k → s ≡ get_or ss (k - 1) s → key s ≡ i → y ≡ f s → set ss (k - 1) y ≡ edited key i f ss
-edit_here key ss i k f s y r differ p is own write =
-    let lt : k - 1 < length ss = before_end ss k differ p.bound in
-    let here : key (get_or ss (k - 1) s) ≡ i = ap key (sym is) ∙ own in
-    ap (set ss (k - 1)) (write ∙ ap f is)
-    ∙ edit_first-at (λ z. key z == i) f ss (k - 1) s lt ((unsigned_Decides (key (get_or ss (k - 1) s)) i).1 here) (λ j less. others_before key ss (k - 1) s i r lt here j less)
-
--- the item at the place before the count has the key, and is taken away
-pub drop_here : {Y : Type 0} (key : Y → ℕ) (ss : List Y) (i k : ℕ) (s : Y) → Rising key ss → (k ≡ 0 → ⊥) → IsPlace key alone ss i k → s ≡ get_or ss (k - 1) s → key s ≡ i → remove ss (k - 1) ≡ dropped key i ss
-drop_here key ss i k s r differ p is own =
-    let lt : k - 1 < length ss = before_end ss k differ p.bound in
-    let here : key (get_or ss (k - 1) s) ≡ i = ap key (sym is) ∙ own in
-    drop_first-at (λ z. key z == i) ss (k - 1) s lt ((unsigned_Decides (key (get_or ss (k - 1) s)) i).1 here) (λ j less. others_before key ss (k - 1) s i r lt here j less)
-
--- an item is written back as it was
-pub unchanged : {Y : Type 0} (ss : List Y) (k : ℕ) (s : Y) → s ≡ get_or ss k s → set ss k s ≡ ss
-unchanged ss k s is = ap (set ss k) is ∙ set-get_or ss k s
+-- it is taken away
+pub drop_at : {Y : Type 0} (key : Y → ℕ) (ss : List Y) (i k : ℕ) (d : Y) → Rising key ss → IsAt key ss i k → remove ss k ≡ dropped key i ss
+drop_at key ss i k d r at =
+    drop_first-at (λ z. key z == i) ss k d at.bound ((unsigned_Decides (key (get_or ss k d)) i).1 (at.own d)) (λ j less. others_before key ss k d i r at.bound (at.own d) j less)
 
 -- no item comes or goes, and a list that isn't empty stays so
 edited_long_by : {Y : Type 0} (t : Bool) (s z : Y) (ss zs : List Y) → 0 < length (cond t (z ∷ ss) (s ∷ zs))
 edited_long_by true s z ss zs = zero-lt-suc (length ss)
 edited_long_by false s z ss zs = zero-lt-suc (length zs)
 
-pub edited_long : {Y : Type 0} (key : Y → ℕ) (i : ℕ) (f : Y → Y) (ss : List Y) → 0 < length ss → 0 < length (edited key i f ss)
+edited_long : {Y : Type 0} (key : Y → ℕ) (i : ℕ) (f : Y → Y) (ss : List Y) → 0 < length ss → 0 < length (edited key i f ss)
 edited_long key i f [] h = absurd (omega arith)
 edited_long key i f (s ∷ ss) h = edited_long_by (key s == i) s (f s) ss (edited key i f ss)
+
+-- a part in which an item was changed isn't empty
+pub edited_filled : {X Y : Type 0} (f : X → List Y) (key : Y → ℕ) (i : ℕ) (g : Y → Y) (bs : List X) (k : ℕ) (b c : X) → k < length bs → Filled f bs → b ≡ get_or bs k b → f c ≡ edited key i g (f b) → Filled f (set bs k c)
+edited_filled f key i g bs k b c lt filled is write =
+    let some : 0 < length (f b) = subst (λ z. 0 < length (f z)) (sym is) (part_filled f bs k b lt filled) in
+    filled_set f bs k c (subst (λ l. 0 < length l) (sym write) (edited_long key i g (f b) some)) filled
 
 pub some_long : {A : Type 0} (xs : List A) → false ≡ (length xs == 0) → 0 < length xs
 some_long [] e = absurd (true≢false (sym e))

@@ -3,7 +3,8 @@ use Rattle.std.proofs.Common.{◌≡◌, ℕ, zero, suc, ◌<◌, ◌≤◌, Lis
 use Rattle.std.specs.List.{flat_map}
 use Rattle.std.specs.List.Sorted.{IsNonDecreasingBy}
 use Rattle.std.specs.Cmp.{unsigned_Decides}
-use Rattle.cm_table.specs.Keys.{item_of, first_key, alone, nth, Rising, Filled, IsPlace}
+use Rattle.std.proofs.lemmas.List.{get_or_default}
+use Rattle.cm_table.specs.Keys.{item_of, first_key, alone, nth, Rising, Filled, IsAt, IsPlace}
 
 -- ---- single facts
 
@@ -166,21 +167,36 @@ module _ {Y : Type 0} (key : Y → ℕ) where
   alone_filled [] = tt
   alone_filled (s ∷ ss) = (omega arith, alone_filled ss)
 
-  pub found_alone : (s : Y) (i : ℕ) → (key s ≡ i) → item_of key (alone s) i ≡ Some s
+  found_alone : (s : Y) (i : ℕ) → (key s ≡ i) → item_of key (alone s) i ≡ Some s
   found_alone s i e = rw ((unsigned_Decides (key s) i).1 e) refl
 
-  pub none_alone : (s : Y) (i : ℕ) → (key s ≡ i → ⊥) → item_of key (alone s) i ≡ None
+  none_alone : (s : Y) (i : ℕ) → (key s ≡ i → ⊥) → item_of key (alone s) i ≡ None
   none_alone s i e = rw (not_same (key s) i e) refl
 
   pub item_none : (ss : List Y) (i k : ℕ) → Rising key ss → k ≡ 0 → IsPlace key alone ss i k → item_of key ss i ≡ None
   item_none ss i k r e p =
       ap (λ l. item_of key l i) (sym (alone_all ss)) ∙ none_at_zero alone ss i (alone_filled ss) (subst (Rising key) (sym (alone_all ss)) r) (place_zero alone ss i k e p)
 
-  pub item_last : (ss : List Y) (i k : ℕ) (s : Y) → Rising key ss → (k ≡ 0 → ⊥) → IsPlace key alone ss i k → s ≡ get_or ss (k - 1) s → item_of key ss i ≡ item_of key (alone s) i
+  item_last : (ss : List Y) (i k : ℕ) (s : Y) → Rising key ss → (k ≡ 0 → ⊥) → IsPlace key alone ss i k → s ≡ get_or ss (k - 1) s → item_of key ss i ≡ item_of key (alone s) i
   item_last ss i k s r differ p is =
       ap (λ l. item_of key l i) (sym (alone_all ss))
       ∙ in_last alone ss i (k - 1) s (alone_filled ss) (subst (Rising key) (sym (alone_all ss)) r) (place_before alone ss i k differ p)
       ∙ ap (λ z. item_of key (alone z) i) (sym is)
+
+  -- the item at the place before the count has the key
+  pub is_at : (ss : List Y) (i k : ℕ) (s : Y) → Rising key ss → (k ≡ 0 → ⊥) → IsPlace key alone ss i k → s ≡ get_or ss (k - 1) s → key s ≡ i → IsAt key ss i (k - 1)
+  is_at ss i k s r differ p is own =
+      let lt : k - 1 < length ss = omega (arith, p.bound) in
+      let same : (d : Y) → s ≡ get_or ss (k - 1) d = λ d. is ∙ get_or_default ss (k - 1) s d lt in
+      record {
+        bound = lt;
+        own = λ d. ap key (sym (same d)) ∙ own;
+        found = λ d. item_last ss i k s r differ p is ∙ found_alone s i own ∙ ap Some (same d);
+      }
+
+  -- it has another one, so none has the key
+  pub none_last : (ss : List Y) (i k : ℕ) (s : Y) → Rising key ss → (k ≡ 0 → ⊥) → IsPlace key alone ss i k → s ≡ get_or ss (k - 1) s → (key s ≡ i → ⊥) → item_of key ss i ≡ None
+  none_last ss i k s r differ p is other = item_last ss i k s r differ p is ∙ none_alone s i other
 
   pub rising_alone : (ss : List Y) → Rising key ss → IsNonDecreasingBy key ss
   rising_alone ss r = begin_higher alone ss (alone_filled ss) (subst (Rising key) (sym (alone_all ss)) r)

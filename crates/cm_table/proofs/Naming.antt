@@ -56,11 +56,6 @@ forget_by false m n name a q same takes had only =
 pub forgotten : (m n : BTreeMap ChildName ℕ) (name : ChildName) (a : ℕ) → ((q : ChildName) → get child_cmp n q ≡ cond (is_eq (child_cmp name q)) None (get child_cmp m q)) → get child_cmp m name ≡ Some a → ((q : ChildName) → get child_cmp m q ≡ Some a → same_child name q ≡ true) → (q : ChildName) → get child_cmp n q ≡ unless a (get child_cmp m q)
 forgotten m n name a takes had only q = forget_by (same_child name q) m n name a q refl (takes q) had (only q)
 
--- it led elsewhere
-pub unforgotten : (m : BTreeMap ChildName ℕ) (name : ChildName) (a : ℕ) → (get child_cmp m name ≡ Some a → ⊥) → ((q : ChildName) → get child_cmp m q ≡ Some a → same_child name q ≡ true) → (q : ChildName) → get child_cmp m q ≡ unless a (get child_cmp m q)
-unforgotten m name a none only q =
-    sym (unless_other a (get child_cmp m q) (λ e. none (ap (get child_cmp m) (same_child_exact name q (only q e)) ∙ e)))
-
 -- ---- numbers above a base
 
 pub nth-map : (f : ℕ → ℕ) (ks : List ℕ) (n : ℕ) → nth (map f ks) n ≡ option_map f (nth ks n)

@@ -62,10 +62,6 @@ name_apart a b differ = by (same_child (static_name a) (static_name b)) refl whe
   by true e = absurd (differ (ap (λ (z : ChildName). z.name) (same_child_exact (static_name a) (static_name b) e)))
   by false e = refl
 
-and_miss : (a d : Bool) → (a && false && d) ≡ false
-and_miss true d = refl
-and_miss false d = refl
-
 unused : (next i : ℕ) (d : Child) (ks : List Child) → AreApart ks → i < length ks → find (is_there 0 (static_name (get_or ks i d).name)) (child_rows 0 next (take i ks)) ≡ None
 unused next i d [] apart lt = absurd (omega arith)
 unused next zero d (k ∷ ks) apart lt = refl

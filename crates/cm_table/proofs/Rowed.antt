@@ -1,5 +1,5 @@
 -- Slots and their rows.
-use Rattle.std.proofs.Common.{◌≡◌, ℕ, suc, ◌<◌, ap₂, List, [], ◌∷◌, ◌++◌, Bool, true, false, cond, ◌==◌, Option, Some, None, IsSome, is_some, refl, sym, ap, ◌∙◌, length}
+use Rattle.std.proofs.Common.{◌≡◌, ℕ, suc, ◌<◌, ap₂, List, [], ◌∷◌, ◌++◌, Bool, true, false, cond, ◌==◌, Option, Some, None, IsSome, is_some, refl, sym, ap, ◌∙◌, subst, length}
 use Rattle.std.specs.Prelude.{option_map}
 use Rattle.cm_world.specs.declared.row.Row.{Row}
 use Rattle.cm_world.specs.Rows.{row_of}
@@ -9,6 +9,7 @@ use Rattle.cm_table.specs.declared.slot.Slot.{Slot}
 use Rattle.cm_table.specs.declared.slot.Index.{Index}
 use Rattle.cm_table.specs.Keys.{EachOf, Rising}
 use Rattle.cm_table.specs.Slots.{inc_of, slot_of, rows_in, indexed_by, with_row_by}
+use Rattle.cm_table.specs.Links.{IsUnlinked}
 use Rattle.cm_table.proofs.Leaves.{without}
 use Rattle.cm_table.proofs.Editing.{edited, dropped}
 
@@ -72,6 +73,13 @@ rows_same R same [] [] rel = refl
 rows_same R same [] (t ∷ ts) rel = absurd rel
 rows_same R same (s ∷ ss) [] rel = absurd rel
 rows_same R same (s ∷ ss) (t ∷ ts) rel = ap₂ (λ r l. r ∷ l) (same s t rel.0) (rows_same R same ss ts rel.1)
+
+-- slots whose indexes forget an instance have the same rows, and rise
+pub unlinked_rows : (gone : Bool) (i : ℕ) (ss mid : List Slot) → EachOf (IsUnlinked i gone) ss mid → rows_in mid ≡ rows_in ss
+unlinked_rows gone i ss mid links = rows_same (IsUnlinked i gone) (λ s t u. u.row) ss mid links
+
+pub unlinked_rise : (gone : Bool) (i next : ℕ) (ss mid : List Slot) → IsRising next (rows_in ss) → EachOf (IsUnlinked i gone) ss mid → Rising inc_of mid
+unlinked_rise gone i next ss mid rising links = slots_rise next mid (subst (IsRising next) (sym (unlinked_rows gone i ss mid links)) rising)
 
 -- an index that is put in place of another
 twice_by : (t : Bool) (i : ℕ) (x y : Option Index) (s : Slot) (ss : List Slot) → (s.row.inc == i) ≡ t → edited inc_of i (indexed_by y) (edited inc_of i (indexed_by x) ss) ≡ edited inc_of i (indexed_by y) ss → edited inc_of i (indexed_by y) (cond t (indexed_by x s ∷ ss) (s ∷ edited inc_of i (indexed_by x) ss)) ≡ cond t (indexed_by y s ∷ ss) (s ∷ edited inc_of i (indexed_by y) ss)

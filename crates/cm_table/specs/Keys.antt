@@ -1,6 +1,6 @@
 -- Items that have rising keys, in a list or in a list of parts.
-use Rattle.std.specs.Prelude.{ℕ, zero, suc, ◌<◌, ◌≤◌, ◌==◌, List, [], ◌∷◌, Option, Some, None, IsSome, find}
-use Rattle.std.specs.Prelude.{length, get_or}
+use Rattle.std.specs.Prelude.{◌≡◌, ℕ, zero, suc, ◌<◌, ◌≤◌, ◌==◌, List, [], ◌∷◌, Option, Some, None}
+use Rattle.std.specs.Prelude.{IsSome, find, length, get_or}
 
 -- all items have a property
 abbrev pub Each : {A : Type 0} → (A → Type 0) → List A → Type 0
@@ -55,3 +55,9 @@ pub record IsPlace {X Y : Type 0} (key : Y → ℕ) (f : X → List Y) (xs : Lis
   pub bound : k ≤ length xs
   pub low : (j : ℕ) (d : X) → j < k → first_key key (f (get_or xs j d)) ≤ i
   pub high : (j : ℕ) (d : X) → k ≤ j → j < length xs → i < first_key key (f (get_or xs j d))
+
+-- the item of key i stands at place k
+pub record IsAt {Y : Type 0} (key : Y → ℕ) (ys : List Y) (i k : ℕ) : Type 0 where
+  pub bound : k < length ys
+  pub own : (d : Y) → key (get_or ys k d) ≡ i
+  pub found : (d : Y) → item_of key ys i ≡ Some (get_or ys k d)

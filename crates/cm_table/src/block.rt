@@ -1,11 +1,11 @@
 //! Slots that came together.
 
-ghost use Rattle.std.specs.Prelude.{◌≡◌, ◌≤◌, ◌<◌, ◌+◌, ◌==◌, ◌++◌, length, Some};
+ghost use Rattle.std.specs.Prelude.{◌≡◌, ◌≤◌, ◌<◌, ◌+◌, ◌==◌, ◌++◌, suc, length, None, Some, MatchOption};
 ghost use Rattle.std.specs.Option.{option_copied};
 ghost use Rattle.std.specs.Vec.{vec_capacity};
 ghost use Rattle.cm_world.specs.Edits.{edit_first, drop_first};
 ghost use Rattle.cm_table.specs.Change.{change_row};
-ghost use Rattle.cm_table.specs.Keys.{IsPlace, Filled, Rising, alone, first_key, AreFilledBut};
+ghost use Rattle.cm_table.specs.Keys.{IsAt, IsPlace, Filled, Rising, alone, first_key, AreFilledBut};
 ghost use Rattle.cm_table.specs.Slots.{inc_of, slot_of, flat, slots_in, indexed_by, with_row_by};
 ghost use Rattle.cm_table.specs.declared.slot.Slot.{Slot as OneSlot};
 
@@ -49,12 +49,11 @@ fn slots_upto(slots: &[Slot], inc: u64) -> usize
     slots.partition_point(|slot| slot.row.inc <= inc)
 }
 
-// ---- look-ups
-
-/// The slot of that incarnation, among slots by rising ones.
-fn slot_at(slots: &[Slot], inc: u64) -> Option<&Slot>
+/// The place of the slot of that incarnation, among slots by rising ones.
+fn place_at(slots: &[Slot], inc: u64) -> Option<usize>
     requires { Rising inc_of slots.now }
-    ensures { option_copied result ≡ slot_of slots.now inc }
+    ensures { MatchOption result (slot_of slots.now inc ≡ None)
+        (λ place. IsAt inc_of slots.now inc place) }
 {
     let count = slots_upto(slots, inc);
     if count == 0 {
@@ -62,9 +61,36 @@ fn slot_at(slots: &[Slot], inc: u64) -> Option<&Slot>
     }
     let slot = &slots[count - 1];
     if slot.row.inc == inc {
-        return Some(slot);
+        return Some(count - 1);
     }
     None
+}
+
+/// The place of the block that the slot of that incarnation stands in, if there is one.
+fn place_in(blocks: &[Block], inc: u64) -> Option<usize>
+    requires filled { Filled slots_in blocks.now }
+    requires rising { Rising inc_of (flat blocks.now) }
+    ensures { MatchOption result (slot_of (flat blocks.now) inc ≡ None)
+        (λ place. IsPlace inc_of slots_in blocks.now inc (suc place)) }
+{
+    let count = blocks_upto(blocks, inc);
+    if count == 0 {
+        return None;
+    }
+    Some(count - 1)
+}
+
+// ---- look-ups
+
+/// The slot of that incarnation, among slots by rising ones.
+fn slot_at(slots: &[Slot], inc: u64) -> Option<&Slot>
+    requires { Rising inc_of slots.now }
+    ensures { option_copied result ≡ slot_of slots.now inc }
+{
+    match place_at(slots, inc) {
+        None => None,
+        Some(place) => Some(&slots[place]),
+    }
 }
 
 /// The slot of that incarnation.
@@ -73,12 +99,10 @@ pub fn slot_in(blocks: &[Block], inc: u64) -> Option<&Slot>
     requires rising { Rising inc_of (flat blocks.now) }
     ensures { option_copied result ≡ slot_of (flat blocks.now) inc }
 {
-    let count = blocks_upto(blocks, inc);
-    if count == 0 {
-        return None;
+    match place_in(blocks, inc) {
+        None => None,
+        Some(place) => slot_at(blocks[place].slots.as_slice(), inc),
     }
-    let block = &blocks[count - 1];
-    slot_at(block.slots.as_slice(), inc)
 }
 
 // ---- changes of rows
@@ -97,13 +121,9 @@ fn change_at(block: &mut Block, inc: u64, new: Change)
         ≡ edit_first (λ (s : OneSlot). s.row.inc == inc) (with_row_by (change_row new))
         block.old.slots.items }
 {
-    let count = slots_upto(block.slots.as_slice(), inc);
-    if count == 0 {
-        return;
-    }
-    let slot = &mut block.slots[count - 1];
-    if slot.row.inc == inc {
-        change(slot, new);
+    match place_at(block.slots.as_slice(), inc) {
+        None => drop(new),
+        Some(place) => change(&mut block.slots[place], new),
     }
 }
 
@@ -118,12 +138,10 @@ pub fn change_in(blocks: &mut Vec<Block>, inc: u64, new: Change)
     ensures len { length blocks.new.items ≡ length blocks.old.items }
     ensures capacity { vec_capacity blocks.new ≡ vec_capacity blocks.old }
 {
-    let count = blocks_upto(blocks.as_slice(), inc);
-    if count == 0 {
-        return;
+    match place_in(blocks.as_slice(), inc) {
+        None => drop(new),
+        Some(place) => change_at(&mut blocks[place], inc, new),
     }
-    let block = &mut blocks[count - 1];
-    change_at(block, inc, new);
 }
 
 // ---- changes of indexes
@@ -135,13 +153,8 @@ fn swap_at(block: &mut Block, inc: u64, index: &mut Option<Index>)
         ≡ edit_first (λ (s : OneSlot). s.row.inc == inc) (indexed_by index.old) block.old.slots.items }
     ensures index { (s : OneSlot) → slot_of block.old.slots.items inc ≡ Some s → index.new ≡ s.index }
 {
-    let count = slots_upto(block.slots.as_slice(), inc);
-    if count == 0 {
-        return;
-    }
-    let slot = &mut block.slots[count - 1];
-    if slot.row.inc == inc {
-        swap(&mut slot.index, index);
+    if let Some(place) = place_at(block.slots.as_slice(), inc) {
+        swap(&mut block.slots[place].index, index);
     }
 }
 
@@ -156,12 +169,9 @@ pub fn swap_in(blocks: &mut Vec<Block>, inc: u64, index: &mut Option<Index>)
     ensures len { length blocks.new.items ≡ length blocks.old.items }
     ensures capacity { vec_capacity blocks.new ≡ vec_capacity blocks.old }
 {
-    let count = blocks_upto(blocks.as_slice(), inc);
-    if count == 0 {
-        return;
+    if let Some(place) = place_in(blocks.as_slice(), inc) {
+        swap_at(&mut blocks[place], inc, index);
     }
-    let block = &mut blocks[count - 1];
-    swap_at(block, inc, index);
 }
 
 // ---- slots that come and go
@@ -187,12 +197,8 @@ fn remove_at(block: &mut Block, inc: u64)
     requires { Rising inc_of block.old.slots.items }
     ensures { block.new.slots.items ≡ drop_first (λ (s : OneSlot). s.row.inc == inc) block.old.slots.items }
 {
-    let count = slots_upto(block.slots.as_slice(), inc);
-    if count == 0 {
-        return;
-    }
-    if block.slots[count - 1].row.inc == inc {
-        block.slots.remove(count - 1);
+    if let Some(place) = place_at(block.slots.as_slice(), inc) {
+        drop(block.slots.remove(place));
     }
 }
 
@@ -206,13 +212,10 @@ pub fn remove_in(blocks: &mut Vec<Block>, inc: u64)
     ensures len { length blocks.new.items ≤ length blocks.old.items }
     ensures capacity { vec_capacity blocks.new ≡ vec_capacity blocks.old }
 {
-    let count = blocks_upto(blocks.as_slice(), inc);
-    if count == 0 {
-        return;
+    if let Some(place) = place_in(blocks.as_slice(), inc) {
+        remove_at(&mut blocks[place], inc);
+        drop_empty(blocks, place);
     }
-    let block = &mut blocks[count - 1];
-    remove_at(block, inc);
-    drop_empty(blocks, count - 1);
 }
 
 /// Removes the block at that place, if it has no slot.

@@ -1,11 +1,11 @@
 //! Changes of one row.
 
-ghost use Rattle.std.specs.Prelude.{◌≡◌};
+ghost use Rattle.std.specs.Prelude.{◌≡◌, Some};
 ghost use Rattle.cm_world.specs.End.{end_row};
 ghost use Rattle.cm_table.specs.Change.{change_row};
 
 use cm_decl::Decl;
-use cm_names::Text;
+use cm_names::{Shared, Text};
 use cm_world::{ActKind, Outcome, Row};
 
 /// What an event changes of the row of one instance.
@@ -24,7 +24,7 @@ pub enum Change {
     /// An action ended so, and brought no declaration.
     End(Outcome),
     /// A resolve ended with this absolute URL and this declaration.
-    Resolve(Text, Decl),
+    Resolve(Text, Shared<Decl>),
 }
 
 /// Makes a change.
@@ -42,11 +42,18 @@ pub fn apply(row: &mut Row, change: Change)
         Change::Shut => row.shut = true,
         Change::End(outcome) => end(row, outcome),
         Change::Resolve(absolute, decl) => {
-            row.absolute = Some(absolute);
-            row.decl = Some(decl);
+            put(&mut row.absolute, absolute);
+            put(&mut row.decl, decl);
             row.pending = None;
         }
     }
+}
+
+/// Puts a value where another may be.
+pub fn put<T: Drop>(place: &mut Option<T>, value: T)
+    ensures { place.new ≡ Some value }
+{
+    *place = Some(value);
 }
 
 /// Ends the action of a row.

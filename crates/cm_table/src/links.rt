@@ -1,6 +1,6 @@
 //! Indexes that follow the rows.
 
-ghost use Rattle.std.specs.Prelude.{◌≡◌, ◌≤◌, ◌==◌, ◌++◌, ◌∷◌, [], IsSome, length, true, false, Some};
+ghost use Rattle.std.specs.Prelude.{◌≡◌, ◌≤◌, ◌==◌, ◌++◌, ◌∷◌, [], IsSome, length, true, Some};
 ghost use Rattle.std.specs.Prelude.{OnOk, OnErr, if◌then◌else◌, option_and_then};
 ghost use Rattle.std.specs.Option.{option_copied, option_eq};
 ghost use Rattle.std.specs.Vec.{vec_capacity};
@@ -13,6 +13,7 @@ ghost use Rattle.cm_table.specs.Slots.{kids_of, named_in, base_of, AreOrderly};
 ghost use Rattle.cm_table.specs.Links.{unless, Rises, IsSame, IsLinked, IsUnlinked};
 
 use crate::block::{Block, slot_in, swap_in};
+use crate::change::put;
 use crate::slot::Index;
 use cm_names::{ChildName, Memory};
 use std::alloc::Global;
@@ -48,9 +49,9 @@ fn put_child(
 {
     let mut own = or_new(alloc, index.take());
     let above = inc - own.base;
-    let put = own.put(name, above);
-    *index = Some(own);
-    put
+    let done = own.put(name, above);
+    put(index, own);
+    done
 }
 
 /// Forgets the name of a child, which is the one that leads to it, if one does.
@@ -90,6 +91,22 @@ fn remove_child(index: &mut Option<Index>, inc: u64)
     }
     let above = inc - own.base;
     own.remove(above);
+}
+
+/// Forgets the name of a child, and where it is gone, removes it.
+fn take_out(index: &mut Option<Index>, name: Option<&ChildName>, inc: u64, gone: bool)
+    requires name { (c : Name) → named_in index.old c ≡ Some inc →
+        option_eq same_child (option_copied name) (Some c) ≡ true }
+    requires rises { Rises index.old }
+    ensures base { base_of index.new ≡ base_of index.old }
+    ensures kids { kids_of index.new
+        ≡ (if gone then drop_first (λ k. k == inc) (kids_of index.old) else kids_of index.old) }
+    ensures names { (c : Name) → named_in index.new c ≡ unless inc (named_in index.old c) }
+{
+    forget_child(index, name, inc);
+    if gone {
+        remove_child(index, inc);
+    }
 }
 
 // ---- among all slots
@@ -142,14 +159,16 @@ pub fn link(
     swap_in(blocks, parent, &mut index);
     let put = put_child(alloc, &mut index, name, inc);
     swap_in(blocks, parent, &mut index);
+    drop(index);
     put
 }
 
-/// Forgets the name of an instance at its parent, which then no longer finds it by that.
-pub fn unname(blocks: &mut Vec<Block>, inc: u64)
+/// Forgets the name of an instance at its parent, which then no longer finds it by that. Where it
+/// is gone, it is no longer one of its parent's children either.
+pub fn unlink(blocks: &mut Vec<Block>, inc: u64, gone: bool)
     requires filled { Filled slots_in blocks.old.items }
     requires orderly { AreOrderly (flat blocks.old.items) }
-    ensures links { EachOf (IsUnlinked inc false) (flat blocks.old.items) (flat blocks.new.items) }
+    ensures links { EachOf (IsUnlinked inc gone) (flat blocks.old.items) (flat blocks.new.items) }
     ensures filled { Filled slots_in blocks.new.items }
     ensures len { length blocks.new.items ≡ length blocks.old.items }
     ensures capacity { vec_capacity blocks.new ≡ vec_capacity blocks.old }
@@ -159,25 +178,7 @@ pub fn unname(blocks: &mut Vec<Block>, inc: u64)
     };
     let mut index = None;
     swap_in(blocks, parent, &mut index);
-    forget_child(&mut index, name_in(blocks.as_slice(), inc), inc);
+    take_out(&mut index, name_in(blocks.as_slice(), inc), inc, gone);
     swap_in(blocks, parent, &mut index);
-}
-
-/// Takes an instance out of the index of its parent.
-pub fn unlink(blocks: &mut Vec<Block>, inc: u64)
-    requires filled { Filled slots_in blocks.old.items }
-    requires orderly { AreOrderly (flat blocks.old.items) }
-    ensures links { EachOf (IsUnlinked inc true) (flat blocks.old.items) (flat blocks.new.items) }
-    ensures filled { Filled slots_in blocks.new.items }
-    ensures len { length blocks.new.items ≡ length blocks.old.items }
-    ensures capacity { vec_capacity blocks.new ≡ vec_capacity blocks.old }
-{
-    let Some(parent) = parent_in(blocks.as_slice(), inc) else {
-        return;
-    };
-    let mut index = None;
-    swap_in(blocks, parent, &mut index);
-    forget_child(&mut index, name_in(blocks.as_slice(), inc), inc);
-    remove_child(&mut index, inc);
-    swap_in(blocks, parent, &mut index);
+    drop(index);
 }

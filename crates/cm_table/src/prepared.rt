@@ -14,19 +14,20 @@ ghost use Rattle.cm_table.specs.Numbering.{placed, numbered, IsBare};
 
 use crate::slot::{Index, Slot};
 use cm_decl::{Child, Decl};
-use cm_names::{ChildName, List, Memory, Text};
+use cm_names::{ChildName, List, Memory, Shared, Text};
 use cm_world::{Finish, Row};
 use std::alloc::Global;
 use std::marker::Model;
 
 /// A valid declaration and its absolute URL, with all the memory that a resolve needs to take
-/// them over: the rows of its children with their index, and a second copy of both for the history.
+/// them over: the rows of its children with their index, and for the history a copy of the URL
+/// and a share in the declaration.
 #[derive(Drop)]
 pub struct Prepared {
     absolute: Text,
-    decl: Decl,
+    decl: Shared<Decl>,
     kept_absolute: Text,
-    kept_decl: Decl,
+    kept_decl: Shared<Decl>,
     index: Index,
     children: Vec<Slot>,
 }
@@ -51,7 +52,7 @@ pub(crate) struct Parts {
     /// The absolute URL, for the row.
     pub absolute: Text,
     /// The declaration, for the row.
-    pub decl: Decl,
+    pub decl: Shared<Decl>,
     /// The index of the children, for the slot.
     pub index: Index,
     /// The slots of the children.
@@ -64,6 +65,7 @@ impl Prepared {
         requires { IsValid decl }
         ensures { IfOk result (λ made. made ≡ record { absolute = absolute; decl = decl }) }
     {
+        let decl = Shared::new(alloc, decl)?;
         let made = made_for(alloc, &absolute, &decl)?;
         let Made {
             kept_absolute,
@@ -93,7 +95,7 @@ impl Prepared {
         ensures decl { result.now ≡ self.now.decl }
         ensures valid { IsValid self.now.decl }
     {
-        &self.decl
+        self.decl.get()
     }
 
     /// The end of a resolve by this declaration, as the history keeps it.
@@ -101,12 +103,9 @@ impl Prepared {
         ensures { result ≡ Finish.Resolved self.absolute self.decl }
     {
         let Prepared {
-            absolute: _,
-            decl: _,
             kept_absolute,
             kept_decl,
-            index: _,
-            children: _,
+            ..
         } = self;
         Finish::Resolved(kept_absolute, kept_decl)
     }
@@ -115,7 +114,7 @@ impl Prepared {
     pub(crate) fn count(&self) -> usize
         ensures { result ≡ length self.now.decl.children }
     {
-        self.decl.children.len()
+        self.decl.get().children.len()
     }
 
     /// The parts, with the rows of the children under `parent`, by rising incarnations.
@@ -157,14 +156,14 @@ impl Prepared {
 #[derive(Drop)]
 struct Made {
     kept_absolute: Text,
-    kept_decl: Decl,
+    kept_decl: Shared<Decl>,
     index: Index,
     children: Vec<Slot>,
 }
 
 /// What a valid declaration gets beside it: the copies for the history, and the rows of its
 /// children with their index.
-fn made_for(alloc: Global, absolute: &Text, decl: &Decl) -> Result<Made, Memory>
+fn made_for(alloc: Global, absolute: &Text, decl: &Shared<Decl>) -> Result<Made, Memory>
     requires { IsValid decl.now }
     ensures absolute { IfOk result (λ made. made.kept_absolute ≡ absolute.now) }
     ensures decl { IfOk result (λ made. made.kept_decl ≡ decl.now) }
@@ -176,8 +175,8 @@ fn made_for(alloc: Global, absolute: &Text, decl: &Decl) -> Result<Made, Memory>
         ≡ map (child_row 0 0) decl.now.children) }
     ensures bare { IfOk result (λ made. Each IsBare made.children.items) }
 {
-    let children = slots_of(alloc, decl.children.as_slice())?;
-    let index = index_of(alloc, decl)?;
+    let children = slots_of(alloc, decl.get().children.as_slice())?;
+    let index = index_of(alloc, decl.get())?;
     let kept_absolute = absolute.clone()?;
     let kept_decl = decl.clone()?;
     Ok(Made {

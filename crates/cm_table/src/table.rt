@@ -24,7 +24,7 @@ ghost use Rattle.cm_table.specs.Refusal.{RefusesRow};
 
 use crate::block::{Block, change_in, push_block, remove_in, slot_in, swap_in};
 use crate::change::Change;
-use crate::links::{link, parent_in, unlink, unname};
+use crate::links::{link, parent_in, unlink};
 use crate::prepared::{Parts, Prepared};
 use crate::slot::{Slot, last_in};
 use cm_decl::Give;
@@ -34,7 +34,7 @@ use std::alloc::Global;
 use std::marker::Model;
 
 /// Why a row isn't added.
-#[derive(Debug, Clone, Copy, PartialEq, Eq)]
+#[derive(Clone, Copy)]
 pub enum TableFault {
     /// One row more is above the limit, or would need an incarnation above 2^64 - 2.
     Full,
@@ -215,6 +215,7 @@ impl Table {
         let mut own = Some(index);
         change_in(&mut self.blocks, inc, Change::Resolve(absolute, decl));
         swap_in(&mut self.blocks, inc, &mut own);
+        drop(own);
         push_block(&mut self.blocks, children);
         self.count += count as u32;
         self.next_inc += count as u64;
@@ -287,7 +288,7 @@ impl Table {
     pub fn set_doomed(&mut self, inc: u64)
         ensures { self.new ≡ with_changed inc set_doomed self.old }
     {
-        unname(&mut self.blocks, inc);
+        unlink(&mut self.blocks, inc, false);
         change_in(&mut self.blocks, inc, Change::Doomed);
     }
 
@@ -332,16 +333,19 @@ impl Table {
             return Err(TableFault::Full);
         }
         let inc = self.next_inc;
-        let Ok(key) = name.clone() else {
-            return Err(TableFault::Memory);
+        let key = match name.clone() {
+            Ok(key) => key,
+            Err(_) => return Err(TableFault::Memory),
         };
         let row = child_row(inc, parent, name, url, gives);
-        let Ok(slots) = room_for(alloc, &mut self.blocks, self.spare, row) else {
-            return Err(TableFault::Memory);
+        let slots = match room_for(alloc, &mut self.blocks, self.spare, row) {
+            Ok(slots) => slots,
+            Err(Memory) => return Err(TableFault::Memory),
         };
-        let Ok(()) = link(alloc, &mut self.blocks, parent, key, inc) else {
-            return Err(TableFault::Memory);
-        };
+        match link(alloc, &mut self.blocks, parent, key, inc) {
+            Ok(()) => {}
+            Err(Memory) => return Err(TableFault::Memory),
+        }
         push_block(&mut self.blocks, slots);
         self.count += 1;
         self.next_inc += 1;
@@ -394,7 +398,7 @@ impl Table {
         ensures same { self.new ≡ record self.old { rows = self.new.rows } }
     {
         let parent = parent_in(self.blocks.as_slice(), leaf);
-        unlink(&mut self.blocks, leaf);
+        unlink(&mut self.blocks, leaf, true);
         remove_in(&mut self.blocks, leaf);
         self.count -= 1;
         parent

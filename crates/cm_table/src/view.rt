@@ -35,7 +35,10 @@ impl View for Table {
     fn decl(&self, inc: u64) -> Option<&Decl> {
         match self.slot(inc) {
             None => None,
-            Some(slot) => slot.row.decl.as_ref(),
+            Some(slot) => match &slot.row.decl {
+                None => None,
+                Some(decl) => Some(decl.get()),
+            },
         }
     }
 

@@ -10,7 +10,7 @@ use Rattle.cm_decl.proofs.Sameness.{and_first, and_second, or_split}
 use Rattle.cm_decl.specs.Rules.{is_inside}
 use Rattle.cm_decl.specs.declared.rows.Usage.{Usage}
 use Rattle.cm_decl.specs.declared.rows.Offer.{Offer}
-use Rattle.cm_decl.specs.Clashes.{same_path, nested_paths, same_target}
+use Rattle.cm_decl.specs.Clashes.{same_path, are_paths_nested, same_target}
 use Rattle.cm_valid.specs.Keys.{zeroed, usage_key, offer_key}
 use Rattle.cm_valid.specs.Near.{covers, near, StandApart}
 
@@ -95,7 +95,7 @@ path_near a b e =
     subst (λ t. near (zeroed a.path) (zeroed t) ≡ true) same (left_near (zeroed a.path) (zeroed a.path) (covers_itself (zeroed a.path)))
 
 -- and near one that it lies inside of, or the other way round
-pub nested_near : (a b : Usage) → nested_paths a b ≡ true → near (usage_key a) (usage_key b) ≡ true
+pub nested_near : (a b : Usage) → are_paths_nested a b ≡ true → near (usage_key a) (usage_key b) ≡ true
 nested_near a b e = elim (or_split (is_inside a.path b.path) (is_inside b.path a.path) e) as (λ _. near (zeroed a.path) (zeroed b.path) ≡ true) [
   | inl one ↦ right_near (zeroed a.path) (zeroed b.path) (inside_covered a.path b.path one)
   | inr other ↦ left_near (zeroed a.path) (zeroed b.path) (inside_covered b.path a.path other)

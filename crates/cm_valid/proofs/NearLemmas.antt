@@ -11,6 +11,7 @@ use Rattle.std.specs.Cmp.{IsTotalOrder, IsStrictWeakOrder}
 use Rattle.std.proofs.lemmas.Cmp.{then_total, on_total, nat_cmp_total, nat_list_cmp_total}
 use Rattle.std.proofs.lemmas.List.Sorted.{ranks_by, sorted_far, Contains-permutation}
 use Rattle.std.proofs.lemmas.Option.{slice_get_within, slice_get-get_or, get_or_from_slice_get}
+use Rattle.std.proofs.lemmas.Bool.{and_from}
 use Rattle.cm_decl.proofs.Sameness.{and_first, and_second, or_split}
 use Rattle.cm_valid.specs.declared.key.Key.{Key}
 use Rattle.cm_valid.specs.Near.{covers, near, AtMost, IsInOrder, AreKeys, ApartKeys, StandApart}
@@ -24,9 +25,6 @@ first_at_most x y o h = grind (arith, nat_tests)
 -- and where these are the same, what follows is in order
 rest_at_most : (x y : ℕ) (o : Ordering) → x ≡ y → is_lt (ordering_then (nat_cmp y x) o) ≡ false → is_lt o ≡ false
 rest_at_most x y o e h = grind (arith, nat_tests)
-
-both : (p q : Bool) → p ≡ true → q ≡ true → (p && q) ≡ true
-both p q e f = rw e f
 
 -- a text between two texts of which the first covers the second is covered by the first
 pub between : (a b c : List ℕ) → AtMost a b → AtMost b c → covers a c ≡ true → covers a b ≡ true
@@ -44,7 +42,7 @@ between (x ∷ xs) (y ∷ ys) (z ∷ zs) h k e =
     let high : y ≤ z = first_at_most y z (slice_cmp nat_cmp zs ys) k in
     let one : x ≡ y = omega arith in
     let two : y ≡ z = omega arith in
-    both (x == y) (covers xs ys) (eq-eqb x y one)
+    and_from (x == y) (covers xs ys) (eq-eqb x y one)
     (between xs ys zs (rest_at_most x y (slice_cmp nat_cmp ys xs) one h) (rest_at_most y z (slice_cmp nat_cmp zs ys) two k) (and_second (x == z) (covers xs zs) e))
 
 -- a text that covers one that isn't before it is covered by it
@@ -54,7 +52,7 @@ both_ways [] (y ∷ ys) h e = absurd (true≢false (sym e))
 both_ways (x ∷ xs) [] h e = absurd (true≢false h)
 both_ways (x ∷ xs) (y ∷ ys) h e =
     let same : y ≡ x = eqb-true y x (and_first (y == x) (covers ys xs) e) in
-    both (x == y) (covers xs ys) (eq-eqb x y (sym same))
+    and_from (x == y) (covers xs ys) (eq-eqb x y (sym same))
     (both_ways xs ys (rest_at_most x y (slice_cmp nat_cmp ys xs) (sym same) h) (and_second (y == x) (covers ys xs) e))
 
 -- ---- the walk along the keys in order
@@ -76,13 +74,6 @@ same_key keys i j a b at there e = cc
 
 later_none : (keys : List Key) (k : ℕ) (text : List ℕ) → CoversNoneFrom keys k text → CoversNoneFrom keys (k + 1) text
 later_none keys k text none = λ m b from at. let lower : k ≤ m = omega arith in none m b lower at
-
-pub walk_starts : (keys : List Key) (apart : ℕ) → Walked keys 1 0 apart
-walk_starts keys apart = record {
-  within = omega arith;
-  settled = λ j a below at. inl (omega arith);
-  pairs = λ i j a b before below at there e. absurd (omega arith);
-}
 
 step : (keys : List Key) (k outer apart next bound : ℕ) (q : Key) → Walked keys k outer apart → slice_get keys k ≡ Some q → next < k + 1 → bound ≤ apart → ((a : Key) → slice_get keys outer ≡ Some a → covers a.text q.text ≡ true → (bound ≤ a.row) ⊎ (bound ≤ q.row)) → ((a : Key) → slice_get keys outer ≡ Some a → (outer ≡ next) ⊎ ((bound ≤ a.row) ⊎ CoversNoneFrom keys (k + 1) a.text)) → (k ≡ next) ⊎ ((bound ≤ q.row) ⊎ CoversNoneFrom keys (k + 1) q.text) → Walked keys (k + 1) next bound
 step keys k outer apart next bound q walked at within lower reached old new = record {
@@ -204,7 +195,7 @@ covers_same [] [] h e = refl
 covers_same [] (b ∷ inner) h e = absurd (omega arith)
 covers_same (a ∷ outer) [] h e = absurd (omega arith)
 covers_same (a ∷ outer) (b ∷ inner) h e =
-    both (a == b) (covers outer inner) (and_first (a == b) (starts_with nat_eq inner outer) h)
+    and_from (a == b) (covers outer inner) (and_first (a == b) (starts_with nat_eq inner outer) h)
     (covers_same outer inner (and_second (a == b) (starts_with nat_eq inner outer) h) (omega arith))
 
 -- ---- one more key

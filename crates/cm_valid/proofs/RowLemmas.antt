@@ -19,7 +19,7 @@ use Rattle.cm_valid.specs.declared.found.Found.{Found}
 use Rattle.cm_valid.specs.Lookup.{is_child_name}
 use Rattle.cm_valid.specs.Near.{near, StandApart}
 use Rattle.cm_valid.specs.Parts.{At, Finds, fault_of}
-use Rattle.cm_valid.proofs.ClashLemmas.{none_before}
+use Rattle.cm_valid.proofs.ClashLemmas.{none_before, same_near}
 
 -- ---- rows that are read
 
@@ -105,6 +105,26 @@ named_once d s i once others = finds_none d s i (once, others)
 pub named_before : (d : Decl) (s other : Section) (i first : ℕ) (found : Found) → found ≡ found_at s i RepeatedName (Some (place other first)) → breaks d RepeatedName s i ≡ true → clash d RepeatedName s i ≡ Some (place other first) → Finds d (At s i) (Some found)
 named_before d s other i first found is broken clashing =
     subst (λ (f : Found). Finds d (At s i) (Some f)) (sym is) (finds d s i 0 RepeatedName (Some (place other first)) refl tt broken clashing)
+
+-- a section whose rows have names, at a row that breaks no rule but that of these
+pub record IsNamed {A : Type 0} (d : Decl) (s : Section) (name : A → List ℕ) (rows : List A) (i : ℕ) : Type 0 where
+  pub clashing : clash d RepeatedName s i ≡ first_before s (λ a b. bytes_eq (name a) (name b)) rows i
+  pub broken : breaks d RepeatedName s i ≡ is_some (first_before s (λ a b. bytes_eq (name a) (name b)) rows i)
+  pub others : BreaksNoOther d s i
+
+-- where the row stands apart, its name is that of no earlier one
+pub named_apart : {A : Type 0} (d : Decl) (s : Section) (name : A → List ℕ) (rows : List A) (n i : ℕ) → IsNamed d s name rows i → StandApart name rows n → i < n → Finds d (At s i) None
+named_apart {A} d s name rows n i named apart low =
+    named_once d s i (named.broken ∙ ap is_some (clash_apart s name (λ a b. bytes_eq (name a) (name b)) (λ a b e. same_near (name a) (name b) e) rows n i apart low)) named.others
+
+-- else it is that of the first earlier row that was found, if one was
+pub named_found : {A : Type 0} (d : Decl) (s : Section) (name : A → List ℕ) (rows all : List A) (i : ℕ) (row : A) (found o : Option ℕ) → IsNamed d s name all i → rows ≡ all → i < length all → row ≡ get_or rows i row → found ≡ position (λ e. bytes_eq (name e) (name row)) (take i rows) → found ≡ o
+    → Finds d (At s i) (option_map (λ first. found_at s i RepeatedName (Some (place s first))) o)
+named_found {A} d s name rows all i row found None named same within is looked told =
+    named_once d s i (named.broken ∙ ap is_some (first_named s name rows all i row found None same within is looked told)) named.others
+named_found {A} d s name rows all i row found (Some first) named same within is looked told =
+    let clashing = first_named s name rows all i row found (Some first) same within is looked told in
+    finds d s i 0 RepeatedName (Some (place s first)) refl tt (named.broken ∙ ap is_some clashing) (named.clashing ∙ clashing)
 
 -- ---- collections
 

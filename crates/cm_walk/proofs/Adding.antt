@@ -5,6 +5,7 @@ use Rattle.std.specs.Option.{option_map_or}
 use Rattle.std.specs.Ordering.{is_eq, nat_cmp}
 use Rattle.std.proofs.Common.{Less, Equal, Greater}
 use Rattle.std.proofs.lemmas.Bool.{ltb-true, le-ltb, ltb-false}
+use Rattle.std.proofs.lemmas.Bool.{and_from, or_right}
 use Rattle.cm_world.specs.declared.row.Row.{Row}
 use Rattle.cm_world.specs.Rows.{row_of, has_parent, is_behind}
 use Rattle.cm_world.specs.Sound.{IsOrderly}
@@ -54,15 +55,11 @@ pub child_row : (p : ℕ) (o : Option Row) → option_map_or (has_parent p) o fa
 child_row p None e = absurd (true≢false (sym e))
 child_row p (Some s) e = (s, refl, e)
 
-pub both : (a b : Bool) → a ≡ true → b ≡ true → (a && b) ≡ true
-both true b first second = second
-both false b first second = absurd (true≢false (sym first))
-
 -- a child that stands behind one is found behind it
 child_found : (rows : List Row) (p q : ℕ) (after : Option ℕ) → is_child rows p q ≡ true → is_behind after q ≡ true → (s : Row) × (row_of rows q ≡ Some s) × ((has_parent p s && is_behind after s.inc) ≡ true)
 child_found rows p q after child behind =
     let kid : (s : Row) × (row_of rows q ≡ Some s) × (has_parent p s ≡ true) = child_row p (row_of rows q) child in
-    (kid.0, kid.1, both (has_parent p kid.0) (is_behind after kid.0.inc) kid.2 (ap (is_behind after) (row_of-inc rows q kid.0 kid.1) ∙ behind))
+    (kid.0, kid.1, and_from (has_parent p kid.0) (is_behind after kid.0.inc) kid.2 (ap (is_behind after) (row_of-inc rows q kid.0 kid.1) ∙ behind))
 
 -- another child is behind the next one exactly where it is behind the one before
 same_behind : (rows : List Row) (next p j q : ℕ) (after : Option ℕ) (t u : Bool) → IsOrderly rows next → IsNext (has_parent p) after rows j → (j ≡ q → ⊥) → is_child rows p q ≡ true → is_behind after q ≡ t → nat_lt j q ≡ u → t ≡ u
@@ -79,17 +76,13 @@ same_behind rows next p j q after true false orderly n apart child behind above 
 
 here_seen : (rows : List Row) (p j q : ℕ) (after : Option ℕ) → IsNext (has_parent p) after rows j → j ≡ q → is_seen rows p (Some j) q ≡ true
 here_seen rows p j q after n same =
-    both (is_child rows p q) (not (nat_lt j q))
+    and_from (is_child rows p q) (not (nat_lt j q))
     (ap (is_child rows p) (sym same) ∙ ap (λ o. option_map_or (has_parent p) o false) n.lives ∙ n.passes)
     (ap not (le-ltb j q (omega arith)))
 
-or_seen : (old b : Bool) → b ≡ true → (old || b) ≡ true
-or_seen true b e = refl
-or_seen false b e = e
-
 more_by : (rows : List Row) (next p j q : ℕ) (after : Option ℕ) (t old now new : Bool) → IsOrderly rows next → IsNext (has_parent p) after rows j → is_eq (nat_cmp j q) ≡ t → now ≡ (old || is_seen rows p after q) → new ≡ cond t true now → new ≡ (old || is_seen rows p (Some j) q)
 more_by rows next p j q after true old now new orderly n e so_far put =
-    put ∙ sym (or_seen old (is_seen rows p (Some j) q) (here_seen rows p j q after n (cmp_same j q e)))
+    put ∙ sym (or_right old (is_seen rows p (Some j) q) (here_seen rows p j q after n (cmp_same j q e)))
 more_by rows next p j q after false old now new orderly n e so_far put =
     let apart : j ≡ q → ⊥ = λ same. true≢false (sym (ap (λ i. is_eq (nat_cmp j i)) (sym same) ∙ cmp_self j) ∙ e) in
     put ∙ so_far

@@ -7,15 +7,16 @@ use Rattle.std.specs.Option.{option_map_or, option_eq}
 use Rattle.std.specs.Ordering.{is_eq, is_gt, nat_cmp}
 use Rattle.std.proofs.lemmas.Bool.{lt-ltb, ltb-true, ltb-false}
 use Rattle.std.proofs.lemmas.Map.Keys.{le_from_not_gt}
+use Rattle.std.proofs.lemmas.Bool.{or_left, or_right, and_from}
 use Rattle.cm_decl.proofs.Sameness.{and_first, and_second, or_split}
 use Rattle.cm_world.specs.declared.row.Row.{Row}
 use Rattle.cm_world.specs.Rows.{row_of, is_live, has_parent, is_below, is_behind, subtree}
 use Rattle.cm_world.specs.Sound.{IsOrderly, IsParent}
 use Rattle.cm_world.proofs.Finding.{row_of-inc, find-passes}
-use Rattle.cm_walk.specs.Ahead.{in_set, is_child}
+use Rattle.cm_walk.specs.Ahead.{is_in_set, is_child}
 use Rattle.cm_walk.proofs.Behind.{behind, IsNext, next_of, is_next, behind_more, taken_first, taken_more, taken_all, made_of}
-use Rattle.cm_walk.proofs.Standing.{or_first, or_second, below_lives, below_self, below_parent, below_cases, find_least, find_some}
-use Rattle.cm_walk.proofs.Adding.{cmp_self, cmp_apart, both, child_row}
+use Rattle.cm_walk.proofs.Standing.{below_lives, below_self, below_parent, below_cases, find_least, find_some}
+use Rattle.cm_walk.proofs.Adding.{cmp_self, cmp_apart, child_row}
 
 -- ---- the set of what is ahead
 
@@ -34,8 +35,8 @@ pub record IsUnder (rows : List Row) (top : ℕ) (after : Option ℕ) (i : ℕ) 
 
 -- the set has such rows alone, and each that it lacks has a parent that is one
 pub record IsAhead (rows : List Row) (top : ℕ) (after : Option ℕ) (ahead : BTreeSet ℕ) : Type 0 where
-  pub within : (i : ℕ) → IsTrue (in_set ahead i) → IsAfter rows top after i
-  pub reach : (i : ℕ) → IsAfter rows top after i → IsTrue (in_set ahead i) ⊎ IsUnder rows top after i
+  pub within : (i : ℕ) → IsTrue (is_in_set ahead i) → IsAfter rows top after i
+  pub reach : (i : ℕ) → IsAfter rows top after i → IsTrue (is_in_set ahead i) ⊎ IsUnder rows top after i
 
 -- whether a row is below top
 abbrev pub is_in : List Row → ℕ → Row → Bool
@@ -43,7 +44,7 @@ is_in rows top r = is_below rows top r.inc
 
 tested : (rows : List Row) (top i : ℕ) (after : Option ℕ) (r : Row) → row_of rows i ≡ Some r → IsAfter rows top after i → IsTrue (is_in rows top r && is_behind after r.inc)
 tested rows top i after r lives it =
-    subst (λ j. IsTrue (is_below rows top j && is_behind after j)) (sym (row_of-inc rows i r lives)) (both (is_below rows top i) (is_behind after i) it.below it.later)
+    subst (λ j. IsTrue (is_below rows top j && is_behind after j)) (sym (row_of-inc rows i r lives)) (and_from (is_below rows top i) (is_behind after i) it.below it.later)
 
 -- ---- at first
 
@@ -59,13 +60,13 @@ only_top rows next top i orderly here =
       later = refl;
     }
 
-pub ahead_first : (rows : List Row) (next top : ℕ) (ahead : BTreeSet ℕ) → IsOrderly rows next → ((q : ℕ) → in_set ahead q ≡ (is_live rows top && q == top)) → IsAhead rows top None ahead
+pub ahead_first : (rows : List Row) (next top : ℕ) (ahead : BTreeSet ℕ) → IsOrderly rows next → ((q : ℕ) → is_in_set ahead q ≡ (is_live rows top && q == top)) → IsAhead rows top None ahead
 ahead_first rows next top ahead orderly is = record {
   within = λ i there. only_top rows next top i orderly (sym (is i) ∙ there);
   reach = λ i it.
       let lives : (r : Row) × (row_of rows i ≡ Some r) = below_lives rows top i it.below in
       elim (below_cases rows next top i lives.0 orderly lives.1 it.below) [
-        | inl same ↦ inl (is i ∙ both (is_live rows top) (i == top) (ap (is_live rows) (sym same) ∙ ap is_some lives.1) ((unsigned_Decides i top).1 same))
+        | inl same ↦ inl (is i ∙ and_from (is_live rows top) (i == top) (ap (is_live rows) (sym same) ∙ ap is_some lives.1) ((unsigned_Decides i top).1 same))
         | inr up ↦ inr (record { row = lives.0; lives = lives.1; up = up.0; parent = up.1; above = record { below = up.2; later = refl } })
       ];
 }
@@ -73,7 +74,7 @@ ahead_first rows next top ahead orderly is = record {
 -- ---- the next one
 
 -- the first row behind one is in the set, since its parent has a lower incarnation
-first_there : (rows : List Row) (next top : ℕ) (after : Option ℕ) (ahead : BTreeSet ℕ) (r : Row) → IsOrderly rows next → IsAhead rows top after ahead → find (λ s. is_in rows top s && is_behind after s.inc) rows ≡ Some r → IsTrue (in_set ahead r.inc)
+first_there : (rows : List Row) (next top : ℕ) (after : Option ℕ) (ahead : BTreeSet ℕ) (r : Row) → IsOrderly rows next → IsAhead rows top after ahead → find (λ s. is_in rows top s && is_behind after s.inc) rows ≡ Some r → IsTrue (is_in_set ahead r.inc)
 first_there rows next top after ahead r orderly frontier found =
     let test : Row → Bool = λ s. is_in rows top s && is_behind after s.inc in
     let passes : IsTrue (test r) = find-passes test rows r found in
@@ -87,7 +88,7 @@ first_there rows next top after ahead r orderly frontier found =
     ]
 
 -- what comes first in the set is the next row below top
-pub next_popped : (rows : List Row) (next top j : ℕ) (after : Option ℕ) (ahead : BTreeSet ℕ) → IsOrderly rows next → IsAhead rows top after ahead → IsTrue (in_set ahead j) → ((q : ℕ) → IsTrue (in_set ahead q) → is_gt (nat_cmp j q) ≡ false) → next_of (is_in rows top) after rows ≡ Some j
+pub next_popped : (rows : List Row) (next top j : ℕ) (after : Option ℕ) (ahead : BTreeSet ℕ) → IsOrderly rows next → IsAhead rows top after ahead → IsTrue (is_in_set ahead j) → ((q : ℕ) → IsTrue (is_in_set ahead q) → is_gt (nat_cmp j q) ≡ false) → next_of (is_in rows top) after rows ≡ Some j
 next_popped rows next top j after ahead orderly frontier member first =
     let test : Row → Bool = λ s. is_in rows top s && is_behind after s.inc in
     let it : IsAfter rows top after j = frontier.within j member in
@@ -100,7 +101,7 @@ next_popped rows next top j after ahead orderly frontier member first =
     ap (option_map (λ r. r.inc)) found.1 ∙ ap Some same
 
 -- where the set is empty, no row is left
-pub none_ahead : (rows : List Row) (next top : ℕ) (after : Option ℕ) (ahead : BTreeSet ℕ) → IsOrderly rows next → IsAhead rows top after ahead → ((q : ℕ) → in_set ahead q ≡ false) → next_of (is_in rows top) after rows ≡ None
+pub none_ahead : (rows : List Row) (next top : ℕ) (after : Option ℕ) (ahead : BTreeSet ℕ) → IsOrderly rows next → IsAhead rows top after ahead → ((q : ℕ) → is_in_set ahead q ≡ false) → next_of (is_in rows top) after rows ≡ None
 none_ahead rows next top after ahead orderly frontier none = by (find (λ s. is_in rows top s && is_behind after s.inc) rows) refl where
   by : (o : Option Row) → find (λ s. is_in rows top s && is_behind after s.inc) rows ≡ o → option_map (λ r. r.inc) o ≡ None
   by None found = refl
@@ -136,7 +137,7 @@ child_after rows next top j q orderly below child =
       later = lt-ltb j q above.lower;
     }
 
-rest_after : (rows : List Row) (top j q : ℕ) (after : Option ℕ) (ahead : BTreeSet ℕ) → IsAhead rows top after ahead → ((q : ℕ) → IsTrue (in_set ahead q) → is_gt (nat_cmp j q) ≡ false) → IsTrue (in_set ahead q) → (j ≡ q → ⊥) → IsAfter rows top (Some j) q
+rest_after : (rows : List Row) (top j q : ℕ) (after : Option ℕ) (ahead : BTreeSet ℕ) → IsAhead rows top after ahead → ((q : ℕ) → IsTrue (is_in_set ahead q) → is_gt (nat_cmp j q) ≡ false) → IsTrue (is_in_set ahead q) → (j ≡ q → ⊥) → IsAfter rows top (Some j) q
 rest_after rows top j q after ahead frontier first there apart =
     let low : j ≤ q = le_from_not_gt j q (first q there) in record {
       below = (frontier.within q there).below;
@@ -161,7 +162,7 @@ under_next rows top j i false after u low e =
     inl (ap (λ o. option_map_or (has_parent j) o false) u.lives ∙ has_this j u.row.parent (u.parent ∙ ap Some same))
 
 -- with the one taken out and its children put in, the set is what is ahead of it
-pub ahead_more : (rows : List Row) (next top j : ℕ) (after : Option ℕ) (ahead rest more : BTreeSet ℕ) → IsOrderly rows next → IsAhead rows top after ahead → IsTrue (in_set ahead j) → ((q : ℕ) → IsTrue (in_set ahead q) → is_gt (nat_cmp j q) ≡ false) → ((q : ℕ) → in_set rest q ≡ cond (is_eq (nat_cmp j q)) false (in_set ahead q)) → ((q : ℕ) → in_set more q ≡ (in_set rest q || is_child rows j q)) → IsAhead rows top (Some j) more
+pub ahead_more : (rows : List Row) (next top j : ℕ) (after : Option ℕ) (ahead rest more : BTreeSet ℕ) → IsOrderly rows next → IsAhead rows top after ahead → IsTrue (is_in_set ahead j) → ((q : ℕ) → IsTrue (is_in_set ahead q) → is_gt (nat_cmp j q) ≡ false) → ((q : ℕ) → is_in_set rest q ≡ cond (is_eq (nat_cmp j q)) false (is_in_set ahead q)) → ((q : ℕ) → is_in_set more q ≡ (is_in_set rest q || is_child rows j q)) → IsAhead rows top (Some j) more
 ahead_more rows next top j after ahead rest more orderly frontier member first popped put = record { within = within; reach = reach } where
   least : (i : ℕ) (u : IsUnder rows top after i) → j ≤ u.up
   least i u =
@@ -171,21 +172,21 @@ ahead_more rows next top j after ahead rest more orderly frontier member first p
       let own : n.row.inc ≡ j = n.inc in
       omega arith
 
-  within : (q : ℕ) → IsTrue (in_set more q) → IsAfter rows top (Some j) q
-  within q there = elim (or_split (in_set rest q) (is_child rows j q) (sym (put q) ∙ there)) [
+  within : (q : ℕ) → IsTrue (is_in_set more q) → IsAfter rows top (Some j) q
+  within q there = elim (or_split (is_in_set rest q) (is_child rows j q) (sym (put q) ∙ there)) [
     | inl here ↦
-        let was : IsTrue (in_set ahead q) × (j ≡ q → ⊥) = stays j q (is_eq (nat_cmp j q)) (in_set ahead q) refl (sym (popped q) ∙ here) in
+        let was : IsTrue (is_in_set ahead q) × (j ≡ q → ⊥) = stays j q (is_eq (nat_cmp j q)) (is_in_set ahead q) refl (sym (popped q) ∙ here) in
         rest_after rows top j q after ahead frontier first was.0 was.1
     | inr child ↦ child_after rows next top j q orderly (frontier.within j member).below child
   ]
 
-  reach : (i : ℕ) → IsAfter rows top (Some j) i → IsTrue (in_set more i) ⊎ IsUnder rows top (Some j) i
+  reach : (i : ℕ) → IsAfter rows top (Some j) i → IsTrue (is_in_set more i) ⊎ IsUnder rows top (Some j) i
   reach i it =
       let up : j < i = ltb-true j i it.later in
       elim (frontier.reach i (record { below = it.below; later = behind_more after j i (frontier.within j member).later up })) [
-        | inl there ↦ inl (put i ∙ or_first (in_set rest i) (is_child rows j i) (popped i ∙ ap (λ b. cond b false (in_set ahead i)) (cmp_apart j i (λ same. not_less j i up same)) ∙ there))
+        | inl there ↦ inl (put i ∙ or_left (is_in_set rest i) (is_child rows j i) (popped i ∙ ap (λ b. cond b false (is_in_set ahead i)) (cmp_apart j i (λ same. not_less j i up same)) ∙ there))
         | inr u ↦ elim (under_next rows top j i (nat_lt j u.up) after u (least i u) refl) [
-          | inl child ↦ inl (put i ∙ or_second (in_set rest i) (is_child rows j i) child)
+          | inl child ↦ inl (put i ∙ or_right (is_in_set rest i) (is_child rows j i) child)
           | inr on ↦ inr on
         ]
       ]
@@ -203,7 +204,7 @@ pub record IsDescending (rows : List Row) (next top : ℕ) (found : List ℕ) (a
   pub frontier : IsAhead rows top last ahead
   pub split : found ++ filter_map (inc_in rows top) (behind last rows) ≡ filter_map (inc_in rows top) rows
 
-pub descends_first : (rows : List Row) (next top : ℕ) (found : List ℕ) (ahead : BTreeSet ℕ) → IsOrderly rows next → found ≡ [] → ((q : ℕ) → in_set ahead q ≡ (is_live rows top && q == top)) → IsDescending rows next top found ahead
+pub descends_first : (rows : List Row) (next top : ℕ) (found : List ℕ) (ahead : BTreeSet ℕ) → IsOrderly rows next → found ≡ [] → ((q : ℕ) → is_in_set ahead q ≡ (is_live rows top && q == top)) → IsDescending rows next top found ahead
 descends_first rows next top found ahead orderly none alone = record {
   orderly = orderly;
   last = None;
@@ -218,7 +219,7 @@ this_in : (rows : List Row) (top j : ℕ) (r : Row) → row_of rows j ≡ Some r
 this_in rows top j r lives within =
     ap Some (sym (row_of-inc rows j r lives)) ∙ sym (ap (λ b. cond {A = Option ℕ} b (Some r.inc) None) within)
 
-pub descends_more : (rows : List Row) (next top j : ℕ) (found pushed : List ℕ) (ahead rest more : BTreeSet ℕ) → IsDescending rows next top found ahead → IsTrue (in_set ahead j) → ((q : ℕ) → IsTrue (in_set ahead q) → is_gt (nat_cmp j q) ≡ false) → ((q : ℕ) → in_set rest q ≡ cond (is_eq (nat_cmp j q)) false (in_set ahead q)) → ((q : ℕ) → in_set more q ≡ (in_set rest q || is_child rows j q)) → pushed ≡ found ++ j ∷ [] → IsDescending rows next top pushed more
+pub descends_more : (rows : List Row) (next top j : ℕ) (found pushed : List ℕ) (ahead rest more : BTreeSet ℕ) → IsDescending rows next top found ahead → IsTrue (is_in_set ahead j) → ((q : ℕ) → IsTrue (is_in_set ahead q) → is_gt (nat_cmp j q) ≡ false) → ((q : ℕ) → is_in_set rest q ≡ cond (is_eq (nat_cmp j q)) false (is_in_set ahead q)) → ((q : ℕ) → is_in_set more q ≡ (is_in_set rest q || is_child rows j q)) → pushed ≡ found ++ j ∷ [] → IsDescending rows next top pushed more
 descends_more rows next top j found pushed ahead rest more so_far member first popped put push = record {
   orderly = so_far.orderly;
   last = Some j;

@@ -40,7 +40,3 @@ parent_by rows builtins kind name i p facts n None lives told above found = absu
 parent_by rows builtins kind name i p facts n (Some r) lives told above found =
     let parent : r.parent ≡ Some p = sym (ap (λ f. f.parent) (some_same facts (facts_of r) told)) ∙ above in
     found r lives ∙ sym (ap (next_above rows builtins r kind name) parent)
-
--- above any other instance its parent
-pub above_child : (rows : List Row) (builtins : List Builtin) (kind : Kind) (name : List ℕ) (i p : ℕ) (facts : Facts) (n : Next) → Some facts ≡ option_map facts_of (row_of rows i) → facts.parent ≡ Some p → ((r : Row) → row_of rows i ≡ Some r → n ≡ offered_by rows p r kind name (decl_of rows p)) → n ≡ from_above rows builtins kind name (row_of rows i)
-above_child rows builtins kind name i p facts n told above found = parent_by rows builtins kind name i p facts n (row_of rows i) refl told above found

@@ -1,6 +1,7 @@
 -- What stands below what in an orderly tree, and which row is the first that passes a test.
-use Rattle.std.proofs.Common.{◌≡◌, ℕ, ◌<◌, ◌≤◌, List, [], ◌∷◌, Bool, true, false, cond, ◌||◌, ◌==◌, true≢false, Option, Some, None, is_some, IsTrue, find, length, refl, sym, ◌∙◌, ap, inl, inr, ◌⊎◌, arith}
+use Rattle.std.proofs.Common.{◌≡◌, ℕ, ◌<◌, ◌≤◌, List, [], ◌∷◌, Bool, true, false, cond, ◌==◌, true≢false, Option, Some, None, is_some, IsTrue, find, length, refl, sym, ◌∙◌, ap, inl, inr, ◌⊎◌, arith}
 use Rattle.std.specs.Cmp.{unsigned_Decides}
+use Rattle.std.proofs.lemmas.Bool.{or_left, or_right}
 use Rattle.cm_decl.proofs.Sameness.{or_split}
 use Rattle.cm_world.specs.declared.row.Row.{Row}
 use Rattle.cm_world.specs.Rows.{row_of, at_or_above, is_below}
@@ -19,25 +20,17 @@ lives_by rows top i (Some r) e below = (r, e)
 pub below_lives : (rows : List Row) (top i : ℕ) → IsTrue (is_below rows top i) → (r : Row) × (row_of rows i ≡ Some r)
 below_lives rows top i below = lives_by rows top i (row_of rows i) refl below
 
-pub or_first : (p q : Bool) → IsTrue p → IsTrue (p || q)
-or_first true q h = refl
-or_first false q h = absurd (true≢false (sym h))
-
-pub or_second : (p q : Bool) → IsTrue q → IsTrue (p || q)
-or_second true q h = refl
-or_second false q h = h
-
 -- a row that lives stands below itself
 pub below_self : (rows : List Row) (next i : ℕ) (r : Row) → IsOrderly rows next → row_of rows i ≡ Some r → IsTrue (is_below rows i i)
 below_self rows next i r orderly lives =
     some_above-step (λ r. r.inc == i) rows next i r orderly lives
-    ∙ or_first (r.inc == i) (at_or_above (length rows) (λ r. r.inc == i) rows r.parent) ((unsigned_Decides r.inc i).1 (row_of-inc rows i r lives))
+    ∙ or_left (r.inc == i) (at_or_above (length rows) (λ r. r.inc == i) rows r.parent) ((unsigned_Decides r.inc i).1 (row_of-inc rows i r lives))
 
 -- and below what its parent stands below
 pub below_parent : (rows : List Row) (next top i p : ℕ) (r : Row) → IsOrderly rows next → row_of rows i ≡ Some r → r.parent ≡ Some p → IsTrue (is_below rows top p) → IsTrue (is_below rows top i)
 below_parent rows next top i p r orderly lives parent below =
     some_above-step (λ r. r.inc == top) rows next i r orderly lives
-    ∙ or_second (r.inc == top) (at_or_above (length rows) (λ r. r.inc == top) rows r.parent) (ap (at_or_above (length rows) (λ r. r.inc == top) rows) parent ∙ below)
+    ∙ or_right (r.inc == top) (at_or_above (length rows) (λ r. r.inc == top) rows r.parent) (ap (at_or_above (length rows) (λ r. r.inc == top) rows) parent ∙ below)
 
 above_by : (rows : List Row) (top : ℕ) (o : Option ℕ) → IsTrue (at_or_above (length rows) (λ r. r.inc == top) rows o) → (p : ℕ) × (o ≡ Some p) × IsTrue (is_below rows top p)
 above_by rows top None h = absurd (true≢false (sym h ∙ above_root (length rows) (λ r. r.inc == top) rows))

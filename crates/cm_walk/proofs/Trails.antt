@@ -74,20 +74,6 @@ asked-more : (front : List Station) (s t : Station) → asked_rights ((front ++ 
 asked-more [] s t = asked_of [] s t
 asked-more (x ∷ xs) s t = asked_of (xs ++ s ∷ []) x t
 
-asked_first : (at_use : Bool) (r : Option RightSet) → (if at_use then r else slice_get (cons_option r []) 0) ≡ r
-asked_first true r = refl
-asked_first false r = first_option r
-
--- the trail before the first station
-pub IsBehind-first : (s : Station) (hop : Hop) (t : Trail) → s.hop ≡ hop → t.hops ≡ [] → t.subdirs ≡ [] → t.availability ≡ None → t.from_use ≡ is_use hop.step → t.asked ≡ hop.rights → IsBehind [] s t
-IsBehind-first s hop t same hops subdirs availability from_use asked = record {
-  hops = hops;
-  subdirs = subdirs;
-  availability = availability;
-  from_use = from_use ∙ sym (ap (λ h. is_use h.step) same);
-  asked = asked ∙ sym (ap (λ h. h.rights) same) ∙ sym (asked_first (is_use s.hop.step) s.hop.rights);
-}
-
 -- the trail with one station more at its end
 pub IsBehind-more : (front : List Station) (s u : Station) (next : Hop) (t made : Trail) → IsBehind front s t → u.hop ≡ next → made.hops ≡ t.hops ++ s.hop ∷ [] → made.subdirs ≡ t.subdirs ++ option_to_list s.subdir → made.availability ≡ standing_by t.availability s.hop.availability → made.from_use ≡ t.from_use → made.asked ≡ (if t.from_use then t.asked else or_else t.asked next.rights) → IsBehind (front ++ s ∷ []) u made
 IsBehind-more front s u next t made behind same hops subdirs availability from_use asked = record {

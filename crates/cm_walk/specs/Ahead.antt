@@ -6,8 +6,8 @@ use Rattle.std.specs.BTreeSet.{BTreeSet, contains}
 use Rattle.cm_world.specs.declared.row.Row.{Row}
 use Rattle.cm_world.specs.Rows.{row_of, has_parent}
 
-abbrev pub in_set : BTreeSet ℕ → ℕ → Bool
-in_set set i = contains nat_cmp set i
+abbrev pub is_in_set : BTreeSet ℕ → ℕ → Bool
+is_in_set set i = contains nat_cmp set i
 
 -- whether a row lives and is a child of p
 abbrev pub is_child : List Row → ℕ → ℕ → Bool

@@ -145,6 +145,18 @@ pub(crate) fn expose_station<V: View>(
     give_station(alloc, view, StepKind::ExposeHop, inc, give, true)
 }
 
+/// The station of an end that states these rights and provides the capability at this path.
+fn end_station(bare: Hop, rights: Option<Rights>, path: &CapPath) -> Result<Station, Memory>
+    ensures { IfOk result (λ made. as_station made
+        ≡ spec.end_station (record bare { rights = rights }) path.now) }
+{
+    let path = path.clone()?;
+    Ok(Station {
+        hop: Hop { rights, ..bare },
+        source: Source::End(path),
+    })
+}
+
 /// The station of a capability that the instance provides.
 pub(crate) fn capability_station<V: View>(
     alloc: Global,
@@ -157,15 +169,7 @@ pub(crate) fn capability_station<V: View>(
 {
     let step = StepKind::CapabilityHop;
     let bare = bare_hop(alloc, view, step, inc, capability.kind, &capability.name)?;
-    let hop = Hop {
-        rights: capability.rights,
-        ..bare
-    };
-    let path = capability.path.clone()?;
-    Ok(Station {
-        hop,
-        source: Source::End(path),
-    })
+    end_station(bare, capability.rights, &capability.path)
 }
 
 /// The station of a capability that stands above the root.
@@ -180,15 +184,7 @@ pub(crate) fn builtin_station<V: View>(
 {
     let step = StepKind::BuiltinHop;
     let bare = bare_hop(alloc, view, step, inc, builtin.kind, &builtin.name)?;
-    let hop = Hop {
-        rights: builtin.rights,
-        ..bare
-    };
-    let path = builtin.path.clone()?;
-    Ok(Station {
-        hop,
-        source: Source::End(path),
-    })
+    end_station(bare, builtin.rights, &builtin.path)
 }
 
 /// The station of what the framework provides to the instance, at the path `/svc/` and its name.

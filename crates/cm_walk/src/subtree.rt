@@ -3,7 +3,7 @@
 ghost use Rattle.std.specs.Prelude.{◌≡◌, ◌||◌, ◌&&◌, ◌==◌, ℕ, map, IfOk, OnOk};
 ghost use Rattle.cm_world.specs.Rows.{is_live, subtree};
 ghost use Rattle.cm_world.specs.Sound.{IsOrderly};
-ghost use Rattle.cm_walk.specs.Ahead.{in_set, is_child};
+ghost use Rattle.cm_walk.specs.Ahead.{is_in_set, is_child};
 
 use cm_names::Memory;
 use cm_world::View;
@@ -29,7 +29,7 @@ pub fn rows_below<V: View>(alloc: Global, view: &V, top: u64) -> Result<Vec<u64>
 /// The set of the instance alone, if it lives.
 fn alone<V: View>(alloc: Global, view: &V, inc: u64) -> Result<BTreeSet<u64>, Memory>
     ensures alone { IfOk result (λ ahead. (q : ℕ) →
-        in_set ahead q ≡ (is_live (V.rows view.now) inc && q == inc)) }
+        is_in_set ahead q ≡ (is_live (V.rows view.now) inc && q == inc)) }
     ensures orderly { IsOrderly (V.rows view.now) (V.next_inc view.now) }
 {
     match view.facts(inc) {
@@ -40,7 +40,7 @@ fn alone<V: View>(alloc: Global, view: &V, inc: u64) -> Result<BTreeSet<u64>, Me
 
 /// The set of one instance.
 fn set_of(alloc: Global, inc: u64) -> Result<BTreeSet<u64>, Memory>
-    ensures { IfOk result (λ set. (q : ℕ) → in_set set q ≡ (q == inc)) }
+    ensures { IfOk result (λ set. (q : ℕ) → is_in_set set q ≡ (q == inc)) }
 {
     let mut set = BTreeSet::new(alloc);
     set.insert(inc)?;
@@ -50,8 +50,8 @@ fn set_of(alloc: Global, inc: u64) -> Result<BTreeSet<u64>, Memory>
 /// Puts the children of an instance into the set, those that are being destroyed too.
 fn put_children<V: View>(view: &V, parent: u64, ahead: &mut BTreeSet<u64>) -> Result<(), Memory>
     requires { IsOrderly (V.rows view.now) (V.next_inc view.now) }
-    ensures { OnOk result ((q : ℕ) → in_set ahead.new q
-        ≡ (in_set ahead.old q || is_child (V.rows view.now) parent q)) }
+    ensures { OnOk result ((q : ℕ) → is_in_set ahead.new q
+        ≡ (is_in_set ahead.old q || is_child (V.rows view.now) parent q)) }
 {
     let mut after = None;
     'next: while let Some(child) = view.next_child(parent, after) {

@@ -2,6 +2,7 @@
 
 ghost use Rattle.std.specs.Prelude.{◌≡◌, List as Seq, IfOk, option_map};
 ghost use Rattle.cm_world.specs.declared.route.Walked.TheVariants as walked;
+ghost use Rattle.cm_walk.specs.declared.walking.Step.TheVariants as step;
 ghost use Rattle.cm_world.specs.Next as to;
 ghost use Rattle.cm_world.specs.Route as spec;
 ghost use Rattle.cm_world.specs.Stations.{Station as Place};
@@ -16,7 +17,7 @@ use crate::next::{Next, next_of};
 use crate::station::{Station, expose_station, offer_station, use_station};
 use crate::trail::Trail;
 use cm_decl::Kind;
-use cm_names::{CapPath, Memory, Name};
+use cm_names::{CapPath, Memory, Name, Shared};
 use cm_world::{Hop, Start, StepKind, View, Walked, Why};
 use std::alloc::Global;
 
@@ -66,8 +67,32 @@ pub fn walk<V: View>(alloc: Global, view: &V, start: Start) -> Result<Walked, Me
     match begin(alloc, view, &start)? {
         Begun::At(station) => follow(alloc, view, station),
         Begun::NoUse => Ok(Walked::NoSuchUse),
-        Begun::NoneExposed(hop) => Ok(Walked::Failed(hop, Why::NoExpose)),
+        Begun::NoneExposed(hop) => failed(alloc, hop, Why::NoExpose),
     }
+}
+
+/// The walk that fails at this hop.
+fn failed(alloc: Global, hop: Hop, why: Why) -> Result<Walked, Memory>
+    ensures { IfOk result (λ made. made ≡ walked.Failed hop why) }
+{
+    let hop = Shared::new(alloc, hop)?;
+    Ok(Walked::Failed(hop, why))
+}
+
+/// The end of a walk that fails at this hop.
+fn done_failed(alloc: Global, hop: Hop, why: Why) -> Result<Step, Memory>
+    ensures { IfOk result (λ made. made ≡ step.Done (walked.Failed hop why)) }
+{
+    let walked = failed(alloc, hop, why)?;
+    Ok(Step::Done(walked))
+}
+
+/// The end of a walk at this hop, which leaves the capability out on purpose.
+fn done_void(alloc: Global, hop: Hop) -> Result<Step, Memory>
+    ensures { IfOk result (λ made. made ≡ step.Done (walked.Void hop)) }
+{
+    let hop = Shared::new(alloc, hop)?;
+    Ok(Step::Done(Walked::Void(hop)))
 }
 
 /// What the start names.
@@ -181,7 +206,7 @@ fn decide(alloc: Global, trail: Trail, here: Station, next: Next) -> Result<Step
         → EndsAt (as_station here) next → Decides front (as_station here) (as_next next) step) }
 {
     match refusal(&trail, &here.hop, &next) {
-        Some(why) => Ok(Step::Done(Walked::Failed(here.into_hop(), why))),
+        Some(why) => done_failed(alloc, here.into_hop(), why),
         None => go(alloc, trail, here, next),
     }
 }
@@ -206,9 +231,9 @@ fn go(alloc: Global, trail: Trail, here: Station, next: Next) -> Result<Step, Me
         Next::To(station) => go_on(trail, here, station),
         Next::Ends(path) => arrive(alloc, trail, here, path),
         Next::Needs(inc) => Ok(Step::Done(Walked::Need(inc))),
-        Next::FromVoid => Ok(Step::Done(Walked::Void(here.into_hop()))),
-        Next::NoChild => Ok(Step::Done(Walked::Failed(here.into_hop(), Why::NoInstance))),
-        Next::Misses(hop, why) => Ok(Step::Done(Walked::Failed(hop, why))),
+        Next::FromVoid => done_void(alloc, here.into_hop()),
+        Next::NoChild => done_failed(alloc, here.into_hop(), Why::NoInstance),
+        Next::Misses(hop, why) => done_failed(alloc, hop, why),
     }
 }
 
@@ -227,5 +252,6 @@ fn arrive(alloc: Global, trail: Trail, here: Station, path: CapPath) -> Result<S
         → path ≡ (as_station here).path → Leads front (as_station here) to.Ends step) }
 {
     let route = trail.into_route(alloc, here.into_hop(), &path)?;
+    let route = Shared::new(alloc, route)?;
     Ok(Step::Done(Walked::Given(route)))
 }

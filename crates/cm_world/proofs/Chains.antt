@@ -1,11 +1,11 @@
 -- Walks along routes, station by station.
-use Rattle.std.proofs.Common.{◌≡◌, List, [], ◌∷◌, ◌++◌, Bool, true, false, Option, Some, None, sym, ◌∙◌, ap, subst, true≢false, append-nil, append_assoc}
+use Rattle.std.proofs.Common.{◌≡◌, List, [], ◌∷◌, ◌++◌, Bool, true, false, Option, Some, None, sym, ◌∙◌, ap, subst, true≢false}
 use Rattle.cm_world.specs.declared.row.Row.{Row}
 use Rattle.cm_world.specs.declared.frame.Builtin.{Builtin}
 use Rattle.cm_world.specs.declared.route.Walked.{Walked}
 use Rattle.cm_world.specs.Stations.{Station}
-use Rattle.cm_world.specs.Next.{Next, To, next_of}
-use Rattle.cm_world.specs.Route.{Named, First, NoUse, NoneExposed, named_by, IsChain, IsDecided, IsWalkedFrom, trial, last_of}
+use Rattle.cm_world.specs.Next.{Next, To}
+use Rattle.cm_world.specs.Route.{Named, First, NoUse, NoneExposed, named_by, IsChain, IsDecided, IsWalkedFrom}
 use Rattle.cm_world.specs.Laws.{WalksOnce}
 
 -- the station behind a next, or the given one
@@ -53,27 +53,3 @@ walked_from_once rows builtins (NoneExposed hop) v w first second = first ∙ sy
 -- a walk comes to one answer
 pub walked_once : WalksOnce
 walked_once rows builtins begin v w first second = walked_from_once rows builtins (named_by rows begin) v w first second
-
--- a chain goes on by the next of its last station
-pub IsChain-push : (rows : List Row) (builtins : List Builtin) (s : Station) (ss : List Station) (t : Station) → IsChain rows builtins s ss → next_of rows builtins (last_of s ss) ≡ To t → IsChain rows builtins s (ss ++ t ∷ [])
-IsChain-push rows builtins s [] t chain next = (next, tt)
-IsChain-push rows builtins s (x ∷ xs) t chain next = (chain.0, IsChain-push rows builtins x xs t chain.1 next)
-
--- nothing is decided at any of these stations behind a front
-pub NoneDecided : List Row → List Builtin → List Station → List Station → Type 0
-NoneDecided rows builtins front [] = Unit {0}
-NoneDecided rows builtins front (s ∷ ss) =
-    (trial rows builtins front s ≡ None) × NoneDecided rows builtins (front ++ s ∷ []) ss
-
-pub NoneDecided-push : (rows : List Row) (builtins : List Builtin) (front ss : List Station) (s : Station) → NoneDecided rows builtins front ss → trial rows builtins (front ++ ss) s ≡ None → NoneDecided rows builtins front (ss ++ s ∷ [])
-unfolding NoneDecided
-NoneDecided-push rows builtins front [] s before none = (subst (λ f. trial rows builtins f s ≡ None) (append-nil front) none, tt)
-NoneDecided-push rows builtins front (x ∷ xs) s before none =
-    (before.0, NoneDecided-push rows builtins (front ++ x ∷ []) xs s before.1 (subst (λ f. trial rows builtins f s ≡ None) (sym (append_assoc front (x ∷ []) xs)) none))
-
--- where nothing is decided at the stations before, and something at the last one, that is the verdict
-pub decided_at_last : (rows : List Row) (builtins : List Builtin) (front : List Station) (s : Station) (ss : List Station) (t : Station) (v : Walked) → NoneDecided rows builtins front (s ∷ ss) → trial rows builtins (front ++ (s ∷ ss)) t ≡ Some v → IsDecided rows builtins front s (ss ++ t ∷ []) v
-unfolding NoneDecided
-decided_at_last rows builtins front s [] t v before found = (before.0, found)
-decided_at_last rows builtins front s (x ∷ xs) t v before found =
-    (before.0, decided_at_last rows builtins (front ++ s ∷ []) x xs t v before.1 (subst (λ f. trial rows builtins f t ≡ Some v) (sym (append_assoc front (s ∷ []) (x ∷ xs))) found))

@@ -22,11 +22,6 @@ pub replay-append : (w : World) (es fs : List Entry) → replay w (es ++ fs) ≡
 replay-append w [] fs = refl
 replay-append w (x ∷ xs) fs = replay-append (after w x) xs fs
 
--- a history is legal where its front is, and the rest in the world that the front leaves
-pub Legal-append : (w : World) (es fs : List Entry) → Legal w es → Legal (replay w es) fs → Legal w (es ++ fs)
-Legal-append w [] fs front rest = rest
-Legal-append w (x ∷ xs) fs front rest = (front.0, Legal-append (after w x) xs fs front.1 rest)
-
 -- and only there
 pub Legal-split : (w : World) (es fs : List Entry) → Legal w (es ++ fs) → Legal w es × Legal (replay w es) fs
 Legal-split w [] fs legal = (tt, legal)

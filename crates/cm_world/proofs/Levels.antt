@@ -1,5 +1,5 @@
 -- Which nodes of a level nothing depends on.
-use Rattle.std.proofs.Common.{◌≡◌, ◌≢◌, ℕ, List, [], ◌∷◌, Bool, true, false, cond, not, ◌&&◌, ◌||◌, ◌==◌, true≢false, Option, Some, None, is_some, refl, sym, ◌∙◌, ap, subst, IsTrue, inl, inr, ◌⊎◌}
+use Rattle.std.proofs.Common.{◌≡◌, ◌≢◌, ℕ, List, [], ◌∷◌, Bool, true, false, cond, not, ◌&&◌, ◌||◌, ◌==◌, true≢false, Option, Some, None, is_some, refl, sym, ◌∙◌, ap, subst, IsTrue, inl, inr}
 use Rattle.std.specs.List.{list_any, list_all}
 use Rattle.std.specs.Option.{option_map_or}
 use Rattle.std.specs.Cmp.{unsigned_Decides}
@@ -10,7 +10,7 @@ use Rattle.cm_decl.proofs.Sameness.{and_first, and_second, or_split}
 use Rattle.cm_world.specs.declared.row.Row.{Row}
 use Rattle.cm_world.specs.Rows.{row_of, decl_of, has_parent, is_live}
 use Rattle.cm_world.specs.Level.{is_child_row, is_level_node, level_edge, level_sources, is_from_row, LevelStrong, LevelOn}
-use Rattle.cm_world.specs.Stopping.{is_wholly_shut, IsFree}
+use Rattle.cm_world.specs.Stopping.{IsFree}
 use Rattle.cm_world.proofs.Finding.{row_of-inc, find-all}
 
 -- ---- an edge's facts
@@ -69,17 +69,6 @@ lone_free rows p x none silent z (v ∷ vs, way) = absurd (lone_level rows p z v
 -- a row whose declaration uses nothing of its children strongly has no sources at its own level
 pub own_level : (rows : List Row) (p : ℕ) (d : Decl) → decl_of rows p ≡ Some d → own_sources d ≡ [] → (z : ℕ) → IsTrue (z == p) → level_sources rows p z ≡ []
 own_level rows p d found none z same = rw (found, level_sources) (rw same none)
-
--- ---- freedom by what is shut
-
--- a set that has each node that depends directly on x or on one of the set has all that depends on x
-pub dependents_in : (rows : List Row) (p x : ℕ) (set : ℕ → Bool) → ((z y : ℕ) → LevelOn rows p z y → (y ≡ x) ⊎ IsTrue (set y) → IsTrue (set z)) → (z : ℕ) (between : List ℕ) → Way (LevelOn rows p) z between x → IsTrue (set z)
-dependents_in rows p x set closed z [] on = closed z x on (inl refl)
-dependents_in rows p x set closed z (y ∷ ys) way = closed z y way.0 (inr (dependents_in rows p x set closed y ys way.1))
-
--- where each node that depends directly on x or on a wholly shut node is wholly shut, x is free
-pub free_by_shut : (rows : List Row) (p x : ℕ) → ((z y : ℕ) → LevelOn rows p z y → (y ≡ x) ⊎ IsTrue (is_wholly_shut rows p y) → IsTrue (is_wholly_shut rows p z)) → IsFree rows p x
-free_by_shut rows p x closed z reach = dependents_in rows p x (is_wholly_shut rows p) closed z reach.0 reach.1
 
 -- ---- freedom of a child that no row depends on
 

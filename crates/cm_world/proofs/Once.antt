@@ -4,7 +4,7 @@ use Rattle.cm_names.specs.declared.child.ChildName.{ChildName}
 use Rattle.cm_decl.specs.declared.decl.Decl.{Decl}
 use Rattle.cm_decl.specs.declared.node.DynChild.{DynChild}
 use Rattle.cm_decl.specs.declared.rows.Give.{Give}
-use Rattle.cm_decl.specs.Graph.{strong_edge}
+use Rattle.cm_decl.specs.Graph.{is_strong_edge}
 use Rattle.cm_decl.proofs.Picking.{picks_once, picked_is_cycle}
 use Rattle.cm_world.specs.declared.row.Row.{Row}
 use Rattle.cm_world.specs.declared.frame.Builtin.{Builtin}
@@ -22,13 +22,13 @@ use Rattle.cm_world.proofs.Chains.{walked_once}
 use Rattle.cm_world.proofs.Finding.{some_same}
 
 creates_once : (limit : ℕ) (rows : List Row) (next : ℕ) (d : Decl) (dynamic : List DynChild) (r q : Reply) → Creates limit rows next d dynamic r → Creates limit rows next d dynamic q → r ≡ q
-creates_once limit rows next d dynamic (Cycle xs) (Cycle ys) first second = ap Cycle (picks_once (strong_edge d dynamic) xs ys first second)
-creates_once limit rows next d dynamic (Cycle xs) Full first second = absurd (second.0 (picked_is_cycle (strong_edge d dynamic) xs first))
-creates_once limit rows next d dynamic (Cycle xs) (Created i) first second = absurd (second.0 (picked_is_cycle (strong_edge d dynamic) xs first))
-creates_once limit rows next d dynamic Full (Cycle ys) first second = absurd (first.0 (picked_is_cycle (strong_edge d dynamic) ys second))
+creates_once limit rows next d dynamic (Cycle xs) (Cycle ys) first second = ap Cycle (picks_once (is_strong_edge d dynamic) xs ys first second)
+creates_once limit rows next d dynamic (Cycle xs) Full first second = absurd (second.0 (picked_is_cycle (is_strong_edge d dynamic) xs first))
+creates_once limit rows next d dynamic (Cycle xs) (Created i) first second = absurd (second.0 (picked_is_cycle (is_strong_edge d dynamic) xs first))
+creates_once limit rows next d dynamic Full (Cycle ys) first second = absurd (first.0 (picked_is_cycle (is_strong_edge d dynamic) ys second))
 creates_once limit rows next d dynamic Full Full first second = refl
 creates_once limit rows next d dynamic Full (Created i) first second = absurd (true≢false (sym second.1 ∙ first.1))
-creates_once limit rows next d dynamic (Created i) (Cycle ys) first second = absurd (first.0 (picked_is_cycle (strong_edge d dynamic) ys second))
+creates_once limit rows next d dynamic (Created i) (Cycle ys) first second = absurd (first.0 (picked_is_cycle (is_strong_edge d dynamic) ys second))
 creates_once limit rows next d dynamic (Created i) Full first second = absurd (true≢false (sym first.1 ∙ second.1))
 creates_once limit rows next d dynamic (Created i) (Created j) first second = ap Created (first.2 ∙ sym second.2)
 creates_once limit rows next d dynamic (Cycle xs) _ first second = absurd second

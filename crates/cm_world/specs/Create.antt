@@ -8,7 +8,7 @@ use Rattle.cm_decl.specs.declared.rows.Collection.{Collection}
 use Rattle.cm_decl.specs.declared.node.DynChild.{DynChild}
 use Rattle.cm_decl.specs.declared.rows.Give.{Give}
 use Rattle.cm_decl.specs.Dynamic.{bad_give}
-use Rattle.cm_decl.specs.Graph.{StrongOn, strong_edge}
+use Rattle.cm_decl.specs.Graph.{StrongOn, is_strong_edge}
 use Rattle.cm_decl.specs.Cycle.{IsPickedCycle}
 use Rattle.cm_decl.specs.Reach.{NoCycle}
 use Rattle.cm_world.specs.declared.row.Row.{Row}
@@ -86,7 +86,7 @@ refused_create rows p coll name gives =
 
 -- where nothing refuses it but the realm graph, which must have no cycle, or the room for rows
 abbrev pub Creates : ℕ → List Row → ℕ → Decl → List DynChild → Reply → Type 0
-Creates limit rows next d dynamic (Cycle nodes) = IsPickedCycle (strong_edge d dynamic) nodes
+Creates limit rows next d dynamic (Cycle nodes) = IsPickedCycle (is_strong_edge d dynamic) nodes
 Creates limit rows next d dynamic Full =
     NoCycle (StrongOn d dynamic) × (rows_fit limit rows next 1 ≡ false)
 Creates limit rows next d dynamic (Created i) =

@@ -4,7 +4,7 @@
 //! work, and the tree goes on: nobody else begins an action at the same instance meanwhile.
 
 use cm_decl::{Decl, Section};
-use cm_names::{List, Moniker, Name, Plain, Text};
+use cm_names::{List, Moniker, Name, Plain, Shared, Text};
 
 /// What an action does to an instance.
 ///
@@ -80,7 +80,7 @@ impl Plain for Outcome {
 #[derive(Drop)]
 pub enum Finish {
     /// A resolve found this absolute URL and this declaration.
-    Resolved(Text, Decl),
+    Resolved(Text, Shared<Decl>),
     /// Every other end.
     Other(Outcome),
 }

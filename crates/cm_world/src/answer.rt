@@ -2,7 +2,7 @@
 
 use crate::{Hop, Kid, Look, Outcome, Route, SurveyRow, Why};
 use cm_decl::Node;
-use cm_names::{CapPath, List, Moniker};
+use cm_names::{CapPath, List, Moniker, Shared};
 
 /// Why a command was refused. The number in front is the one that is printed; a number inside is
 /// the incarnation of an instance, unless the variant says otherwise.
@@ -47,9 +47,9 @@ pub enum Refusal {
     /// 86: the instance has no use of that path.
     NoSuchUse,
     /// 87: there is no route: the first hop that fails, and why.
-    NoRoute(Hop, Why),
+    NoRoute(Shared<Hop>, Why),
     /// 88: the capability is left out on purpose, by this hop.
-    VoidSource(Hop),
+    VoidSource(Shared<Hop>),
     /// 89: the instance can't provide anything: it is shut down, or is being shut down.
     SourceShut(u64),
     /// Memory ran out. It has no number.
@@ -65,7 +65,7 @@ pub struct Checked {
     pub path: Option<CapPath>,
     /// The route of the use, or why it has none; `NoSuchUse` for an instance that isn't
     /// resolved.
-    pub result: Result<Route, Refusal>,
+    pub result: Result<Shared<Route>, Refusal>,
 }
 
 /// What a command is answered where it isn't refused.
@@ -87,9 +87,9 @@ pub enum Answer {
     /// The children, by their incarnations.
     Children(List<Kid>),
     /// The capability has been opened by this route.
-    Opened(Route),
+    Opened(Shared<Route>),
     /// The route by which the capability is given.
-    Routed(Route),
+    Routed(Shared<Route>),
     /// How the instance is.
     Shown(Look),
     /// How the instances are, by their incarnations.

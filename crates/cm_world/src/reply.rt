@@ -2,7 +2,7 @@
 
 use crate::{Event, Hop, Kid, Look, Lost, Outcome, Route, SurveyRow, Why, Work};
 use cm_decl::Node;
-use cm_names::{List, Moniker, Plain};
+use cm_names::{List, Moniker, Plain, Shared};
 
 /// The reply to an event. A number is the incarnation of an instance, unless the variant says
 /// otherwise.
@@ -65,13 +65,13 @@ pub enum Reply {
     /// This instance has to be started first.
     NeedStart(u64),
     /// There is no route: the first hop that fails, and why.
-    Failed(Hop, Why),
+    Failed(Shared<Hop>, Why),
     /// The capability is left out on purpose, by this hop.
-    Void(Hop),
+    Void(Shared<Hop>),
     /// The route by which the capability is given.
-    Given(Route),
+    Given(Shared<Route>),
     /// The capability has been opened by this route.
-    Opened(Route),
+    Opened(Shared<Route>),
     /// The children, by their incarnations.
     Listed(List<Kid>),
     /// How the instance is.

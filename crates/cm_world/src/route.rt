@@ -4,7 +4,7 @@
 //! capabilities of Fuchsia's component framework (fuchsia.dev).
 
 use cm_decl::Kind;
-use cm_names::{Availability, CapPath, List, Moniker, Name, Plain, Rights, Text};
+use cm_names::{Availability, CapPath, List, Moniker, Name, Plain, Rights, Shared, Text};
 
 /// What a hop of a route is.
 #[derive(Clone, Copy, PartialEq, Eq)]
@@ -131,13 +131,13 @@ pub enum Start {
 #[derive(Drop, Clone)]
 pub enum Walked {
     /// The capability is given by this route.
-    Given(Route),
+    Given(Shared<Route>),
     /// There is no route: the first hop that fails, and why.
-    Failed(Hop, Why),
+    Failed(Shared<Hop>, Why),
     /// The walk needs the declaration of this instance, which isn't resolved.
     Need(u64),
     /// The capability is left out on purpose, by this hop.
-    Void(Hop),
+    Void(Shared<Hop>),
     /// The instance has no use of that path, or no offer at that index.
     NoSuchUse,
 }

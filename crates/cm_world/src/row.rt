@@ -2,7 +2,7 @@
 
 use crate::ActKind;
 use cm_decl::{Decl, Give};
-use cm_names::{ChildName, List, Text};
+use cm_names::{ChildName, List, Shared, Text};
 
 /// A component instance that lives.
 ///
@@ -22,7 +22,7 @@ pub struct Row {
     /// Its absolute URL, once it is resolved.
     pub absolute: Option<Text>,
     /// Its declaration, once it is resolved.
-    pub decl: Option<Decl>,
+    pub decl: Option<Shared<Decl>>,
     /// Whether its program runs.
     pub on: bool,
     /// The action that was begun here and hasn't ended, with its number.

@@ -10,14 +10,16 @@ mod tests;
 
 ghost use Rattle.std.specs.Prelude.{◌≡◌, IfOk, length};
 
-use cm_gate::FolderGates;
-use cm_io::{Reading, SocketDoor, Writing};
+use cm_gate::{FolderGates, Gates};
+use cm_io::{Door, Reading, Sink, SocketDoor, Source, Writing};
 use cm_names::{List, Memory, Text};
 use cm_program::{Ran, run, want_of_memory};
 use std::alloc::Global;
 use std::io::ErrorKind;
 use std::process::ExitCode;
 use std::rt::Files;
+use std::sync::Wait;
+use std::thread::Threads;
 use std::{env, io};
 
 /// The words behind the program's name. Words that can't be read are no words of a command.
@@ -54,6 +56,31 @@ fn folder_gates<F: Files + Copy + Drop>(
     Ok(gates)
 }
 
+/// The top call, of which nobody here has to read what it promises.
+fn perform<
+    R: Threads + Wait + Sync,
+    S: Source,
+    K: Sink,
+    E: Sink,
+    D: Door + Send,
+    G: Gates + Send + Drop,
+>(
+    rt: &R,
+    alloc: Global,
+    words: &[Text],
+    input: &mut S,
+    out: &mut K,
+    err: &mut E,
+    door: D,
+    gates: List<G>,
+) -> Ran<D, D::Link, G>
+where
+    D::Link: Send,
+    requires { length gates ≡ 16 }
+{
+    run::run(rt, alloc, words, input, out, err, door, gates)
+}
+
 fn main(rt: HostRuntime) -> ExitCode {
     let mut input = Reading::new(rt.stdin());
     let output = rt.stdout();
@@ -66,7 +93,7 @@ fn main(rt: HostRuntime) -> ExitCode {
     let Ok(gates) = folder_gates(rt.alloc(), rt) else {
         return ExitCode::from(want_of_memory(&rt, &mut err));
     };
-    let ran = run::run(
+    let ran = perform(
         &rt,
         rt.alloc(),
         words.as_slice(),

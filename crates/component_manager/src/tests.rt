@@ -9,6 +9,7 @@ mod doors;
 mod ends;
 mod gates;
 mod generated;
+mod histories;
 mod input;
 mod journals;
 mod manifests;
@@ -18,6 +19,7 @@ mod player;
 mod reading;
 mod realms;
 mod refusals;
+mod repeated;
 mod routes;
 mod serving;
 mod sockets;
@@ -49,13 +51,16 @@ fn table_of(number: u8) -> &'static str {
         17 => journals::STOPS,
         18 => journals::CREATES,
         19 => gates::PLANS,
+        20 => histories::HISTORIES,
+        21 => routes::RIGHTS,
+        22 => routes::AVAILABILITY,
         _ => "",
     }
 }
 
 #[test]
 fn runs_come_to_their_ends(rt: HostRuntime) -> Result<(), Fail> {
-    for number in 0..20 {
+    for number in 0..23 {
         let odd = player::odd_cases(&rt, rt.alloc(), table_of(number))?;
         assert!(rt; odd.is_empty(), "table {number}: {odd}");
     }
@@ -86,16 +91,8 @@ fn sockets_are_served(rt: HostRuntime) -> Result<(), Fail> {
         move || sockets::serve(&rt, alloc, SocketDoor::new(rt)),
         move || sockets::ask(&rt, alloc),
     );
-    let Some((status, links, mut door)) = served else {
-        return Err(Fail::from("nothing was served"));
-    };
-    let Some(told) = told else {
-        return Err(Fail::from("a client was not served"));
-    };
-    door.close();
-    assert_eq!(rt; status, 0);
-    assert_eq!(rt; links, 3);
-    assert_eq!(rt; told.as_slice(), sockets::TOLD.as_bytes());
+    assert!(rt; sockets::closed(served) == Some((0, 3)));
+    assert!(rt; told == [true; 3], "{told:?}");
     // The socket file is gone.
     fs::remove_dir(&rt, "socket_folder")?;
     Ok(())

@@ -106,7 +106,10 @@ fn in_parts(alloc: Global) -> Option<Text> {
 
 fn is_in_parts(alloc: Global, text: Text) -> bool {
     let is_so = text.len() == 4 && !text.is_empty() && Text::new(alloc) < text;
-    is_so && text.into_string().as_str() == "abc7"
+    match text.into_string() {
+        Ok(whole) => is_so && whole.as_str() == "abc7",
+        Err(_) => false,
+    }
 }
 
 #[test]

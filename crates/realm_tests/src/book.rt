@@ -1,7 +1,8 @@
-use cm_book::*;
+//! A book, as it fills.
+
+use cm_book::{Book, BookFault};
 use cm_world::{Entry, Event, Reply};
 use std::alloc::Global;
-use std::test::Fail;
 
 fn entry(caller: u32) -> Entry {
     Entry {
@@ -11,24 +12,45 @@ fn entry(caller: u32) -> Entry {
     }
 }
 
-fn small(alloc: Global) -> Result<Book, BookFault> {
-    let mut book = Book::new(alloc, 3);
-    book.reserve(2)?;
-    if book.reserved() == 2 {
+/// Reserves room for two entries in an empty book, and puts down one: whether there was room.
+fn put_first(book: &mut Book) -> bool {
+    if book.reserve(2) == Ok(()) && book.reserved() == 2 {
         book.push_reserved(entry(7));
+        return true;
     }
-    Ok(book)
+    false
+}
+
+/// Gives up room for two entries: whether so much was reserved.
+fn give_up(book: &mut Book) -> bool {
+    if book.reserved() == 2 {
+        book.release(2);
+        return true;
+    }
+    false
+}
+
+/// Whether an empty book of three entries tells its room as it fills.
+fn fills(book: &mut Book) -> [bool; 6] {
+    [
+        put_first(book) && book.entries().len() == 1,
+        book.fits(1) && !book.fits(2),
+        book.reserve(2) == Err(BookFault::HistoryFull),
+        book.reserve(1) == Ok(()),
+        give_up(book),
+        book.fits(2),
+    ]
+}
+
+fn filled(alloc: Global) -> [bool; 6] {
+    let mut book = Book::new(alloc, 3);
+    let told = fills(&mut book);
+    drop(book);
+    told
 }
 
 #[test]
-fn keeps_a_history(rt: HostRuntime) -> Result<(), Fail> {
-    let mut book = small(rt.alloc())?;
-    assert!(rt; book.entries().len() == 1);
-    assert!(rt; book.fits(1) && !book.fits(2));
-    assert!(rt; book.reserve(2) == Err(BookFault::HistoryFull));
-    assert!(rt; book.reserve(1) == Ok(()));
-    assert!(rt; book.reserved() == 2);
-    book.release(2);
-    assert!(rt; book.fits(2));
-    Ok(())
+fn keeps_a_history(rt: HostRuntime) {
+    let told = filled(rt.alloc());
+    assert!(rt; told == [true; 6], "{told:?}");
 }

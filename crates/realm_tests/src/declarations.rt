@@ -31,7 +31,10 @@ pub fn prepared(alloc: Global, manifest: &str) -> Option<Prepared>
     match valid_of(alloc, manifest) {
         Some(valid) => match Text::from_str(alloc, "fuchsia-pkg://t/a#x") {
             Ok(url) => prepared_at(alloc, valid, url),
-            Err(_) => None,
+            Err(_) => {
+                drop(valid);
+                None
+            }
         },
         None => None,
     }

@@ -21,8 +21,15 @@ pub fn begun(
     ensures { IfOk result (CanEnd (world_of realm.new) kind) }
 {
     match realm.begin(alloc, 0, kind, inc) {
-        Ok(Reply::Begun(work)) => Ok(work.action),
-        Ok(_other) => Err(None),
+        Ok(Reply::Begun(work)) => {
+            let action = work.action;
+            drop(work);
+            Ok(action)
+        }
+        Ok(other) => {
+            drop(other);
+            Err(None)
+        }
         Err(no_step) => Err(Some(no_step)),
     }
 }
@@ -39,7 +46,7 @@ fn act(
 {
     match begun(realm, alloc, kind, inc) {
         Ok(action) => {
-            realm.end(0, action, Ending::Other(outcome));
+            drop(realm.end(0, action, Ending::Other(outcome)));
             None
         }
         Err(refused) => refused,
@@ -49,11 +56,6 @@ fn act(
 /// Begins a start, and ends it well where it begins.
 pub fn started(realm: &mut Realm, alloc: Global, inc: u64) -> Option<NoStep> {
     act(realm, alloc, ActKind::Start, inc, Outcome::Started)
-}
-
-/// Begins a start, and declines it where it begins.
-pub fn declined(realm: &mut Realm, alloc: Global, inc: u64) -> Option<NoStep> {
-    act(realm, alloc, ActKind::Start, inc, Outcome::Declined)
 }
 
 /// Begins a stop, and ends it by force where it begins.
@@ -72,7 +74,7 @@ pub fn resolve(
     match begun(realm, alloc, ActKind::Resolve, inc) {
         Ok(action) => match prepared(alloc, manifest) {
             Some(prepared) => {
-                realm.end(0, action, Ending::Resolved(prepared));
+                drop(realm.end(0, action, Ending::Resolved(prepared)));
                 Some(None)
             }
             None => None,

@@ -32,7 +32,10 @@ fn join(realm: &mut Realm, alloc: Global, inc: u64, begun: u64) -> Option<NoStep
             decline_joined(realm, begun, action);
             None
         }
-        Ok(_other) => None,
+        Ok(other) => {
+            drop(other);
+            None
+        }
         Err(no_step) => Some(no_step),
     }
 }
@@ -58,7 +61,10 @@ fn hears_nothing(realm: &mut Realm, action: u64) -> Result<(), u64>
     ensures { OnOk result (realm.new ≡ realm.old) }
 {
     match realm.await_end(1, action) {
-        Some(_early) => Err(action),
+        Some(early) => {
+            drop(early);
+            Err(action)
+        }
         None => Ok(()),
     }
 }
@@ -68,27 +74,32 @@ fn decline(realm: &mut Realm, begun: u64)
     requires { MayEnd (world_of realm.old).acts 0 begun (finish.Other outcome.Declined) }
     ensures { (a : ℕ) → IsJoined (world_of realm.old) 1 a → IsJoined (world_of realm.new) 1 a }
 {
-    realm.end(0, begun, Ending::Other(Outcome::Declined));
+    drop(realm.end(0, begun, Ending::Other(Outcome::Declined)));
 }
 
 /// Awaits for caller 1 an action that it joined.
 fn hear(realm: &mut Realm, action: u64)
     requires { IsJoined (world_of realm.old) 1 action }
 {
-    realm.await_end(1, action);
+    drop(realm.await_end(1, action));
 }
 
-/// Begins to start an instance for caller 0, and lets caller 1 mark it to be destroyed: why caller 1
-/// makes no pick for it. Then the start ends well.
-pub fn doom_while_starting(realm: &mut Realm, alloc: Global, inc: u64) -> Option<NoStep> {
+/// Begins to start an instance for caller 0, and lets caller 1 mark one to be destroyed: why caller 1
+/// makes no pick for that. Then the start ends well.
+pub fn doom_while_starting(
+    realm: &mut Realm,
+    alloc: Global,
+    inc: u64,
+    doomed: u64,
+) -> Option<NoStep> {
     match begun(realm, alloc, ActKind::Start, inc) {
-        Ok(action) => doom(realm, alloc, inc, action),
+        Ok(action) => doom(realm, alloc, doomed, action),
         Err(refused) => refused,
     }
 }
 
-/// Marks an instance for caller 1, whose start caller 0 has begun, and ends the start behind a pick
-/// that isn't made.
+/// Marks an instance for caller 1, and ends the start that caller 0 has begun behind a pick that isn't
+/// made.
 fn doom(realm: &mut Realm, alloc: Global, inc: u64, begun: u64) -> Option<NoStep>
     requires { MayEnd (world_of realm.old).acts 0 begun (finish.Other outcome.Started) }
 {
@@ -106,7 +117,10 @@ fn marked(realm: &mut Realm, inc: u64) -> Result<(), Option<NoStep>>
     let _entries = realm.entries();
     match realm.mark(1, true, inc) {
         Ok(Reply::Marked) => Ok(()),
-        Ok(_other) => Err(None),
+        Ok(other) => {
+            drop(other);
+            Err(None)
+        }
         Err(no_step) => Err(Some(no_step)),
     }
 }
@@ -118,7 +132,7 @@ fn end_behind_pick(realm: &mut Realm, alloc: Global, inc: u64, begun: u64) -> Op
 {
     match waited_for(realm, alloc, inc) {
         Ok(action) => {
-            realm.end(0, begun, Ending::Other(Outcome::Started));
+            drop(realm.end(0, begun, Ending::Other(Outcome::Started)));
             Some(NoStep::Busy(action))
         }
         Err(no_step) => Some(no_step),
@@ -132,8 +146,11 @@ fn waited_for(realm: &mut Realm, alloc: Global, inc: u64) -> Result<u64, NoStep>
     ensures { OnOk result (realm.new ≡ realm.old) }
 {
     match realm.pick(alloc, 1, inc) {
+        Ok(reply) => {
+            drop(reply);
+            Err(NoStep::Memory)
+        }
         Err(NoStep::Busy(action)) => Ok(action),
         Err(no_step) => Err(no_step),
-        Ok(_) => Err(NoStep::Memory),
     }
 }

@@ -18,7 +18,11 @@ fn realm_with(alloc: Global, head: &str) -> Option<Realm> {
 pub fn told(alloc: Global, case: &str) -> Option<Text> {
     let (head, steps) = case.split_once('\n')?;
     match realm_with(alloc, head) {
-        Some(mut realm) => told_in(alloc, &mut realm, steps),
+        Some(mut realm) => {
+            let told = told_in(alloc, &mut realm, steps);
+            drop(realm);
+            told
+        }
         None => None,
     }
 }
@@ -56,12 +60,19 @@ fn run_once_behind(alloc: Global, realm: &mut Realm, steps: &str) -> Option<[boo
     Some(run_once(realm))
 }
 
+/// That, in a new realm.
+fn run_once_in_new(alloc: Global, steps: &str) -> Option<[bool; 4]> {
+    match realm_of(alloc, 9, 99) {
+        Some(mut realm) => {
+            let once = run_once_behind(alloc, &mut realm, steps);
+            drop(realm);
+            once
+        }
+        None => None,
+    }
+}
+
 #[test]
 fn tells_what_runs_once(rt: HostRuntime) {
-    let alloc = rt.alloc();
-    let once = match realm_of(alloc, 9, 99) {
-        Some(mut realm) => run_once_behind(alloc, &mut realm, ONCE),
-        None => None,
-    };
-    assert!(rt; once == Some([false, true, false, false]));
+    assert!(rt; run_once_in_new(rt.alloc(), ONCE) == Some([false, true, false, false]));
 }

@@ -5,7 +5,7 @@
 //! history.
 
 use crate::cases::manifest_of;
-use crate::endings::{declined, killed, resolve, started};
+use crate::endings::{killed, resolve, started};
 use crate::meanwhile::{doom_while_starting, join_and_decline};
 use crate::words::{line_of, moniker_of, name_of, path_of};
 use cm_names::{List, Memory, Name, Text};
@@ -59,7 +59,6 @@ fn look(
         "find" => find(realm, alloc, caller, word),
         "show" => Some(show(realm, alloc, caller, inc)),
         "list" => list(realm, alloc, caller, inc, word),
-        "survey" => Some(survey(realm, alloc, caller, inc)),
         "tail" => tail(realm, caller, inc, word),
         "route" => route(realm, alloc, caller, inc, word),
         "open" => open_use(realm, alloc, caller, inc, word),
@@ -100,10 +99,12 @@ fn end(
     match verb {
         "resolve" => resolve(realm, alloc, inc, manifest_of(word)),
         "started" => Some(started(realm, alloc, inc)),
-        "declined" => Some(declined(realm, alloc, inc)),
         "killed" => Some(killed(realm, alloc, inc)),
         "join-and-decline" => Some(join_and_decline(realm, alloc, inc)),
-        "doom-while-starting" => Some(doom_while_starting(realm, alloc, inc)),
+        "doom-while-starting" => {
+            let doomed = word.parse().ok()?;
+            Some(doom_while_starting(realm, alloc, inc, doomed))
+        }
         _ => None,
     }
 }
@@ -116,10 +117,6 @@ fn find(realm: &mut Realm, alloc: Global, caller: u32, word: &str) -> Option<Opt
 
 fn show(realm: &mut Realm, alloc: Global, caller: u32, inc: u64) -> Option<NoStep> {
     realm.show(alloc, caller, inc).err()
-}
-
-fn survey(realm: &mut Realm, alloc: Global, caller: u32, inc: u64) -> Option<NoStep> {
-    realm.survey(alloc, caller, inc).err()
 }
 
 /// Lists the children in a collection.

@@ -20,7 +20,10 @@ pub fn fresh(alloc: Global) -> Option<Table>
     match Table::new(alloc, root, List::new(alloc), 4) {
         Ok(mut table) => match table.reserve(2) {
             Ok(()) => Some(table),
-            Err(_) => None,
+            Err(_) => {
+                drop(table);
+                None
+            }
         },
         Err(_) => None,
     }
@@ -110,11 +113,20 @@ fn changes_rows(alloc: Global, table: &mut Table) -> [bool; 7] {
     ]
 }
 
+/// That, of a fresh table.
+fn changes_fresh_rows(alloc: Global) -> [bool; 7] {
+    match fresh(alloc) {
+        Some(mut table) => {
+            let told = changes_rows(alloc, &mut table);
+            drop(table);
+            told
+        }
+        None => [false; 7],
+    }
+}
+
 #[test]
 fn rows_change(rt: HostRuntime) {
-    let told = match fresh(rt.alloc()) {
-        Some(mut table) => changes_rows(rt.alloc(), &mut table),
-        None => [false; 7],
-    };
+    let told = changes_fresh_rows(rt.alloc());
     assert!(rt; told == [true; 7], "{told:?}");
 }

@@ -56,17 +56,27 @@ fn declared(alloc: Global, manifest: &str) -> Option<Table> {
 fn settled(alloc: Global, prepared: Prepared) -> Option<Table> {
     match fresh(alloc) {
         Some(mut table) => {
-            table.settle(0, prepared);
+            drop(table.settle(0, prepared));
             Some(table)
         }
-        None => None,
+        None => {
+            drop(prepared);
+            None
+        }
     }
 }
 
 fn told_in(alloc: Global, table: Option<Table>, start: Start) -> Option<Text> {
     match table {
-        Some(table) => told_by(alloc, reached(alloc, &table, start)),
-        None => None,
+        Some(table) => {
+            let reply = reached(alloc, &table, start);
+            drop(table);
+            told_by(alloc, reply)
+        }
+        None => {
+            drop(start);
+            None
+        }
     }
 }
 
@@ -91,14 +101,16 @@ fn reply_of(walked: Walked) -> Reply {
 /// A reply as a history has it, with a line feed behind it.
 fn told_by(alloc: Global, reply: Option<Reply>) -> Option<Text> {
     match reply {
-        Some(reply) => told_at(
-            alloc,
-            &Entry {
+        Some(reply) => {
+            let entry = Entry {
                 caller: 0,
                 event: Event::Show(0),
                 reply,
-            },
-        ),
+            };
+            let told = told_at(alloc, &entry);
+            drop(entry);
+            told
+        }
         None => None,
     }
 }

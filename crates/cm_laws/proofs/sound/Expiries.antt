@@ -5,6 +5,7 @@ use Rattle.std.proofs.Common.{◌&&◌, ◌==◌, Option, Some, None, IsSome, is
 use Rattle.std.proofs.Common.{option_and_then, IsTrue, refl, sym, ◌∙◌, ap, subst, arith, append_assoc, inl, inr, ◌⊎◌}
 use Rattle.std.specs.Option.{option_map_or}
 use Rattle.std.specs.Cmp.{unsigned_Decides}
+use Rattle.std.proofs.lemmas.Bool.{false_from_ne_true}
 use Rattle.cm_names.specs.declared.child.ChildName.{ChildName}
 use Rattle.cm_decl.specs.declared.decl.Decl.{Decl}
 use Rattle.cm_decl.proofs.Sameness.{and_first, and_second, never}
@@ -171,14 +172,10 @@ tasked_expired_by o i rows acts it = tasked_if (is_stopped o) i rows acts it
 
 -- ---- one row after another
 
-not_so : (b : Bool) → (IsTrue b → ⊥) → b ≡ false
-not_so true wrong = absurd (wrong refl)
-not_so false wrong = refl
-
 apart : (y x : Row) (rest : List Row) → ((s : ℕ) → IsSome (row_of rest s) → y.inc < s) → row_of rest x.inc ≡ Some x → (y.inc == x.inc) ≡ false
 apart y x rest low lives =
     let less : y.inc < x.inc = low x.inc (ap is_some lives) in
-    not_so (y.inc == x.inc) (λ same. let is : y.inc ≡ x.inc = (unsigned_Decides y.inc x.inc).0 same in absurd (omega arith))
+    false_from_ne_true (y.inc == x.inc) (λ same. let is : y.inc ≡ x.inc = (unsigned_Decides y.inc x.inc).0 same in absurd (omega arith))
 
 -- a row of a list whose incarnations rise is found there
 found_here : (pre : List Row) (x : Row) (xs : List Row) (next : ℕ) → IsRising next (pre ++ x ∷ xs) → row_of (pre ++ x ∷ xs) x.inc ≡ Some x

@@ -1,10 +1,9 @@
 -- What a reply says of the tree that it was given in.
-use Rattle.std.proofs.Common.{◌≡◌, ℕ, List, [], ◌∷◌, Bool, true, false, cond, not, ◌&&◌, ◌||◌, true≢false, Option, Some, None, is_some, option_map, IsTrue, refl, sym, ◌∙◌, ap, inl, inr}
+use Rattle.std.proofs.Common.{◌≡◌, ℕ, List, Bool, true, false, cond, not, ◌&&◌, ◌||◌, true≢false, Option, Some, None, is_some, IsTrue, refl, sym, ◌∙◌, ap, inl, inr}
 use Rattle.std.specs.Option.{option_map_or}
 use Rattle.cm_decl.specs.declared.decl.Decl.{Decl}
 use Rattle.cm_decl.specs.declared.rows.Collection.{Collection}
 use Rattle.cm_decl.specs.declared.rows.Give.{Give}
-use Rattle.cm_decl.specs.Dynamic.{bad_give}
 use Rattle.cm_decl.specs.Graph.{StrongOn}
 use Rattle.cm_decl.specs.Reach.{NoCycle}
 use Rattle.cm_world.specs.declared.row.Row.{Row}
@@ -12,7 +11,7 @@ use Rattle.cm_world.specs.declared.reply.Reply.{Reply}
 use Rattle.cm_world.specs.declared.reply.Reply.TheVariants as reply
 use Rattle.cm_world.specs.declared.report.Lost.{Lost}
 use Rattle.cm_world.specs.Rows.{row_of, decl_of, child_of, is_gone, is_closed, is_closing, is_shut, is_below, is_subtree_shut, has_closing}
-use Rattle.cm_world.specs.Create.{collection_of, refused_gives, refused_name, refused_by, refused_create, CreatesUnder, CreatesUnless, IsCreateReply, dynamic_name, dynamic_with, is_child_there}
+use Rattle.cm_world.specs.Create.{collection_of, refused_gives, refused_name, refused_by, refused_create, CreatesUnder, CreatesUnless, IsCreateReply, dynamic_name, dynamic_with}
 use Rattle.cm_world.specs.Marks.{is_dynamic, purge_reply}
 use Rattle.cm_world.specs.Step.{may_purge}
 use Rattle.cm_world.specs.Sound.{IsOrderly}
@@ -20,7 +19,7 @@ use Rattle.cm_world.specs.Stopping.{MayPick}
 use Rattle.cm_world.proofs.Finding.{none_some, find-passes}
 use Rattle.cm_decl.proofs.Sameness.{and_first, and_second}
 use Rattle.cm_order.proofs.Trees.{climb, below_cases, below_lives}
-use Rattle.cm_laws.proofs.Answered.{passes_or, or_passes}
+use Rattle.cm_laws.proofs.Answered.{passes_or, PassesRefusals, refused_passes}
 use Rattle.cm_laws.proofs.sound.Above.{above_here, above_up}
 
 -- ---- a create
@@ -30,33 +29,8 @@ abbrev pub is_uncreated : Reply → Bool
 is_uncreated (reply.Created i) = false
 is_uncreated _ = true
 
-bad_uncreated : (o : Option (ℕ × ℕ)) → passes_or is_uncreated (option_map (λ bad. reply.BadOffer bad.0 bad.1) o) ≡ true
-bad_uncreated None = refl
-bad_uncreated (Some bad) = refl
-
-gives_uncreated : (rows : List Row) (p : ℕ) (d : Decl) (coll : Collection) (gives : List Give) → passes_or is_uncreated (refused_gives rows p d coll gives) ≡ true
-gives_uncreated rows p d coll [] = refl
-gives_uncreated rows p d coll (g ∷ gs) =
-    or_passes is_uncreated coll.dynamic_offers _ _ (bad_uncreated (bad_give d (is_child_there rows p) coll.name (g ∷ gs))) refl
-
-name_uncreated : (rows : List Row) (p : ℕ) (d : Decl) (coll : Collection) (gives : List Give) (o : Option ℕ) → passes_or is_uncreated (elim o as (λ _. Option Reply) [ Some i ↦ Some (reply.Exists i) | None ↦ refused_gives rows p d coll gives ]) ≡ true
-name_uncreated rows p d coll gives (Some i) = refl
-name_uncreated rows p d coll gives None = gives_uncreated rows p d coll gives
-
-by_uncreated : (rows : List Row) (p : ℕ) (d : Decl) (coll name : List ℕ) (gives : List Give) (o : Option Collection) → passes_or is_uncreated (elim o as (λ _. Option Reply) [ None ↦ Some reply.NoCollection | Some c ↦ refused_name rows p d c (dynamic_name coll name) gives ]) ≡ true
-by_uncreated rows p d coll name gives None = refl
-by_uncreated rows p d coll name gives (Some c) =
-    name_uncreated rows p d c gives (child_of rows p (dynamic_name coll name))
-
-under_uncreated : (rows : List Row) (p : ℕ) (coll name : List ℕ) (gives : List Give) (o : Option Decl) → passes_or is_uncreated (elim o as (λ _. Option Reply) [ None ↦ Some (reply.Need p) | Some d ↦ refused_by rows p d coll name gives ]) ≡ true
-under_uncreated rows p coll name gives None = refl
-under_uncreated rows p coll name gives (Some d) = by_uncreated rows p d coll name gives (collection_of d coll)
-
--- no refusal is that reply
-refused_uncreated : (rows : List Row) (p : ℕ) (coll name : List ℕ) (gives : List Give) → passes_or is_uncreated (refused_create rows p coll name gives) ≡ true
-refused_uncreated rows p coll name gives =
-    or_passes is_uncreated (is_gone rows p) _ _ refl
-    (or_passes is_uncreated (is_closed rows p) _ _ refl (under_uncreated rows p coll name gives (decl_of rows p)))
+refusals_uncreated : PassesRefusals is_uncreated
+refusals_uncreated = record { gone = λ i. refl; closing = λ i. refl; need = λ i. refl; no_collection = refl; exists = λ i. refl; offers = refl; bad = λ i n. refl }
 
 -- a new child: its parent isn't closed and has a declaration, no child has its name, its siblings don't depend on each other
 -- in a ring, and it has the next incarnation
@@ -104,7 +78,7 @@ module _ (rows : List Row) (limit next p : ℕ) (coll name : List ℕ) (gives : 
 
   pub creating : IsCreateReply limit rows next p coll name gives (reply.Created i) → IsCreating rows next p coll name gives i
   creating it =
-      creating_by (refused_create rows p coll name gives) refl (refused_uncreated rows p coll name gives) it
+      creating_by (refused_create rows p coll name gives) refl (refused_passes is_uncreated refusals_uncreated rows p coll name gives) it
 
 -- a row that isn't closed isn't shut
 pub open_unshut : (rows : List Row) (i : ℕ) (r : Row) → row_of rows i ≡ Some r → is_closed rows i ≡ false → r.shut ≡ false

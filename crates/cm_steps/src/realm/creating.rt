@@ -11,7 +11,7 @@ ghost use Rattle.cm_steps.specs.Answers.{CreatesBy};
 use super::Realm;
 use crate::nostep::NoStep;
 use crate::replies::creating::{CreateAnswer, create_answer};
-use crate::rooms::add_row;
+use crate::rooms::{add_row, put_down};
 use cm_decl::Give;
 use cm_laws::trees_stay_sound;
 use cm_names::{List, Name, Text};
@@ -116,11 +116,12 @@ impl Realm {
             &url,
             &gives,
         )?;
-        self.book.push_reserved(Entry {
+        let entry = Entry {
             caller,
             event: Event::Create(parent, coll, name, url, gives),
             reply: Reply::Created(inc),
-        });
+        };
+        put_down(&mut self.book, &mut self.keeper, entry, false);
         Ok(Reply::Created(inc))
     }
 }

@@ -13,9 +13,9 @@ ghost use Rattle.cm_steps.specs.Ends.{finish_of};
 
 use super::Realm;
 use crate::ending::{Ending, end_at};
-use crate::expiring::expire_by;
+use crate::expiring::{expire_by, goes_some_by};
 use crate::pending::{inc_at, outcome_at, settle, take_join};
-use crate::rooms::resolves_left;
+use crate::rooms::{put_down, resolves_left};
 use cm_table::Settled;
 use cm_world::{Entry, Event, Reply};
 
@@ -32,14 +32,16 @@ impl Realm {
     {
         let inc = inc_at(self.acts.as_slice(), action);
         let Settled { finish, outcome } = end_at(&mut self.table, inc, ending);
+        let doomed = goes_some_by(&self.table, inc, outcome);
         expire_by(&mut self.table, inc, outcome);
         self.resolves = resolves_left(self.acts.as_slice(), self.resolves, action);
         settle(&mut self.acts, action, outcome);
-        self.book.push_reserved(Entry {
+        let entry = Entry {
             caller,
             event: Event::End(action, finish),
             reply: Reply::Ended(outcome),
-        });
+        };
+        put_down(&mut self.book, &mut self.keeper, entry, doomed);
         Reply::Ended(outcome)
     }
 
@@ -54,11 +56,12 @@ impl Realm {
     {
         let outcome = outcome_at(self.acts.as_slice(), action)?;
         take_join(&mut self.joins, caller, action);
-        self.book.push_reserved(Entry {
+        let entry = Entry {
             caller,
             event: Event::Await(action),
             reply: Reply::Ended(outcome),
-        });
+        };
+        put_down(&mut self.book, &mut self.keeper, entry, false);
         Some(Reply::Ended(outcome))
     }
 }

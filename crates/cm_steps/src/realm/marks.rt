@@ -21,7 +21,7 @@ use crate::nostep::NoStep;
 use crate::replies::marking::{MarkAnswer, mark_answer};
 use crate::replies::purging::{PurgeAnswer, purge_answer};
 use crate::replies::reaping::reap_reply;
-use crate::rooms::copy_in_room;
+use crate::rooms::{copy_in_room, put_down};
 use cm_laws::trees_stay_sound;
 use cm_names::List;
 use cm_table::Table;
@@ -84,11 +84,12 @@ impl Realm {
     {
         self.book.reserve(1)?;
         set_mark(&mut self.table, doom, inc);
-        self.book.push_reserved(Entry {
+        let entry = Entry {
             caller,
             event: Event::Mark(doom, inc),
             reply: Reply::Marked,
-        });
+        };
+        put_down(&mut self.book, &mut self.keeper, entry, doom);
         Ok(Reply::Marked)
     }
 
@@ -168,11 +169,12 @@ impl Realm {
         trees_stay_sound();
         let told = copy_in_room(&mut self.book, &lost)?;
         self.table.remove_below(inc);
-        self.book.push_reserved(Entry {
+        let entry = Entry {
             caller,
             event: Event::Purge(inc),
             reply: Reply::Purged(lost),
-        });
+        };
+        put_down(&mut self.book, &mut self.keeper, entry, false);
         Ok(Reply::Purged(told))
     }
 }

@@ -12,7 +12,7 @@ ghost use Rattle.cm_steps.specs.Answers.{PicksBy};
 use super::Realm;
 use crate::nostep::NoStep;
 use crate::replies::picking::{PickAnswer, pick_answer};
-use crate::rooms::next_action;
+use crate::rooms::{next_action, put_down};
 use cm_laws::trees_stay_sound;
 use cm_world::{ActKind, Entry, Event, Reply};
 use std::alloc::Global;
@@ -83,11 +83,12 @@ impl Realm {
     {
         self.book.reserve(1)?;
         self.table.set_shut(inc);
-        self.book.push_reserved(Entry {
+        let entry = Entry {
             caller,
             event: Event::Pick(target),
             reply: Reply::ShutDown(inc),
-        });
+        };
+        put_down(&mut self.book, &mut self.keeper, entry, false);
         Ok(Reply::ShutDown(inc))
     }
 }

@@ -5,7 +5,7 @@ ghost use Rattle.cm_world.specs.Openings as openings;
 ghost use Rattle.cm_world.specs.Route.{IsWalked};
 
 use crate::replies::finding::unresolved;
-use cm_names::{CapPath, Memory, Name};
+use cm_names::{CapPath, Memory, Name, Shared};
 use cm_walk::above::{closed, gone, on, resolved, shut};
 use cm_walk::walk;
 use cm_world::{Provider, Reply, Route, Start, View, Walked};
@@ -59,10 +59,10 @@ pub fn routed<V: View>(view: &V, walked: Walked) -> Reply
 
 /// What is made of a whole route for one who opens: an instance that provides something has to
 /// be on.
-fn opened_route<V: View>(view: &V, route: Route) -> Reply
+fn opened_route<V: View>(view: &V, route: Shared<Route>) -> Reply
     ensures { result ≡ openings.opened_at (V.rows view.now) route route.provider }
 {
-    let source = match &route.provider {
+    let source = match &route.get().provider {
         Provider::Instance(inc, _) => *inc,
         Provider::Framework => return Reply::Opened(route),
         Provider::Builtin => return Reply::Opened(route),
@@ -91,7 +91,12 @@ pub fn opened<V: View>(view: &V, walked: Walked) -> Reply
 }
 
 /// Where what an instance uses at the path comes from.
-fn walk_use<V: View>(alloc: Global, view: &V, inc: u64, path: &CapPath) -> Result<Walked, Memory>
+pub fn walk_use<V: View>(
+    alloc: Global,
+    view: &V,
+    inc: u64,
+    path: &CapPath,
+) -> Result<Walked, Memory>
     ensures { let rows = V.rows view.now in
         IfOk result (IsWalked rows (V.builtins view.now) (Start.UseAt inc path.now)) }
 {

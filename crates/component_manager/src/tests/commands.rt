@@ -186,7 +186,7 @@ pub const SCRIPTS: &str = "\
 
 /// Lines that are no commands, and the place up to which some command goes so.
 pub const COMMANDS: &str = "\
-    == serve s --root fuchsia-pkg://t/a#meta/root.cm --repo r --workers 1\n\
+    == $serve$\n\
     link one\n\
     | \n\
     | x\n\
@@ -367,46 +367,25 @@ pub const PIECES: &str = "\
     fill 32 1048600\n\
     => 1\n\
     out invalid 41 manifest 0\n\
-    == serve s --root fuchsia-pkg://t/a#meta/root.cm --repo r --workers 1\n\
+    == $serve$\n\
     link one\n\
     piece 1\n\
-    | show @1\n\
-    | show @2\n\
-    | \n\
-    + show @4\n\
+    $lines$\n\
     => 0\n\
-    sent worker 0\n\
-    sent refused 81 gone incarnation 1\n\
-    sent refused 81 gone incarnation 2\n\
-    sent refused 70 bad-command at 0\n\
-    sent refused 81 gone incarnation 4\n\
-    == serve s --root fuchsia-pkg://t/a#meta/root.cm --repo r --workers 1\n\
+    $answers$\n\
+    == $serve$\n\
     link one\n\
     piece 2\n\
-    | show @1\n\
-    | show @2\n\
-    | \n\
-    + show @4\n\
+    $lines$\n\
     => 0\n\
-    sent worker 0\n\
-    sent refused 81 gone incarnation 1\n\
-    sent refused 81 gone incarnation 2\n\
-    sent refused 70 bad-command at 0\n\
-    sent refused 81 gone incarnation 4\n\
-    == serve s --root fuchsia-pkg://t/a#meta/root.cm --repo r --workers 1\n\
+    $answers$\n\
+    == $serve$\n\
     link one\n\
     piece 7\n\
-    | show @1\n\
-    | show @2\n\
-    | \n\
-    + show @4\n\
+    $lines$\n\
     => 0\n\
-    sent worker 0\n\
-    sent refused 81 gone incarnation 1\n\
-    sent refused 81 gone incarnation 2\n\
-    sent refused 70 bad-command at 0\n\
-    sent refused 81 gone incarnation 4\n\
-    == serve s --root fuchsia-pkg://t/a#meta/root.cm --repo r --workers 1\n\
+    $answers$\n\
+    == $serve$\n\
     link one\n\
     piece 7\n\
     | show @1\n\
@@ -415,63 +394,51 @@ pub const PIECES: &str = "\
     sent worker 0\n\
     sent refused 81 gone incarnation 1\n\
     sent refused 81 gone incarnation 2\n\
-    == serve s --root fuchsia-pkg://t/a#meta/root.cm --repo r --workers 1\n\
+    == $serve$\n\
     link one\n\
     piece 7\n\
     | \n\
     => 0\n\
     sent worker 0\n\
     sent refused 70 bad-command at 0\n\
-    == serve s --root fuchsia-pkg://t/a#meta/root.cm --repo r --workers 1\n\
+    == $serve$\n\
     link one\n\
     piece 7\n\
     => 0\n\
     sent worker 0\n\
-    == serve s --root fuchsia-pkg://t/a#meta/root.cm --repo r --workers 1\n\
+    == $serve$\n\
     link one\n\
     piece 1\n\
     read 11\n\
-    | show @1\n\
-    | show @2\n\
-    | \n\
-    + show @4\n\
+    $lines$\n\
     => 0\n\
     sent worker 0\n\
     sent refused 81 gone incarnation 1\n\
-    == serve s --root fuchsia-pkg://t/a#meta/root.cm --repo r --workers 1\n\
+    == $serve$\n\
     link one\n\
     piece 2\n\
     read 6\n\
-    | show @1\n\
-    | show @2\n\
-    | \n\
-    + show @4\n\
+    $lines$\n\
     => 0\n\
     sent worker 0\n\
     sent refused 81 gone incarnation 1\n\
-    == serve s --root fuchsia-pkg://t/a#meta/root.cm --repo r --workers 1\n\
+    == $serve$\n\
     link one\n\
     piece 7\n\
     read 2\n\
-    | show @1\n\
-    | show @2\n\
-    | \n\
-    + show @4\n\
+    $lines$\n\
     => 0\n\
     sent worker 0\n\
     sent refused 81 gone incarnation 1\n\
-    == serve s --root fuchsia-pkg://t/a#meta/root.cm --repo r --workers 1\n\
+    == $serve$\n\
     link one\n\
     piece 8\n\
     read 1\n\
-    | show @1\n\
-    | show @2\n\
-    | \n\
-    + show @4\n\
+    $lines$\n\
     => 0\n\
     sent worker 0\n\
     sent refused 81 gone incarnation 1\n\
-    == serve s --root fuchsia-pkg://t/a#meta/root.cm --repo r --workers 1\n\
+    == $serve$\n\
     link one\n\
     piece 7\n\
     fill 121 65537\n\
@@ -484,7 +451,7 @@ pub const PIECES: &str = "\
     sent refused 75 line-too-long\n\
     sent refused 70 bad-command at 0\n\
     sent refused 75 line-too-long\n\
-    == serve s --root fuchsia-pkg://t/a#meta/root.cm --repo r --workers 1\n\
+    == $serve$\n\
     link one\n\
     fill 121 65537\n\
     | \n\
@@ -496,35 +463,26 @@ pub const PIECES: &str = "\
     sent refused 75 line-too-long\n\
     sent refused 70 bad-command at 0\n\
     sent refused 75 line-too-long\n\
-    == serve s --root fuchsia-pkg://t/a#meta/root.cm --repo r --workers 1\n\
+    == $serve$\n\
     link one\n\
     piece 7\n\
     write 1\n\
-    | show @1\n\
-    | show @2\n\
-    | \n\
-    + show @4\n\
+    $lines$\n\
     => 0\n\
     sent worker 0\n\
     sent+ refused\n\
-    == serve s --root fuchsia-pkg://t/a#meta/root.cm --repo r --workers 1\n\
+    == $serve$\n\
     link one\n\
     piece 7\n\
     write 0\n\
-    | show @1\n\
-    | show @2\n\
-    | \n\
-    + show @4\n\
+    $lines$\n\
     => 0\n\
     sent worker 0\n\
-    == serve s --root fuchsia-pkg://t/a#meta/root.cm --repo r --workers 1\n\
+    == $serve$\n\
     link one\n\
     piece 3\n\
     read 5\n\
-    | show @1\n\
-    | show @2\n\
-    | \n\
-    + show @4\n\
+    $lines$\n\
     => 0\n\
     sent worker 0\n\
     sent refused 81 gone incarnation 1\n";
@@ -532,20 +490,20 @@ pub const PIECES: &str = "\
 /// Links that end by `quit`, at their last byte or by a fault; then two links that two workers serve over one
 /// realm, of which either may come back first.
 pub const SESSIONS: &str = "\
-    == serve s --root fuchsia-pkg://t/a#meta/root.cm --repo r --workers 1\n\
+    == $serve$\n\
     link one\n\
     | quit\n\
     | show .\n\
     => 0\n\
     sent worker 0\n\
-    == serve s --root fuchsia-pkg://t/a#meta/root.cm --repo r --workers 1\n\
+    == $serve$\n\
     link one\n\
     | show .\n\
     + quit\n\
     => 0\n\
     sent worker 0\n\
     sent shown . incarnation 0 url fuchsia-pkg://t/a#meta/root.cm unresolved off\n\
-    == serve s --root fuchsia-pkg://t/a#meta/root.cm --repo r --workers 1\n\
+    == $serve$\n\
     link one\n\
     | foo\n\
     + show .\n\
@@ -553,7 +511,7 @@ pub const SESSIONS: &str = "\
     sent worker 0\n\
     sent refused 70 bad-command at 0\n\
     sent shown . incarnation 0 url fuchsia-pkg://t/a#meta/root.cm unresolved off\n\
-    == serve s --root fuchsia-pkg://t/a#meta/root.cm --repo r --workers 1\n\
+    == $serve$\n\
     link one\n\
     | quit \n\
     | quit\r\n\
@@ -568,7 +526,7 @@ pub const SESSIONS: &str = "\
     sent refused 70 bad-command at 0\n\
     sent refused 70 bad-command at 0\n\
     sent refused 70 bad-command at 6\n\
-    == serve s --root fuchsia-pkg://t/a#meta/root.cm --repo r --workers 1\n\
+    == $serve$\n\
     link one\n\
     piece 1\n\
     write 2\n\
@@ -578,7 +536,7 @@ pub const SESSIONS: &str = "\
     => 0\n\
     sent worker 0\n\
     sent+ sh\n\
-    == serve s --root fuchsia-pkg://t/a#meta/root.cm --repo r --workers 1\n\
+    == $serve$\n\
     link one\n\
     piece 7\n\
     read 1\n\
@@ -587,7 +545,7 @@ pub const SESSIONS: &str = "\
     => 0\n\
     sent worker 0\n\
     sent shown . incarnation 0 url fuchsia-pkg://t/a#meta/root.cm unresolved off\n\
-    == serve s --root fuchsia-pkg://t/a#meta/root.cm --repo r --workers 1\n\
+    == $serve$\n\
     link one\n\
     piece 6\n\
     read 1\n\
@@ -596,7 +554,7 @@ pub const SESSIONS: &str = "\
     => 0\n\
     sent worker 0\n\
     sent refused 70 bad-command at 0\n\
-    == serve s --root fuchsia-pkg://t/a#meta/root.cm --repo r --workers 1\n\
+    == $serve$\n\
     link one\n\
     | resolve .\n\
     | resolve .\n\

@@ -1,29 +1,62 @@
 //! Doors in memory, and what was written to the links that came.
 
-use super::input::{input_of, plan_of, push_line};
-use cm_io::{LinkPlan, MemoryDoor, MemoryLink, Plan};
-use cm_names::{List, Text};
+use super::input::{failing_of, input_of, plan_of, push_line};
+use cm_io::{LinkPlan, MemoryDoor, MemoryLink};
+use cm_names::{Bytes, List, Text};
 use cm_session::Back;
 use std::alloc::Global;
 use std::collections::VecDeque;
 
 /// A link that a case plans.
 fn link_of(alloc: Global, part: &str) -> Option<LinkPlan> {
-    Some(LinkPlan {
-        bytes: List::from_vec(input_of(alloc, part)?),
-        source: plan_of(alloc, part, "read")?,
-        sink: plan_of(alloc, part, "write")?,
-    })
+    match input_of(alloc, part) {
+        Some(bytes) => link_with(alloc, part, List::from_vec(bytes)),
+        None => None,
+    }
 }
 
-/// The door of a case. Each link that it gives begins with a line `link`.
-pub fn door_of(alloc: Global, case: &str) -> Option<MemoryDoor> {
-    let Plan { piece: _, failing } = plan_of(alloc, case, "door")?;
-    let mut waiting = VecDeque::new(alloc);
-    for part in case.split("\nlink ").skip(1) {
-        waiting.push_back(link_of(alloc, part)?).ok()?;
+fn link_with(alloc: Global, part: &str, bytes: Bytes) -> Option<LinkPlan> {
+    match plan_of(alloc, part, "read") {
+        Some(source) => match plan_of(alloc, part, "write") {
+            Some(sink) => Some(LinkPlan {
+                bytes,
+                source,
+                sink,
+            }),
+            None => {
+                drop(source);
+                drop(bytes);
+                None
+            }
+        },
+        None => {
+            drop(bytes);
+            None
+        }
     }
-    Some(MemoryDoor::new(alloc, waiting, failing))
+}
+
+/// The links that a case plans. Each begins with a line `link`.
+fn links_of(alloc: Global, case: &str) -> Option<VecDeque<LinkPlan>> {
+    let mut links = VecDeque::new(alloc);
+    for part in case.split("\nlink ").skip(1) {
+        links.push_back(link_of(alloc, part)?).ok()?;
+    }
+    Some(links)
+}
+
+/// The door of a case.
+pub fn door_of(alloc: Global, case: &str) -> Option<MemoryDoor> {
+    match links_of(alloc, case) {
+        Some(links) => match failing_of(alloc, case, "door") {
+            Some(failing) => Some(MemoryDoor::new(alloc, links, List::from_vec(failing))),
+            None => {
+                drop(links);
+                None
+            }
+        },
+        None => None,
+    }
 }
 
 /// Puts down the number of a worker, on a line of its own.

@@ -6,10 +6,20 @@
 //! history. The gates and the history are only looked at where a line speaks of them.
 
 use super::input::{number_of, push_line};
-use super::player::Came;
 use cm_gate::{Asked, Fetched, Gates, PlannedGates};
 use cm_names::{Memory, Text};
 use std::alloc::Global;
+
+/// What came of a run: its status, the length of its history, and what was written and told.
+#[derive(Drop)]
+pub struct Came<'a> {
+    pub status: u8,
+    pub entries: usize,
+    pub out: &'a [u8],
+    pub err: &'a [u8],
+    pub sent: &'a [u8],
+    pub told: &'a str,
+}
 
 /// Whether each line of these ends begins with a word that is known, or is a status.
 pub fn are_known_ends(ends: &str) -> bool {
@@ -37,9 +47,9 @@ fn is_word(word: &str) -> bool {
 }
 
 /// Whether a run came to one of these ends.
-pub fn is_an_end<G>(alloc: Global, came: &Came<G>, told: &str, ends: &str) -> Option<bool> {
+pub fn is_an_end(alloc: Global, came: &Came<'_>, ends: &str) -> Option<bool> {
     for end in ends.split("\n=> ") {
-        if is_end(alloc, came, told, end)? {
+        if is_end(alloc, came, end)? {
             return Some(true);
         }
     }
@@ -47,26 +57,28 @@ pub fn is_an_end<G>(alloc: Global, came: &Came<G>, told: &str, ends: &str) -> Op
 }
 
 /// Whether a run came to this end.
-fn is_end<G>(alloc: Global, came: &Came<G>, told: &str, end: &str) -> Option<bool> {
+fn is_end(alloc: Global, came: &Came<'_>, end: &str) -> Option<bool> {
     let (status, lines) = end.split_once('\n').unwrap_or((end, ""));
     let status: u8 = status.parse().ok()?;
-    let entries = usize::try_from(number_of(lines, "entries", came.entries as u64)?).ok()?;
-    let is_so = came.status == status
-        && came.entries == entries
-        && is_written(alloc, came, lines)?
-        && is_told(alloc, told, lines)?;
-    Some(is_so)
+    let entries = number_of(lines, "entries", came.entries as u64)?;
+    if came.status != status || came.entries as u64 != entries {
+        return Some(false);
+    }
+    Some(is_written(alloc, came, lines)? && is_told(alloc, came.told, lines)?)
 }
 
 /// Whether a run wrote these lines.
-fn is_written<G>(alloc: Global, came: &Came<G>, lines: &str) -> Option<bool> {
-    let out = lines_of(alloc, lines, "out", "out+")?;
-    let err = lines_of(alloc, lines, "err", "err+")?;
-    let sent = lines_of(alloc, lines, "sent", "sent+")?;
-    let is_so = came.out.bytes() == out.as_slice()
-        && came.err.bytes() == err.as_slice()
-        && came.sent.as_slice() == sent.as_slice();
+fn is_written(alloc: Global, came: &Came<'_>, lines: &str) -> Option<bool> {
+    let is_so = is_said(alloc, came.out, lines, "out", "out+")?
+        && is_said(alloc, came.err, lines, "err", "err+")?
+        && is_said(alloc, came.sent, lines, "sent", "sent+")?;
     Some(is_so)
+}
+
+/// Whether these bytes are what the lines say that begin with one of two words.
+fn is_said(alloc: Global, bytes: &[u8], lines: &str, line: &str, text: &str) -> Option<bool> {
+    let wanted = lines_of(alloc, lines, line, text)?;
+    Some(bytes == wanted.as_slice())
 }
 
 /// Whether gates told these lines, where there are any.

@@ -219,15 +219,7 @@ pub const GATES: &str = "\
 pub const PLANS: &str = "\
     == run\n\
     room 5\n\
-    held @logger 0\n\
-    held @logger-empty 9\n\
-    declined fuchsia-pkg://t/a#meta/client.cm\n\
-    | manifest fuchsia-pkg://t/a#meta/root.cm\n\
-    | {children:[{name:'logger',url:'#meta/logger.cm'},{name:'client',url:'#meta/client.cm'},\n\
-    | {name:'none',url:'#meta/none.cm'}]}\n\
-    | %%\n\
-    @client\n\
-    @root-line\n\
+    $plan$\n\
     | 0 resolve logger\n\
     | 0 resolve none\n\
     | 0 start logger\n\
@@ -247,15 +239,7 @@ pub const PLANS: &str = "\
     == run\n\
     failing 0 0\n\
     failing 0 3\n\
-    held @logger 0\n\
-    held @logger-empty 9\n\
-    declined fuchsia-pkg://t/a#meta/client.cm\n\
-    | manifest fuchsia-pkg://t/a#meta/root.cm\n\
-    | {children:[{name:'logger',url:'#meta/logger.cm'},{name:'client',url:'#meta/client.cm'},\n\
-    | {name:'none',url:'#meta/none.cm'}]}\n\
-    | %%\n\
-    @client\n\
-    @root-line\n\
+    $plan$\n\
     | 0 resolve logger\n\
     | 0 resolve none\n\
     | 0 start logger\n\
@@ -281,15 +265,7 @@ pub const PLANS: &str = "\
     room 5\n\
     failing 0 4\n\
     failing 0 9\n\
-    held @logger 0\n\
-    held @logger-empty 9\n\
-    declined fuchsia-pkg://t/a#meta/client.cm\n\
-    | manifest fuchsia-pkg://t/a#meta/root.cm\n\
-    | {children:[{name:'logger',url:'#meta/logger.cm'},{name:'client',url:'#meta/client.cm'},\n\
-    | {name:'none',url:'#meta/none.cm'}]}\n\
-    | %%\n\
-    @client\n\
-    @root-line\n\
+    $plan$\n\
     | 0 resolve logger\n\
     | 0 resolve none\n\
     | 0 start logger\n\
@@ -309,15 +285,7 @@ pub const PLANS: &str = "\
     told 0 faults 1\n\
     == run\n\
     room 2\n\
-    held @logger 0\n\
-    held @logger-empty 9\n\
-    declined fuchsia-pkg://t/a#meta/client.cm\n\
-    | manifest fuchsia-pkg://t/a#meta/root.cm\n\
-    | {children:[{name:'logger',url:'#meta/logger.cm'},{name:'client',url:'#meta/client.cm'},\n\
-    | {name:'none',url:'#meta/none.cm'}]}\n\
-    | %%\n\
-    @client\n\
-    @root-line\n\
+    $plan$\n\
     | 0 resolve logger\n\
     | 0 resolve none\n\
     | 0 start logger\n\
@@ -333,15 +301,7 @@ pub const PLANS: &str = "\
     told 0 faults 3\n\
     == run\n\
     room 3\n\
-    held @logger 0\n\
-    held @logger-empty 9\n\
-    declined fuchsia-pkg://t/a#meta/client.cm\n\
-    | manifest fuchsia-pkg://t/a#meta/root.cm\n\
-    | {children:[{name:'logger',url:'#meta/logger.cm'},{name:'client',url:'#meta/client.cm'},\n\
-    | {name:'none',url:'#meta/none.cm'}]}\n\
-    | %%\n\
-    @client\n\
-    @root-line\n\
+    $plan$\n\
     | 0 resolve logger\n\
     | 0 start logger\n\
     | 0 stop logger\n\
@@ -356,15 +316,7 @@ pub const PLANS: &str = "\
     == run\n\
     room 0\n\
     failing 0 1\n\
-    held @logger 0\n\
-    held @logger-empty 9\n\
-    declined fuchsia-pkg://t/a#meta/client.cm\n\
-    | manifest fuchsia-pkg://t/a#meta/root.cm\n\
-    | {children:[{name:'logger',url:'#meta/logger.cm'},{name:'client',url:'#meta/client.cm'},\n\
-    | {name:'none',url:'#meta/none.cm'}]}\n\
-    | %%\n\
-    @client\n\
-    @root-line\n\
+    $plan$\n\
     | 0 resolve logger\n\
     | 0 resolve none\n\
     | 0 start logger\n\

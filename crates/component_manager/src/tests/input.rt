@@ -160,21 +160,35 @@ pub fn input_of(alloc: Global, case: &str) -> Option<Vec<u8>> {
 
 /// How much one read or write moves, and the one that fails: that behind this word, if at all.
 pub fn plan_of(alloc: Global, case: &str, word: &str) -> Option<Plan> {
-    let piece = number_of(case, "piece", u64::MAX)?;
-    let mut failing = Vec::new(alloc);
-    if let Some(call) = value_of(case, word) {
-        failing.push(call.parse().ok()?).ok()?;
+    let piece = usize::try_from(number_of(case, "piece", u64::MAX)?).ok()?;
+    match failing_of(alloc, case, word) {
+        Some(failing) => Some(Plan {
+            piece,
+            failing: List::from_vec(failing),
+        }),
+        None => None,
     }
-    Some(Plan {
-        piece: usize::try_from(piece).ok()?,
-        failing: List::from_vec(failing),
-    })
+}
+
+/// The call behind this word, which fails, if there is one.
+pub fn failing_of(alloc: Global, case: &str, word: &str) -> Option<Vec<u64>> {
+    match value_of(case, word) {
+        Some(call) => {
+            let call = call.parse().ok()?;
+            vec![in alloc; call].ok()
+        }
+        None => Some(Vec::new(alloc)),
+    }
 }
 
 pub fn source_of(alloc: Global, case: &str) -> Option<MemorySource> {
-    let bytes = input_of(alloc, case)?;
-    let plan = plan_of(alloc, case, "read")?;
-    Some(MemorySource::new(List::from_vec(bytes), plan))
+    match input_of(alloc, case) {
+        Some(bytes) => match plan_of(alloc, case, "read") {
+            Some(plan) => Some(MemorySource::new(List::from_vec(bytes), plan)),
+            None => None,
+        },
+        None => None,
+    }
 }
 
 /// The calls of the gates of a lane that fail.
@@ -211,16 +225,28 @@ fn parts_of(block: &str) -> (&str, &str) {
     }
 }
 
+/// The bytes of a text, with so many spaces behind them.
+fn spaced(alloc: Global, text: &str, spaces: u64) -> Option<Vec<u8>> {
+    let mut bytes = text.as_bytes().to_vec(alloc).ok()?;
+    fill(&mut bytes, b' ', spaces)?;
+    Some(bytes)
+}
+
 /// The manifest of a named block, with so many spaces behind it.
 fn manifest_of(alloc: Global, held: &str) -> Option<Manifest> {
     let (name, spaces) = held.split_once(' ')?;
     let (url, text) = parts_of(named(name)?);
-    let mut bytes = text.as_bytes().to_vec(alloc).ok()?;
-    fill(&mut bytes, b' ', spaces.parse().ok()?)?;
-    Some(Manifest {
-        url: text_of(alloc, url)?,
-        bytes: Bytes::from_vec(bytes),
-    })
+    let spaces = spaces.parse().ok()?;
+    match spaced(alloc, text, spaces) {
+        Some(bytes) => match text_of(alloc, url) {
+            Some(url) => Some(Manifest {
+                url,
+                bytes: Bytes::from_vec(bytes),
+            }),
+            None => None,
+        },
+        None => None,
+    }
 }
 
 /// The manifests that the gates of each lane have.

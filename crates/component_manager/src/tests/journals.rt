@@ -59,15 +59,13 @@ pub const STOPS: &str = "\
     out 7 0 find provider => found 1\n\
     out 8 0 begin start 1 => need 1\n\
     out 9 0 begin resolve 1 => begun 3\n\
-    out 10 0 end 3 resolved fuchsia-pkg://t/a#provider {\"capabilities\":[],\"children\":[],\
-    \"collections\":[],\"expose\":[],\"offer\":[],\"use\":[]} => ended resolved\n\
+    out 10 0 end 3 resolved fuchsia-pkg://t/a#provider $nothing$ => ended resolved\n\
     out 11 0 begin start 1 => begun 4\n\
     out 12 0 end 4 started => ended started\n\
     out 13 0 find client => found 2\n\
     out 14 0 begin start 2 => need 2\n\
     out 15 0 begin resolve 2 => begun 5\n\
-    out 16 0 end 5 resolved fuchsia-pkg://t/a#client {\"capabilities\":[],\"children\":[],\
-    \"collections\":[],\"expose\":[],\"offer\":[],\"use\":[]} => ended resolved\n\
+    out 16 0 end 5 resolved fuchsia-pkg://t/a#client $nothing$ => ended resolved\n\
     out 17 0 begin start 2 => begun 6\n\
     out 18 0 end 6 started => ended started\n\
     out 19 0 find mid => found 3\n\
@@ -82,8 +80,7 @@ pub const STOPS: &str = "\
     out 25 0 find mid/leaf => found 4\n\
     out 26 0 begin start 4 => need 4\n\
     out 27 0 begin resolve 4 => begun 9\n\
-    out 28 0 end 9 resolved fuchsia-pkg://t/a#leaf {\"capabilities\":[],\"children\":[],\
-    \"collections\":[],\"expose\":[],\"offer\":[],\"use\":[]} => ended resolved\n\
+    out 28 0 end 9 resolved fuchsia-pkg://t/a#leaf $nothing$ => ended resolved\n\
     out 29 0 begin start 4 => begun 10\n\
     out 30 0 end 10 started => ended started\n\
     out 31 1 find . => found 0\n\
@@ -149,33 +146,25 @@ pub const STOPS: &str = "\
     out 8 0 find a => found 1\n\
     out 9 0 begin start 1 => need 1\n\
     out 10 0 begin resolve 1 => begun 2\n\
-    out 11 0 end 2 resolved fuchsia-pkg://t/a#meta/x.cm {\"capabilities\":[],\"children\":[],\
-    \"collections\":[],\"expose\":[],\"offer\":[],\"program\":{\"runner\":\"elf\"},\"use\":[]} => ended \
-    resolved\n\
+    out 11 0 end 2 resolved fuchsia-pkg://t/a#meta/x.cm $running$ => ended resolved\n\
     out 12 0 begin start 1 => begun 3\n\
     out 13 0 end 3 started => ended started\n\
     out 14 0 find b => found 2\n\
     out 15 0 begin start 2 => need 2\n\
     out 16 0 begin resolve 2 => begun 4\n\
-    out 17 0 end 4 resolved fuchsia-pkg://t/a#meta/x.cm {\"capabilities\":[],\"children\":[],\
-    \"collections\":[],\"expose\":[],\"offer\":[],\"program\":{\"runner\":\"elf\"},\"use\":[]} => ended \
-    resolved\n\
+    out 17 0 end 4 resolved fuchsia-pkg://t/a#meta/x.cm $running$ => ended resolved\n\
     out 18 0 begin start 2 => begun 5\n\
     out 19 0 end 5 started => ended started\n\
     out 20 0 find dyn:n => found 3\n\
     out 21 0 begin start 3 => need 3\n\
     out 22 0 begin resolve 3 => begun 6\n\
-    out 23 0 end 6 resolved fuchsia-pkg://t/a#meta/x.cm {\"capabilities\":[],\"children\":[],\
-    \"collections\":[],\"expose\":[],\"offer\":[],\"program\":{\"runner\":\"elf\"},\"use\":[]} => ended \
-    resolved\n\
+    out 23 0 end 6 resolved fuchsia-pkg://t/a#meta/x.cm $running$ => ended resolved\n\
     out 24 0 begin start 3 => begun 7\n\
     out 25 0 end 7 started => ended started\n\
     out 26 0 find dyn:o => found 4\n\
     out 27 0 begin start 4 => need 4\n\
     out 28 0 begin resolve 4 => begun 8\n\
-    out 29 0 end 8 resolved fuchsia-pkg://t/a#meta/x.cm {\"capabilities\":[],\"children\":[],\
-    \"collections\":[],\"expose\":[],\"offer\":[],\"program\":{\"runner\":\"elf\"},\"use\":[]} => ended \
-    resolved\n\
+    out 29 0 end 8 resolved fuchsia-pkg://t/a#meta/x.cm $running$ => ended resolved\n\
     out 30 0 begin start 4 => begun 9\n\
     out 31 0 end 9 started => ended started\n\
     out 32 0 find . => found 0\n\
@@ -225,9 +214,7 @@ pub const STOPS: &str = "\
     out 1 0 find . => found 0\n\
     out 2 0 begin start 0 => need 0\n\
     out 3 0 begin resolve 0 => begun 1\n\
-    out 4 0 end 1 resolved fuchsia-pkg://t/a#meta/root.cm {\"capabilities\":[],\"children\":[],\
-    \"collections\":[{\"allowed_offers\":\"static_only\",\"durability\":\"transient\",\
-    \"name\":\"coll\"}],\"expose\":[],\"offer\":[],\"use\":[]} => ended resolved\n\
+    out 4 0 end 1 resolved fuchsia-pkg://t/a#meta/root.cm $collection$ => ended resolved\n\
     out 5 0 begin start 0 => begun 2\n\
     out 6 0 end 2 started => ended started\n\
     out 7 0 find . => found 0\n\
@@ -235,8 +222,7 @@ pub const STOPS: &str = "\
     out 9 0 find coll:one => found 1\n\
     out 10 0 begin start 1 => need 1\n\
     out 11 0 begin resolve 1 => begun 3\n\
-    out 12 0 end 3 resolved fuchsia-pkg://t/a#new {\"capabilities\":[],\"children\":[],\
-    \"collections\":[],\"expose\":[],\"offer\":[],\"use\":[]} => ended resolved\n\
+    out 12 0 end 3 resolved fuchsia-pkg://t/a#new $nothing$ => ended resolved\n\
     out 13 0 begin start 1 => begun 4\n\
     out 14 0 end 4 started => ended started\n\
     out 15 1 find . => found 0\n\
@@ -278,9 +264,7 @@ pub const STOPS: &str = "\
     out 1 0 find . => found 0\n\
     out 2 0 begin start 0 => need 0\n\
     out 3 0 begin resolve 0 => begun 1\n\
-    out 4 0 end 1 resolved fuchsia-pkg://t/a#meta/root.cm {\"capabilities\":[],\"children\":[],\
-    \"collections\":[{\"allowed_offers\":\"static_only\",\"durability\":\"transient\",\
-    \"name\":\"coll\"}],\"expose\":[],\"offer\":[],\"use\":[]} => ended resolved\n\
+    out 4 0 end 1 resolved fuchsia-pkg://t/a#meta/root.cm $collection$ => ended resolved\n\
     out 5 0 begin start 0 => begun 2\n\
     out 6 0 end 2 started => ended started\n\
     out 7 0 find . => found 0\n\
@@ -288,8 +272,7 @@ pub const STOPS: &str = "\
     out 9 0 find coll:one => found 1\n\
     out 10 0 begin start 1 => need 1\n\
     out 11 0 begin resolve 1 => begun 3\n\
-    out 12 0 end 3 resolved fuchsia-pkg://t/a#new {\"capabilities\":[],\"children\":[],\
-    \"collections\":[],\"expose\":[],\"offer\":[],\"use\":[]} => ended resolved\n\
+    out 12 0 end 3 resolved fuchsia-pkg://t/a#new $nothing$ => ended resolved\n\
     out 13 0 begin start 1 => begun 4\n\
     out 14 0 end 4 started => ended started\n\
     out 15 0 find . => found 0\n\
@@ -331,15 +314,12 @@ pub const STOPS: &str = "\
     out 1 0 find . => found 0\n\
     out 2 0 create 0 coll one #new => need 0\n\
     out 3 0 begin resolve 0 => begun 1\n\
-    out 4 0 end 1 resolved fuchsia-pkg://t/a#meta/root.cm {\"capabilities\":[],\"children\":[],\
-    \"collections\":[{\"allowed_offers\":\"static_only\",\"durability\":\"transient\",\
-    \"name\":\"coll\"}],\"expose\":[],\"offer\":[],\"use\":[]} => ended resolved\n\
+    out 4 0 end 1 resolved fuchsia-pkg://t/a#meta/root.cm $collection$ => ended resolved\n\
     out 5 0 create 0 coll one #new => created 1\n\
     out 6 0 find coll:one => found 1\n\
     out 7 0 begin start 1 => need 1\n\
     out 8 0 begin resolve 1 => begun 2\n\
-    out 9 0 end 2 resolved fuchsia-pkg://t/a#new {\"capabilities\":[],\"children\":[],\
-    \"collections\":[],\"expose\":[],\"offer\":[],\"use\":[]} => ended resolved\n\
+    out 9 0 end 2 resolved fuchsia-pkg://t/a#new $nothing$ => ended resolved\n\
     out 10 0 begin start 1 => begun 3\n\
     out 11 0 end 3 started => ended started\n\
     out 12 1 find coll:one => found 1\n\

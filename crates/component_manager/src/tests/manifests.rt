@@ -23,6 +23,25 @@ pub fn named(name: &str) -> Option<&'static str> {
         "@ask-p" => Some(ASK_P),
         "@root-once" => Some(ROOT_ONCE),
         "@root-empty" => Some(ROOT_EMPTY),
+        _ => small(name),
+    }
+}
+
+/// The text of a name of a small realm of a store and a client.
+fn small(name: &str) -> Option<&'static str> {
+    match name {
+        "@small-root" => Some(SMALL_ROOT),
+        "@store" => Some(STORE),
+        "@small-client" => Some(SMALL_CLIENT),
+        "@store-empty" => Some(STORE_EMPTY),
+        "@offer-of-data" => Some(OFFER_OF_DATA),
+        "@offer-of-subdirectory" => Some(OFFER_OF_SUBDIRECTORY),
+        "@store-of-data" => Some(STORE_OF_DATA),
+        "@store-of-subdirectory" => Some(STORE_OF_SUBDIRECTORY),
+        "@store-of-log" => Some(STORE_OF_LOG),
+        "@taking-over" => Some(TAKING_OVER),
+        "@ask-in" => Some(ASK_IN),
+        "@ask-log" => Some(ASK_LOG),
         _ => None,
     }
 }
@@ -120,3 +139,91 @@ const ROOT_ONCE: &str = "\
     %%\n";
 
 const ROOT_EMPTY: &str = "manifest fuchsia-pkg://t/a#meta/root.cm\n{}\n%%\n";
+
+/// A root that offers the client a protocol and a directory of the store.
+const SMALL_ROOT: &str = "\
+    manifest fuchsia-pkg://t/a#meta/root.cm\n\
+    {\n\
+    \x20   children: [ { name: 'store', url: '#store' }, { name: 'client', url: '#client' } ],\n\
+    \x20   offer: [\n\
+    \x20       { protocol: 'log', from: '#store', to: '#client' },\n\
+    \x20       { directory: 'data', from: '#store', to: '#client' },\n\
+    \x20   ],\n\
+    }\n\
+    %%\n";
+
+const STORE: &str = "\
+    manifest fuchsia-pkg://t/a#store\n\
+    {\n\
+    \x20   program: { runner: 'elf' },\n\
+    \x20   capabilities: [ { protocol: 'log' }, { directory: 'data', path: '/data', rights: [ 'r*' ] } ],\
+    \n\
+    \x20   expose: [ { protocol: 'log', from: 'self' }, { directory: 'data', from: 'self' } ],\n\
+    }\n\
+    %%\n";
+
+/// A client that also uses a protocol that nobody offers to it.
+const SMALL_CLIENT: &str = "\
+    manifest fuchsia-pkg://t/a#client\n\
+    {\n\
+    \x20   program: { runner: 'elf' },\n\
+    \x20   use: [\n\
+    \x20       { protocol: 'log' },\n\
+    \x20       { directory: 'data', path: '/in', rights: [ 'r*' ] },\n\
+    \x20       { protocol: 'secret' },\n\
+    \x20   ],\n\
+    }\n\
+    %%\n";
+
+const STORE_EMPTY: &str = "\
+    manifest fuchsia-pkg://t/a#store\n\
+    {}\n\
+    %%\n";
+
+/// A root that offers the client the store's directory as it is.
+const OFFER_OF_DATA: &str = "\
+    manifest fuchsia-pkg://t/a#meta/root.cm\n\
+    {children:[{name:'store',url:'#s'},{name:'client',url:'#c'}],offer:[{to:'#client',directory:'data',\
+    from:'#store'}]}\n\
+    %%\n";
+
+/// A root that offers the client a subdirectory of it.
+const OFFER_OF_SUBDIRECTORY: &str = "\
+    manifest fuchsia-pkg://t/a#meta/root.cm\n\
+    {children:[{name:'store',url:'#s'},{name:'client',url:'#c'}],offer:[{to:'#client',directory:'data',\
+    from:'#store',subdir:'b/c'}]}\n\
+    %%\n";
+
+/// A store that exposes its directory as it is.
+const STORE_OF_DATA: &str = "\
+    manifest fuchsia-pkg://t/a#s\n\
+    {capabilities:[{directory:'data',path:'/data',rights:['rw*']}],expose:[{from:'self',\
+    directory:'data'}]}\n\
+    %%\n";
+
+/// A store that exposes a subdirectory of it.
+const STORE_OF_SUBDIRECTORY: &str = "\
+    manifest fuchsia-pkg://t/a#s\n\
+    {capabilities:[{directory:'data',path:'/data',rights:['rw*']}],expose:[{from:'self',directory:'data',\
+    subdir:'a'}]}\n\
+    %%\n";
+
+const STORE_OF_LOG: &str = "\
+    manifest fuchsia-pkg://t/a#s\n\
+    {capabilities:[{protocol:'log'}],expose:[{protocol:'log',from:'self'}]}\n\
+    %%\n";
+
+/// An instance between the root and a client, whose offer takes over what its target asks.
+const TAKING_OVER: &str = "\
+    manifest fuchsia-pkg://t/a#m\n\
+    {children:[{name:'client',url:'#c'}],offer:[{protocol:'log',from:'parent',to:'#client',\
+    availability:'same_as_target'}]}\n\
+    %%\n";
+
+const ASK_IN: &str = "\
+    root fuchsia-pkg://t/a#meta/root.cm\n\
+    0 route client /in\n";
+
+const ASK_LOG: &str = "\
+    root fuchsia-pkg://t/a#meta/root.cm\n\
+    0 route mid/client /svc/log\n";

@@ -2,9 +2,8 @@
 
 ghost use Rattle.std.specs.Prelude.{◌≡◌, IfSome, length};
 
-use super::ends::is_an_end;
 use super::input::manifests_of;
-use super::player::{Came, come, parts_of, shown};
+use super::player::{Played, come, odd_end, parts_of};
 use cm_gate::MeetingGates;
 use cm_names::{List, Text};
 use std::alloc::Global;
@@ -65,7 +64,11 @@ pub fn odd_meeting<R: Threads + Wait + Sync>(
     let (given, ends) = parts_of(case);
     match meeting_gates(alloc, given) {
         Some(gates) => match come(rt, alloc, given, gates) {
-            Some(came) => compared(alloc, &came, ends),
+            Some(played) => {
+                let odd = odd_played(alloc, &played, ends);
+                drop(played);
+                odd
+            }
             None => None,
         },
         None => None,
@@ -83,10 +86,7 @@ fn told_by(alloc: Global, gates: &[MeetingGates]) -> Option<Text> {
     Some(told)
 }
 
-fn compared(alloc: Global, came: &Came<MeetingGates>, ends: &str) -> Option<Option<Text>> {
-    let told = told_by(alloc, came.gates.as_slice())?;
-    if is_an_end(alloc, came, told.as_str(), ends)? {
-        return Some(None);
-    }
-    Some(Some(shown(alloc, came, told.as_str())?))
+fn odd_played(alloc: Global, played: &Played<MeetingGates>, ends: &str) -> Option<Option<Text>> {
+    let told = told_by(alloc, played.ran.gates.as_slice())?;
+    odd_end(alloc, played, told.as_str(), ends)
 }

@@ -6,59 +6,41 @@
 pub const OUTSIDE: &str = "\
     == run\n\
     piece 1\n\
-    @root\n\
-    @logger\n\
-    @client\n\
-    @ask\n\
+    $route$\n\
     => 0\n\
     out 0 route /svc/fuchsia.logger.LogSink at logger incarnation 1 through use client, offer ., \
     expose logger, capability logger\n\
     == run\n\
     piece 100\n\
     read 0\n\
-    @root\n\
-    @logger\n\
-    @client\n\
-    @ask\n\
+    $route$\n\
     => 3\n\
     entries 0\n\
     err read fault\n\
     == run\n\
     piece 100\n\
     read 3\n\
-    @root\n\
-    @logger\n\
-    @client\n\
-    @ask\n\
+    $route$\n\
     => 3\n\
     entries 0\n\
     err read fault\n\
     == run\n\
     piece 100\n\
     read 7\n\
-    @root\n\
-    @logger\n\
-    @client\n\
-    @ask\n\
+    $route$\n\
     => 3\n\
     entries 0\n\
     err read fault\n\
     == run\n\
     piece 7\n\
     write 0\n\
-    @root\n\
-    @logger\n\
-    @client\n\
-    @ask\n\
+    $route$\n\
     => 4\n\
     entries 11\n\
     == run\n\
     piece 7\n\
     write 1\n\
-    @root\n\
-    @logger\n\
-    @client\n\
-    @ask\n\
+    $route$\n\
     => 4\n\
     entries 11\n\
     out+ 0 route\n\

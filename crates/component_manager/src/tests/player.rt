@@ -3,87 +3,118 @@
 //!
 //! A run begins with `== ` and its words. Each further line says one thing of the run, by its first
 //! word; `input` and `ends` tell of these. Each end that the run may come to begins with `=> ` and
-//! the status.
+//! the status. Where `$`, a name and `$` stand, the text of that name in `repeated` is meant.
 
 ghost use Rattle.std.specs.Prelude.{◌≡◌, IfSome, length};
 
 use super::doors::{door_of, sent_of};
-use super::ends::{are_known_ends, is_an_end, told_by};
+use super::ends::{Came, are_known_ends, is_an_end, told_by};
 use super::input::{
     are_known, calls_of, manifests_of, number_of, plan_of, source_of, values_of, words_of,
 };
-use cm_gate::{GatePlan, Gates, PlannedGates};
-use cm_io::{MemoryDoor, MemoryLink, MemorySink, MemorySource};
+use super::repeated::expanded;
+use crate::perform;
+use cm_gate::{GatePlan, Gates, Manifest, PlannedGates};
+use cm_io::{Door, MemoryDoor, MemoryLink, MemorySink, MemorySource};
 use cm_names::{List, Memory, Text};
 use cm_program::Ran;
-use cm_program::run::run;
 use std::alloc::Global;
 use std::sync::Wait;
 use std::thread::Threads;
+
+/// The streams of a run.
+#[derive(Drop)]
+pub struct Sides {
+    pub input: MemorySource,
+    pub out: MemorySink,
+    pub err: MemorySink,
+}
 
 /// What a run is given besides its gates.
 #[derive(Drop)]
 struct Arguments {
     words: Vec<Text>,
-    input: MemorySource,
-    out: MemorySink,
-    err: MemorySink,
+    sides: Sides,
     door: MemoryDoor,
 }
 
-/// The sinks of a run, behind it.
+/// What came of a run, and its streams.
 #[derive(Drop)]
-struct Sinks {
-    out: MemorySink,
-    err: MemorySink,
-}
-
-/// What came of a run.
-#[derive(Drop)]
-pub struct Came<G> {
-    pub status: u8,
-    pub entries: usize,
-    pub out: MemorySink,
-    pub err: MemorySink,
-    pub sent: Vec<u8>,
-    pub gates: List<G>,
+pub struct Played<G> {
+    pub ran: Ran<MemoryDoor, MemoryLink, G>,
+    sides: Sides,
 }
 
 fn sink_of(alloc: Global, case: &str, word: &str) -> Option<MemorySink> {
-    Some(MemorySink::new(alloc, plan_of(alloc, case, word)?))
+    match plan_of(alloc, case, word) {
+        Some(plan) => Some(MemorySink::new(alloc, plan)),
+        None => None,
+    }
+}
+
+fn sides_of(alloc: Global, case: &str) -> Option<Sides> {
+    match source_of(alloc, case) {
+        Some(input) => sides_with(alloc, case, input),
+        None => None,
+    }
+}
+
+fn sides_with(alloc: Global, case: &str, input: MemorySource) -> Option<Sides> {
+    match sink_of(alloc, case, "write") {
+        Some(out) => match sink_of(alloc, case, "say") {
+            Some(err) => Some(Sides { input, out, err }),
+            None => {
+                drop(out);
+                drop(input);
+                None
+            }
+        },
+        None => {
+            drop(input);
+            None
+        }
+    }
 }
 
 fn arguments_of(alloc: Global, case: &str) -> Option<Arguments> {
-    Some(Arguments {
-        words: words_of(alloc, case)?,
-        input: source_of(alloc, case)?,
-        out: sink_of(alloc, case, "write")?,
-        err: sink_of(alloc, case, "say")?,
-        door: door_of(alloc, case)?,
-    })
+    match words_of(alloc, case) {
+        Some(words) => arguments_with(alloc, case, words),
+        None => None,
+    }
 }
 
-/// A run, of which no caller has to read what it promises.
-fn ran<R: Threads + Wait + Sync, G: Gates + Send + Drop>(
+fn arguments_with(alloc: Global, case: &str, words: Vec<Text>) -> Option<Arguments> {
+    match sides_of(alloc, case) {
+        Some(sides) => match door_of(alloc, case) {
+            Some(door) => Some(Arguments { words, sides, door }),
+            None => {
+                drop(sides);
+                drop(words);
+                None
+            }
+        },
+        None => {
+            drop(words);
+            None
+        }
+    }
+}
+
+/// A run of these words between these streams.
+pub fn ran<R: Threads + Wait + Sync, D: Door + Send, G: Gates + Send + Drop>(
     rt: &R,
     alloc: Global,
-    given: Arguments,
+    words: &[Text],
+    sides: &mut Sides,
+    door: D,
     gates: List<G>,
-) -> (Ran<MemoryDoor, MemoryLink, G>, Sinks)
+) -> Ran<D, D::Link, G>
+where
+    D::Link: Send,
     requires { length gates ≡ 16 }
 {
-    let Arguments {
-        words,
-        mut input,
-        mut out,
-        mut err,
-        door,
-    } = given;
-    let words = words.as_slice();
-    let ran = run(
-        rt, alloc, words, &mut input, &mut out, &mut err, door, gates,
-    );
-    (ran, Sinks { out, err })
+    let Sides { input, out, err } = sides;
+    perform(rt, alloc, words, input, out, err, door, gates)
 }
 
 /// What comes of a run over these gates.
@@ -92,41 +123,78 @@ pub fn come<R: Threads + Wait + Sync, G: Gates + Send + Drop>(
     alloc: Global,
     case: &str,
     gates: List<G>,
-) -> Option<Came<G>>
+) -> Option<Played<G>>
     requires { length gates ≡ 16 }
 {
     match arguments_of(alloc, case) {
-        Some(given) => {
-            let (ran, sinks) = ran(rt, alloc, given, gates);
-            came_of(alloc, ran, sinks)
+        Some(given) => Some(play(rt, alloc, given, gates)),
+        None => {
+            drop(gates);
+            None
         }
-        None => None,
     }
 }
 
-fn came_of<G: Drop>(
+fn play<R: Threads + Wait + Sync, G: Gates + Send + Drop>(
+    rt: &R,
     alloc: Global,
-    ran: Ran<MemoryDoor, MemoryLink, G>,
-    sinks: Sinks,
-) -> Option<Came<G>> {
-    Some(Came {
-        status: ran.status,
-        entries: ran.book.entries().len(),
-        out: sinks.out,
-        err: sinks.err,
-        sent: sent_of(alloc, ran.links.as_slice())?,
-        gates: ran.gates,
-    })
+    given: Arguments,
+    gates: List<G>,
+) -> Played<G>
+    requires { length gates ≡ 16 }
+{
+    let Arguments {
+        words,
+        mut sides,
+        door,
+    } = given;
+    let ran = ran(rt, alloc, words.as_slice(), &mut sides, door, gates);
+    drop(words);
+    Played { ran, sides }
 }
 
 /// The plan of the gates of a lane.
 fn gate_plan_of(alloc: Global, case: &str, lane: usize) -> Option<GatePlan> {
-    Some(GatePlan {
-        manifests: manifests_of(alloc, case)?,
-        declined: List::from_vec(values_of(alloc, case, "declined")?),
-        failing: List::from_vec(calls_of(alloc, case, lane)?),
-        room: number_of(case, "room", 99)?,
-    })
+    let room = number_of(case, "room", 99)?;
+    match manifests_of(alloc, case) {
+        Some(manifests) => gate_plan_with(alloc, case, lane, room, manifests),
+        None => None,
+    }
+}
+
+fn gate_plan_with(
+    alloc: Global,
+    case: &str,
+    lane: usize,
+    room: u64,
+    manifests: List<Manifest>,
+) -> Option<GatePlan> {
+    match values_of(alloc, case, "declined") {
+        Some(declined) => match calls_of(alloc, case, lane) {
+            Some(failing) => Some(GatePlan {
+                manifests,
+                declined: List::from_vec(declined),
+                failing: List::from_vec(failing),
+                room,
+            }),
+            None => {
+                drop(declined);
+                drop(manifests);
+                None
+            }
+        },
+        None => {
+            drop(manifests);
+            None
+        }
+    }
+}
+
+fn gates_of(alloc: Global, case: &str, lane: usize) -> Option<PlannedGates> {
+    match gate_plan_of(alloc, case, lane) {
+        Some(plan) => Some(PlannedGates::new(alloc, plan)),
+        None => None,
+    }
 }
 
 fn planned_gates(alloc: Global, case: &str) -> Option<List<PlannedGates>>
@@ -134,8 +202,7 @@ fn planned_gates(alloc: Global, case: &str) -> Option<List<PlannedGates>>
 {
     let mut gates = Vec::new(alloc);
     for lane in 0..16_usize {
-        let plan = gate_plan_of(alloc, case, lane)?;
-        gates.push(PlannedGates::new(alloc, plan)).ok()?;
+        gates.push(gates_of(alloc, case, lane)?).ok()?;
     }
     Some(List::from_vec(gates))
 }
@@ -155,24 +222,66 @@ fn odd_run<R: Threads + Wait + Sync>(
 ) -> Option<Option<Text>> {
     match planned_gates(alloc, given) {
         Some(gates) => match come(rt, alloc, given, gates) {
-            Some(came) => compared(alloc, &came, ends),
+            Some(played) => {
+                let odd = odd_played(alloc, &played, ends);
+                drop(played);
+                odd
+            }
             None => None,
         },
         None => None,
     }
 }
 
-fn compared(alloc: Global, came: &Came<PlannedGates>, ends: &str) -> Option<Option<Text>> {
-    let told = told_by(alloc, came.gates.as_slice())?;
-    if is_an_end(alloc, came, told.as_str(), ends)? {
+fn odd_played(alloc: Global, played: &Played<PlannedGates>, ends: &str) -> Option<Option<Text>> {
+    let told = told_by(alloc, played.ran.gates.as_slice())?;
+    odd_end(alloc, played, told.as_str(), ends)
+}
+
+/// What came of a run whose gates tell this, where it came to none of these ends.
+pub fn odd_end<G>(
+    alloc: Global,
+    played: &Played<G>,
+    told: &str,
+    ends: &str,
+) -> Option<Option<Text>> {
+    let sent = sent_of(alloc, played.ran.links.as_slice())?;
+    let came = Came {
+        status: played.ran.status,
+        entries: played.ran.book.entries().len(),
+        out: played.sides.out.bytes(),
+        err: played.sides.err.bytes(),
+        sent: sent.as_slice(),
+        told,
+    };
+    compared(alloc, &came, ends)
+}
+
+fn compared(alloc: Global, came: &Came<'_>, ends: &str) -> Option<Option<Text>> {
+    if is_an_end(alloc, came, ends)? {
         return Some(None);
     }
-    Some(Some(shown(alloc, came, told.as_str())?))
+    Some(Some(shown(alloc, came)?))
 }
 
 /// The first of a case's runs that comes to none of its ends.
 fn first_odd<R: Threads + Wait + Sync>(rt: &R, alloc: Global, case: &str) -> Option<Option<Text>> {
-    let (given, ends) = parts_of(case);
+    match expanded(alloc, case) {
+        Some(case) => {
+            let (given, ends) = parts_of(case.as_str());
+            first_odd_run(rt, alloc, given, ends)
+        }
+        None => None,
+    }
+}
+
+/// The first run that comes to none of these ends.
+fn first_odd_run<R: Threads + Wait + Sync>(
+    rt: &R,
+    alloc: Global,
+    given: &str,
+    ends: &str,
+) -> Option<Option<Text>> {
     if !are_known(given) || !are_known_ends(ends) {
         return None;
     }
@@ -186,17 +295,18 @@ fn first_odd<R: Threads + Wait + Sync>(rt: &R, alloc: Global, case: &str) -> Opt
 }
 
 /// What was written, as a text.
-fn written(alloc: Global, bytes: &[u8]) -> Option<String> {
-    String::from_utf8(bytes.to_vec(alloc).ok()?).ok()
+fn written(bytes: &[u8]) -> Option<&str> {
+    std::str::from_utf8(bytes).ok()
 }
 
 /// What came of a run, as a text.
-pub fn shown<G>(alloc: Global, came: &Came<G>, told: &str) -> Option<Text> {
+fn shown(alloc: Global, came: &Came<'_>) -> Option<Text> {
     let status = came.status;
     let entries = came.entries;
-    let out = written(alloc, came.out.bytes())?;
-    let err = written(alloc, came.err.bytes())?;
-    let sent = written(alloc, came.sent.as_slice())?;
+    let out = written(came.out)?;
+    let err = written(came.err)?;
+    let sent = written(came.sent)?;
+    let told = came.told;
     let mut text = Text::new(alloc);
     text.push(format_args!("status {status}, {entries} entries\n{out}{err}{sent}{told}"))
         .ok()?;

@@ -174,6 +174,10 @@ pub const VALID: &str = "\
     => 1\n\
     out invalid 56 use 2 use 0\n\
     == check\n\
+    + {use:[{directory:'r',path:'/svc',rights:['r*']},{protocol:'q',path:'/svcs/a'}]}\n\
+    => 0\n\
+    out valid\n\
+    == check\n\
     + {children:[{name:'a',url:'#meta/child.cm'},{name:'b',url:'#meta/child.cm'}],\
     collections:[{name:'c',durability:'transient'}],capabilities:[{protocol:'p',path:'/svc/p'}],\
     offer:[{protocol:'p',from:'void',to:'#a',availability:'optional'},{protocol:'q',from:'void',\
@@ -559,33 +563,10 @@ pub const WRITTEN: &str = "\
     out root fuchsia-pkg://t/a#meta/root.cm\n\
     out 1 0 find . => found 0\n\
     out 2 0 begin resolve 0 => begun 1\n\
-    out 3 0 end 1 resolved fuchsia-pkg://t/a#meta/root.cm {\"capabilities\":[{\"directory\":\"data\",\
-    \"path\":\"/data\",\"rights\":[\"connect\",\"enumerate\",\"get_attributes\",\"read_bytes\",\
-    \"traverse\"]}],\"children\":[{\"name\":\"shell\",\"startup\":\"eager\",\
-    \"url\":\"#meta/shell.cm\"}],\"collections\":[{\"allowed_offers\":\"static_and_dynamic\",\
-    \"durability\":\"transient\",\"name\":\"elements\"}],\"expose\":[{\"as\":\"session-data\",\
-    \"availability\":\"required\",\"directory\":\"data\",\"from\":\"self\",\"subdir\":\"x/y\"}],\
-    \"offer\":[{\"as\":\"a.B\",\"availability\":\"required\",\"dependency\":\"strong\",\
-    \"from\":\"parent\",\"protocol\":\"a.B\",\"to\":\"#shell\"},{\"as\":\"a.B\",\
-    \"availability\":\"required\",\"dependency\":\"strong\",\"from\":\"parent\",\"protocol\":\"a.B\",\
-    \"to\":\"#elements\"}],\"program\":{\"runner\":\"elf\"},\"use\":[{\"availability\":\"required\",\
-    \"dependency\":\"strong\",\"from\":\"parent\",\"path\":\"/svc/a.B\",\"protocol\":\"a.B\"},\
-    {\"availability\":\"required\",\"dependency\":\"strong\",\"from\":\"parent\",\"path\":\"/svc/a.C\",\
-    \"protocol\":\"a.C\"}]} => ended resolved\n\
+    out 3 0 end 1 resolved fuchsia-pkg://t/a#meta/root.cm $session$ => ended resolved\n\
     == run --journal\n\
     | manifest fuchsia-pkg://t/a#meta/root.cm\n\
-    | {\"capabilities\":[{\"directory\":\"data\",\"path\":\"/data\",\"rights\":[\"connect\",\
-    \"enumerate\",\"get_attributes\",\"read_bytes\",\"traverse\"]}],\"children\":[{\"name\":\"shell\",\
-    \"startup\":\"eager\",\"url\":\"#meta/shell.cm\"}],\"collections\":[{\"allowed_offers\":\"static_and\
-    _dynamic\",\"durability\":\"transient\",\"name\":\"elements\"}],\
-    \"expose\":[{\"as\":\"session-data\",\"availability\":\"required\",\"directory\":\"data\",\
-    \"from\":\"self\",\"subdir\":\"x/y\"}],\"offer\":[{\"as\":\"a.B\",\"availability\":\"required\",\
-    \"dependency\":\"strong\",\"from\":\"parent\",\"protocol\":\"a.B\",\"to\":\"#shell\"},\
-    {\"as\":\"a.B\",\"availability\":\"required\",\"dependency\":\"strong\",\"from\":\"parent\",\
-    \"protocol\":\"a.B\",\"to\":\"#elements\"}],\"program\":{\"runner\":\"elf\"},\
-    \"use\":[{\"availability\":\"required\",\"dependency\":\"strong\",\"from\":\"parent\",\
-    \"path\":\"/svc/a.B\",\"protocol\":\"a.B\"},{\"availability\":\"required\",\
-    \"dependency\":\"strong\",\"from\":\"parent\",\"path\":\"/svc/a.C\",\"protocol\":\"a.C\"}]}\n\
+    | $session$\n\
     | %%\n\
     @root-line\n\
     | 0 resolve .\n\
@@ -595,19 +576,7 @@ pub const WRITTEN: &str = "\
     out root fuchsia-pkg://t/a#meta/root.cm\n\
     out 1 0 find . => found 0\n\
     out 2 0 begin resolve 0 => begun 1\n\
-    out 3 0 end 1 resolved fuchsia-pkg://t/a#meta/root.cm {\"capabilities\":[{\"directory\":\"data\",\
-    \"path\":\"/data\",\"rights\":[\"connect\",\"enumerate\",\"get_attributes\",\"read_bytes\",\
-    \"traverse\"]}],\"children\":[{\"name\":\"shell\",\"startup\":\"eager\",\
-    \"url\":\"#meta/shell.cm\"}],\"collections\":[{\"allowed_offers\":\"static_and_dynamic\",\
-    \"durability\":\"transient\",\"name\":\"elements\"}],\"expose\":[{\"as\":\"session-data\",\
-    \"availability\":\"required\",\"directory\":\"data\",\"from\":\"self\",\"subdir\":\"x/y\"}],\
-    \"offer\":[{\"as\":\"a.B\",\"availability\":\"required\",\"dependency\":\"strong\",\
-    \"from\":\"parent\",\"protocol\":\"a.B\",\"to\":\"#shell\"},{\"as\":\"a.B\",\
-    \"availability\":\"required\",\"dependency\":\"strong\",\"from\":\"parent\",\"protocol\":\"a.B\",\
-    \"to\":\"#elements\"}],\"program\":{\"runner\":\"elf\"},\"use\":[{\"availability\":\"required\",\
-    \"dependency\":\"strong\",\"from\":\"parent\",\"path\":\"/svc/a.B\",\"protocol\":\"a.B\"},\
-    {\"availability\":\"required\",\"dependency\":\"strong\",\"from\":\"parent\",\"path\":\"/svc/a.C\",\
-    \"protocol\":\"a.C\"}]} => ended resolved\n\
+    out 3 0 end 1 resolved fuchsia-pkg://t/a#meta/root.cm $session$ => ended resolved\n\
     == run --journal\n\
     | manifest fuchsia-pkg://t/a#meta/root.cm\n\
     | {use:[{storage:'s',path:'/s'},{protocol:'p',from:'debug'},{protocol:'q',\n\
@@ -621,17 +590,10 @@ pub const WRITTEN: &str = "\
     out root fuchsia-pkg://t/a#meta/root.cm\n\
     out 1 0 find . => found 0\n\
     out 2 0 begin resolve 0 => begun 1\n\
-    out 3 0 end 1 resolved fuchsia-pkg://t/a#meta/root.cm {\"capabilities\":[],\"children\":[],\
-    \"collections\":[],\"expose\":[],\"offer\":[],\"use\":[{\"availability\":\"transitional\",\
-    \"dependency\":\"strong\",\"from\":\"parent\",\"path\":\"/svc/q\",\"protocol\":\"q\"},\
-    {\"from\":\"debug\",\"path\":\"/svc/p\",\"protocol\":\"p\"},{\"from\":\"parent\",\"path\":\"/s\",\
-    \"storage\":\"s\"}]} => ended resolved\n\
+    out 3 0 end 1 resolved fuchsia-pkg://t/a#meta/root.cm $uses$ => ended resolved\n\
     == run --journal\n\
     | manifest fuchsia-pkg://t/a#meta/root.cm\n\
-    | {\"capabilities\":[],\"children\":[],\"collections\":[],\"expose\":[],\"offer\":[],\
-    \"use\":[{\"availability\":\"transitional\",\"dependency\":\"strong\",\"from\":\"parent\",\
-    \"path\":\"/svc/q\",\"protocol\":\"q\"},{\"from\":\"debug\",\"path\":\"/svc/p\",\"protocol\":\"p\"},\
-    {\"from\":\"parent\",\"path\":\"/s\",\"storage\":\"s\"}]}\n\
+    | $uses$\n\
     | %%\n\
     @root-line\n\
     | 0 resolve .\n\
@@ -641,11 +603,7 @@ pub const WRITTEN: &str = "\
     out root fuchsia-pkg://t/a#meta/root.cm\n\
     out 1 0 find . => found 0\n\
     out 2 0 begin resolve 0 => begun 1\n\
-    out 3 0 end 1 resolved fuchsia-pkg://t/a#meta/root.cm {\"capabilities\":[],\"children\":[],\
-    \"collections\":[],\"expose\":[],\"offer\":[],\"use\":[{\"availability\":\"transitional\",\
-    \"dependency\":\"strong\",\"from\":\"parent\",\"path\":\"/svc/q\",\"protocol\":\"q\"},\
-    {\"from\":\"debug\",\"path\":\"/svc/p\",\"protocol\":\"p\"},{\"from\":\"parent\",\"path\":\"/s\",\
-    \"storage\":\"s\"}]} => ended resolved\n\
+    out 3 0 end 1 resolved fuchsia-pkg://t/a#meta/root.cm $uses$ => ended resolved\n\
     == run --journal\n\
     | manifest fuchsia-pkg://t/a#meta/root.cm\n\
     | {environments:[{name:'e',extends:'realm',runners:[{runner:'r',from:'#a',as:'s'}],\n\
@@ -659,17 +617,10 @@ pub const WRITTEN: &str = "\
     out root fuchsia-pkg://t/a#meta/root.cm\n\
     out 1 0 find . => found 0\n\
     out 2 0 begin resolve 0 => begun 1\n\
-    out 3 0 end 1 resolved fuchsia-pkg://t/a#meta/root.cm {\"capabilities\":[],\"children\":[],\
-    \"collections\":[],\"environments\":[{\"debug\":[{\"as\":\"p\",\"from\":\"parent\",\
-    \"protocol\":\"p\"},{\"as\":\"q\",\"from\":\"parent\",\"protocol\":\"q\"}],\"extends\":\"realm\",\
-    \"name\":\"e\",\"runners\":[{\"as\":\"s\",\"from\":\"#a\",\"runner\":\"r\"}]}],\"expose\":[],\
-    \"offer\":[],\"use\":[]} => ended resolved\n\
+    out 3 0 end 1 resolved fuchsia-pkg://t/a#meta/root.cm $environment$ => ended resolved\n\
     == run --journal\n\
     | manifest fuchsia-pkg://t/a#meta/root.cm\n\
-    | {\"capabilities\":[],\"children\":[],\"collections\":[],\"environments\":[{\"debug\":[{\"as\":\"p\
-    \",\"from\":\"parent\",\"protocol\":\"p\"},{\"as\":\"q\",\"from\":\"parent\",\"protocol\":\"q\"}],\
-    \"extends\":\"realm\",\"name\":\"e\",\"runners\":[{\"as\":\"s\",\"from\":\"#a\",\
-    \"runner\":\"r\"}]}],\"expose\":[],\"offer\":[],\"use\":[]}\n\
+    | $environment$\n\
     | %%\n\
     @root-line\n\
     | 0 resolve .\n\
@@ -679,11 +630,7 @@ pub const WRITTEN: &str = "\
     out root fuchsia-pkg://t/a#meta/root.cm\n\
     out 1 0 find . => found 0\n\
     out 2 0 begin resolve 0 => begun 1\n\
-    out 3 0 end 1 resolved fuchsia-pkg://t/a#meta/root.cm {\"capabilities\":[],\"children\":[],\
-    \"collections\":[],\"environments\":[{\"debug\":[{\"as\":\"p\",\"from\":\"parent\",\
-    \"protocol\":\"p\"},{\"as\":\"q\",\"from\":\"parent\",\"protocol\":\"q\"}],\"extends\":\"realm\",\
-    \"name\":\"e\",\"runners\":[{\"as\":\"s\",\"from\":\"#a\",\"runner\":\"r\"}]}],\"expose\":[],\
-    \"offer\":[],\"use\":[]} => ended resolved\n\
+    out 3 0 end 1 resolved fuchsia-pkg://t/a#meta/root.cm $environment$ => ended resolved\n\
     == run --journal\n\
     | manifest fuchsia-pkg://t/a#meta/root.cm\n\
     | {children:[{name:'a',url:'u',environment:'#e'}],capabilities:[{storage:'s',from:'#a',\n\
@@ -699,22 +646,10 @@ pub const WRITTEN: &str = "\
     out root fuchsia-pkg://t/a#meta/root.cm\n\
     out 1 0 find . => found 0\n\
     out 2 0 begin resolve 0 => begun 1\n\
-    out 3 0 end 1 resolved fuchsia-pkg://t/a#meta/root.cm {\"capabilities\":[{\"backing_dir\":\"d\",\
-    \"from\":\"#a\",\"storage\":\"s\",\"storage_id\":\"static_instance_id_or_moniker\",\
-    \"subdir\":\"x/y\"}],\"children\":[{\"environment\":\"#e\",\"name\":\"a\",\"startup\":\"lazy\",\
-    \"url\":\"u\"}],\"collections\":[],\"expose\":[],\"offer\":[{\"as\":\"s\",\"from\":\"self\",\
-    \"storage\":\"s\",\"to\":\"#a\"},{\"as\":\"s\",\"from\":\"self\",\"storage\":\"s\",\"to\":\"#c\"},\
-    {\"as\":\"t\",\"from\":\"self\",\"storage\":\"t\",\"to\":\"#a\"},{\"as\":\"t\",\"from\":\"self\",\
-    \"storage\":\"t\",\"to\":\"#c\"}],\"use\":[]} => ended resolved\n\
+    out 3 0 end 1 resolved fuchsia-pkg://t/a#meta/root.cm $storage$ => ended resolved\n\
     == run --journal\n\
     | manifest fuchsia-pkg://t/a#meta/root.cm\n\
-    | {\"capabilities\":[{\"backing_dir\":\"d\",\"from\":\"#a\",\"storage\":\"s\",\
-    \"storage_id\":\"static_instance_id_or_moniker\",\"subdir\":\"x/y\"}],\
-    \"children\":[{\"environment\":\"#e\",\"name\":\"a\",\"startup\":\"lazy\",\"url\":\"u\"}],\
-    \"collections\":[],\"expose\":[],\"offer\":[{\"as\":\"s\",\"from\":\"self\",\"storage\":\"s\",\
-    \"to\":\"#a\"},{\"as\":\"s\",\"from\":\"self\",\"storage\":\"s\",\"to\":\"#c\"},{\"as\":\"t\",\
-    \"from\":\"self\",\"storage\":\"t\",\"to\":\"#a\"},{\"as\":\"t\",\"from\":\"self\",\
-    \"storage\":\"t\",\"to\":\"#c\"}],\"use\":[]}\n\
+    | $storage$\n\
     | %%\n\
     @root-line\n\
     | 0 resolve .\n\
@@ -724,10 +659,4 @@ pub const WRITTEN: &str = "\
     out root fuchsia-pkg://t/a#meta/root.cm\n\
     out 1 0 find . => found 0\n\
     out 2 0 begin resolve 0 => begun 1\n\
-    out 3 0 end 1 resolved fuchsia-pkg://t/a#meta/root.cm {\"capabilities\":[{\"backing_dir\":\"d\",\
-    \"from\":\"#a\",\"storage\":\"s\",\"storage_id\":\"static_instance_id_or_moniker\",\
-    \"subdir\":\"x/y\"}],\"children\":[{\"environment\":\"#e\",\"name\":\"a\",\"startup\":\"lazy\",\
-    \"url\":\"u\"}],\"collections\":[],\"expose\":[],\"offer\":[{\"as\":\"s\",\"from\":\"self\",\
-    \"storage\":\"s\",\"to\":\"#a\"},{\"as\":\"s\",\"from\":\"self\",\"storage\":\"s\",\"to\":\"#c\"},\
-    {\"as\":\"t\",\"from\":\"self\",\"storage\":\"t\",\"to\":\"#a\"},{\"as\":\"t\",\"from\":\"self\",\
-    \"storage\":\"t\",\"to\":\"#c\"}],\"use\":[]} => ended resolved\n";
+    out 3 0 end 1 resolved fuchsia-pkg://t/a#meta/root.cm $storage$ => ended resolved\n";

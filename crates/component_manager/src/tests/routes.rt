@@ -3,10 +3,7 @@
 /// Scripts that ask for routes.
 pub const ROUTES: &str = "\
     == run\n\
-    @root\n\
-    @logger\n\
-    @client\n\
-    @ask\n\
+    $route$\n\
     => 0\n\
     out 0 route /svc/fuchsia.logger.LogSink at logger incarnation 1 through use client, offer ., \
     expose logger, capability logger\n\
@@ -87,10 +84,7 @@ pub const ROUTES: &str = "\
     => 0\n\
     out 0 refused 83 cannot-resolve action 2 invalid 31 manifest 0\n\
     == run\n\
-    @root\n\
-    @logger\n\
-    @client\n\
-    @ask\n\
+    $route$\n\
     | # twice\n\
     | \n\
     | 0 route client /svc/x\n\
@@ -113,10 +107,7 @@ pub const ROUTES: &str = "\
     => 0\n\
     out 0 refused 87 no-builtin at builtin .\n\
     == run\n\
-    @root\n\
-    @logger\n\
-    @client\n\
-    @ask\n\
+    $route$\n\
     | sync\n\
     + 0 route c:x /svc/p\n\
     => 0\n\
@@ -252,3 +243,231 @@ pub const ROUTES: &str = "\
     \"use\":[]} => ended resolved\n\
     out 11 0 route 2 /svc/fuchsia.logger.LogSink => given /svc/fuchsia.logger.LogSink at logger \
     incarnation 1 through use client, offer ., expose logger, capability logger\n";
+
+/// Rights that are narrowed at the offer; that are too weak at the capability; subdirectories that are
+/// joined; an availability and rights that are too weak at the expose; the void; no builtin above the root;
+/// no expose of that kind.
+pub const RIGHTS: &str = "\
+    == run\n\
+    | manifest fuchsia-pkg://t/a#meta/root.cm\n\
+    | {children:[{name:'store',url:'#s'},{name:'client',url:'#c'}],offer:[{to:'#client',directory:'data',\
+    from:'#store',rights:['r*']}]}\n\
+    | %%\n\
+    @store-of-data\n\
+    | manifest fuchsia-pkg://t/a#c\n\
+    | {use:[{path:'/in',directory:'data',rights:['r*']}]}\n\
+    | %%\n\
+    @ask-in\n\
+    => 0\n\
+    out 0 route /data at store incarnation 1 rights connect,enumerate,get_attributes,read_bytes,traverse \
+    through use client, offer ., expose store, capability store\n\
+    == run\n\
+    @offer-of-subdirectory\n\
+    @store-of-subdirectory\n\
+    | manifest fuchsia-pkg://t/a#c\n\
+    | {use:[{path:'/in',directory:'data',rights:['x*'],subdir:'d'}]}\n\
+    | %%\n\
+    @ask-in\n\
+    => 0\n\
+    out 0 refused 87 rights-too-weak at capability store\n\
+    == run\n\
+    @offer-of-subdirectory\n\
+    @store-of-subdirectory\n\
+    | manifest fuchsia-pkg://t/a#c\n\
+    | {use:[{path:'/in',directory:'data',rights:['connect'],subdir:'d'}]}\n\
+    | %%\n\
+    @ask-in\n\
+    => 0\n\
+    out 0 route /data/a/b/c/d at store incarnation 1 rights connect through use client, offer ., expose \
+    store, capability store\n\
+    == run\n\
+    @offer-of-data\n\
+    | manifest fuchsia-pkg://t/a#s\n\
+    | {capabilities:[{directory:'data',path:'/data',rights:['rw*']}],expose:[{from:'self',\
+    directory:'data',rights:['r*'],availability:'optional'}]}\n\
+    | %%\n\
+    | manifest fuchsia-pkg://t/a#c\n\
+    | {use:[{path:'/in',directory:'data',rights:['rw*']}]}\n\
+    | %%\n\
+    @ask-in\n\
+    => 0\n\
+    out 0 refused 87 availability-too-weak at expose store\n\
+    == run\n\
+    @offer-of-data\n\
+    | manifest fuchsia-pkg://t/a#s\n\
+    | {capabilities:[{directory:'data',path:'/data',rights:['rw*']}],expose:[{from:'self',\
+    directory:'data',rights:['r*']}]}\n\
+    | %%\n\
+    | manifest fuchsia-pkg://t/a#c\n\
+    | {use:[{path:'/in',directory:'data',rights:['rw*']}]}\n\
+    | %%\n\
+    @ask-in\n\
+    => 0\n\
+    out 0 refused 87 rights-too-weak at expose store\n\
+    == run\n\
+    | manifest fuchsia-pkg://t/a#meta/root.cm\n\
+    | {children:[{name:'store',url:'#s'},{name:'client',url:'#c'}],offer:[{to:'#client',directory:'data',\
+    from:'void',availability:'optional'}]}\n\
+    | %%\n\
+    @store-of-data\n\
+    | manifest fuchsia-pkg://t/a#c\n\
+    | {use:[{path:'/in',directory:'data',rights:['r*'],availability:'optional'}]}\n\
+    | %%\n\
+    @ask-in\n\
+    => 0\n\
+    out 0 refused 88 void at offer .\n\
+    == run\n\
+    | manifest fuchsia-pkg://t/a#meta/root.cm\n\
+    | {children:[{name:'store',url:'#s'},{name:'client',url:'#c'}],offer:[{to:'#client',protocol:'data',\
+    from:'parent'}]}\n\
+    | %%\n\
+    @store-of-data\n\
+    | manifest fuchsia-pkg://t/a#c\n\
+    | {use:[{path:'/in',protocol:'data'}]}\n\
+    | %%\n\
+    @ask-in\n\
+    => 0\n\
+    out 0 refused 87 no-builtin at builtin .\n\
+    == run\n\
+    | manifest fuchsia-pkg://t/a#meta/root.cm\n\
+    | {children:[{name:'store',url:'#s'},{name:'client',url:'#c'}],offer:[{to:'#client',protocol:'data',\
+    from:'#store'}]}\n\
+    | %%\n\
+    @store-of-data\n\
+    | manifest fuchsia-pkg://t/a#c\n\
+    | {use:[{path:'/in',protocol:'data'}]}\n\
+    | %%\n\
+    @ask-in\n\
+    => 0\n\
+    out 0 refused 87 no-expose at expose store\n";
+
+/// What stands at each hop of a route of which all know how sure they are: less than is given; what is asked,
+/// taken over at two hops; more than the nearest offer gives; more than the far one gives, through one that
+/// takes it over; more than the expose gives, through two that take it over; less than the use asks for, but
+/// more than the offer before. Then routes that begin at an expose: by taking over, so that there is nothing
+/// to compare with, and by an availability of its own.
+pub const AVAILABILITY: &str = "\
+    == run\n\
+    | manifest fuchsia-pkg://t/a#meta/root.cm\n\
+    | {children:[{name:'store',url:'#s'},{name:'mid',url:'#m'}],offer:[{protocol:'log',from:'#store',\
+    to:'#mid'}]}\n\
+    | %%\n\
+    @store-of-log\n\
+    | manifest fuchsia-pkg://t/a#m\n\
+    | {children:[{name:'client',url:'#c'}],offer:[{protocol:'log',from:'parent',to:'#client',\
+    availability:'optional'}]}\n\
+    | %%\n\
+    | manifest fuchsia-pkg://t/a#c\n\
+    | {use:[{protocol:'log',availability:'transitional'}]}\n\
+    | %%\n\
+    @ask-log\n\
+    => 0\n\
+    out 0 route /svc/log at store incarnation 1 through use mid/client, offer mid, offer ., expose \
+    store, capability store\n\
+    == run\n\
+    | manifest fuchsia-pkg://t/a#meta/root.cm\n\
+    | {children:[{name:'store',url:'#s'},{name:'mid',url:'#m'}],offer:[{protocol:'log',from:'#store',\
+    to:'#mid',availability:'same_as_target'}]}\n\
+    | %%\n\
+    | manifest fuchsia-pkg://t/a#s\n\
+    | {capabilities:[{protocol:'log'}],expose:[{protocol:'log',from:'self',availability:'optional'}]}\n\
+    | %%\n\
+    @taking-over\n\
+    | manifest fuchsia-pkg://t/a#c\n\
+    | {use:[{protocol:'log',availability:'optional'}]}\n\
+    | %%\n\
+    @ask-log\n\
+    => 0\n\
+    out 0 route /svc/log at store incarnation 1 through use mid/client, offer mid, offer ., expose \
+    store, capability store\n\
+    == run\n\
+    | manifest fuchsia-pkg://t/a#meta/root.cm\n\
+    | {children:[{name:'store',url:'#s'},{name:'mid',url:'#m'}],offer:[{protocol:'log',from:'#store',\
+    to:'#mid'}]}\n\
+    | %%\n\
+    @store-of-log\n\
+    | manifest fuchsia-pkg://t/a#m\n\
+    | {children:[{name:'client',url:'#c'}],offer:[{protocol:'log',from:'parent',to:'#client',\
+    availability:'transitional'}]}\n\
+    | %%\n\
+    | manifest fuchsia-pkg://t/a#c\n\
+    | {use:[{protocol:'log',availability:'optional'}]}\n\
+    | %%\n\
+    @ask-log\n\
+    => 0\n\
+    out 0 refused 87 availability-too-weak at offer mid\n\
+    == run\n\
+    | manifest fuchsia-pkg://t/a#meta/root.cm\n\
+    | {children:[{name:'store',url:'#s'},{name:'mid',url:'#m'}],offer:[{protocol:'log',from:'#store',\
+    to:'#mid',availability:'optional'}]}\n\
+    | %%\n\
+    @store-of-log\n\
+    @taking-over\n\
+    | manifest fuchsia-pkg://t/a#c\n\
+    | {use:[{protocol:'log'}]}\n\
+    | %%\n\
+    @ask-log\n\
+    => 0\n\
+    out 0 refused 87 availability-too-weak at offer .\n\
+    == run\n\
+    | manifest fuchsia-pkg://t/a#meta/root.cm\n\
+    | {children:[{name:'store',url:'#s'},{name:'mid',url:'#m'}],offer:[{protocol:'log',from:'#store',\
+    to:'#mid',availability:'same_as_target'}]}\n\
+    | %%\n\
+    | manifest fuchsia-pkg://t/a#s\n\
+    | {capabilities:[{protocol:'log'}],expose:[{protocol:'log',from:'self',\
+    availability:'transitional'}]}\n\
+    | %%\n\
+    @taking-over\n\
+    | manifest fuchsia-pkg://t/a#c\n\
+    | {use:[{protocol:'log',availability:'optional'}]}\n\
+    | %%\n\
+    @ask-log\n\
+    => 0\n\
+    out 0 refused 87 availability-too-weak at expose store\n\
+    == run\n\
+    | manifest fuchsia-pkg://t/a#meta/root.cm\n\
+    | {children:[{name:'store',url:'#s'},{name:'mid',url:'#m'}],offer:[{protocol:'log',from:'#store',\
+    to:'#mid'}]}\n\
+    | %%\n\
+    | manifest fuchsia-pkg://t/a#s\n\
+    | {capabilities:[{protocol:'log'}],expose:[{protocol:'log',from:'self',availability:'optional'}]}\n\
+    | %%\n\
+    @taking-over\n\
+    | manifest fuchsia-pkg://t/a#c\n\
+    | {use:[{protocol:'log',availability:'optional'}]}\n\
+    | %%\n\
+    @ask-log\n\
+    => 0\n\
+    out 0 refused 87 availability-too-weak at expose store\n\
+    == run\n\
+    | manifest fuchsia-pkg://t/a#meta/root.cm\n\
+    | {children:[{name:'a',url:'#a'}]}\n\
+    | %%\n\
+    | manifest fuchsia-pkg://t/a#a\n\
+    | {children:[{name:'b',url:'#b'}],expose:[{protocol:'log',from:'#b',\
+    availability:'same_as_target'}]}\n\
+    | %%\n\
+    | manifest fuchsia-pkg://t/a#b\n\
+    | {capabilities:[{protocol:'log'}],expose:[{protocol:'log',from:'self',\
+    availability:'transitional'}]}\n\
+    | %%\n\
+    @root-line\n\
+    | 0 open-exposed a log\n\
+    => 0\n\
+    out 0 opened /svc/log at a/b incarnation 2\n\
+    == run\n\
+    | manifest fuchsia-pkg://t/a#meta/root.cm\n\
+    | {children:[{name:'a',url:'#a'}]}\n\
+    | %%\n\
+    | manifest fuchsia-pkg://t/a#a\n\
+    | {children:[{name:'b',url:'#b'}],expose:[{protocol:'log',from:'#b'}]}\n\
+    | %%\n\
+    | manifest fuchsia-pkg://t/a#b\n\
+    | {capabilities:[{protocol:'log'}],expose:[{protocol:'log',from:'self',\
+    availability:'transitional'}]}\n\
+    | %%\n\
+    @root-line\n\
+    | 0 open-exposed a log\n\
+    => 0\n\
+    out 0 refused 87 availability-too-weak at expose a/b\n";

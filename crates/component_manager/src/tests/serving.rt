@@ -4,7 +4,7 @@
 /// first accept and behind a session, or that close early; manifests that gates have, and one that they
 /// fail to give; words that serve nothing.
 pub const SERVING: &str = "\
-    == serve s --root fuchsia-pkg://t/a#meta/root.cm --repo r --workers 1\n\
+    == $serve$\n\
     link one\n\
     piece 1\n\
     | show .\n\
@@ -65,21 +65,21 @@ pub const SERVING: &str = "\
     sent worker 0\n\
     sent refused 70 bad-command at 0\n\
     sent refused 70 bad-command at 0\n\
-    == serve s --root fuchsia-pkg://t/a#meta/root.cm --repo r --workers 1\n\
+    == $serve$\n\
     door 0\n\
     link one\n\
     | show .\n\
     => 5\n\
     entries 0\n\
     err door fault\n\
-    == serve s --root fuchsia-pkg://t/a#meta/root.cm --repo r --workers 1\n\
+    == $serve$\n\
     door 0\n\
     say 0\n\
     link one\n\
     | show .\n\
     => 5\n\
     entries 0\n\
-    == serve s --root fuchsia-pkg://t/a#meta/root.cm --repo r --workers 1\n\
+    == $serve$\n\
     door 1\n\
     link one\n\
     | show .\n\
@@ -104,7 +104,7 @@ pub const SERVING: &str = "\
     entries 2\n\
     sent worker 0\n\
     sent shown . incarnation 0 url fuchsia-pkg://t/a#meta/root.cm unresolved off\n\
-    == serve s --root fuchsia-pkg://t/a#meta/root.cm --repo r --workers 1\n\
+    == $serve$\n\
     link one\n\
     | show .\n\
     link other\n\
@@ -113,12 +113,12 @@ pub const SERVING: &str = "\
     entries 2\n\
     sent worker 0\n\
     sent shown . incarnation 0 url fuchsia-pkg://t/a#meta/root.cm unresolved off\n\
-    == serve s --root fuchsia-pkg://t/a#meta/root.cm --repo r --workers 1\n\
+    == $serve$\n\
     link one\n\
     => 0\n\
     entries 0\n\
     sent worker 0\n\
-    == serve s --root fuchsia-pkg://t/a#meta/root.cm --repo r --workers 1\n\
+    == $serve$\n\
     held @root 0\n\
     link one\n\
     | resolve .\n\
@@ -127,7 +127,7 @@ pub const SERVING: &str = "\
     sent worker 0\n\
     sent resolved . action 1\n\
     sent refused 83 cannot-resolve action 2 absent\n\
-    == serve s --root fuchsia-pkg://t/a#meta/root.cm --repo r --workers 1\n\
+    == $serve$\n\
     held @root 0\n\
     failing 0 0\n\
     link one\n\
@@ -223,92 +223,77 @@ pub const SERVING: &str = "\
     link one\n\
     | show .\n\
     => 2\n\
-    entries 0\n\
-    err usage: run, check, serve, audit, generate\n\
+    $usage$\n\
     == serve s\n\
     link one\n\
     | show .\n\
     => 2\n\
-    entries 0\n\
-    err usage: run, check, serve, audit, generate\n\
+    $usage$\n\
     == serve s --root u\n\
     link one\n\
     | show .\n\
     => 2\n\
-    entries 0\n\
-    err usage: run, check, serve, audit, generate\n\
+    $usage$\n\
     == serve s --repo r\n\
     link one\n\
     | show .\n\
     => 2\n\
-    entries 0\n\
-    err usage: run, check, serve, audit, generate\n\
+    $usage$\n\
     == serve --root u --repo r\n\
     link one\n\
     | show .\n\
     => 2\n\
-    entries 0\n\
-    err usage: run, check, serve, audit, generate\n\
+    $usage$\n\
     == serve s t --root u --repo r\n\
     link one\n\
     | show .\n\
     => 2\n\
-    entries 0\n\
-    err usage: run, check, serve, audit, generate\n\
+    $usage$\n\
     == serve s --root fuchsia-pkg://t/a#meta/root.cm --repo r --sessions 0\n\
     link one\n\
     | show .\n\
     => 2\n\
-    entries 0\n\
-    err usage: run, check, serve, audit, generate\n\
+    $usage$\n\
     == serve s --root fuchsia-pkg://t/a#meta/root.cm --repo r --sessions 4097\n\
     link one\n\
     | show .\n\
     => 2\n\
-    entries 0\n\
-    err usage: run, check, serve, audit, generate\n\
+    $usage$\n\
     == serve s --root fuchsia-pkg://t/a#meta/root.cm --repo r --sessions -1\n\
     link one\n\
     | show .\n\
     => 2\n\
-    entries 0\n\
-    err usage: run, check, serve, audit, generate\n\
+    $usage$\n\
     == serve s --root fuchsia-pkg://t/a#meta/root.cm --repo r --sessions x\n\
     link one\n\
     | show .\n\
     => 2\n\
-    entries 0\n\
-    err usage: run, check, serve, audit, generate\n\
+    $usage$\n\
     == serve s --root fuchsia-pkg://t/a#meta/root.cm --repo r --workers 0\n\
     link one\n\
     | show .\n\
     => 2\n\
-    entries 0\n\
-    err usage: run, check, serve, audit, generate\n\
+    $usage$\n\
     == serve s --root fuchsia-pkg://t/a#meta/root.cm --repo r --workers 17\n\
     link one\n\
     | show .\n\
     => 2\n\
-    entries 0\n\
-    err usage: run, check, serve, audit, generate\n\
+    $usage$\n\
     == serve s --root fuchsia-pkg://t/a#meta/root.cm --repo r --workers\n\
     link one\n\
     | show .\n\
     => 2\n\
-    entries 0\n\
-    err usage: run, check, serve, audit, generate\n\
+    $usage$\n\
     == serve s --root fuchsia-pkg://t/a#meta/root.cm --repo r --journal\n\
     link one\n\
     | show .\n\
     => 2\n\
-    entries 0\n\
-    err usage: run, check, serve, audit, generate\n\
+    $usage$\n\
     == serve --help\n\
     link one\n\
     | show .\n\
     => 2\n\
-    entries 0\n\
-    err usage: run, check, serve, audit, generate\n\
+    $usage$\n\
     == serve s --root fuchsia-pkg://t/a#meta/root.cm --repo r --sessions 4096 --workers 16\n\
     door 0\n\
     => 5\n\

@@ -3,14 +3,17 @@
 ghost use Rattle.std.specs.Prelude.{◌≡◌, IfSome, length};
 
 use super::input::words_of;
+use super::player::{Sides, ran};
 use cm_gate::QuietGates;
-use cm_io::{Door, MemorySink, MemorySource, Plan};
-use cm_names::List;
-use cm_program::run::run;
+use cm_io::{Door, MemorySink, MemorySource, Plan, SocketDoor};
+use cm_names::{List, Text};
+use cm_program::Ran;
 use std::alloc::Global;
+use std::fs::File;
 use std::io::{Read, Write};
 use std::net::Net;
 use std::os::unix::net::UnixStream;
+use std::rt::Files;
 use std::sync::Wait;
 use std::thread;
 use std::thread::Threads;
@@ -25,10 +28,12 @@ const PATH: &str = "socket_folder/s";
 /// How often a client tries to come, since the server may begin later.
 const TRIES: u32 = 10_000_000;
 
-/// What the clients read, each up to its end: the second and the third, and then the first.
-pub const TOLD: &str = "\
-    shown . incarnation 0 url fuchsia-pkg://t/a#meta/root.cm unresolved off\n\
-    refused 70 bad-command at 0\n\
+/// What the second client reads up to its end, the third, and then the first.
+const SECOND: &str = "shown . incarnation 0 url fuchsia-pkg://t/a#meta/root.cm unresolved off\n";
+
+const THIRD: &str = "refused 70 bad-command at 0\n";
+
+const FIRST: &str = "\
     shown . incarnation 0 url fuchsia-pkg://t/a#meta/root.cm unresolved off\n\
     refused 83 cannot-resolve action 1 absent\n";
 
@@ -41,6 +46,15 @@ fn quiet_gates(alloc: Global) -> Option<List<QuietGates>>
     }
 }
 
+/// An input without a byte, and outputs that don't fail.
+fn quiet_sides(alloc: Global) -> Sides {
+    Sides {
+        input: MemorySource::new(List::new(alloc), Plan::quiet(alloc)),
+        out: MemorySink::new(alloc, Plan::quiet(alloc)),
+        err: MemorySink::new(alloc, Plan::quiet(alloc)),
+    }
+}
+
 /// The status of a server, how many links came back, and its door.
 pub fn serve<R: Threads + Wait + Sync, D: Door + Send>(
     rt: &R,
@@ -50,16 +64,55 @@ pub fn serve<R: Threads + Wait + Sync, D: Door + Send>(
 where
     D::Link: Send,
 {
-    let words = words_of(alloc, SERVE)?;
-    let gates = quiet_gates(alloc)?;
-    let mut input = MemorySource::new(List::new(alloc), Plan::quiet(alloc));
-    let mut out = MemorySink::new(alloc, Plan::quiet(alloc));
-    let mut err = MemorySink::new(alloc, Plan::quiet(alloc));
-    let words = words.as_slice();
-    let ran = run(
-        rt, alloc, words, &mut input, &mut out, &mut err, door, gates,
-    );
-    Some((ran.status, ran.links.len(), ran.door))
+    match quiet_gates(alloc) {
+        Some(gates) => match words_of(alloc, SERVE) {
+            Some(words) => Some(served(rt, alloc, words.as_slice(), door, gates)),
+            None => None,
+        },
+        None => None,
+    }
+}
+
+fn served<R: Threads + Wait + Sync, D: Door + Send>(
+    rt: &R,
+    alloc: Global,
+    words: &[Text],
+    door: D,
+    gates: List<QuietGates>,
+) -> (u8, usize, D)
+where
+    D::Link: Send,
+    requires { length gates ≡ 16 }
+{
+    let mut sides = quiet_sides(alloc);
+    let ran = ran(rt, alloc, words, &mut sides, door, gates);
+    drop(sides);
+    let Ran {
+        status,
+        book,
+        links,
+        gates,
+        door,
+    } = ran;
+    let count = links.len();
+    drop(book);
+    drop(links);
+    drop(gates);
+    (status, count, door)
+}
+
+/// The status of a server and how many links came back, once its door is closed: the socket file would
+/// outlive the program.
+pub fn closed<N: Files<File = File> + Net + Drop>(
+    served: Option<(u8, usize, SocketDoor<N>)>,
+) -> Option<(u8, usize)> {
+    match served {
+        Some((status, links, mut door)) => {
+            door.close();
+            Some((status, links))
+        }
+        None => None,
+    }
 }
 
 /// A client, once the server is there.
@@ -76,21 +129,43 @@ fn client<N: Net>(system: &N) -> Option<UnixStream> {
 
 /// What a client that sends these lines reads behind, up to its end.
 fn told_to(alloc: Global, client: &mut UnixStream, lines: &str) -> Option<Vec<u8>> {
+    if client.write_all(lines.as_bytes()).is_err() {
+        return None;
+    }
     let mut read = Vec::new(alloc);
-    if client.write_all(lines.as_bytes()).is_err() || client.read_to_end(&mut read).is_err() {
+    if client.read_to_end(&mut read).is_err() {
         return None;
     }
     Some(read)
 }
 
-/// What three clients read. The first one is silent until the others have come to their ends, one after
-/// another.
-pub fn ask<N: Net>(system: &N, alloc: Global) -> Option<Vec<u8>> {
-    let mut silent = client(system)?;
-    let mut told = told_to(alloc, &mut client(system)?, "show .\nquit\n")?;
-    let third = told_to(alloc, &mut client(system)?, "foo\nquit\nshow .\n")?;
-    told.extend_from_slice(third.as_slice()).ok()?;
-    let first = told_to(alloc, &mut silent, "show .\nstart .\nquit\n")?;
-    told.extend_from_slice(first.as_slice()).ok()?;
-    Some(told)
+/// What a client that comes, sends these lines and reads up to its end is told.
+fn told_next<N: Net>(system: &N, alloc: Global, lines: &str) -> Option<Vec<u8>> {
+    match client(system) {
+        Some(mut client) => told_to(alloc, &mut client, lines),
+        None => None,
+    }
+}
+
+/// Whether three clients read what they should. The first one is silent until the others have come to
+/// their ends, one after another.
+pub fn ask<N: Net>(system: &N, alloc: Global) -> [bool; 3] {
+    match client(system) {
+        Some(mut silent) => [
+            is_told(told_next(system, alloc, "show .\nquit\n"), SECOND),
+            is_told(told_next(system, alloc, "foo\nquit\nshow .\n"), THIRD),
+            is_told(
+                told_to(alloc, &mut silent, "show .\nstart .\nquit\n"),
+                FIRST,
+            ),
+        ],
+        None => [false; 3],
+    }
+}
+
+fn is_told(told: Option<Vec<u8>>, wanted: &str) -> bool {
+    match told {
+        Some(told) => told.as_slice() == wanted.as_bytes(),
+        None => false,
+    }
 }

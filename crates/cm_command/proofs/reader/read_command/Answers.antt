@@ -1,15 +1,15 @@
 use Rattle.std.proofs.Common.{◌∙◌}
-use Rattle.cm_command.proofs.LineWords.{no_builtin, command_short, command_read, command_faulty}
+use Rattle.cm_command.proofs.LineWords.{commands, read, short, no_builtin, command_faulty}
 use Rattle.cm_command.proofs.reader.read_command.Goals as goal
 
 pub unreachable-requires : goal.unreachable-requires
 unreachable-requires c = no_builtin c.args.line.now c.in-Ok.sentence _ c.in-Builtin.is c.in-Ok.ensures
 
 pub fault_of-requires : goal.fault_of-requires
-fault_of-requires c = command_short c.args.line.now c.in-Err.fault c.requires c.in-Err.ensures
+fault_of-requires c = short commands c.args.line.now c.in-Err.fault c.requires c.in-Err.ensures
 
 pub returns-in-Command-clause-ok : goal.returns-in-Command-clause-ok
-returns-in-Command-clause-ok c = command_read c.args.line.now c.in-Ok.sentence c.in-Command.command c.in-Command.is c.in-Ok.ensures
+returns-in-Command-clause-ok c = read commands c.args.line.now c.in-Ok.sentence c.in-Command.command c.in-Command.is c.in-Ok.ensures
 
 pub returns-in-Err-clause-fault : goal.returns-in-Err-clause-fault
 returns-in-Err-clause-fault c =

@@ -1,4 +1,4 @@
-use Rattle.std.proofs.Common.{◌≡◌, None, ap, rules, arith}
+use Rattle.std.proofs.Common.{◌≡◌, ap, rules}
 use Rattle.std.specs.BTreeSet as set
 use Rattle.cm_decl.specs.declared.node.Node.{Node}
 use Rattle.cm_decl.specs.declared.node.Node.TheVariants.{Child}

@@ -1,7 +1,6 @@
 use Rattle.std.proofs.Common.{◌≡◌, ◌<◌, List, [], ◌∷◌, ◌++◌, length, sym, ◌∙◌, ap, subst, get_or}
 use Rattle.std.specs.Prelude.{map}
 use Rattle.cm_decl.specs.declared.node.Node.{Node}
-use Rattle.cm_deps.specs.declared.order.Shape.TheVariants.{Ordered, Ring}
 use Rattle.cm_deps.specs.Edges.{holds, IsBelow}
 use Rattle.cm_deps.specs.Implied.{IsOrdered}
 use Rattle.cm_deps.specs.Nodes.{at}

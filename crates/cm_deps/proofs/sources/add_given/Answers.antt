@@ -2,7 +2,6 @@ use Rattle.std.proofs.Common.{◌≡◌, ℕ, ◌<◌, List, [], ◌+◌, length
 use Rattle.std.specs.List.{list_any}
 use Rattle.std.proofs.lemmas.List.{take_all, get_or_default, length-set}
 use Rattle.cm_decl.specs.declared.decl.Decl.{Decl}
-use Rattle.cm_decl.specs.declared.node.Node.{Node}
 use Rattle.cm_decl.specs.declared.node.Node.TheVariants.{Child}
 use Rattle.cm_decl.specs.Same.{same_node}
 use Rattle.cm_deps.specs.Edges.{row}

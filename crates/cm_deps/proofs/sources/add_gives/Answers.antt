@@ -1,4 +1,4 @@
-use Rattle.std.proofs.Common.{◌≡◌, true, false, sym, ◌∙◌, subst, take, ◌+◌}
+use Rattle.std.proofs.Common.{◌≡◌, true, false, sym, subst, take, ◌+◌}
 use Rattle.cm_decl.specs.declared.rows.Give.{Give}
 use Rattle.cm_decl.specs.Graph.{is_strong}
 use Rattle.cm_deps.specs.Sources.{ListsMore, strong_sources}

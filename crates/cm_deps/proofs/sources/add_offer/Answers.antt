@@ -1,4 +1,4 @@
-use Rattle.std.proofs.Common.{◌≡◌, ℕ, List, [], ◌∷◌, ◌||◌, Some, false, sym, ◌∙◌, ap, rules, bytes_eq}
+use Rattle.std.proofs.Common.{◌≡◌, [], ◌∷◌, ◌||◌, Some, false, sym, ◌∙◌, ap, rules}
 use Rattle.std.specs.Prelude.{unwrap_or}
 use Rattle.std.specs.Ordering.{nat_cmp}
 use Rattle.std.specs.Cmp.Lexicographic.{slice_cmp}

@@ -1,5 +1,5 @@
-use Rattle.std.proofs.Common.{◌≡◌, ◌∷◌, [], ◌++◌, ◌+◌, length, sym, ◌∙◌, ap, subst, arith, List, ℕ, ◌<◌}
-use Rattle.std.proofs.lemmas.List.{get_or_default, length-append}
+use Rattle.std.proofs.Common.{◌≡◌, [], sym, ◌∙◌, subst, arith}
+use Rattle.std.proofs.lemmas.List.{get_or_default}
 use Rattle.cm_decl.specs.declared.node.Node.{Node}
 use Rattle.cm_decl.specs.declared.node.Node.TheVariants.{Own}
 use Rattle.cm_decl.specs.Graph.{sources_of}

@@ -1,4 +1,4 @@
-use Rattle.std.proofs.Common.{◌≡◌, ℕ, ◌<◌, [], length, take}
+use Rattle.std.proofs.Common.{◌≡◌, ℕ, ◌<◌, [], length}
 use Rattle.cm_decl.specs.Graph.{sources_of}
 use Rattle.cm_deps.specs.Edges.{row}
 use Rattle.cm_deps.specs.Nodes.{at}

@@ -1,6 +1,5 @@
-use Rattle.std.proofs.Common.{◌≡◌, [], sym, ◌∙◌, ap, subst, List, ℕ}
+use Rattle.std.proofs.Common.{◌≡◌, [], sym, subst}
 use Rattle.cm_decl.specs.declared.node.Node.{Node}
-use Rattle.cm_decl.specs.declared.node.Node.TheVariants.{Child}
 use Rattle.cm_decl.specs.Graph.{sources_of}
 use Rattle.cm_deps.specs.Sources.{Lists, numbers_at, strong_sources, offers_of}
 use Rattle.cm_deps.proofs.Sourcing.{if_ok, child_declared}

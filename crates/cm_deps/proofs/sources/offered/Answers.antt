@@ -1,4 +1,4 @@
-use Rattle.std.proofs.Common.{◌≡◌, ℕ, List, [], ◌∷◌, ◌+◌, ◌&&◌, true, false, sym, ◌∙◌, ap, subst, take, bytes_eq}
+use Rattle.std.proofs.Common.{◌≡◌, [], ◌∷◌, ◌+◌, ◌&&◌, true, false, sym, ap, subst, take, bytes_eq}
 use Rattle.std.specs.Prelude.{unwrap_or}
 use Rattle.std.specs.Ordering.{nat_cmp}
 use Rattle.std.specs.Cmp.Lexicographic.{slice_cmp, bytes_decides}
@@ -6,7 +6,6 @@ use Rattle.std.specs.BTreeMap.{is_at}
 use Rattle.std.specs.Map.{lookup}
 use Rattle.cm_decl.specs.declared.rows.Offer.{Offer}
 use Rattle.cm_decl.specs.Graph.{is_strong}
-use Rattle.cm_deps.specs.Edges.{holds}
 use Rattle.cm_deps.specs.Sources.{Lists, ListsMore, numbers_at}
 use Rattle.cm_deps.proofs.Sourcing.{passing, more_none, offered_strong, offered_weak, offered_all}
 use Rattle.cm_deps.proofs.sources.offered.Goals as goal

@@ -1,9 +1,9 @@
-use Rattle.cm_manager.proofs.Doings.{did_stop, did_halt}
+use Rattle.cm_manager.proofs.Doings.{did_stop, halted_for}
 use Rattle.cm_manager.proofs.work.halt.Goals as goal
 
-pub returns-in_default-clause-did : goal.returns-in_default-clause-did
-returns-in_default-clause-did g c = λ shelf. did_stop shelf c.args.work _ c.in_default.is
+pub returns-in-Some-clause-did : goal.returns-in-Some-clause-did
+returns-in-Some-clause-did g c = λ shelf.
+    halted_for shelf c.args.work c.in-Some.job c.halt-answer.result c.halted.result _ _ (rw c.in-Some.is at c.job_for-job.ensures.job) c.halted.ensures c.halt-answer.ensures.log c.halt-answer.ensures.later c.halt-answer.ensures.fault
 
-pub returns-clause-did : goal.returns-clause-did
-returns-clause-did g c = λ shelf.
-    did_halt shelf c.args.work c.in-Some.runner c.halt.result c.halted.result _ _ c.halted.ensures c.in-Some.is c.halt.ensures.log c.halt.ensures.later c.halt.ensures.fault
+pub returns-in-None-clause-did : goal.returns-in-None-clause-did
+returns-in-None-clause-did g c = λ shelf. did_stop shelf c.args.work _ (rw c.in-None.is at c.job_for-job.ensures.job)

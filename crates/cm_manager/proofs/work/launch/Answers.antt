@@ -1,9 +1,9 @@
-use Rattle.cm_manager.proofs.Doings.{did_start, did_launch}
+use Rattle.cm_manager.proofs.Doings.{did_start, launched_for}
 use Rattle.cm_manager.proofs.work.launch.Goals as goal
 
-pub returns-in_default-clause-did : goal.returns-in_default-clause-did
-returns-in_default-clause-did g c = λ shelf. did_start shelf c.args.work _ c.in_default.is
+pub returns-in-Some-clause-did : goal.returns-in-Some-clause-did
+returns-in-Some-clause-did g c = λ shelf.
+    launched_for shelf c.args.work c.in-Some.job c.launch-answer.result c.launched.result _ _ (rw c.in-Some.is at c.job_for-job.ensures.job) c.launched.ensures c.launch-answer.ensures.log c.launch-answer.ensures.later c.launch-answer.ensures.fault
 
-pub returns-clause-did : goal.returns-clause-did
-returns-clause-did g c = λ shelf.
-    did_launch shelf c.args.work c.in-Some.runner c.launch.result c.launched-outcome.result _ _ c.launched-outcome.ensures c.in-Some.is c.launch.ensures.log c.launch.ensures.later c.launch.ensures.fault
+pub returns-in-None-clause-did : goal.returns-in-None-clause-did
+returns-in-None-clause-did g c = λ shelf. did_start shelf c.args.work _ (rw c.in-None.is at c.job_for-job.ensures.job)

@@ -1,10 +1,10 @@
-use Rattle.cm_order.proofs.Climbs.{loop_lower}
+use Rattle.cm_walk.proofs.Monikers.{loop-lower}
 use Rattle.cm_order.proofs.Tops.{goes_up}
 use Rattle.cm_order.proofs.above.outermost.Goals as goal
 
 pub up-smaller : goal.up-smaller
 up-smaller g c =
-    loop_lower (g.V.View.rows c.args.view.now) (g.V.View.next_inc c.args.view.now) c.in-Some.here c.up.at c.parent-at.result c.parent-at.ensures.orderly c.in-Some.is c.parent-at.ensures.parent
+    loop-lower (g.V.View.rows c.args.view.now) (g.V.View.next_inc c.args.view.now) c.in-Some.here c.up.at c.parent-at.result c.parent-at.ensures.orderly c.in-Some.is c.parent-at.ensures.parent
 
 pub up-preserved : goal.up-preserved
 up-preserved g c =

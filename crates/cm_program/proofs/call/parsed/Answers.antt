@@ -1,4 +1,4 @@
-use Rattle.std.proofs.Common.{rules, ◌≡◌, true, map, ◌∙◌}
+use Rattle.std.proofs.Common.{◌≡◌, true, map, ◌∙◌}
 use Rattle.clap.specs.Words.{app_of, found_of}
 use Rattle.clap.specs.Walk.{rows_of}
 use Rattle.clap.specs.Simple.{is_simple}

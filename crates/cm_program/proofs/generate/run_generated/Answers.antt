@@ -1,7 +1,6 @@
 use Rattle.std.proofs.Common.{◌∙◌}
 use Rattle.std.specs.Prelude.{None}
 use Rattle.cm_program.specs.Generated.{script_of}
-use Rattle.cm_program.specs.Headline.{RunsScript}
 use Rattle.cm_program.specs.declared.wanted.Wanted.TheVariants.{Summary}
 use Rattle.cm_program.proofs.RunLemmas.{history_of, own_nothing, own_served}
 use Rattle.cm_program.proofs.generate.run_generated.Goals as goal
@@ -17,3 +16,6 @@ returns-clause-runs g c =
 
 pub returns-clause-history : goal.returns-clause-history
 returns-clause-history g c = history_of g.G.Gates.log g.G.Gates.faults _ _ _ _ _ _ _ _ _ c.run_served.ensures.runs
+
+pub returns-clause-unmade : goal.returns-clause-unmade
+returns-clause-unmade g c = λ none. absurd (none c.in-Ok.served c.in-Ok.ensures.good)

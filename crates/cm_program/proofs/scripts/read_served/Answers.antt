@@ -1,10 +1,10 @@
 use Rattle.std.proofs.Common.{rules}
-use Rattle.cm_program.proofs.FrontLemmas.{served_known, fault_known}
+use Rattle.cm_program.proofs.FrontLemmas.{served_some, fault_known}
 use Rattle.cm_program.proofs.StockLemmas.{stops_for}
 use Rattle.cm_program.proofs.scripts.read_served.Goals as goal
 
 pub returns-in-Ok-serve-clause-good : goal.returns-in-Ok-serve-clause-good
-returns-in-Ok-serve-clause-good g c = served_known _ _ c.in-Ok.bytes _ c.in-Ok.ensures.front c.in-Ok.ensures.all (search rules)
+returns-in-Ok-serve-clause-good g c = served_some _ _ c.in-Ok.bytes _ c.in-Ok.ensures.front c.in-Ok.ensures.all (search rules)
 
 pub returns-in-Err-clause-bad : goal.returns-in-Err-clause-bad
 returns-in-Err-clause-bad g c =

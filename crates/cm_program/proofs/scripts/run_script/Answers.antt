@@ -1,23 +1,33 @@
-use Rattle.std.proofs.Common.{◌∙◌, subst}
+use Rattle.std.proofs.Common.{◌≡◌, ◌⊎◌, ℕ, List, Option, ◌∙◌, sym, subst}
+use Rattle.std.proofs.KnownBytes.{Keeps-refl}
 use Rattle.cm_program.specs.Run.{Stops}
+use Rattle.cm_program.specs.Stock.{Serves}
+use Rattle.cm_program.specs.Written.{OfKnown, OfSome}
+use Rattle.cm_program.specs.declared.stock.Served.{Served}
 use Rattle.cm_program.specs.declared.scripts.Stop.{Stop}
 use Rattle.cm_program.specs.Run.{IsRefusal}
 use Rattle.cm_program.specs.Headline.{RunsNothing}
-use Rattle.cm_program.proofs.RunLemmas.{not_faulty, as_served, known_nothing, refused_runs, history_of}
+use Rattle.cm_program.proofs.RunLemmas.{not_faulty, as_served, known_nothing, known_of_some, refused_runs, history_of, some_refused, some_served, some_unread}
 use Rattle.cm_program.proofs.scripts.run_script.Goals as goal
 
+known : (served : Served) (left : Option (List ℕ)) → OfSome (λ bytes. Serves bytes served) left → OfKnown (λ bytes. Serves bytes served) left
+known served left some = known_of_some (λ bytes. Serves bytes served) left some
+
+pub returns-in-Ok-clause-some : goal.returns-in-Ok-clause-some
+returns-in-Ok-clause-some g c = λ ran. some_served _ _ _ _ c.in-Ok.served c.in-Ok.ensures.good c.run_served.ensures.runs
+
 pub returns-in-Ok-clause-faulty : goal.returns-in-Ok-clause-faulty
-returns-in-Ok-clause-faulty g c = not_faulty (IsRefusal c.run_served.result.status) (g.S.Source.left c.args.script.now) c.in-Ok.served c.in-Ok.ensures.good
+returns-in-Ok-clause-faulty g c = not_faulty (IsRefusal c.run_served.result.status) (g.S.Source.left c.args.script.now) c.in-Ok.served (known c.in-Ok.served (g.S.Source.left c.args.script.now) c.in-Ok.ensures.good)
 
 pub returns-in-Ok-clause-unserved : goal.returns-in-Ok-clause-unserved
 returns-in-Ok-clause-unserved g c =
-    not_faulty (RunsNothing c.run_served.result.book.entries c.args.gates c.run_served.result.gates) (g.S.Source.left c.args.script.now) c.in-Ok.served c.in-Ok.ensures.good
+    not_faulty (RunsNothing c.run_served.result.book.entries c.args.gates c.run_served.result.gates) (g.S.Source.left c.args.script.now) c.in-Ok.served (known c.in-Ok.served (g.S.Source.left c.args.script.now) c.in-Ok.ensures.good)
 
 pub returns-in-Ok-clause-history : goal.returns-in-Ok-clause-history
 returns-in-Ok-clause-history g c = history_of g.G.Gates.log g.G.Gates.faults _ _ _ _ _ _ _ _ _ c.run_served.ensures.runs
 
 pub returns-in-Ok-clause-headline : goal.returns-in-Ok-clause-headline
-returns-in-Ok-clause-headline g c = λ ran. as_served _ (g.S.Source.left c.args.script.now) c.in-Ok.served c.in-Ok.ensures.good c.run_served.ensures.runs
+returns-in-Ok-clause-headline g c = λ ran. as_served _ (g.S.Source.left c.args.script.now) c.in-Ok.served (known c.in-Ok.served (g.S.Source.left c.args.script.now) c.in-Ok.ensures.good) c.run_served.ensures.runs
 
 pub returns-in-Err-Refused-clause-headline : goal.returns-in-Err-Refused-clause-headline
 returns-in-Err-Refused-clause-headline g c = λ ran. refused_runs _ (g.S.Source.left c.args.script.now) c.in-Err-Refused.fault (subst (λ (stop : Stop). Stops stop (g.S.Source.left c.args.script.now)) c.in-Err-Refused.field-0-is c.in-Err-Refused.ensures.bad)
@@ -26,3 +36,13 @@ pub returns-clause-headline : goal.returns-clause-headline
 returns-clause-headline g c = λ ran.
     known_nothing g.G.Gates.log g.G.Gates.faults (g.S.Source.left c.args.script.now) c.args.wanted c.args.repo c.args.gates c.ended-in-Err-Memory.result.gates c.ended-in-Err-Memory.result.book.entries c.ended-in-Err-Memory.result.status (g.K.Sink.written c.args.out.now)
     c.ended-in-Err-Memory.ensures.empty c.ended-in-Err-Memory.ensures.gates (c.ended-in-Err-Memory.ensures.status ∙ c.want_of_memory.ensures.status)
+
+pub returns-in-Err-Refused-clause-some : goal.returns-in-Err-Refused-clause-some
+returns-in-Err-Refused-clause-some g c = λ ran.
+    some_refused _ _ _ _ (subst (λ (s : ℕ). (s ≡ 7) ⊎ (s ≡ 6)) (sym c.ended-in-Err-Refused.ensures.status) c.refuse.ensures.others)
+    ((c.ended-in-Err-Refused.ensures.empty, c.ended-in-Err-Refused.ensures.gates), Keeps-refl _) ran
+
+pub returns-clause-some : goal.returns-clause-some
+returns-clause-some g c = λ ran.
+    some_unread _ _ _ _ (c.ended-in-Err-Memory.ensures.status ∙ c.want_of_memory.ensures.status)
+    ((c.ended-in-Err-Memory.ensures.empty, c.ended-in-Err-Memory.ensures.gates), Keeps-refl _)

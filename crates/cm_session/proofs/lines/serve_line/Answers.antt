@@ -5,7 +5,7 @@ use Rattle.cm_session.proofs.lines.serve_line.Goals as goal
 
 pub returns-in-Ok-clause-served : goal.returns-in-Ok-clause-served
 returns-in-Ok-clause-served g c =
-    line-command _ _ _ _ _ c.args.line.now c.in-Ok.command _ _ _ c.requires.short c.in-Ok.ensures.ok c.serve_command.ensures.served
+    line-command _ _ _ _ _ c.args.line.now c.in-Ok.command _ _ _ c.requires.short c.in-Ok.ensures.ok c.serve_command-served.ensures.served
 
 pub returns-in-Err-BadCommand-clause-served : goal.returns-in-Err-BadCommand-clause-served
 returns-in-Err-BadCommand-clause-served g c =

@@ -1,5 +1,6 @@
-use Rattle.std.proofs.Common.{rules, sym, ◌∙◌}
-use Rattle.cm_session.proofs.Sessions.{line-step, long-step, quit-step}
+use Rattle.std.proofs.Common.{rules, sym, ◌∙◌, inl, Some}
+use Rattle.cm_session.specs.declared.ended.Ended.TheVariants as ended
+use Rattle.cm_session.proofs.Sessions.{line-step, long-step, quit-step, silent-step}
 use Rattle.cm_session.proofs.lines.serve_next.Goals as goal
 
 pub returns-else-eq : goal.returns-else-eq
@@ -28,4 +29,31 @@ returns-in-TooLong g c =
       stepped =
           long-step _ _ _ c.args.reader.now c.next.new.self _ _ _ told.3.0 told.0 c.put_reply-over.result told.1 c.next.ensures.later told.2
           (sym (g.met.L.Link.sink_apart c.next.new.source) ∙ c.next.ensures.beside ∙ g.met.L.Link.sink_apart c.args.link.now) told.3.2 told.3.1 c.put_reply-over.ensures.wrote c.put_reply-over.ensures.source;
+    }
+
+pub returns-in-End : goal.returns-in-End
+returns-in-End g c =
+    let told = c.in-End.ensures.told in
+    record {
+      stepped =
+          silent-step _ _ _ c.args.reader.now c.next.new.self _ _ told.0 (Some ended.End) told.1 c.next.ensures.later told.2
+          (sym (g.met.L.Link.sink_apart c.next.new.source) ∙ c.next.ensures.beside ∙ g.met.L.Link.sink_apart c.args.link.now) (λ silent. (told.3.0, told.3.2, silent));
+    }
+
+pub returns-in-ReadFault : goal.returns-in-ReadFault
+returns-in-ReadFault g c =
+    let told = c.in-ReadFault.ensures.told in
+    record {
+      stepped =
+          silent-step _ _ _ c.args.reader.now c.next.new.self _ _ told.0 (Some ended.ReadFault) told.1 c.next.ensures.later told.2
+          (sym (g.met.L.Link.sink_apart c.next.new.source) ∙ c.next.ensures.beside ∙ g.met.L.Link.sink_apart c.args.link.now) (λ silent. (told.3.0, c.next.ensures.fault c.in-ReadFault.is, silent));
+    }
+
+pub returns-in-Memory : goal.returns-in-Memory
+returns-in-Memory g c =
+    let told = c.in-Memory.ensures.told in
+    record {
+      stepped =
+          silent-step _ _ _ c.args.reader.now c.next.new.self _ _ told.0 (Some ended.Memory) told.1 c.next.ensures.later told.2
+          (sym (g.met.L.Link.sink_apart c.next.new.source) ∙ c.next.ensures.beside ∙ g.met.L.Link.sink_apart c.args.link.now) (λ silent. inl silent);
     }

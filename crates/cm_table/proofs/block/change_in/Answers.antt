@@ -1,39 +1,29 @@
-use Rattle.std.proofs.Common.{◌-◌, ◌<◌, sym, subst, length}
+use Rattle.std.proofs.Common.{◌≡◌, suc, None, sym, subst}
 use Rattle.cm_table.specs.Change.{change_row}
-use Rattle.cm_table.specs.Slots.{inc_of, with_row_by}
 use Rattle.cm_table.specs.Keys.{Rising, IsPlace}
-use Rattle.cm_table.specs.Slots.{slots_in, flat}
-use Rattle.cm_table.proofs.Halves.{none_at_zero, part_rising, place_before, place_zero}
-use Rattle.cm_table.proofs.Editing.{edited, edit_none, edit_acts, act_part, filled_set, part_filled, edited_long, before_end}
+use Rattle.cm_table.specs.Slots.{inc_of, slots_in, flat, slot_of, with_row_by}
+use Rattle.cm_table.proofs.Halves.{part_rising}
+use Rattle.cm_table.proofs.Editing.{edited, edit_none, edit_acts, act_part, edited_filled}
 use Rattle.cm_table.proofs.block.change_in.Goals as goal
 
-pub returns-then-count-eq0-clause-slots : goal.returns-then-count-eq0-clause-slots
-returns-then-count-eq0-clause-slots c =
-    let bs = c.args.blocks.now.items in
-    sym (edit_none inc_of c.args.inc (with_row_by (change_row c.args.new)) (flat bs) (none_at_zero inc_of slots_in bs c.args.inc c.requires.filled c.requires.rising
-    (place_zero inc_of slots_in bs c.args.inc c.blocks_upto-count.result c.if-count-eq0.true
-    (subst (λ l. IsPlace inc_of slots_in l c.args.inc c.blocks_upto-count.result) c.as_slice.ensures.value c.blocks_upto-count.ensures))))
+pub returns-in-None-clause-slots : goal.returns-in-None-clause-slots
+returns-in-None-clause-slots c =
+    sym (edit_none inc_of c.args.inc (with_row_by (change_row c.args.new)) (flat c.args.blocks.now.items)
+    (subst (λ l. slot_of (flat l) c.args.inc ≡ None) c.as_slice.ensures.value c.in-None.ensures))
 
 pub change_at-requires : goal.change_at-requires
 change_at-requires c =
     let bs = c.args.blocks.now.items in
-    subst (λ b. Rising inc_of (slots_in b)) (sym c.index_mut-block.ensures.value)
-    (part_rising inc_of slots_in bs (c.blocks_upto-count.result - 1) c.index_mut-block.result.now
-    (place_before inc_of slots_in bs c.args.inc c.blocks_upto-count.result c.if-count-eq0.false
-    (subst (λ l. IsPlace inc_of slots_in l c.args.inc c.blocks_upto-count.result) c.as_slice.ensures.value c.blocks_upto-count.ensures)).bound c.requires.rising)
+    let place = subst (λ l. IsPlace inc_of slots_in l c.args.inc (suc c.in-Some.place)) c.as_slice.ensures.value c.in-Some.ensures in
+    subst (λ b. Rising inc_of (slots_in b)) (sym c.index_mut.ensures.value) (part_rising inc_of slots_in bs c.in-Some.place c.index_mut.result.now place.bound c.requires.rising)
 
-pub returns-clause-slots : goal.returns-clause-slots
-returns-clause-slots c =
-    let bs = c.args.blocks.now.items in
-    act_part inc_of slots_in c.args.inc (edited inc_of c.args.inc (with_row_by (change_row c.args.new))) (edit_acts inc_of c.args.inc (with_row_by (change_row c.args.new))) bs c.blocks_upto-count.result c.index_mut-block.result.now c.change_at.new.block c.requires.filled c.requires.rising c.if-count-eq0.false
-    (subst (λ l. IsPlace inc_of slots_in l c.args.inc c.blocks_upto-count.result) c.as_slice.ensures.value c.blocks_upto-count.ensures) c.index_mut-block.ensures.value c.change_at.ensures
+pub returns-in-Some-clause-slots : goal.returns-in-Some-clause-slots
+returns-in-Some-clause-slots c =
+    let f = with_row_by (change_row c.args.new) in
+    let place = subst (λ l. IsPlace inc_of slots_in l c.args.inc (suc c.in-Some.place)) c.as_slice.ensures.value c.in-Some.ensures in
+    act_part inc_of slots_in c.args.inc (edited inc_of c.args.inc f) (edit_acts inc_of c.args.inc f) c.args.blocks.now.items c.in-Some.place c.index_mut.result.now c.change_at.new.block c.requires.filled c.requires.rising place c.index_mut.ensures.value c.change_at.ensures
 
-pub returns-clause-filled : goal.returns-clause-filled
-returns-clause-filled c =
-    let bs = c.args.blocks.now.items in
-    let b = c.index_mut-block.result.now in
-    let place = subst (λ l. IsPlace inc_of slots_in l c.args.inc c.blocks_upto-count.result) c.as_slice.ensures.value c.blocks_upto-count.ensures in
-    let lt : c.blocks_upto-count.result - 1 < length bs = before_end bs c.blocks_upto-count.result c.if-count-eq0.false place.bound in
-    let some : 0 < length (slots_in b) = subst (λ z. 0 < length (slots_in z)) (sym c.index_mut-block.ensures.value) (part_filled slots_in bs (c.blocks_upto-count.result - 1) b lt c.requires.filled) in
-    filled_set slots_in bs (c.blocks_upto-count.result - 1) c.change_at.new.block
-    (subst (λ l. 0 < length l) (sym c.change_at.ensures) (edited_long inc_of c.args.inc (with_row_by (change_row c.args.new)) (slots_in b) some)) c.requires.filled
+pub returns-in-Some-clause-filled : goal.returns-in-Some-clause-filled
+returns-in-Some-clause-filled c =
+    let place = subst (λ l. IsPlace inc_of slots_in l c.args.inc (suc c.in-Some.place)) c.as_slice.ensures.value c.in-Some.ensures in
+    edited_filled slots_in inc_of c.args.inc (with_row_by (change_row c.args.new)) c.args.blocks.now.items c.in-Some.place c.index_mut.result.now c.change_at.new.block place.bound c.requires.filled c.index_mut.ensures.value c.change_at.ensures

@@ -1,26 +1,15 @@
-use Rattle.std.proofs.Common.{◌∙◌, sym, subst}
-use Rattle.cm_table.specs.Keys.{IsPlace, alone}
-use Rattle.cm_table.specs.Slots.{inc_of}
-use Rattle.cm_table.proofs.Halves.{item_none, item_last, none_alone}
-use Rattle.cm_table.proofs.Editing.{drop_none, drop_here}
+use Rattle.std.proofs.Common.{◌≡◌, None, ◌∙◌, sym, subst}
+use Rattle.cm_table.specs.Keys.{IsAt}
+use Rattle.cm_table.specs.Slots.{inc_of, slot_of}
+use Rattle.cm_table.proofs.Editing.{drop_none, drop_at}
 use Rattle.cm_table.proofs.block.remove_at.Goals as goal
 
-pub returns-then-count-eq0 : goal.returns-then-count-eq0
-returns-then-count-eq0 c =
-    let ss = c.args.block.now.slots.items in
-    let place = subst (λ l. IsPlace inc_of alone l c.args.inc c.slots_upto-count.result) c.as_slice.ensures.value c.slots_upto-count.ensures in
-    sym (drop_none inc_of c.args.inc ss (item_none inc_of ss c.args.inc c.slots_upto-count.result c.requires c.if-count-eq0.true place))
+pub returns-in-Some : goal.returns-in-Some
+returns-in-Some c =
+    c.remove.ensures.items
+    ∙ drop_at inc_of c.args.block.now.slots.items c.args.inc c.in-Some.place c.remove.result c.requires
+    (subst (λ l. IsAt inc_of l c.args.inc c.in-Some.place) c.as_slice.ensures.value c.in-Some.ensures)
 
-pub returns-then-index-inc : goal.returns-then-index-inc
-returns-then-index-inc c =
-    let ss = c.args.block.now.slots.items in
-    let place = subst (λ l. IsPlace inc_of alone l c.args.inc c.slots_upto-count.result) c.as_slice.ensures.value c.slots_upto-count.ensures in
-    c.remove.ensures.items ∙ drop_here inc_of ss c.args.inc c.slots_upto-count.result c.index.result.now c.requires c.if-count-eq0.false place c.index.ensures c.if-index-inc.true
-
-pub returns-else-index-inc : goal.returns-else-index-inc
-returns-else-index-inc c =
-    let ss = c.args.block.now.slots.items in
-    let place = subst (λ l. IsPlace inc_of alone l c.args.inc c.slots_upto-count.result) c.as_slice.ensures.value c.slots_upto-count.ensures in
-    sym (drop_none inc_of c.args.inc ss
-    (item_last inc_of ss c.args.inc c.slots_upto-count.result c.index.result.now c.requires c.if-count-eq0.false place c.index.ensures
-    ∙ none_alone inc_of c.index.result.now c.args.inc c.if-index-inc.false))
+pub returns-in_default : goal.returns-in_default
+returns-in_default c =
+    sym (drop_none inc_of c.args.inc c.args.block.now.slots.items (subst (λ l. slot_of l c.args.inc ≡ None) c.as_slice.ensures.value c.in_default.ensures))

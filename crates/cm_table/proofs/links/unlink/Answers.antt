@@ -1,6 +1,5 @@
-use Rattle.std.proofs.Common.{◌≡◌, ◌==◌, List, Some, None, true, ◌∙◌, sym, ap, subst}
+use Rattle.std.proofs.Common.{◌≡◌, List, Some, None, ◌∙◌, sym, ap, subst}
 use Rattle.std.specs.Prelude.{option_and_then}
-use Rattle.cm_world.specs.Edits.{drop_first}
 use Rattle.cm_table.specs.declared.slot.Slot.{Slot}
 use Rattle.cm_table.specs.Keys.{Rising}
 use Rattle.cm_table.specs.Slots.{inc_of, flat, slot_of}
@@ -26,18 +25,25 @@ swap_in-requires-2-clause-rising c =
     subst (Rising inc_of) (sym c.swap_in.ensures.slots)
     (rising_indexed c.in-Some.parent None (flat c.args.blocks.now.items) (slots_rise c.requires.orderly.next (flat c.args.blocks.now.items) c.requires.orderly.orderly.rising))
 
-pub forget_child-requires : goal.forget_child-requires
-forget_child-requires c =
+pub take_out-requires-clause-name : goal.take_out-requires-clause-name
+take_out-requires-clause-name c =
     let ss : List Slot = flat c.args.blocks.now.items in
     let up : option_and_then (λ s. s.row.parent) (slot_of ss c.args.inc) ≡ Some c.in-Some.parent =
     ap (λ l. option_and_then (λ s. s.row.parent) (slot_of (flat l) c.args.inc)) (sym c.as_slice.ensures.value) ∙ sym c.parent_in.ensures ∙ c.in-Some.is in
     own_name ss (flat c.swap_in.new.blocks.items) c.args.inc c.in-Some.parent c.swap_in.new.index _ c.requires.orderly up c.swap_in.ensures.slots c.swap_in.ensures.index
     (c.name_in.ensures ∙ ap (λ l. option_and_then (λ s. s.row.name) (slot_of (flat l) c.args.inc)) c.as_slice-2.ensures.value)
 
+pub take_out-requires-clause-rises : goal.take_out-requires-clause-rises
+take_out-requires-clause-rises c =
+    let ss : List Slot = flat c.args.blocks.now.items in
+    let up : option_and_then (λ s. s.row.parent) (slot_of ss c.args.inc) ≡ Some c.in-Some.parent =
+    ap (λ l. option_and_then (λ s. s.row.parent) (slot_of (flat l) c.args.inc)) (sym c.as_slice.ensures.value) ∙ sym c.parent_in.ensures ∙ c.in-Some.is in
+    taken_rises ss c.args.inc c.in-Some.parent c.swap_in.new.index c.requires.orderly up c.swap_in.ensures.index
+
 pub returns-in_default-clause-links : goal.returns-in_default-clause-links
 returns-in_default-clause-links c =
     let ss : List Slot = flat c.args.blocks.now.items in
-    unlinked_none true ss c.args.inc c.requires.orderly
+    unlinked_none c.args.gone ss c.args.inc c.requires.orderly
     (ap (λ l. option_and_then (λ s. s.row.parent) (slot_of (flat l) c.args.inc)) (sym c.as_slice.ensures.value) ∙ sym c.parent_in.ensures ∙ c.in_default.is)
 
 pub returns-clause-links : goal.returns-clause-links
@@ -45,13 +51,6 @@ returns-clause-links c =
     let ss : List Slot = flat c.args.blocks.now.items in
     let up : option_and_then (λ s. s.row.parent) (slot_of ss c.args.inc) ≡ Some c.in-Some.parent =
     ap (λ l. option_and_then (λ s. s.row.parent) (slot_of (flat l) c.args.inc)) (sym c.as_slice.ensures.value) ∙ sym c.parent_in.ensures ∙ c.in-Some.is in
-    let w : IsSwapped ss (flat c.swap_in.new.blocks.items) (flat c.swap_in-2.new.blocks.items) c.in-Some.parent c.swap_in.new.index c.remove_child.new.index =
+    let w : IsSwapped ss (flat c.swap_in.new.blocks.items) (flat c.swap_in-2.new.blocks.items) c.in-Some.parent c.swap_in.new.index c.take_out.new.index =
     record { rise = slots_rise c.requires.orderly.next ss c.requires.orderly.orderly.rising; out = c.swap_in.ensures.slots; was = c.swap_in.ensures.index; back = c.swap_in-2.ensures.slots } in
-    unlinked true ss (flat c.swap_in.new.blocks.items) (flat c.swap_in-2.new.blocks.items) c.in-Some.parent c.args.inc c.swap_in.new.index c.remove_child.new.index c.requires.orderly w up (c.remove_child.ensures.base ∙ c.forget_child.ensures.base) (c.remove_child.ensures.kids ∙ ap (drop_first (λ k. k == c.args.inc)) c.forget_child.ensures.kids) (λ n. c.remove_child.ensures.names n ∙ c.forget_child.ensures.names n)
-
-pub remove_child-requires : goal.remove_child-requires
-remove_child-requires c =
-    let ss : List Slot = flat c.args.blocks.now.items in
-    let up : option_and_then (λ s. s.row.parent) (slot_of ss c.args.inc) ≡ Some c.in-Some.parent =
-    ap (λ l. option_and_then (λ s. s.row.parent) (slot_of (flat l) c.args.inc)) (sym c.as_slice.ensures.value) ∙ sym c.parent_in.ensures ∙ c.in-Some.is in
-    c.forget_child.ensures.rises (taken_rises ss c.args.inc c.in-Some.parent c.swap_in.new.index c.requires.orderly up c.swap_in.ensures.index)
+    unlinked c.args.gone ss (flat c.swap_in.new.blocks.items) (flat c.swap_in-2.new.blocks.items) c.in-Some.parent c.args.inc c.swap_in.new.index c.take_out.new.index c.requires.orderly w up c.take_out.ensures.base c.take_out.ensures.kids c.take_out.ensures.names

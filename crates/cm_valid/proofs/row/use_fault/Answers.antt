@@ -4,7 +4,7 @@ use Rattle.cm_decl.specs.declared.rows.Usage.{Usage}
 use Rattle.cm_decl.specs.declared.section.Section.TheVariants.{Uses}
 use Rattle.cm_decl.specs.Rules.{UnknownRef, NotDeclared, RepeatedPath, PathInside, is_unknown, is_undeclared, is_child, is_inside}
 use Rattle.cm_decl.specs.Breaks.{breaks}
-use Rattle.cm_decl.specs.Clashes.{place, clash, same_path, nested_paths}
+use Rattle.cm_decl.specs.Clashes.{place, clash, same_path, are_paths_nested}
 use Rattle.cm_valid.specs.declared.found.Found.{Found}
 use Rattle.cm_valid.specs.Keys.{usage_key}
 use Rattle.cm_valid.specs.Parts.{At, Finds}
@@ -43,7 +43,7 @@ returns-then-row-apart c =
     let unknown : breaks d UnknownRef Uses row ≡ false = passes (λ (u : Usage). is_unknown (is_child d) u.from) d.uses row this false at (sym c.is_unknown.ensures ∙ c.if-is_unknown.false) in
     let undeclared : breaks d NotDeclared Uses row ≡ false = passes (λ (u : Usage). is_undeclared d u.kind u.from u.name) d.uses row this false at (sym c.is_undeclared.ensures ∙ c.if-is_undeclared.false) in
     let same : clash d RepeatedPath Uses row ≡ None = clash_apart Uses usage_key same_path path_near d.uses c.args.apart row c.requires.apart c.if-row-apart.true in
-    let nested : clash d PathInside Uses row ≡ None = clash_apart Uses usage_key nested_paths nested_near d.uses c.args.apart row c.requires.apart c.if-row-apart.true in
+    let nested : clash d PathInside Uses row ≡ None = clash_apart Uses usage_key are_paths_nested nested_near d.uses c.args.apart row c.requires.apart c.if-row-apart.true in
     finds_none d Uses row (refl, (unknown, (undeclared, (refl, (refl, (ap is_some same, (ap is_some nested, (refl, tt))))))))
 
 pub returns-in-Some : goal.returns-in-Some
@@ -72,7 +72,7 @@ returns-in_default-nested_path c =
     let same_found : position (λ (e : Usage). bytes_eq e.path this.path) (take row d.uses) ≡ None = subst (λ (l : List Usage). position (λ (e : Usage). bytes_eq e.path this.path) (take row l) ≡ None) rows (sym c.same_path.ensures ∙ cc) in
     let same : clash d RepeatedPath Uses row ≡ option_map (place Uses) (None) = clash_of Uses same_path d.uses row this (None) at same_found in
     let nested_found : position (λ (e : Usage). is_inside e.path this.path || is_inside this.path e.path) (take row d.uses) ≡ None = subst (λ (l : List Usage). position (λ (e : Usage). is_inside e.path this.path || is_inside this.path e.path) (take row l) ≡ None) rows (sym c.nested_path.ensures ∙ cc) in
-    let nested : clash d PathInside Uses row ≡ option_map (place Uses) (None) = clash_of Uses nested_paths d.uses row this (None) at nested_found in
+    let nested : clash d PathInside Uses row ≡ option_map (place Uses) (None) = clash_of Uses are_paths_nested d.uses row this (None) at nested_found in
     finds_none d Uses row (refl, (unknown, (undeclared, (refl, (refl, (ap is_some same, (ap is_some nested, (refl, tt))))))))
 
 pub returns : goal.returns
@@ -88,5 +88,5 @@ returns c =
     let same_found : position (λ (e : Usage). bytes_eq e.path this.path) (take row d.uses) ≡ None = subst (λ (l : List Usage). position (λ (e : Usage). bytes_eq e.path this.path) (take row l) ≡ None) rows (sym c.same_path.ensures ∙ cc) in
     let same : clash d RepeatedPath Uses row ≡ option_map (place Uses) (None) = clash_of Uses same_path d.uses row this (None) at same_found in
     let nested_found : position (λ (e : Usage). is_inside e.path this.path || is_inside this.path e.path) (take row d.uses) ≡ Some first = subst (λ (l : List Usage). position (λ (e : Usage). is_inside e.path this.path || is_inside this.path e.path) (take row l) ≡ Some first) rows (sym c.nested_path.ensures ∙ c.in-Some-nested_path.is) in
-    let nested : clash d PathInside Uses row ≡ option_map (place Uses) (Some first) = clash_of Uses nested_paths d.uses row this (Some first) at nested_found in
+    let nested : clash d PathInside Uses row ≡ option_map (place Uses) (Some first) = clash_of Uses are_paths_nested d.uses row this (Some first) at nested_found in
     subst (λ (f : Found). Finds d (At Uses row) (Some f)) (sym c.clash-2.ensures) (finds d Uses row 6 PathInside (Some (place Uses first)) refl (refl, (unknown, (undeclared, (refl, (refl, (ap is_some same, tt)))))) (ap is_some nested) nested)

@@ -1,4 +1,4 @@
-use Rattle.std.proofs.Common.{List, refl, sym, subst}
+use Rattle.std.proofs.Common.{◌≡◌, List, refl, sym, subst}
 use Rattle.cm_world.specs.declared.route.Walked.TheVariants as walked
 use Rattle.cm_world.specs.Stations.{Station as Place}
 use Rattle.cm_walk.specs.declared.walking.Step.TheVariants as taken
@@ -7,9 +7,12 @@ use Rattle.cm_walk.proofs.Steps.{at_refused, at_fitting, if_ok}
 use Rattle.cm_walk.proofs.walking.decide.Goals as goal
 
 pub returns-in-Some : goal.returns-in-Some
-returns-in-Some c = λ front behind ends.
-    subst (λ h. Decides front (as_station c.args.here) (as_next c.args.next) (taken.Done (walked.Failed h c.in-Some.why))) (sym c.into_hop.ensures)
-    (at_refused front (as_station c.args.here) (as_next c.args.next) c.in-Some.why (c.in-Some.ensures front (as_station c.args.here) refl behind))
+returns-in-Some c =
+    if_ok (λ step. step ≡ taken.Done (walked.Failed c.into_hop.result c.in-Some.why))
+    (λ step. (front : List Place) → IsBehind front (as_station c.args.here) c.args.trail → EndsAt (as_station c.args.here) c.args.next → Decides front (as_station c.args.here) (as_next c.args.next) step) c.done_failed.result
+    (λ step is. λ front behind ends. subst (λ s. Decides front (as_station c.args.here) (as_next c.args.next) s) (sym is)
+    (subst (λ h. Decides front (as_station c.args.here) (as_next c.args.next) (taken.Done (walked.Failed h c.in-Some.why))) (sym c.into_hop.ensures)
+    (at_refused front (as_station c.args.here) (as_next c.args.next) c.in-Some.why (c.in-Some.ensures front (as_station c.args.here) refl behind)))) c.done_failed.ensures
 
 pub returns-in-None : goal.returns-in-None
 returns-in-None c =

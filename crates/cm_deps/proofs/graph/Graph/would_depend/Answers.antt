@@ -1,11 +1,11 @@
-use Rattle.std.proofs.Common.{◌≡◌, ℕ, ◌&&◌, true, false, true≢false, refl, sym, ◌∙◌, ap, subst, IsTrue, inl, inr, ◌⊎◌}
+use Rattle.std.proofs.Common.{◌≡◌, false, true≢false, refl, sym, ◌∙◌, ap, subst, IsTrue, inl, inr}
 use Rattle.std.specs.List.{list_any}
 use Rattle.cm_decl.specs.declared.rows.Give.{Give}
 use Rattle.cm_decl.specs.Same.{same_node}
 use Rattle.cm_decl.specs.Graph.{is_strong}
 use Rattle.cm_deps.specs.Nodes.{IsRising, IsNumber}
 use Rattle.cm_deps.specs.Sources.{numbers_at, strong_sources}
-use Rattle.cm_deps.specs.Leads.{leads_to, source_leads}
+use Rattle.cm_deps.specs.Leads.{source_leads}
 use Rattle.cm_deps.proofs.Sourcing.{passing_any}
 use Rattle.cm_deps.proofs.Answering.{no_node, would_own, would_offer, would_give, would_split, would_none}
 use Rattle.cm_deps.proofs.graph.Graph.would_depend.Goals as goal

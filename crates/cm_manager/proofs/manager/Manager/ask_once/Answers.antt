@@ -15,19 +15,11 @@ leave-requires-clause-entries g c =
     let enters = enters_at c.args.pass c.enter-held.result.pass c.enter-held.result.state c.state.result.now (record { pass = e.pass; frame = e.frame; begins = e.begins; own = e.own; known = e.known }) c.state.ensures.value in
     may_leave _ _ _ _ _ _ enters c.caller-caller.ensures (steps_on _ _ _ _ _ c.tell-went.ensures.legal c.tell-went.ensures.steps)
 
-pub returns-clause-same : goal.returns-clause-same
-returns-clause-same g c =
+pub returns : goal.returns
+returns g c =
     let e = c.enter-held.ensures in
-    let l = c.leave.ensures in
     let enters = enters_at c.args.pass c.enter-held.result.pass c.enter-held.result.state c.state.result.now (record { pass = e.pass; frame = e.frame; begins = e.begins; own = e.own; known = e.known }) c.state.ensures.value in
-    let goes = steps_on _ _ _ _ _ c.tell-went.ensures.legal c.tell-went.ensures.steps in
-    same_pass _ _ _ _ _ (took_by _ _ _ _ _ _ _ enters c.tell-went.ensures.legal c.caller-caller.ensures goes (record { lock = l.lock; frame = l.frame; caller = l.caller; seen = l.seen; own = l.own; mine = l.mine }))
-
-pub returns-clause-turned : goal.returns-clause-turned
-returns-clause-turned g c =
-    let e = c.enter-held.ensures in
     let l = c.leave.ensures in
-    let enters = enters_at c.args.pass c.enter-held.result.pass c.enter-held.result.state c.state.result.now (record { pass = e.pass; frame = e.frame; begins = e.begins; own = e.own; known = e.known }) c.state.ensures.value in
-    let goes = steps_on _ _ _ _ _ c.tell-went.ensures.legal c.tell-went.ensures.steps in
-    let took = took_by _ _ _ _ _ _ _ enters c.tell-went.ensures.legal c.caller-caller.ensures goes (record { lock = l.lock; frame = l.frame; caller = l.caller; seen = l.seen; own = l.own; mine = l.mine }) in
-    turned_as _ _ _ _ _ _ _ c.caller-caller.ensures took c.tell-went.ensures.steps
+    let told = c.tell-went.ensures in
+    let took = took_by _ _ _ _ _ _ _ enters told.legal c.caller-caller.ensures (steps_on _ _ _ _ _ told.legal told.steps) (record { lock = l.lock; frame = l.frame; caller = l.caller; seen = l.seen; own = l.own; mine = l.mine }) in
+    record { same = same_pass _ _ _ _ _ took; turned = turned_as _ _ _ _ _ _ _ c.caller-caller.ensures took told.steps }

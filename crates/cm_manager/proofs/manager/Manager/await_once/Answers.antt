@@ -18,18 +18,11 @@ leave-requires-clause-entries g c =
     let enters = enters_at c.args.pass c.enter-held.result.pass c.enter-held.result.state c.state.result.now (record { pass = e.pass; frame = e.frame; begins = e.begins; own = e.own; known = e.known }) c.state.ensures.value in
     may_leave _ _ _ _ _ _ enters c.caller-caller.ensures (awaits_on _ _ _ _ _ c.outcome_at-outcome.ensures.legal c.outcome_at-outcome.ensures.awaits)
 
-pub returns-clause-same : goal.returns-clause-same
-returns-clause-same g c =
+pub returns : goal.returns
+returns g c =
     let e = c.enter-held.ensures in
-    let l = c.leave.ensures in
     let enters = enters_at c.args.pass c.enter-held.result.pass c.enter-held.result.state c.state.result.now (record { pass = e.pass; frame = e.frame; begins = e.begins; own = e.own; known = e.known }) c.state.ensures.value in
-    let goes = awaits_on _ _ _ _ _ c.outcome_at-outcome.ensures.legal c.outcome_at-outcome.ensures.awaits in
-    same_pass _ _ _ _ _ (took_by _ _ _ _ _ _ _ enters c.outcome_at-outcome.ensures.legal c.caller-caller.ensures goes (record { lock = l.lock; frame = l.frame; caller = l.caller; seen = l.seen; own = l.own; mine = l.mine }))
-
-pub returns-clause-awaited : goal.returns-clause-awaited
-returns-clause-awaited g c =
-    let e = c.enter-held.ensures in
     let l = c.leave.ensures in
-    let enters = enters_at c.args.pass c.enter-held.result.pass c.enter-held.result.state c.state.result.now (record { pass = e.pass; frame = e.frame; begins = e.begins; own = e.own; known = e.known }) c.state.ensures.value in
-    let goes = awaits_on _ _ _ _ _ c.outcome_at-outcome.ensures.legal c.outcome_at-outcome.ensures.awaits in
-    awaited_as _ _ _ _ _ _ _ c.caller-caller.ensures (took_by _ _ _ _ _ _ _ enters c.outcome_at-outcome.ensures.legal c.caller-caller.ensures goes (record { lock = l.lock; frame = l.frame; caller = l.caller; seen = l.seen; own = l.own; mine = l.mine }))
+    let it = c.outcome_at-outcome.ensures in
+    let took = took_by _ _ _ _ _ _ _ enters it.legal c.caller-caller.ensures (awaits_on _ _ _ _ _ it.legal it.awaits) (record { lock = l.lock; frame = l.frame; caller = l.caller; seen = l.seen; own = l.own; mine = l.mine }) in
+    record { same = same_pass _ _ _ _ _ took; awaited = awaited_as _ _ _ _ _ _ _ c.caller-caller.ensures took }

@@ -1,11 +1,13 @@
 use Rattle.std.proofs.Common.{refl}
-use Rattle.cm_manager.proofs.Turning.{enters_at, took_by, same_pass, same_on}
+use Rattle.cm_manager.proofs.Turning.{enters_at, took_by, nothing_by, same_pass, same_on}
 use Rattle.cm_manager.proofs.manager.Manager.catch_up.Goals as goal
 
-pub returns-clause-same : goal.returns-clause-same
-returns-clause-same g c =
+pub returns : goal.returns
+returns g c =
     let e = c.enter-held.ensures in
-    let l = c.leave.ensures in
     let enters = enters_at c.args.pass c.enter-held.result.pass c.enter-held.result.state c.state.result.now (record { pass = e.pass; frame = e.frame; begins = e.begins; own = e.own; known = e.known }) c.state.ensures.value in
-    let goes = same_on _ _ _ c.check_history.ensures refl in
-    same_pass _ _ _ _ _ (took_by _ _ _ _ _ _ _ enters c.check_history.ensures refl goes (record { lock = l.lock; frame = l.frame; caller = l.caller; seen = l.seen; own = l.own; mine = l.mine }))
+    let l = c.leave.ensures in
+    let legal = c.check_history.ensures in
+    let took = took_by _ _ _ _ _ _ _ enters legal refl (same_on _ _ _ legal refl) (record { lock = l.lock; frame = l.frame; caller = l.caller; seen = l.seen; own = l.own; mine = l.mine }) in
+    let nothing = nothing_by _ _ _ _ took in
+    record { same = same_pass _ _ _ _ _ took; later = nothing.0; mine = nothing.1 }

@@ -15,7 +15,7 @@ returns c =
     let absent : block_at c.args.self.now key ≡ None =
     none_from _ (is_some-block_at c.self.inside.blocks.entries _ _ c.contains_key.result c.self.view_is c.as_str.ensures c.contains_key.ensures ∙ c.if-contains_key.false) in
     let grown : blocks_of c.insert.new.self.entries ≡ c.args.self.now ++ (key, c.args.bytes) ∷ [] =
-    blocks_of-insert c.self.inside.blocks c.insert.new.self c.into_string.result c.args.bytes key _ c.self.view_is c.into_string.ensures absent c.in_ok-insert.ensures.entries in
+    blocks_of-insert c.self.inside.blocks c.insert.new.self c.in_ok-text.text c.args.bytes key _ c.self.view_is c.in_ok-text.ensures.ok absent c.in_ok-insert.ensures.entries in
     record {
       ok = added-new _ _ _ _ c.in_ok-key.ensures absent ∙ ap Ok (sym grown);
       found = subst (λ blocks. FindsAlso c.args.self.now blocks c.args.url.now c.args.bytes) (sym grown) (FindsAlso-push _ _ _ _ c.in_ok-key.ensures absent);

@@ -1,4 +1,4 @@
-use Rattle.std.proofs.Common.{◌≡◌, ◌+◌, ◌++◌, ◌∷◌, [], true, refl, sym, ◌∙◌, ap, subst}
+use Rattle.std.proofs.Common.{◌≡◌, false, ◌+◌, ◌++◌, ◌∷◌, [], true, refl, sym, ◌∙◌, ap, subst}
 use Rattle.cm_world.specs.declared.row.Row.{Row}
 use Rattle.cm_world.specs.declared.reply.Entry.{Entry}
 use Rattle.cm_world.specs.declared.event.Event.TheVariants as event
@@ -12,6 +12,7 @@ use Rattle.cm_steps.specs.Inside.{world_in}
 use Rattle.cm_steps.proofs.Stepping.{one_pushed, kept_rows}
 use Rattle.cm_steps.proofs.Removing.{tasked_added}
 use Rattle.cm_steps.proofs.Creations.{created_fits}
+use Rattle.cm_cache.proofs.Dooming.{others_doom_none}
 use Rattle.cm_steps.proofs.realm.Realm.add_child.Goals as goal
 
 pub add_row-requires-clause-room : goal.add_row-requires-clause-room
@@ -50,5 +51,9 @@ invariant_of-self-2 c =
       acts = refl;
       resolves = refl;
       joins = refl;
-      book = one_pushed _ _ _ e c.in_ok-inc.ensures.book c.push_reserved.ensures;
+      book = one_pushed _ _ _ e c.in_ok-inc.ensures.book c.put_down.ensures.book;
+      doomed = false;
+      unasked = refl;
+      told = others_doom_none w e refl;
+      keeper = c.put_down.ensures.keeper;
     })

@@ -1,4 +1,4 @@
-use Rattle.std.proofs.Common.{◌≡◌, ℕ, ◌+◌, ◌-◌, ◌++◌, ◌∷◌, [], List, cond, refl, ap, sym, ◌∙◌, subst, arith, length, length-append, Some}
+use Rattle.std.proofs.Common.{◌≡◌, false, None, ℕ, ◌+◌, ◌-◌, ◌++◌, ◌∷◌, [], List, cond, refl, ap, sym, ◌∙◌, subst, arith, length, length-append, Some}
 use Rattle.std.specs.List.{count_by}
 use Rattle.cm_book.specs.History.{History}
 use Rattle.cm_table.specs.Tree.{Tree}
@@ -17,6 +17,9 @@ use Rattle.cm_steps.proofs.Counts.{count_more}
 use Rattle.cm_steps.proofs.Going.{goes_on, one_longer}
 use Rattle.cm_steps.proofs.Begun.{new_resolve}
 use Rattle.cm_laws.proofs.actions.Tasks.{numbered_more, tasked_begun}
+use Rattle.cm_cache.specs.Keeping.{asked_by}
+use Rattle.cm_cache.proofs.Dooming.{others_doom_none}
+use Rattle.cm_steps.proofs.Keepers.{goes_beside}
 use Rattle.cm_steps.proofs.realm.Realm.begin_action.Goals as goal
 
 pub invariant_of-self : goal.invariant_of-self
@@ -29,7 +32,7 @@ invariant_of-self c =
     let act : ℕ → Act = λ n. new_act n c.args.kind c.args.inc c.args.caller in
     let all : List Act = xs ++ act next ∷ [] in
     let pushed : History → History = λ t. record { entries = t.entries ++ e ∷ []; reserved = t.reserved - 1; limit = t.limit } in
-    let book = c.push_reserved-in-Ok-room.ensures ∙ ap pushed c.in-Ok-room.ensures.book in
+    let book = c.put_down.ensures.book ∙ ap pushed c.in-Ok-room.ensures.book in
     let more = ap (λ (t : History). t.entries) book in
     let number : c.next_action-action.result ≡ next = c.next_action-action.ensures ∙ ap (λ ys. length ys + 1) (c.as_slice.ensures.value ∙ c.make_room-room.ensures.acts) in
     let pended : ℕ → Tree → Tree = λ n t. with_changed c.args.inc (set_pending (Some (c.args.kind, n))) t in
@@ -80,4 +83,8 @@ invariant_of-self c =
           subst (IsTasked c.set_pending.new.self.rows) (sym acts)
           (subst (λ (t : Tree). IsTasked t.rows all) (sym table)
           (tasked_begun w.rows xs c.args.kind c.args.inc c.args.caller idle.row c.self.invariant.tasks c.self.invariant.numbers idle.lives idle.idle idle.unresolved));
+      beside =
+          goes_beside c.self.inside e false _ _ c.self.invariant.stands c.self.invariant.beside more
+          (subst (λ (v : World). asked_by v c.args.event ≡ None) here c.requires.unasked)
+          (others_doom_none w e c.requires.undoomed) c.put_down.ensures.keeper;
     }

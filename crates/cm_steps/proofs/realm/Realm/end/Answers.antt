@@ -14,6 +14,10 @@ use Rattle.cm_laws.specs.Story.{world_of, entry_of}
 use Rattle.cm_laws.specs.Tasks.{IsNumbered}
 use Rattle.cm_steps.proofs.Counts.{open_less}
 use Rattle.cm_steps.proofs.Ends.{inc-ended, can_take, kept_ended}
+use Rattle.cm_cache.specs.Beside.{followed, IsTold, goes_some_by}
+use Rattle.cm_cache.proofs.Dooming.{ends_doom}
+use Rattle.cm_steps.specs.Inside.{world_in}
+use Rattle.cm_steps.proofs.Keepers.{rising_in}
 use Rattle.cm_steps.proofs.realm.Realm.end.Goals as goal
 
 pub inc_at-inc-requires : goal.inc_at-inc-requires
@@ -33,8 +37,8 @@ end_at-finish-requires c =
     let here : c.inc_at-inc.result ≡ may.act.inc = c.inc_at-inc.ensures ∙ ap (λ xs. inc_of xs c.args.action) c.as_slice.ensures.value ∙ inc-ended acts c.args.caller c.args.action f may in
     can_take c.self.inside.table acts c.args.caller c.args.action c.inc_at-inc.result c.args.ending may here c.self.invariant.tasks c.self.invariant.spare
 
-pub push_reserved-requires : goal.push_reserved-requires
-push_reserved-requires c =
+pub put_down-requires : goal.put_down-requires
+put_down-requires c =
     let f = finish_of c.args.ending in
     let may : MayEnd c.self.inside.acts.items c.args.caller c.args.action f = subst (λ (w : World). MayEnd w.acts c.args.caller c.args.action f) (ap world_of (sym c.self.view_is) ∙ c.self.invariant.stands.world) c.requires.may in
     let less = open_less c.self.inside.acts.items c.args.caller c.args.action f c.end_at-finish.result.outcome may in
@@ -66,8 +70,19 @@ invariant_of-self c =
       resolves = c.resolves_left-self-inside.ensures o ∙ ap (λ xs. count_by is_open_resolve (ended c.args.action o xs)) c.as_slice-2.ensures.value;
       joins = refl;
       entries =
-          ap (λ (h : History). h.entries) c.push_reserved.ensures
+          ap (λ (h : History). h.entries) c.put_down.ensures.book
           ∙ ap (λ g. c.self.inside.book.entries ++ entry_of c.args.caller (End c.args.action g) (Ended o) ∷ []) c.end_at-finish.ensures.finish;
-      reserved = ap (λ (h : History). h.reserved) c.push_reserved.ensures;
-      most = ap (λ (h : History). h.limit) c.push_reserved.ensures;
+      reserved = ap (λ (h : History). h.reserved) c.put_down.ensures.book;
+      most = ap (λ (h : History). h.limit) c.put_down.ensures.book;
+      doomed = c.goes_some_by-doomed.result;
+      told =
+          subst (IsTold (world_in c.self.inside) (entry_of c.args.caller (End c.args.action f) (Ended o)))
+          (sym (
+          c.goes_some_by-doomed.ensures
+          ∙ ap (λ rs. goes_some_by o rs c.inc_at-inc.result) c.end_at-finish.ensures.rows
+          ∙ ap (λ i. goes_some_by o (rows_by i t.next_inc f o t.rows) i) here))
+          (ends_doom (world_in c.self.inside) c.args.caller c.args.action f o may.act (rising_in c.self.inside c.self.invariant.stands) may.there);
+      keeper =
+          c.put_down.ensures.keeper
+          ∙ ap (λ g. followed (End c.args.action g) (Ended o) c.goes_some_by-doomed.result c.self.inside.keeper) c.end_at-finish.ensures.finish;
     })

@@ -1,4 +1,4 @@
-use Rattle.std.proofs.Common.{◌≡◌, ℕ, ◌+◌, ◌-◌, ◌++◌, ◌∷◌, [], List, refl, ap, sym, ◌∙◌, subst, arith, length, Some, is_some}
+use Rattle.std.proofs.Common.{◌≡◌, false, ℕ, ◌+◌, ◌-◌, ◌++◌, ◌∷◌, [], List, refl, ap, sym, ◌∙◌, subst, arith, length, Some, is_some}
 use Rattle.cm_book.specs.History.{History}
 use Rattle.cm_world.specs.declared.action.Join.{Join}
 use Rattle.cm_world.specs.declared.reply.Entry.{Entry}
@@ -11,6 +11,8 @@ use Rattle.cm_laws.specs.Story.{world_of, entry_of}
 use Rattle.cm_steps.specs.Inside.{world_in}
 use Rattle.cm_steps.proofs.Going.{goes_on, one_longer}
 use Rattle.cm_steps.proofs.Joined.{length-joined}
+use Rattle.cm_cache.proofs.Dooming.{others_doom_none}
+use Rattle.cm_steps.proofs.Keepers.{goes_beside}
 use Rattle.cm_steps.proofs.realm.Realm.join.Goals as goal
 
 pub invariant_of-self-2 : goal.invariant_of-self-2
@@ -19,7 +21,7 @@ invariant_of-self-2 c =
     let w : World = world_in c.self.inside in
     let e : Entry = entry_of c.args.caller (event.Begin c.args.kind c.args.inc) (reply.Joined c.args.action) in
     let pushed : History → History = λ t. record { entries = t.entries ++ e ∷ []; reserved = t.reserved - 1; limit = t.limit } in
-    let book = c.push_reserved.ensures ∙ ap pushed c.in_ok-add_join.ensures.book in
+    let book = c.put_down.ensures.book ∙ ap pushed c.in_ok-add_join.ensures.book in
     let more = ap (λ (t : History). t.entries) book in
     let moved : List Join → ℕ → World = λ js n. record w { joins = js; entries = n } in
     let reply_is = subst (λ v. begin_reply v.rows v.next_action c.args.kind c.args.inc ≡ Some (reply.Joined c.args.action)) (ap world_of (sym c.self.view_is) ∙ c.self.invariant.stands.world) c.requires in
@@ -42,4 +44,5 @@ invariant_of-self-2 c =
       builtins = c.self.invariant.builtins;
       numbers = c.self.invariant.numbers;
       tasks = c.self.invariant.tasks;
+      beside = goes_beside c.self.inside e false _ _ c.self.invariant.stands c.self.invariant.beside more refl (others_doom_none w e refl) c.put_down.ensures.keeper;
     }

@@ -1,4 +1,4 @@
-use Rattle.std.proofs.Common.{◌≡◌, true, cond, map, refl, sym, ◌∙◌, ap, subst, IsTrue}
+use Rattle.std.proofs.Common.{◌≡◌, false, true, cond, map, refl, sym, ◌∙◌, ap, subst, IsTrue}
 use Rattle.cm_world.specs.declared.reply.Entry.{Entry}
 use Rattle.cm_world.specs.declared.event.Event.TheVariants as event
 use Rattle.cm_world.specs.declared.reply.Reply.TheVariants as reply
@@ -12,6 +12,7 @@ use Rattle.cm_steps.specs.Inside.{world_in}
 use Rattle.cm_steps.proofs.Stepping.{one_pushed, kept_rows, sound_in}
 use Rattle.cm_laws.proofs.sound.Tasks.{tasked_purged}
 use Rattle.cm_steps.proofs.Removing.{purge_shut}
+use Rattle.cm_cache.proofs.Dooming.{others_doom_none}
 use Rattle.cm_steps.proofs.realm.Realm.remove.Goals as goal
 
 pub invariant_of-self-2 : goal.invariant_of-self-2
@@ -30,4 +31,15 @@ invariant_of-self-2 c =
     })
     refl
     (tasked_purged w.rows w.next_inc i w.acts (sound_in c.trees_stay_sound.ensures.sound c.self.inside c.self.invariant) (purge_shut (is_live w.rows i) (has_doomed w.rows i) (is_subtree_shut w.rows i) lives may) c.self.invariant.tasks)
-    (record { frame = refl; table = c.remove_below.ensures; acts = refl; resolves = refl; joins = refl; book = one_pushed _ _ _ e c.in_ok-told.ensures.book c.push_reserved.ensures })
+    (record {
+      frame = refl;
+      table = c.remove_below.ensures;
+      acts = refl;
+      resolves = refl;
+      joins = refl;
+      book = one_pushed _ _ _ e c.in_ok-told.ensures.book c.put_down.ensures.book;
+      doomed = false;
+      unasked = refl;
+      told = others_doom_none w e refl;
+      keeper = c.put_down.ensures.keeper;
+    })

@@ -1,4 +1,4 @@
-use Rattle.std.proofs.Common.{◌≡◌, refl, sym, ◌∙◌, ap, subst, inr, IsTrue}
+use Rattle.std.proofs.Common.{◌≡◌, false, refl, sym, ◌∙◌, ap, subst, inr, IsTrue}
 use Rattle.cm_world.specs.declared.reply.Entry.{Entry}
 use Rattle.cm_world.specs.declared.event.Event.TheVariants as event
 use Rattle.cm_world.specs.declared.reply.Reply.TheVariants as reply
@@ -9,6 +9,7 @@ use Rattle.cm_laws.specs.Story.{world_of, entry_of}
 use Rattle.cm_steps.specs.Inside.{world_in}
 use Rattle.cm_laws.proofs.actions.Tasks.{tasked_changed}
 use Rattle.cm_steps.proofs.Stepping.{one_pushed, kept_rows}
+use Rattle.cm_cache.proofs.Dooming.{others_doom_none}
 use Rattle.cm_steps.proofs.realm.Realm.shut.Goals as goal
 
 pub invariant_of-self-2 : goal.invariant_of-self-2
@@ -22,4 +23,4 @@ invariant_of-self-2 c =
     (record { enabled = (closing, inr (record { inc = c.args.inc; row = picks.row; may = picks.may })); allowed = picks })
     refl
     (tasked_changed w.rows w.acts c.args.inc set_shut (λ r. refl) (λ r. refl) (λ r. refl) c.self.invariant.tasks)
-    (record { frame = refl; table = c.set_shut.ensures; acts = refl; resolves = refl; joins = refl; book = one_pushed _ _ _ e c.in_ok-reserve.ensures.ok c.push_reserved.ensures })
+    (record { frame = refl; table = c.set_shut.ensures; acts = refl; resolves = refl; joins = refl; book = one_pushed _ _ _ e c.in_ok-reserve.ensures.ok c.put_down.ensures.book; doomed = false; unasked = refl; told = others_doom_none w e refl; keeper = c.put_down.ensures.keeper })

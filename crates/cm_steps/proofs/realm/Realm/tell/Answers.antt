@@ -1,17 +1,21 @@
-use Rattle.std.proofs.Common.{◌-◌, ◌++◌, ◌∷◌, [], refl, ap, sym, ◌∙◌, subst, arith}
+use Rattle.std.proofs.Common.{◌≡◌, false, None, ◌-◌, ◌++◌, ◌∷◌, [], refl, ap, sym, ◌∙◌, subst, arith}
 use Rattle.cm_book.specs.History.{History}
 use Rattle.cm_world.specs.declared.reply.Entry.{Entry}
 use Rattle.cm_world.specs.Legal.{IsStep}
 use Rattle.cm_laws.specs.Story.{world_of, entry_of}
 use Rattle.cm_steps.specs.Inside.{world_in}
+use Rattle.cm_world.specs.World.{World}
 use Rattle.cm_steps.proofs.Going.{goes_on, one_longer, after-quiet}
+use Rattle.cm_cache.specs.Keeping.{asked_by}
+use Rattle.cm_cache.proofs.Dooming.{others_doom_none}
+use Rattle.cm_steps.proofs.Keepers.{quiet_dooms, goes_beside}
 use Rattle.cm_steps.proofs.realm.Realm.tell.Goals as goal
 
 pub invariant_of-self : goal.invariant_of-self
 invariant_of-self c =
     let e : Entry = entry_of c.args.caller c.args.event c.args.reply in
     let pushed : History → History = λ t. record { entries = t.entries ++ e ∷ []; reserved = t.reserved - 1; limit = t.limit } in
-    let book = c.push_reserved.ensures ∙ ap pushed c.in-Ok.ensures.book in
+    let book = c.put_down.ensures.book ∙ ap pushed c.in-Ok.ensures.book in
     let more = ap (λ (t : History). t.entries) book in
     record {
       stands =
@@ -27,4 +31,8 @@ invariant_of-self c =
       builtins = c.self.invariant.builtins;
       numbers = c.self.invariant.numbers;
       tasks = c.self.invariant.tasks;
+      beside =
+          goes_beside c.self.inside e false _ _ c.self.invariant.stands c.self.invariant.beside more
+          (subst (λ (w : World). asked_by w c.args.event ≡ None) (ap world_of (sym c.self.view_is) ∙ c.self.invariant.stands.world) c.requires.unasked)
+          (others_doom_none (world_in c.self.inside) e (quiet_dooms c.args.event c.args.reply c.requires.quiet)) c.put_down.ensures.keeper;
     }

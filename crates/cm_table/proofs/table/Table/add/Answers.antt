@@ -35,11 +35,11 @@ pub push_block-requires-clause-room : goal.push_block-requires-clause-room
 push_block-requires-clause-room c = omega (arith, c.in-Ok-room_for.ensures.room, c.link.ensures.len, c.link.ensures.capacity)
 
 -- an Err of link: the indexes say what they said
-pub invariant_of-self-in_default-link : goal.invariant_of-self-in_default-link
-invariant_of-self-in_default-link c =
+pub invariant_of-self-in-Err-link : goal.invariant_of-self-in-Err-link
+invariant_of-self-in-Err-link c =
     let ss : List Slot = flat c.self.inside.blocks.items in
     let ts : List Slot = flat c.link.new.blocks.items in
-    let says : EachOf IsSame ss ts = subst (λ l. EachOf IsSame (flat l) ts) c.room_for.ensures.same c.in_default-link.ensures.err in
+    let says : EachOf IsSame ss ts = subst (λ l. EachOf IsSame (flat l) ts) c.room_for.ensures.same c.in-Err-link.ensures.err in
     let same : rows_in ts ≡ rows_in ss = rows_same IsSame (λ s t u. u.row) ss ts says in
     let long : length ts ≡ length ss = sym (rows_length ts) ∙ ap length same ∙ rows_length ss in
     record {
@@ -51,11 +51,11 @@ invariant_of-self-in_default-link c =
       indexed = subst (λ rs. Each (IsIndexed rs c.self.inside.next_inc) ts) (sym same) (all_same (rows_in ss) c.self.inside.next_inc ss ts says c.self.invariant.indexed);
     }
 
-pub returns-in_default-link-clause-err : goal.returns-in_default-link-clause-err
-returns-in_default-link-clause-err c =
+pub returns-in-Err-link-clause-err : goal.returns-in-Err-link-clause-err
+returns-in-Err-link-clause-err c =
     let ss : List Slot = flat c.self.inside.blocks.items in
     let ts : List Slot = flat c.link.new.blocks.items in
-    let says : EachOf IsSame ss ts = subst (λ l. EachOf IsSame (flat l) ts) c.room_for.ensures.same c.in_default-link.ensures.err in
+    let says : EachOf IsSame ss ts = subst (λ l. EachOf IsSame (flat l) ts) c.room_for.ensures.same c.in-Err-link.ensures.err in
     let same : rows_in ts ≡ rows_in ss = rows_same IsSame (λ s t u. u.row) ss ts says in
     let made : List Row → Tree = λ rs. record { rows = rs; next_inc = c.self.inside.next_inc; builtins = c.self.inside.builtins; limit = c.self.inside.limit; spare = c.self.inside.spare } in
     ap made same ∙ c.self.view_is

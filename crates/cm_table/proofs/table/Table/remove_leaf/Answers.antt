@@ -1,17 +1,16 @@
 use Rattle.std.proofs.Common.{◌≡◌, ◌+◌, ◌==◌, true, List, ◌∙◌, ap, sym, subst, arith, length}
 use Rattle.std.specs.Prelude.{option_and_then}
 use Rattle.cm_world.specs.Rows.{row_of}
-use Rattle.cm_world.specs.Sound.{IsOrderly, IsRising}
+use Rattle.cm_world.specs.Sound.{IsOrderly}
 use Rattle.cm_table.specs.declared.slot.Slot.{Slot}
 use Rattle.cm_table.specs.Tree.{Tree}
 use Rattle.cm_table.specs.Keys.{Rising}
 use Rattle.cm_table.specs.Slots.{inc_of, flat, rows_in, slot_of}
-use Rattle.cm_table.specs.Links.{IsUnlinked}
 use Rattle.cm_table.specs.Leaf.{IsLeaf}
 use Rattle.cm_table.proofs.Drops.{length-drop_first}
 use Rattle.cm_table.proofs.Leaves.{without, orderly_without}
 use Rattle.cm_table.proofs.Editing.{dropped}
-use Rattle.cm_table.proofs.Rowed.{row_of-slots, rows_dropped, rows_same, rows_length, slots_rise}
+use Rattle.cm_table.proofs.Rowed.{row_of-slots, rows_dropped, rows_length, slots_rise, unlinked_rows, unlinked_rise}
 use Rattle.cm_table.proofs.Indexing.{all_gone, each_at}
 use Rattle.cm_table.proofs.Removing.{parent_by_slots}
 use Rattle.cm_table.proofs.table.Table.remove_leaf.Goals as goal
@@ -24,17 +23,14 @@ pub unlink-requires-clause-orderly : goal.unlink-requires-clause-orderly
 unlink-requires-clause-orderly c = record { next = c.self.inside.next_inc; orderly = c.self.invariant.orderly; indexed = c.self.invariant.indexed }
 
 pub remove_in-requires-clause-rising : goal.remove_in-requires-clause-rising
-remove_in-requires-clause-rising c =
-    let mid : List Slot = flat c.unlink.new.blocks.items in
-    slots_rise c.self.inside.next_inc mid
-    (subst (IsRising c.self.inside.next_inc) (sym (rows_same (IsUnlinked c.args.leaf true) (λ s t u. u.row) (flat c.self.inside.blocks.items) mid c.unlink.ensures.links)) c.self.invariant.orderly.rising)
+remove_in-requires-clause-rising c = unlinked_rise true c.args.leaf c.self.inside.next_inc (flat c.self.inside.blocks.items) (flat c.unlink.new.blocks.items) c.self.invariant.orderly.rising c.unlink.ensures.links
 
 pub invariant_of-self : goal.invariant_of-self
 invariant_of-self c =
     let ss : List Slot = flat c.self.inside.blocks.items in
     let mid : List Slot = flat c.unlink.new.blocks.items in
     let ts : List Slot = flat c.remove_in.new.blocks.items in
-    let same : rows_in mid ≡ rows_in ss = rows_same (IsUnlinked c.args.leaf true) (λ s t u. u.row) ss mid c.unlink.ensures.links in
+    let same : rows_in mid ≡ rows_in ss = unlinked_rows true c.args.leaf ss mid c.unlink.ensures.links in
     let to : rows_in ts ≡ without c.args.leaf (rows_in ss) = ap rows_in c.remove_in.ensures.slots ∙ rows_dropped c.args.leaf mid ∙ ap (without c.args.leaf) same in
     let leaf : IsLeaf (rows_in ss) c.args.top c.args.leaf = subst (λ (t : Tree). IsLeaf t.rows c.args.top c.args.leaf) (sym c.self.view_is) c.requires in
     let one : length (without c.args.leaf (rows_in ss)) + 1 ≡ length (rows_in ss) = length-drop_first (λ r. r.inc == c.args.leaf) (rows_in ss) leaf.lives in
@@ -62,5 +58,5 @@ returns-clause-rows c =
     let ss : List Slot = flat c.self.inside.blocks.items in
     let mid : List Slot = flat c.unlink.new.blocks.items in
     ap rows_in c.remove_in.ensures.slots ∙ rows_dropped c.args.leaf mid
-    ∙ ap (without c.args.leaf) (rows_same (IsUnlinked c.args.leaf true) (λ s t u. u.row) ss mid c.unlink.ensures.links)
+    ∙ ap (without c.args.leaf) (unlinked_rows true c.args.leaf ss mid c.unlink.ensures.links)
     ∙ ap (λ (t : Tree). without c.args.leaf t.rows) c.self.view_is

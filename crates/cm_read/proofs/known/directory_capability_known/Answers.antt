@@ -1,8 +1,0 @@
-use Rattle.std.proofs.Common.{rules, ◌≡◌, [], ◌∷◌, codes}
-use Rattle.cm_read.specs.Fields.{map_now}
-use Rattle.cm_read.proofs.known.directory_capability_known.Goals as goal
-
-pub returns : goal.returns
-returns c =
-    let known : map_now c.as_slice.result.now ≡ codes "directory" ∷ codes "path" ∷ codes "rights" ∷ [] = search rules in
-    rw known at c.check_known.ensures

@@ -1,8 +1,0 @@
-use Rattle.std.proofs.Common.{rules, ◌≡◌, [], ◌∷◌, codes}
-use Rattle.cm_read.specs.Fields.{map_now}
-use Rattle.cm_read.proofs.known.protocol_expose_known.Goals as goal
-
-pub returns : goal.returns
-returns c =
-    let known : map_now c.as_slice.result.now ≡ codes "protocol" ∷ codes "from" ∷ codes "to" ∷ codes "as" ∷ codes "availability" ∷ codes "source_availability" ∷ [] = search rules in
-    rw known at c.check_known.ensures

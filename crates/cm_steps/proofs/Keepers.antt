@@ -1,0 +1,72 @@
+-- The answers that a realm keeps beside its history.
+use Rattle.std.proofs.Common.{◌≡◌, ℕ, List, [], ◌∷◌, ◌++◌, Bool, false, true≢false, Some, None, refl, sym, subst}
+use Rattle.cm_world.specs.declared.frame.Frame.{Frame}
+use Rattle.cm_world.specs.declared.event.Event.{Event}
+use Rattle.cm_world.specs.declared.event.Event.TheVariants.{End, Mark, Exited}
+use Rattle.cm_world.specs.declared.reply.Entry.{Entry}
+use Rattle.cm_world.specs.declared.reply.Reply.{Reply}
+use Rattle.cm_world.specs.declared.reply.Reply.TheVariants as reply
+use Rattle.cm_world.specs.declared.route.Start.TheVariants.{UseAt}
+use Rattle.cm_world.specs.declared.route.Walked.{Walked}
+use Rattle.cm_world.specs.World.{World}
+use Rattle.cm_world.specs.Route.{IsWalked}
+use Rattle.cm_world.specs.After.{moves}
+use Rattle.cm_world.specs.Sound.{IsRising}
+use Rattle.cm_laws.specs.Story.{world_of, IsLegal}
+use Rattle.cm_laws.proofs.sound.Healthy.{trees_stay_sound}
+use Rattle.cm_cache.specs.Answers.{kept_at}
+use Rattle.cm_cache.specs.Keeping.{asked_by}
+use Rattle.cm_cache.specs.Beside.{Held, nothing_held, asked_for, followed, IsTold, IsBeside}
+use Rattle.cm_cache.specs.Steps.{may_doom}
+use Rattle.cm_cache.proofs.Going.{nothing_at_first, beside_is_right, unasked_go_on, asked_go_on}
+use Rattle.cm_steps.specs.Inside.{story_of, world_in, Stands}
+use Rattle.cm_steps.specs.declared.realm.Realm.TheInside.{Inside}
+
+-- ---- entries
+
+-- what moves nothing dooms nothing
+pub quiet_dooms : (event : Event) (r : Reply) → moves event r ≡ false → may_doom event r ≡ false
+quiet_dooms (Mark doom i) reply.Marked quiet = absurd (true≢false quiet)
+quiet_dooms (End a finish) (reply.Ended o) quiet = absurd (true≢false quiet)
+quiet_dooms (Exited i) (reply.Left m) quiet = absurd (true≢false quiet)
+quiet_dooms event r quiet = refl
+
+-- the incarnations of the tree rise
+pub rising_in : (a : Inside) → Stands (story_of a) (world_in a) → IsRising a.table.next_inc a.table.rows
+unfolding world_of IsLegal
+rising_in a stands =
+    subst (λ (w : World). IsRising w.next_inc w.rows) stands.world (trees_stay_sound a.frame a.book.entries stands.legal).orderly.rising
+
+-- ---- what is kept
+
+-- nothing beside the empty history
+pub beside_new : (f : Frame) (entries : List Entry) (h : Held) → entries ≡ [] → h ≡ nothing_held → IsBeside f entries h
+beside_new f entries h none held =
+    subst (IsBeside f entries) (sym held) (subst (λ es. IsBeside f es nothing_held) (sym none) (nothing_at_first f))
+
+-- with an entry more that asks for no use
+pub goes_beside : (a : Inside) (e : Entry) (doomed : Bool) (entries : List Entry) (h : Held) → Stands (story_of a) (world_in a) → IsBeside a.frame a.book.entries a.keeper → entries ≡ a.book.entries ++ e ∷ [] → asked_by (world_in a) e.event ≡ None → IsTold (world_in a) e doomed → h ≡ followed e.event e.reply doomed a.keeper → IsBeside a.frame entries h
+unfolding world_of IsLegal
+goes_beside a e doomed entries h stands beside more none told held =
+    subst (IsBeside a.frame entries) (sym held)
+    (subst (λ es. IsBeside a.frame es (followed e.event e.reply doomed a.keeper)) (sym more)
+    (unasked_go_on a.frame a.book.entries e doomed a.keeper (trees_stay_sound a.frame a.book.entries stands.legal).orderly.rising
+    (subst (λ (w : World). asked_by w e.event ≡ None) (sym stands.world) none)
+    (subst (λ (w : World). IsTold w e doomed) (sym stands.world) told) beside))
+
+-- with one that asks for a use, whose walk comes to this
+pub asks_beside : (a : Inside) (e : Entry) (i : ℕ) (path : List ℕ) (v : Walked) (entries : List Entry) (h : Held) → Stands (story_of a) (world_in a) → IsBeside a.frame a.book.entries a.keeper → entries ≡ a.book.entries ++ e ∷ [] → asked_by (world_in a) e.event ≡ Some (record { inc = i; path = path }) → IsWalked a.table.rows a.frame.builtins (UseAt i path) v → h ≡ asked_for i path v a.keeper → IsBeside a.frame entries h
+unfolding world_of IsLegal
+asks_beside a e i path v entries h stands beside more asks walked held =
+    subst (IsBeside a.frame entries) (sym held)
+    (subst (λ es. IsBeside a.frame es (asked_for i path v a.keeper)) (sym more)
+    (asked_go_on a.frame a.book.entries e i path v a.keeper
+    (subst (λ (w : World). asked_by w e.event ≡ Some (record { inc = i; path = path })) (sym stands.world) asks)
+    (subst (λ (w : World). IsWalked w.rows w.frame.builtins (UseAt i path) v) (sym stands.world) walked) beside))
+
+-- an answer that is kept is that of the walk in the tree as it is
+pub right_in : (a : Inside) (i : ℕ) (path : List ℕ) (v : Walked) → Stands (story_of a) (world_in a) → IsBeside a.frame a.book.entries a.keeper → kept_at a.keeper.answers i path ≡ Some v → IsWalked a.table.rows a.frame.builtins (UseAt i path) v
+unfolding world_of
+right_in a i path v stands beside is =
+    subst (λ (w : World). IsWalked w.rows w.frame.builtins (UseAt i path) v) stands.world
+    (beside_is_right a.frame a.book.entries a.keeper i path v beside is)

@@ -1,0 +1,40 @@
+-- Who asks for a use of an instance, and what is answered.
+use Rattle.std.specs.Prelude.{◌≡◌, ℕ, List, Bool, not, ◌&&◌, Some}
+use Rattle.cm_world.specs.declared.event.Event.{Event}
+use Rattle.cm_world.specs.declared.event.Event.TheVariants as event
+use Rattle.cm_world.specs.declared.reply.Reply.{Reply}
+use Rattle.cm_world.specs.declared.frame.Builtin.{Builtin}
+use Rattle.cm_world.specs.declared.route.Start.TheVariants.{UseAt}
+use Rattle.cm_world.specs.declared.route.Walked.{Walked}
+use Rattle.cm_world.specs.declared.row.Row.{Row}
+use Rattle.cm_world.specs.Openings.{routed, opened}
+use Rattle.cm_world.specs.Route.{IsWalked}
+use Rattle.cm_world.specs.Rows.{is_gone, is_resolved, is_on}
+use Rattle.cm_cache.specs.declared.answer.Answer.{Answer}
+use Rattle.cm_cache.specs.Answers.{kept_at}
+use Rattle.cm_steps.specs.declared.asking.Asking.{Asking}
+use Rattle.cm_steps.specs.declared.asking.Asking.TheVariants as asking
+
+-- a row that isn't gone and is resolved
+abbrev pub is_ready : List Row → ℕ → Bool
+is_ready rows i = not (is_gone rows i) && is_resolved rows i
+
+-- whether an answer is what the walk from a use of row i comes to: for an opening it has to be on, too
+abbrev pub may_ask : Asking → List Row → ℕ → Bool
+may_ask asking.Route rows i = is_ready rows i
+may_ask asking.Opening rows i = is_ready rows i && is_on rows i
+
+-- the event by which the history keeps it
+abbrev pub event_of : Asking → ℕ → List ℕ → Event
+event_of asking.Route i path = event.Route i path
+event_of asking.Opening i path = event.OpenUse i path
+
+-- what is made of the walk
+abbrev pub reply_of : Asking → List Row → Walked → Reply
+reply_of asking.Route rows v = routed rows v
+reply_of asking.Opening rows v = opened rows v
+
+-- the answer that is kept for a use, if one is, is what its walk comes to
+abbrev pub IsRightAt : List Row → List Builtin → List Answer → ℕ → List ℕ → Type 0
+IsRightAt rows builtins answers i path =
+    (v : Walked) → kept_at answers i path ≡ Some v → IsWalked rows builtins (UseAt i path) v

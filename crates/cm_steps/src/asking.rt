@@ -1,0 +1,160 @@
+//! Entries that ask for a use of an instance: they are answered by what is kept, and else by a
+//! walk, whose answer is kept then, if it lasts.
+
+ghost use Rattle.std.specs.Prelude.{◌≡◌, ◌≤◌, ◌++◌, ◌∷◌, [], length, IfOk, IfErr, OnOk, OnErr};
+ghost use Rattle.cm_book.specs.Refusal.{Fits};
+ghost use Rattle.cm_cache.specs.Beside.{asked_for, finding, found_by};
+ghost use Rattle.cm_laws.specs.Story.{entry_of};
+ghost use Rattle.cm_world.specs.Route.{IsWalked};
+ghost use Rattle.cm_steps.specs.Asking as spec;
+ghost use Rattle.cm_steps.specs.Rooms.{Lacks};
+
+use crate::nostep::NoStep;
+use crate::replies::opening::{opened, routed, walk_use};
+use crate::rooms::copy_in_room;
+use cm_book::Book;
+use cm_cache::{Found, Keeper, found_by_walk};
+use cm_names::{CapPath, Memory};
+use cm_walk::above::{gone, on, resolved};
+use cm_world::{Entry, Event, Reply, Start, View, Walked};
+use std::alloc::Global;
+
+/// What one wants of a use.
+#[derive(Clone, Copy)]
+pub(crate) enum Asking {
+    /// To be told its route.
+    Route,
+    /// To open what it leads to.
+    Opening,
+}
+
+/// What the walk from a use comes to, and what becomes of the answers that are kept.
+#[derive(Drop)]
+pub(crate) struct Answered {
+    pub walked: Walked,
+    pub found: Found,
+}
+
+/// Whether one who asks is answered by what the walk comes to: the instance lives, neither it nor
+/// one above it is being destroyed, it is resolved, and, for an opening, it is on.
+pub(crate) fn asks<V: View>(view: &V, asking: Asking, inc: u64) -> bool
+    ensures { result ≡ spec.may_ask asking (V.rows view.now) inc }
+{
+    let ready = !gone(view, inc) && resolved(view, inc);
+    match asking {
+        Asking::Route => ready,
+        Asking::Opening => ready && on(view, inc),
+    }
+}
+
+/// How the history keeps what was asked.
+pub(crate) fn event_of(asking: Asking, inc: u64, path: CapPath) -> Event
+    ensures { result ≡ spec.event_of asking inc path }
+{
+    match asking {
+        Asking::Route => Event::Route(inc, path),
+        Asking::Opening => Event::OpenUse(inc, path),
+    }
+}
+
+/// What is made of a walk for one who asks.
+pub(crate) fn reply_of<V: View>(view: &V, asking: Asking, walked: Walked) -> Reply
+    ensures { result ≡ spec.reply_of asking (V.rows view.now) walked }
+{
+    match asking {
+        Asking::Route => routed(view, walked),
+        Asking::Opening => opened(view, walked),
+    }
+}
+
+/// What the walk from a use comes to: the answer that is kept for it, and else that of a walk.
+pub(crate) fn answer<V: View>(
+    alloc: Global,
+    view: &V,
+    keeper: &Keeper,
+    inc: u64,
+    path: &CapPath,
+) -> Result<Answered, Memory>
+    requires { let rows = V.rows view.now in
+        spec.IsRightAt rows (V.builtins view.now) keeper.now.answers inc path.now }
+    ensures walked { let rows = V.rows view.now in
+        IfOk result (λ a. IsWalked rows (V.builtins view.now) (Start.UseAt inc path.now) a.walked) }
+    ensures found { let held = keeper.now in
+        IfOk result (λ a. found_by a.found held ≡ asked_for inc path.now a.walked held) }
+{
+    match keeper.recall(inc, path)? {
+        Some(walked) => Ok(Answered {
+            walked,
+            found: Found::Again,
+        }),
+        None => answer_anew(alloc, view, inc, path),
+    }
+}
+
+/// What a walk from the use comes to, with a copy that is kept if it lasts.
+fn answer_anew<V: View>(
+    alloc: Global,
+    view: &V,
+    inc: u64,
+    path: &CapPath,
+) -> Result<Answered, Memory>
+    ensures walked { let rows = V.rows view.now in
+        IfOk result (λ a. IsWalked rows (V.builtins view.now) (Start.UseAt inc path.now) a.walked) }
+    ensures found { IfOk result (λ a. a.found ≡ finding inc path.now a.walked) }
+{
+    let walked = walk_use(alloc, view, inc, path)?;
+    match found_by_walk(inc, path, &walked) {
+        Ok(found) => Ok(Answered { walked, found }),
+        Err(Memory) => {
+            drop(walked);
+            Err(Memory)
+        }
+    }
+}
+
+/// Puts down what was asked with its reply, and hands the reply back. An answer is kept behind all
+/// else that may want memory.
+pub(crate) fn tell_found(
+    book: &mut Book,
+    keeper: &mut Keeper,
+    caller: u32,
+    event: Event,
+    reply: Reply,
+    found: Found,
+) -> Result<Reply, NoStep>
+    requires { keeper.old.number ≤ length book.old.entries }
+    ensures told { IfOk result (λ told. told ≡ reply) }
+    ensures book { let entries = book.old.entries ++ entry_of caller event reply ∷ [] in
+        OnOk result (book.new ≡ record book.old { entries = entries }) }
+    ensures keeper { OnOk result (keeper.new ≡ found_by found keeper.old) }
+    ensures fits { OnOk result (Fits book.old 1) }
+    ensures err { OnErr result (book.new ≡ book.old) }
+    ensures same { OnErr result (keeper.new ≡ keeper.old) }
+    ensures refused { IfErr result (Lacks book.old 1) }
+{
+    match copy_in_room(book, &reply) {
+        Ok(told) => match keeper.ask(found) {
+            Ok(()) => {
+                book.push_reserved(Entry {
+                    caller,
+                    event,
+                    reply,
+                });
+                Ok(told)
+            }
+            Err(Memory) => {
+                book.release(1);
+                drop(told);
+                drop(event);
+                drop(reply);
+                Err(NoStep::Memory)
+            }
+        },
+        Err(fault) => {
+            drop(event);
+            drop(reply);
+            drop(found);
+            Err(fault)
+        }
+    }
+}
