@@ -366,14 +366,20 @@ class BadInputTests(unittest.TestCase):
 class LargeTests(unittest.TestCase):
     """Journals of 2,000 instances and of 100,000 entries."""
 
-    def show(self, view: str, data: bytes) -> None:
-        """Runs the tool on the data, which has to take less than five seconds of the processor."""
+    def seconds(self, view: str, data: bytes) -> float:
+        """Runs the tool on the data, and gives the seconds of the processor that it took."""
         before = resource.getrusage(resource.RUSAGE_CHILDREN)
         ran = run_process("realm", view, "-o", "/dev/null", data=data)
         after = resource.getrusage(resource.RUSAGE_CHILDREN)
-        taken = after.ru_utime + after.ru_stime - before.ru_utime - before.ru_stime
         self.assertEqual((ran.status, ran.err), (0, ""))
-        self.assertLess(taken, 5.0, view)
+        return after.ru_utime + after.ru_stime - before.ru_utime - before.ru_stime
+
+    def compare(self, view: str, small: bytes, large: bytes) -> None:
+        """Ten times the entries take at most thirty times the seconds. The square would take a hundred.
+
+        Both are timed by one machine in one test, so that a slow one doesn't fail it.
+        """
+        self.assertLess(self.seconds(view, large), 30 * self.seconds(view, small), view)
 
     def test_many_instances(self) -> None:
         """a journal of 2,000 instances: the tree, and the page's data"""
@@ -385,15 +391,15 @@ class LargeTests(unittest.TestCase):
         self.assertLess(len(page), 4_000_000)
 
     def test_many_entries(self) -> None:
-        """a journal of 100,000 entries in at most 5 seconds: the tree, the JSON, the page"""
-        data = make(2000, 100_000).encode()
+        """a journal of 100,000 entries beside one of 10,000: the tree, the JSON, the page"""
+        small, large = make(200, 10_000).encode(), make(2000, 100_000).encode()
         for view in ("--tree", "--json", "--html"):
-            self.show(view, data)
+            self.compare(view, small, large)
 
     def test_many_sweeps(self) -> None:
         """100,000 entries in which 10,000 children go with a parent that stops: the tree, the timeline"""
-        data = make_sweeps(100_000)
-        told = run("realm", data=data.encode()).out.rsplit("\n", 2)[-2]
+        large = make_sweeps(100_000)
+        told = run("realm", data=large.encode()).out.rsplit("\n", 2)[-2]
         self.assertRegex(told, r"^\d+ instances: 1 (started|stopped|resolved), \d+ destroyed$")
         for view in ("--tree", "--timeline"):
-            self.show(view, data.encode())
+            self.compare(view, make_sweeps(10_000).encode(), large.encode())
