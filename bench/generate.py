@@ -16,12 +16,18 @@ SIZES = (1000, 10000)
 
 
 def line_of(seed, size):
-    """The line of a workload: all are started, and the root is shown whenever it is drawn."""
+    """The line of a workload: all are started, the root is shown whenever it is drawn, and an instance
+    that is drawn again is answered by what was kept."""
     shown = 0
+    drawn = set()
     for _ in range(size):
         seed = (seed * 1103515245 + 12345) % 2**31
-        shown += seed // 65536 % size == 0
-    return "instances %d started %d opened %d shown %d\n" % (size, size, size - shown, shown)
+        instance = seed // 65536 % size
+        shown += instance == 0
+        drawn.add(instance)
+    opened = size - shown
+    kept = opened - len(drawn - {0})
+    return "instances %d started %d opened %d shown %d kept %d\n" % (size, size, opened, shown, kept)
 
 
 def seconds(size):

@@ -9,9 +9,9 @@ use Rattle.cm_world.specs.Route.{IsWalked}
 use Rattle.cm_world.specs.After.{after}
 use Rattle.cm_world.specs.Legal.{Legal, replay}
 use Rattle.cm_world.specs.Sound.{IsOrderly}
-use Rattle.cm_world.proofs.Chains.{walked_once}
-use Rattle.cm_world.proofs.Walks.{walks_end}
-use Rattle.cm_world.proofs.Histories.{Legal-split}
+use Rattle.cm_world.proofs.trees.Chains.{walked_once}
+use Rattle.cm_world.proofs.trees.Walks.{walks_end}
+use Rattle.cm_world.proofs.trees.Histories.{Legal-split}
 use Rattle.cm_cache.specs.Answers.{most}
 use Rattle.cm_cache.specs.Keeping.{Asked, Kept, nothing, has_use, asked_by, is_lasting, with_use, counted_for, emptied, forgets, forgetting, KeepsBy, Keeps, KeepsAll}
 use Rattle.cm_cache.specs.Laws.{HistoriesKeepOnce, HistoriesKeep, KeepingGoesOn, KeptAreFew}

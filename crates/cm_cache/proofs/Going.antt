@@ -16,15 +16,15 @@ use Rattle.cm_world.specs.World.{World, start, act_of}
 use Rattle.cm_world.specs.After.{moved, counted, after, with_end_of}
 use Rattle.cm_world.specs.Legal.{replay}
 use Rattle.cm_world.specs.Sound.{IsRising}
-use Rattle.cm_world.proofs.Finding.{none_some}
-use Rattle.cm_world.proofs.Histories.{replay-push}
+use Rattle.cm_world.proofs.trees.Finding.{none_some}
+use Rattle.cm_world.proofs.trees.Histories.{replay-push}
 use Rattle.cm_cache.specs.declared.answer.Answer.{Answer}
 use Rattle.cm_cache.specs.Answers.{kept_at, put_in}
 use Rattle.cm_cache.specs.Keeping.{Asked, Kept, asked_by, is_lasting, with_use, emptied, forgets, KeepsBy, Keeps}
 use Rattle.cm_cache.specs.Right.{uses_of, AreRight}
 use Rattle.cm_cache.specs.declared.keeper.Found.TheVariants.{New, Passing}
 use Rattle.cm_cache.specs.Answers.{answer_of}
-use Rattle.cm_cache.specs.Beside.{Held, asked_for, found_by, finding, IsBeside}
+use Rattle.cm_cache.specs.Beside.{Held, asked_for, found_by, IsBeside}
 use Rattle.cm_cache.specs.Steps.{NothingAtFirst, BesideIsRight, BesideIsNumber, BesideIsFew, UnaskedGoOn, AskedGoOn}
 use Rattle.cm_cache.specs.Steps.{KeptAreFound, NewAreFound}
 use Rattle.cm_cache.proofs.Folding.{keeping_goes_on, kept_are_few}

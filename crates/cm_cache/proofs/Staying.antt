@@ -20,7 +20,7 @@ use Rattle.cm_world.specs.End.{changed, end_row, set_pending, set_on, set_closin
 use Rattle.cm_world.specs.Expiring.{goes_with, expired, expired_by, is_stopped}
 use Rattle.cm_world.specs.After.{moved, after, with_end_of}
 use Rattle.cm_world.specs.Sound.{IsRising}
-use Rattle.cm_world.proofs.Finding.{some_same, none_some}
+use Rattle.cm_world.proofs.trees.Finding.{some_same, none_some}
 use Rattle.cm_cache.specs.Keeping.{resolves, comes_or_goes}
 use Rattle.cm_cache.specs.Right.{bare}
 use Rattle.cm_cache.specs.Laws.{BareRowsStay, WalksStay}

@@ -44,14 +44,17 @@ found_by Again h = record h { number = h.number + 1 }
 found_by (New a) h = record h { answers = put_in h.answers a.inc a.path a.walked }
 found_by Passing h = h
 
--- behind an entry that asks for none, where it is told whether the entry dooms an instance
+-- whether an entry that asks for none empties it, where it is told whether the entry dooms an instance
+abbrev pub is_emptied : Event → Reply → Bool → Bool
+is_emptied event reply doomed = resolves event reply || comes_or_goes reply || doomed
+
+-- and what is held behind such an entry
 abbrev pub followed : Event → Reply → Bool → Held → Held
-followed event reply doomed h =
-    if resolves event reply || comes_or_goes reply || doomed then record h { answers = [] } else h
+followed event reply doomed h = if is_emptied event reply doomed then record h { answers = [] } else h
 
 -- what is told so is what the entry does in this world, as far as it counts
 abbrev pub IsTold : World → Entry → Bool → Type 0
-IsTold w e doomed = (resolves e.event e.reply || comes_or_goes e.reply || doomed) ≡ forgets w e
+IsTold w e doomed = is_emptied e.event e.reply doomed ≡ forgets w e
 
 -- beside a history: each answer is that of the walk in the tree that the history leaves; the uses that they
 -- were put for are those that it keeps; and so many were there

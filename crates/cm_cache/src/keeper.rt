@@ -3,7 +3,7 @@
 ghost use Rattle.std.specs.Prelude.{◌≡◌, ◌+◌, ◌<◌, ◌^◌, ℕ, IfOk, OnOk, OnErr};
 ghost use Rattle.cm_world.specs.declared.action.Finish.{Finish};
 ghost use Rattle.cm_cache.specs.Answers.{kept_at};
-ghost use Rattle.cm_cache.specs.Beside.{nothing_held, found_by, followed, finding};
+ghost use Rattle.cm_cache.specs.Beside.{nothing_held, found_by, is_emptied, followed, finding};
 ghost use Rattle.cm_cache.specs.Keeping as keeping;
 
 use crate::answer::Answer;
@@ -115,12 +115,16 @@ impl Keeper {
 
     /// Goes on over an entry that asks for no use: forgets all answers where the entry resolves
     /// an instance, where one comes or goes by it, or where it is told that one is doomed by it.
-    pub fn follow(&mut self, event: &Event, reply: &Reply, doomed: bool)
-        ensures { self.new ≡ followed event.now reply.now doomed self.old }
+    /// Whether it forgot them is told.
+    pub fn follow(&mut self, event: &Event, reply: &Reply, doomed: bool) -> bool
+        ensures follows { self.new ≡ followed event.now reply.now doomed self.old }
+        ensures forgot { result ≡ is_emptied event.now reply.now doomed }
     {
-        if resolves(event, reply) || comes_or_goes(reply) || doomed {
+        let emptied = resolves(event, reply) || comes_or_goes(reply) || doomed;
+        if emptied {
             self.cache.forget_all();
         }
+        emptied
     }
 }
 

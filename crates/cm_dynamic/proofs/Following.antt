@@ -9,7 +9,7 @@ use Rattle.cm_world.specs.declared.row.Row.{Row}
 use Rattle.cm_world.specs.Rows.{row_of, has_parent, is_behind, child_behind}
 use Rattle.cm_world.specs.Sound.{IsRising}
 use Rattle.cm_world.specs.Create.{dynamic_by, dynamic_of, dynamic_children}
-use Rattle.cm_world.proofs.Finding.{some_same, none_some, find-passes}
+use Rattle.cm_world.proofs.trees.Finding.{some_same, none_some, find-passes}
 use Rattle.cm_walk.proofs.Behind.{behind_more}
 use Rattle.cm_dynamic.specs.Siblings.{sibling_by, sibling_of, siblings_behind}
 

@@ -8,7 +8,7 @@ use Rattle.cm_decl.specs.Graph.{StrongOn}
 use Rattle.cm_decl.specs.Reach.{NoCycle}
 use Rattle.cm_deps.specs.Outcome.{IsOutcome}
 use Rattle.cm_deps.specs.declared.outcome.Order.TheVariants.{Ordered}
-use Rattle.cm_deps.proofs.Outcomes.{ordered_acyclic}
+use Rattle.cm_deps.proofs.given.Outcomes.{ordered_acyclic}
 use Rattle.cm_world.specs.declared.row.Row.{Row}
 use Rattle.cm_world.specs.World.{rows_fit}
 use Rattle.cm_dynamic.specs.Replies.{AnswersGraph}

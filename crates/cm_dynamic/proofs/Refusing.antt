@@ -10,7 +10,7 @@ use Rattle.cm_world.specs.declared.reply.Reply.{Reply}
 use Rattle.cm_world.specs.declared.reply.Reply.TheVariants.{Gone, Closing, Need, NoCollection, Exists}
 use Rattle.cm_world.specs.Rows.{child_of, decl_of, is_gone, is_closed}
 use Rattle.cm_world.specs.Create.{dynamic_name, dynamic_with, collection_of, refused_gives, refused_name, refused_by, refused_create, Creates, CreatesUnless, CreatesUnder}
-use Rattle.cm_world.proofs.Finding.{none_some}
+use Rattle.cm_world.proofs.trees.Finding.{none_some}
 use Rattle.cm_dynamic.specs.Replies.{create_reply, AnswersCreate, AnswersGraph, Refuses}
 use Rattle.cm_dynamic.specs.declared.create.MayCreate.{MayCreate}
 

@@ -10,7 +10,7 @@ use Rattle.cm_world.specs.declared.reply.Reply.{Reply}
 use Rattle.cm_world.specs.declared.reply.Reply.TheVariants.{Gone, Closing, Need, NoCollection, Exists, OffersRefused, BadOffer, Created}
 use Rattle.cm_world.specs.Rows.{child_of, decl_of, is_gone, is_closed}
 use Rattle.cm_world.specs.Create.{dynamic_name, collection_of, is_child_there, refused_gives, refused_name, refused_by, refused_create, CreatesUnless}
-use Rattle.cm_world.proofs.Finding.{none_some}
+use Rattle.cm_world.proofs.trees.Finding.{none_some}
 use Rattle.cm_dynamic.specs.Laws.{CanTake, ParentsCanTake}
 use Rattle.cm_dynamic.specs.Replies.{TellsRoom}
 use Rattle.cm_dynamic.proofs.Graphs.{some_limit}

@@ -9,7 +9,7 @@ use Rattle.cm_turn.specs.History.{StartsWith}
 use Rattle.cm_turn.specs.Passes.{LockView, seen_up_to}
 use Rattle.cm_world.specs.declared.frame.Frame.{Frame}
 use Rattle.cm_world.specs.declared.reply.Entry.{Entry}
-use Rattle.cm_world.proofs.Finding.{some_same}
+use Rattle.cm_world.proofs.trees.Finding.{some_same}
 use Rattle.cm_command.specs.declared.script.Line.{Line}
 use Rattle.cm_gate.specs.declared.asked.Asked.{Asked}
 use Rattle.cm_manager.specs.Asking.{no_frame, frame_of, frame_in}
@@ -21,7 +21,7 @@ use Rattle.cm_lanes.specs.Script.{Answered, said_of, answered_lines, lines_of, a
 use Rattle.cm_manager.specs.Kept.{Keeps, gates_view}
 use Rattle.cm_lanes.specs.Lane.{IsReady, Met, MetAll, GrewUnless}
 use Rattle.cm_lanes.specs.Phases.{told_to, IsLaneOf, AreLanes, frame_in_lane, lane_frames, Passed, PassedAll, LaneRan, LanesRan}
-use Rattle.cm_manager.proofs.Keeping.{keeps_learns, keeps_trans}
+use Rattle.cm_manager.proofs.calling.Keeping.{keeps_learns, keeps_trans}
 use Rattle.cm_lanes.proofs.Weaving.{Parts, Woven, weave}
 
 -- one phase behind others

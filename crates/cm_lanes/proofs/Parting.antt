@@ -28,14 +28,14 @@ use Rattle.cm_manager.specs.Calls.{Way, Finding, Behind, OnRow, Tried, Nothing, 
 use Rattle.cm_manager.specs.Calls.{ActedOn, Reaches, Calls, Goes}
 use Rattle.cm_manager.specs.Shutdowns.{Shuts, Destroys}
 use Rattle.cm_manager.specs.Doctor.{Checks, Each, OfPath, OfRow, Doctors}
-use Rattle.cm_manager.proofs.Joining.{starts-trans}
-use Rattle.cm_manager.proofs.Closing.{makes-own, cut-later, acts-close, sweeps_close}
-use Rattle.cm_manager.proofs.ShuttingDown.{shuts_close, destroys_close}
+use Rattle.cm_manager.proofs.calling.Joining.{starts-trans}
+use Rattle.cm_manager.proofs.left.Closing.{makes-own, cut-later, acts-close, sweeps_close}
+use Rattle.cm_manager.proofs.shutdowns.ShuttingDown.{shuts_close, destroys_close}
 use Rattle.cm_manager.specs.Done.{Done, rests, performs}
 use Rattle.cm_manager.specs.Done as done
 use Rattle.cm_lanes.specs.Script.{Answered, answers_of, Follows, IsPhase, ArePhases}
 use Rattle.cm_lanes.specs.Laws.{FallsIntoRuns, no_answer}
-use Rattle.cm_manager.proofs.Keeping.{starts_same}
+use Rattle.cm_manager.proofs.calling.Keeping.{starts_same}
 
 -- ---- a call's history goes on
 

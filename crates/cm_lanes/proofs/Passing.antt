@@ -3,7 +3,7 @@ use Rattle.std.proofs.Common.{◌≡◌, ℕ, ◌<◌, List, Option, Some, lengt
 use Rattle.cm_turn.specs.History.{StartsWith}
 use Rattle.cm_turn.specs.Passes.{LockView, seen_up_to}
 use Rattle.cm_world.specs.declared.reply.Entry.{Entry}
-use Rattle.cm_world.proofs.Finding.{some_same}
+use Rattle.cm_world.proofs.trees.Finding.{some_same}
 use Rattle.cm_command.specs.declared.script.Line.{Line}
 use Rattle.cm_gate.specs.declared.asked.Asked.{Asked}
 use Rattle.cm_manager.specs.Asking.{frame_of}
@@ -13,7 +13,7 @@ use Rattle.cm_lanes.specs.declared.lane.Lane.{Lane}
 use Rattle.cm_manager.specs.Kept.{IsOwnPass, Keeps, gates_view}
 use Rattle.cm_lanes.specs.Lane.{Met, MetAll, Worked}
 use Rattle.cm_lanes.specs.Phases.{Passed, PassedAll}
-use Rattle.cm_manager.proofs.Keeping.{follows_later, keeps_met, met_later}
+use Rattle.cm_manager.proofs.calling.Keeping.{follows_later, keeps_met, met_later}
 use Rattle.cm_lanes.specs.Script.{done_of}
 
 -- ---- one lane in a phase

@@ -16,7 +16,7 @@ use Rattle.cm_lanes.specs.declared.said.Said.{Said}
 use Rattle.cm_lanes.specs.Script.{Answered, said_of, answered_lines, lines_of, Follows}
 use Rattle.cm_manager.specs.Kept.{IsOwnPass, Keeps}
 use Rattle.cm_lanes.specs.Lane.{GrewUnless, PutsUnless}
-use Rattle.cm_manager.proofs.Keeping.{keeps_nothing, keeps_trans, keeps_helps, starts_same}
+use Rattle.cm_manager.proofs.calling.Keeping.{keeps_nothing, keeps_trans, keeps_helps, starts_same}
 
 -- between two lines: what is performed from here on is performed behind what was
 pub record Performing (shelf : Shelf) (lines : List Line) (p q : RealmPass) (g h : GatesView) (said₀ said₁ : List Said) (lost : Bool) : Type 0 where

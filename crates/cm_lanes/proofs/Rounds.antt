@@ -4,14 +4,14 @@ use Rattle.std.proofs.lemmas.List.{get_or_default}
 use Rattle.cm_turn.specs.History.{StartsWith}
 use Rattle.cm_turn.specs.Passes.{LockView, seen_up_to}
 use Rattle.cm_world.specs.declared.reply.Entry.{Entry}
-use Rattle.cm_world.proofs.Finding.{some_same}
+use Rattle.cm_world.proofs.trees.Finding.{some_same}
 use Rattle.cm_manager.specs.Contract.{RealmPass}
-use Rattle.cm_manager.proofs.Joining.{starts-trans}
+use Rattle.cm_manager.proofs.calling.Joining.{starts-trans}
 use Rattle.cm_lanes.specs.declared.lane.Lane.{Lane}
 use Rattle.cm_manager.specs.Kept.{IsOwnPass}
 use Rattle.cm_lanes.specs.Lane.{HasPass, Met, MetBoth, MetAll}
 use Rattle.cm_lanes.specs.Meeting.{MetWithin, HasSeenWithin, MeetsEach}
-use Rattle.cm_manager.proofs.Keeping.{starts_same}
+use Rattle.cm_manager.proofs.calling.Keeping.{starts_same}
 
 -- two lists that begin with each other are one
 no_more : (xs ys : List Entry) → xs ++ ys ≡ xs → ys ≡ []

@@ -1,5 +1,5 @@
 -- Every legal history keeps all laws.
-use Rattle.cm_order.proofs.Ending.{no_dead_end}
+use Rattle.cm_order.proofs.trees.Ending.{no_dead_end}
 use Rattle.cm_laws.specs.Histories.{HistoriesKeepLaws}
 use Rattle.cm_laws.proofs.Stable.{routes_are_stable}
 use Rattle.cm_laws.proofs.actions.Outcomes.{outcomes_are_one}

@@ -31,7 +31,7 @@ use Rattle.cm_world.specs.Marks.{is_dynamic, mark_reply}
 use Rattle.cm_world.specs.Reports.{look_at, has_collection, list_by, exit_reply}
 use Rattle.cm_world.specs.Openings.{unready, unopened, routed, opened, opened_at, WalksUnless}
 use Rattle.cm_world.specs.Step.{Allowed}
-use Rattle.cm_world.proofs.Finding.{none_some, some_same}
+use Rattle.cm_world.proofs.trees.Finding.{none_some, some_same}
 
 -- a reply by which no action begins or is joined, and nothing is opened
 abbrev pub is_plain : Reply → Bool

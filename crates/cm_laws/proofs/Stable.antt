@@ -29,7 +29,7 @@ use Rattle.cm_world.specs.Route.{Named, First, NoUse, NoneExposed, named_by, IsR
 use Rattle.cm_world.specs.Openings.{unready, unopened, opened, opened_at, WalksUnless}
 use Rattle.cm_world.specs.Step.{Allowed}
 use Rattle.cm_world.specs.Legal.{replay}
-use Rattle.cm_world.proofs.Finding.{none_some}
+use Rattle.cm_world.proofs.trees.Finding.{none_some}
 use Rattle.cm_laws.specs.Lasting.{start_of, AreWithin, IsProviding, IsStable, RoutesAreStable}
 use Rattle.cm_laws.proofs.Answered.{is_plain, passes_or, plain_reply, unready_plain, unopened_plain, begin_passes}
 use Rattle.cm_laws.proofs.Entries.{of_each_entry}

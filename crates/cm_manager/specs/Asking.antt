@@ -123,6 +123,11 @@ Asked e old new (Ok r) =
     × (new.mine ≡ old.mine ++ entry_of old.caller e r ∷ [])
 Asked e old new (Err x) = IsCut (frame_of old) old.caller old.seen e new.seen x × (new.mine ≡ old.mine)
 
+-- turns until a row is purged, now or before as the reply says, or the call is cut
+abbrev pub Purged : ℕ → RealmPass → RealmPass → Option Refusal → Type 0
+Purged i old new None = (r : Reply) × Asked (event.Purge i) old new (Ok r)
+Purged i old new (Some x) = Asked (event.Purge i) old new (Err x)
+
 -- one turn with an entry of this event and its outcome, which needs no room
 pub record Told (old new : RealmPass) (e : Event) (o : Outcome) : Type 0 where
   pub makes : Makes old.caller old.seen e (reply.Ended o) new.seen

@@ -1,7 +1,7 @@
 -- How rows are stopped with all below them, and how those that went with a stopped instance are removed, as
 -- rules. Each tells from which history to which later one it goes, and what ended the call there, if anything
 -- did.
-use Rattle.std.specs.Prelude.{◌≡◌, ℕ, List, [], ◌∷◌, Option, Some, None}
+use Rattle.std.specs.Prelude.{ℕ, List, [], ◌∷◌, Option, Some, None}
 use Rattle.cm_world.specs.declared.frame.Frame.{Frame}
 use Rattle.cm_world.specs.declared.action.Finish.{Finish}
 use Rattle.cm_world.specs.declared.action.Outcome.{Outcome}

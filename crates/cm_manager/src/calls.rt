@@ -112,14 +112,8 @@ impl Manager {
         ensures performs { PerformsWith G.log G.faults self.now.shelf (command.Resolve target.now)
             pass result.0 gates.old gates.new result.1 }
     {
-        self.call(
-            rt,
-            alloc,
-            pass,
-            gates,
-            target,
-            Question::Act(ActKind::Resolve),
-        )
+        let question = Question::Act(ActKind::Resolve);
+        self.call(rt, alloc, pass, gates, target, question)
     }
 
     /// Starts an instance, as `StartInstance` of `fuchsia.sys2.LifecycleController` does, with its
@@ -138,14 +132,8 @@ impl Manager {
         ensures performs { PerformsWith G.log G.faults self.now.shelf (command.Start target.now)
             pass result.0 gates.old gates.new result.1 }
     {
-        self.call(
-            rt,
-            alloc,
-            pass,
-            gates,
-            target,
-            Question::Act(ActKind::Start),
-        )
+        let question = Question::Act(ActKind::Start);
+        self.call(rt, alloc, pass, gates, target, question)
     }
 
     /// Stops an instance, as `StopInstance` of `fuchsia.sys2.LifecycleController` does: `Stopped`
@@ -270,14 +258,8 @@ impl Manager {
         ensures performs { PerformsWith G.log G.faults self.now.shelf
             (command.ListChildren target.now coll.now) pass result.0 gates.old gates.new result.1 }
     {
-        self.call(
-            rt,
-            alloc,
-            pass,
-            gates,
-            target,
-            Question::Event(Request::List(coll)),
-        )
+        let question = Question::Event(Request::List(coll));
+        self.call(rt, alloc, pass, gates, target, question)
     }
 
     /// Opens what an instance uses at a path, and starts the provider first where it is off:
@@ -300,14 +282,8 @@ impl Manager {
         ensures performs { PerformsWith G.log G.faults self.now.shelf (command.OpenUse target.now path.now)
             pass result.0 gates.old gates.new result.1 }
     {
-        self.call(
-            rt,
-            alloc,
-            pass,
-            gates,
-            target,
-            Question::Event(Request::OpenUse(path)),
-        )
+        let question = Question::Event(Request::OpenUse(path));
+        self.call(rt, alloc, pass, gates, target, question)
     }
 
     /// Opens what an instance exposes by a name, as `OpenExposedDir` of `fuchsia.component.Realm`
@@ -329,14 +305,8 @@ impl Manager {
         ensures performs { PerformsWith G.log G.faults self.now.shelf
             (command.OpenExposed target.now name.now) pass result.0 gates.old gates.new result.1 }
     {
-        self.call(
-            rt,
-            alloc,
-            pass,
-            gates,
-            target,
-            Question::Event(Request::OpenExposed(name)),
-        )
+        let question = Question::Event(Request::OpenExposed(name));
+        self.call(rt, alloc, pass, gates, target, question)
     }
 
     /// Tells where what an instance uses at a path comes from: `Routed` with the route.
@@ -357,14 +327,8 @@ impl Manager {
         ensures performs { PerformsWith G.log G.faults self.now.shelf (command.RouteOf target.now path.now)
             pass result.0 gates.old gates.new result.1 }
     {
-        self.call(
-            rt,
-            alloc,
-            pass,
-            gates,
-            target,
-            Question::Event(Request::Route(path)),
-        )
+        let question = Question::Event(Request::Route(path));
+        self.call(rt, alloc, pass, gates, target, question)
     }
 
     /// Tells how an instance is: `Shown`.
@@ -380,14 +344,8 @@ impl Manager {
         ensures performs { PerformsWith G.log G.faults self.now.shelf (command.Show target.now)
             pass result.0 gates.old gates.new result.1 }
     {
-        self.call(
-            rt,
-            alloc,
-            pass,
-            gates,
-            target,
-            Question::Event(Request::Show),
-        )
+        let question = Question::Event(Request::Show);
+        self.call(rt, alloc, pass, gates, target, question)
     }
 
     /// Tells how an instance and all below it are: `Surveyed` with those that aren't being
@@ -404,14 +362,8 @@ impl Manager {
         ensures performs { PerformsWith G.log G.faults self.now.shelf (command.Survey target.now)
             pass result.0 gates.old gates.new result.1 }
     {
-        self.call(
-            rt,
-            alloc,
-            pass,
-            gates,
-            target,
-            Question::Event(Request::Survey),
-        )
+        let question = Question::Event(Request::Survey);
+        self.call(rt, alloc, pass, gates, target, question)
     }
 
     /// Tells that the program of an instance has ended by itself: `Left`, and whether it was on.
@@ -429,14 +381,8 @@ impl Manager {
         ensures performs { PerformsWith G.log G.faults self.now.shelf (command.Exited target.now)
             pass result.0 gates.old gates.new result.1 }
     {
-        self.call(
-            rt,
-            alloc,
-            pass,
-            gates,
-            target,
-            Question::Event(Request::Exited),
-        )
+        let question = Question::Event(Request::Exited);
+        self.call(rt, alloc, pass, gates, target, question)
     }
 
     /// Makes the call that a command names, and answers so.

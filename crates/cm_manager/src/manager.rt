@@ -1,6 +1,6 @@
 //! The manager of a realm.
 
-ghost use Rattle.std.specs.Prelude.{◌≡◌, ◌<◌, ◌≤◌, ◌⊎◌, [], All, IfOk, IfErr};
+ghost use Rattle.std.specs.Prelude.{◌≡◌, ◌<◌, ◌≤◌, ◌⊎◌, [], All, Some, IfOk, IfErr};
 ghost use Rattle.cm_turn.specs.Passes.{new_passes, seen_up_to, AreAll, IsOwn};
 ghost use Rattle.cm_turn.specs.History.{StartsWith};
 ghost use Rattle.cm_laws.specs.Story.{IsLegal};
@@ -101,6 +101,18 @@ impl Manager {
         ensures closes { Closes result.entries passes }
         ensures ended { HasEnds result.entries }
     {
+        self.close_realm(passes).into_book()
+    }
+
+    /// Ends the manager as [`Manager::close`] does, and gives the realm with its history. The realm
+    /// has the frame of each pass.
+    pub fn close_realm(self, passes: List<Pass<Entry, Frame>>) -> Realm
+        requires passes { AreAll self.turn passes }
+        requires ended { All (λ p. HasEnds p.mine) passes }
+        ensures closes { Closes result.entries passes }
+        ensures ended { HasEnds result.entries }
+        ensures frames { All (λ p. p.frame ≡ Some result.frame) passes }
+    {
         let Manager {
             turn,
             repository: _,
@@ -108,7 +120,7 @@ impl Manager {
         } = self;
         let realm = turn.close(passes);
         check_history(&realm);
-        realm.into_book()
+        realm
     }
 }
 

@@ -5,10 +5,11 @@
 //! component lifecycle, fuchsia.dev). Other calls may take turns between two picks, and several
 //! calls may shut one instance down side by side.
 
-ghost use Rattle.std.specs.Prelude.{◌≡◌, IfNone};
+ghost use Rattle.std.specs.Prelude.{◌≡◌, IfNone, true};
 ghost use Rattle.cm_laws.specs.Shutdowns.{IsLeaving, IsMarked, IsOver};
 ghost use Rattle.cm_manager.specs.Turns.{world_after};
-ghost use Rattle.cm_manager.specs.Asking.{frame_of};
+ghost use Rattle.cm_manager.specs.Asking.{Purged, frame_of};
+ghost use Rattle.cm_manager.specs.Contract.{IsSamePass};
 ghost use Rattle.cm_manager.specs.Acting.{PicksBy};
 ghost use Rattle.cm_manager.specs.Shutdowns as spec;
 ghost use Rattle.cm_manager.specs.Shutdowns.{Shuts, Destroys};
@@ -134,6 +135,31 @@ impl Manager {
         }
     }
 
+    /// Removes an instance that is to be destroyed, and shut with all below it, together with
+    /// these. `Some` tells what ended the call there.
+    pub(crate) fn purge<R: Wait>(
+        &self,
+        rt: &R,
+        alloc: Global,
+        pass: Pass<Entry, Frame>,
+        inc: u64,
+    ) -> (Pass<Entry, Frame>, Option<Refusal>)
+        requires lock { pass.lock ≡ self.now.turn.lock }
+        requires due { let world = world_after (frame_of pass) pass.seen in
+            IsMarked true world inc × IsOver world inc }
+        ensures same { IsSamePass (frame_of pass) pass result.0 }
+        ensures purged { Purged inc pass result.0 result.1 }
+    {
+        let (pass, asked) = self.ask_for(rt, alloc, pass, Event::Purge(inc));
+        match asked {
+            Ok(reply) => {
+                drop(reply);
+                (pass, None)
+            }
+            Err(refusal) => (pass, Some(refusal)),
+        }
+    }
+
     /// Shuts an instance down to be destroyed, and removes it with all below it. `Some` tells
     /// what ended the call before that.
     pub(crate) fn destroy_row<R: Threads + Wait + Sync, G: Gates>(
@@ -153,13 +179,6 @@ impl Manager {
         if let Some(refusal) = end {
             return (pass, Some(refusal));
         }
-        let (pass, asked) = self.ask_for(rt, alloc, pass, Event::Purge(inc));
-        match asked {
-            Ok(reply) => {
-                drop(reply);
-                (pass, None)
-            }
-            Err(refusal) => (pass, Some(refusal)),
-        }
+        self.purge(rt, alloc, pass, inc)
     }
 }

@@ -114,17 +114,15 @@ impl Manager {
         let mut idle = pass;
         for _ in rt.forever() {
             let (after, began) = self.begin(rt, alloc, idle, gates, ActKind::Start, inc);
-            match launch_of(began) {
+            let row = match launch_of(began) {
                 Ok(launch) => return (after, launch),
-                Err(row) => {
-                    let kind = ActKind::Resolve;
-                    let (later, went) = self.act_once(rt, alloc, after, gates, kind, row);
-                    if let Some(failed) = if_failed(went) {
-                        return (later, Launch::Settled(failed));
-                    }
-                    idle = later;
-                }
+                Err(row) => row,
+            };
+            let (later, went) = self.act_once(rt, alloc, after, gates, ActKind::Resolve, row);
+            if let Some(failed) = if_failed(went) {
+                return (later, Launch::Settled(failed));
             }
+            idle = later;
         }
         unreachable!()
     }

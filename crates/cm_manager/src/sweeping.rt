@@ -61,14 +61,7 @@ impl Manager {
         if let Some(refusal) = end {
             return (pass, Some(refusal));
         }
-        let (pass, asked) = self.ask_for(rt, alloc, pass, Event::Purge(inc));
-        match asked {
-            Ok(reply) => {
-                drop(reply);
-                (pass, None)
-            }
-            Err(refusal) => (pass, Some(refusal)),
-        }
+        self.purge(rt, alloc, pass, inc)
     }
 
     /// Removes instances that are marked to be destroyed, one after another, each with all below

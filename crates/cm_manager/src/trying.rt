@@ -51,19 +51,19 @@ impl Manager {
         let mut idle = pass;
         for _ in rt.forever() {
             let (after, asked) = self.ask(rt, alloc, idle, event);
-            match asked {
-                Ok(reply) => match reading(reply) {
-                    Demand::Decided(reply) => return (after, Ok(reply)),
-                    Demand::Action(kind, row) => {
-                        let (later, went) = self.act(rt, alloc, after, gates, kind, row);
-                        if let Some(refusal) = ending(went) {
-                            return (later, Err(refusal));
-                        }
-                        idle = later;
-                    }
-                },
+            let reply = match asked {
+                Ok(reply) => reply,
                 Err(refusal) => return (after, Err(refusal)),
+            };
+            let (kind, row) = match reading(reply) {
+                Demand::Action(kind, row) => (kind, row),
+                Demand::Decided(reply) => return (after, Ok(reply)),
+            };
+            let (later, went) = self.act(rt, alloc, after, gates, kind, row);
+            if let Some(refusal) = ending(went) {
+                return (later, Err(refusal));
             }
+            idle = later;
         }
         unreachable!()
     }

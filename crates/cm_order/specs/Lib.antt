@@ -4,5 +4,6 @@ pub mod Names
 pub mod Levels
 pub mod Search
 pub mod Glances
+pub mod Plans
 pub mod Picking
 pub mod Laws

@@ -13,6 +13,7 @@
 //! | `search` | an instance that may stop, below another |
 //! | `named` | the children that something at their level strongly comes from |
 //! | `glance` | a node of a level that nothing binds, by tests that cost little |
+//! | `plan` | what is known of levels, from one pick to the next |
 //! | `quick` | the way down to an instance that may be picked, by such tests alone |
 //! | `picking` | what a pick comes to |
 //! | `laws` | that a shutdown never comes to a dead end |
@@ -29,7 +30,9 @@ pub(crate) mod level;
 pub(crate) mod members;
 pub(crate) mod named;
 pub mod picking;
+pub mod plan;
 pub(crate) mod quick;
 pub(crate) mod search;
 
-pub use picking::{Picked, pick};
+pub use picking::{Picked, pick, pick_with};
+pub use plan::Plan;

@@ -9,9 +9,11 @@ ghost use Rattle.cm_world.specs.Step.{may_close};
 ghost use Rattle.cm_order.specs.declared.search.Wanted.TheVariants as wanted;
 ghost use Rattle.cm_order.specs.Search.{NoneIs};
 ghost use Rattle.cm_order.specs.Picking.{IsPicked, WaitsFor};
+ghost use Rattle.cm_order.specs.Plans.{IsPlan};
 
 use crate::above::outermost;
 use crate::below::all_shut;
+use crate::plan::Plan;
 use crate::quick::quick;
 use crate::search::{Wanted, search};
 use cm_names::Memory;
@@ -67,13 +69,35 @@ pub fn pick<V: View>(alloc: Global, view: &V, target: u64) -> Result<Picked, Mem
     requires closing { IsTrue (may_close (V.rows view.now) target) }
     ensures { IfOk result (IsPicked (V.rows view.now) target) }
 {
+    let mut plan = Plan::new(alloc);
+    pick_with(alloc, view, &mut plan, target)
+}
+
+/// [`pick`], with what is known of levels from the picks before.
+///
+/// The plan is that of the picks before, or one that knows of no level; it has to hold in this tree,
+/// and holds still at an `Err`. Where it knows of a level, that isn't looked at anew: the children
+/// are, from the one on that was found last. It takes memory for each child of a level on which
+/// another strongly depends.
+pub fn pick_with<V: View>(
+    alloc: Global,
+    view: &V,
+    plan: &mut Plan,
+    target: u64,
+) -> Result<Picked, Memory>
+    requires sound { IsSound (V.rows view.now) (V.next_inc view.now) }
+    requires closing { IsTrue (may_close (V.rows view.now) target) }
+    requires plan { IsPlan (V.rows view.now) plan.old }
+    ensures picked { IfOk result (IsPicked (V.rows view.now) target) }
+    ensures plan { IsPlan (V.rows view.now) plan.new }
+{
     let Some(top) = outermost(view, target) else {
         return Ok(Picked::Done);
     };
     if all_shut(alloc, view, target)? {
         return Ok(Picked::Done);
     }
-    if let Some(inc) = quick(alloc, view, top)? {
+    if let Some(inc) = quick(alloc, view, plan, top)? {
         return Ok(stop_or_shut(view, inc));
     }
     match search(alloc, view, top, Wanted::Idle)? {

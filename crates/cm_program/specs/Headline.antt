@@ -7,6 +7,7 @@ use Rattle.cm_world.specs.declared.frame.Frame.{Frame}
 use Rattle.cm_world.specs.declared.reply.Entry.{Entry}
 use Rattle.cm_world.specs.World.{start}
 use Rattle.cm_world.specs.Legal.{Legal}
+use Rattle.cm_cache.specs.Keeping.{IsKeptNumber}
 use Rattle.cm_command.specs.declared.script.Line.{Line}
 use Rattle.cm_gate.specs.declared.asked.Asked.{Asked}
 use Rattle.cm_laws.specs.Histories.{KeepsLaws}
@@ -70,8 +71,11 @@ module _ {G : Type 0} (log_of : G → Option (List Asked)) (faults_of : G → �
     pub makes : MakesHistory served.frame served.phases answered history
     pub laws : EndsWell served.frame history
     pub work : WorksEach (shelf_of folder served) history gates₀ gates₁
+    -- so many of its routes and openings asked for a use whose answer was still there
+    pub kept : ℕ
+    pub counts : IsKeptNumber served.frame history kept
     pub text : List ℕ
-    pub prints : text ≡ wanted_text wanted served.frame answered history
+    pub prints : text ≡ wanted_text wanted served.frame answered history kept
     -- at 0 all of it was written
     pub all : status ≡ 0 → Appends out₀ out₁ text
     -- at 0 and at 4 no line was answered for want of memory

@@ -1,6 +1,7 @@
 -- What the lanes made of a script.
 use Rattle.std.specs.Prelude.{◌≡◌, ℕ, List, map, flat_map, Option, IfSome}
 use Rattle.cm_world.specs.declared.frame.Frame.{Frame}
+use Rattle.cm_cache.specs.Keeping.{IsKeptNumber}
 use Rattle.cm_command.specs.declared.script.Line.{Line}
 use Rattle.cm_gate.specs.declared.asked.Asked.{Asked}
 use Rattle.cm_manager.specs.Closed.{HasEnds}
@@ -10,13 +11,14 @@ use Rattle.cm_program.specs.Headline.{MakesHistory, WorksEach}
 use Rattle.cm_program.specs.declared.performing.Performed.{Performed}
 
 module _ {G : Type 0} (log_of : G → Option (List Asked)) (faults_of : G → ℕ) where
-  -- the lines of all phases were run, and these are the history, the gates and, if there was memory for them,
-  -- the answers
+  -- the lines of all phases were run, and these are the history, how many of its answers to uses were still
+  -- there, the gates and, if there was memory for them, the answers
   pub record Performs
       (shelf : Shelf) (f : Frame) (phases : List (List Line)) (gates₀ : List G) (done : Performed G)
       : Type 0 where
     pub answered : List (List Answered)
     pub makes : MakesHistory f phases answered done.book.entries
     pub ends : HasEnds done.book.entries
+    pub kept : IsKeptNumber f done.book.entries done.kept
     pub work : WorksEach log_of faults_of shelf done.book.entries gates₀ done.gates
     pub said : IfSome done.said (λ said. said ≡ flat_map (λ phase. map said_of phase) answered)

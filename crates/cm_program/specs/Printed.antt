@@ -54,20 +54,22 @@ is_shown _ = false
 abbrev pub results_of : List (List Answered) → List (Result Answer Refusal)
 results_of answered = flat_map (λ phase. map (λ a. a.result) phase) answered
 
--- `instances N started S opened O shown H`, with a line feed
-abbrev pub summary_text : ℕ → List (Result Answer Refusal) → Text
-summary_text instances results =
+-- `instances N started S opened O shown H kept K`, with a line feed
+abbrev pub summary_text : ℕ → List (Result Answer Refusal) → ℕ → Text
+summary_text instances results kept =
     codes "instances " ++ (decimal instances
     ++ (codes " started " ++ (decimal (count_by is_started results)
     ++ (codes " opened " ++ (decimal (count_by is_opened results)
-    ++ (codes " shown " ++ (decimal (count_by is_shown results) ++ codes "\n")))))))
+    ++ (codes " shown " ++ (decimal (count_by is_shown results)
+    ++ (codes " kept " ++ (decimal kept ++ codes "\n")))))))))
 
 -- ---- what is wanted of these
 
--- what is to be printed of lines that were answered so, with this history
-abbrev pub wanted_text : Wanted → Frame → List (List Answered) → List Entry → Text
-wanted_text (Answers journal) f answered entries = phases_text answered ++ journal_of journal f entries
-wanted_text (Summary instances) f answered entries = summary_text instances (results_of answered)
+-- what is to be printed of lines that were answered so, with this history and this number of answers that
+-- were still there
+abbrev pub wanted_text : Wanted → Frame → List (List Answered) → List Entry → ℕ → Text
+wanted_text (Answers journal) f answered entries kept = phases_text answered ++ journal_of journal f entries
+wanted_text (Summary instances) f answered entries kept = summary_text instances (results_of answered) kept
 
 -- ---- the same, of what the lanes hand out
 
@@ -78,12 +80,12 @@ texts_of (l ∷ ls) [] = []
 texts_of (l ∷ ls) (s ∷ others) = line_text l s.result ++ texts_of ls others
 
 -- all that is printed
-abbrev pub printed_text : List (List Line) → List Said → Wanted → Text → List Entry → Text
-printed_text phases said (Answers journal) head entries =
+abbrev pub printed_text : List (List Line) → List Said → Wanted → Text → List Entry → ℕ → Text
+printed_text phases said (Answers journal) head entries kept =
     texts_of (flat_map (λ lines. lines) phases) said
     ++ (if journal then head ++ entries_text 1 entries else [])
-printed_text phases said (Summary instances) head entries =
-    summary_text instances (map (λ s. s.result) said)
+printed_text phases said (Summary instances) head entries kept =
+    summary_text instances (map (λ s. s.result) said) kept
 
 -- what was written of it, by the status: all of it at 0, and a front of it else; no answer was want of memory
 -- at 0 and 4

@@ -1,39 +1,42 @@
 //! What `run` prints.
 
 ghost use Rattle.std.specs.Prelude.{◌≡◌, ◌++◌, List as Seq, IfOk, OnOk, drop, flat_map};
+ghost use Rattle.std.specs.Prelude.{string_bytes};
 ghost use Rattle.cm_command.specs.declared.script.Line.{Line as TheLine};
 ghost use Rattle.cm_reply.specs.Journal.{entries_text};
 ghost use Rattle.cm_program.specs.Printed.{line_text, texts_of};
 
 use cm_command::Line;
 use cm_lanes::Said;
-use cm_names::{List, Memory, Text};
+use cm_names::{List, Memory};
 use cm_reply::{entry_text, reply_text};
 use cm_world::Entry;
 use std::alloc::Global;
 
 /// Puts the answer to a line behind the text: the lane, a space, the answer and a line feed.
 #[tactic(auto, unfolding(crate::specs::Printed::line_text))]
-fn push_answer(alloc: Global, text: &mut Text, line: &Line, said: &Said) -> Result<(), Memory>
-    ensures { OnOk result (text.new ≡ text.old ++ line_text line.now said.now.result) }
+fn push_answer(alloc: Global, text: &mut String, line: &Line, said: &Said) -> Result<(), Memory>
+    ensures { let more = line_text line.now said.now.result in
+        OnOk result (string_bytes text.new ≡ string_bytes text.old ++ more) }
 {
     let lane = line.lane;
     let reply = reply_text(alloc, &line.command, &said.result)?;
-    text.push(format_args!("{lane} {reply}\n"))
+    text.write(format_args!("{lane} {reply}\n"))?;
+    Ok(())
 }
 
 /// Puts the answers to these lines behind the text. The first of them stands at `from`; the result
 /// is the place behind the last.
 fn push_lines(
     alloc: Global,
-    text: &mut Text,
+    text: &mut String,
     lines: &[Line],
     said: &[Said],
     from: usize,
 ) -> Result<usize, Memory>
     ensures { IfOk result (λ at. (more : Seq TheLine) →
-        text.new ++ texts_of more (drop at said.now)
-        ≡ text.old ++ texts_of (lines.now ++ more) (drop from said.now)) }
+        string_bytes text.new ++ texts_of more (drop at said.now)
+        ≡ string_bytes text.old ++ texts_of (lines.now ++ more) (drop from said.now)) }
 {
     let mut at = from;
     for line in lines {
@@ -49,12 +52,12 @@ fn push_lines(
 /// Puts the answers to the lines of all phases behind the text.
 pub fn push_answers(
     alloc: Global,
-    text: &mut Text,
+    text: &mut String,
     phases: &[List<Line>],
     said: &[Said],
 ) -> Result<(), Memory>
-    ensures { OnOk result (text.new
-        ≡ text.old ++ texts_of (flat_map (λ lines. lines) phases.now) said.now) }
+    ensures { OnOk result (string_bytes text.new
+        ≡ string_bytes text.old ++ texts_of (flat_map (λ lines. lines) phases.now) said.now) }
 {
     let mut at = 0;
     for phase in phases {
@@ -64,12 +67,14 @@ pub fn push_answers(
 }
 
 /// Puts a line of the journal behind the text for each entry of the history.
-pub fn push_entries(alloc: Global, text: &mut Text, entries: &[Entry]) -> Result<(), Memory>
-    ensures { OnOk result (text.new ≡ text.old ++ entries_text 1 entries.now) }
+pub fn push_entries(alloc: Global, text: &mut String, entries: &[Entry]) -> Result<(), Memory>
+    ensures { let more = entries_text 1 entries.now in
+        OnOk result (string_bytes text.new ≡ string_bytes text.old ++ more) }
 {
     for index in 0..entries.len() {
         let entry = entry_text(alloc, index as u64 + 1, &entries[index])?;
-        text.push(format_args!("{entry}\n"))?;
+        text.push_str(entry.as_str())?;
+        text.push_str("\n")?;
     }
     Ok(())
 }

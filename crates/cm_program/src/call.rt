@@ -11,10 +11,10 @@ use clap::builder::ValueParser;
 use clap::error::ErrorKind;
 use clap::{Arg, ArgAction, ArgMatches, Command};
 use cm_names::{Memory, Text};
-use std::alloc::{AllocError, Global};
+use std::alloc::Global;
 
 /// What `run` is asked for besides the script.
-#[derive(Debug, Drop)]
+#[derive(Drop)]
 pub struct RunOptions {
     /// `--journal`: the journal is to follow the answers.
     pub journal: bool,
@@ -23,7 +23,7 @@ pub struct RunOptions {
 }
 
 /// What `generate` is asked for.
-#[derive(Debug, Clone, Copy)]
+#[derive(Clone, Copy)]
 pub struct Workload {
     /// `G`, from which the draws go on: at most 2,147,483,647.
     pub seed: u64,
@@ -32,7 +32,7 @@ pub struct Workload {
 }
 
 /// What `serve` is asked for.
-#[derive(Debug, Drop)]
+#[derive(Drop)]
 pub struct ServeOptions {
     /// `SOCKET`: the path of the socket at which links come.
     pub socket: Text,
@@ -47,7 +47,7 @@ pub struct ServeOptions {
 }
 
 /// What the program is to do.
-#[derive(Debug, Drop)]
+#[derive(Drop)]
 pub enum Call {
     /// `run [--journal] [--repo DIR]`: answer the commands of a script.
     Run(RunOptions),
@@ -61,24 +61,13 @@ pub enum Call {
 }
 
 /// Why words ask for nothing.
-#[derive(Debug, Drop)]
+#[derive(Drop)]
 pub enum WordsFault {
     /// The first word is none of the commands, or its further words are none that it takes; a
     /// word that asks for help is one of these.
     Usage,
     /// Memory ran out.
     Memory,
-}
-
-impl From<AllocError> for WordsFault {
-    ghost use Rattle.std.specs.Prelude.{◌≡◌};
-    ghost use Rattle.cm_program.specs.declared.call.WordsFault.TheVariants.{Memory as OutOfMemory};
-
-    ghost from_gives = { λ _ e. e ≡ OutOfMemory };
-
-    fn from(_: AllocError) -> WordsFault {
-        WordsFault::Memory
-    }
 }
 
 impl From<Memory> for WordsFault {
@@ -93,7 +82,7 @@ impl From<Memory> for WordsFault {
 }
 
 /// The parser of the words behind `run`.
-fn run_command<'a>(alloc: Global) -> Result<Command<'a>, AllocError>
+fn run_command<'a>(alloc: Global) -> Result<Command<'a>, Memory>
     ensures { IfOk result (λ c. app_of c ≡ spec.run_app) }
 {
     let journal = Arg::new(alloc, "journal")
@@ -102,7 +91,8 @@ fn run_command<'a>(alloc: Global) -> Result<Command<'a>, AllocError>
     let command = Command::new(alloc, "run")
         .no_binary_name(true)
         .arg(journal)?;
-    command.arg(Arg::new(alloc, "repo").long("repo").action(ArgAction::Set))
+    let repo = Arg::new(alloc, "repo").long("repo").action(ArgAction::Set);
+    Ok(command.arg(repo)?)
 }
 
 /// The parser of the words behind `check`.
@@ -124,14 +114,14 @@ fn number_arg<'a>(alloc: Global, name: &'a str, low: u64, high: u64) -> Arg<'a>
 }
 
 /// The parser of the words behind `generate`.
-fn generate_command<'a>(alloc: Global) -> Result<Command<'a>, AllocError>
+fn generate_command<'a>(alloc: Global) -> Result<Command<'a>, Memory>
     ensures { IfOk result (λ c. app_of c ≡ spec.generate_app) }
 {
     let seed = number_arg(alloc, "seed", 0, 2_147_483_647);
     let command = Command::new(alloc, "generate")
         .no_binary_name(true)
         .arg(seed)?;
-    command.arg(number_arg(alloc, "size", 1, 10_000))
+    Ok(command.arg(number_arg(alloc, "size", 1, 10_000))?)
 }
 
 /// An argument that has to be there, by its place.
@@ -162,31 +152,31 @@ fn count_arg<'a>(alloc: Global, name: &'a str, high: u64) -> Arg<'a>
 }
 
 /// The parser of where links come, and of the realm's root.
-fn place_command<'a>(alloc: Global) -> Result<Command<'a>, AllocError>
+fn place_command<'a>(alloc: Global) -> Result<Command<'a>, Memory>
     ensures { IfOk result (λ c. app_of c ≡ spec.place_app) }
 {
     let socket = text_arg(alloc, "socket");
     let command = Command::new(alloc, "serve")
         .no_binary_name(true)
         .arg(socket)?;
-    command.arg(named_arg(alloc, "root"))
+    Ok(command.arg(named_arg(alloc, "root"))?)
 }
 
 /// The parser of all that has to be there behind `serve`.
-fn needed_command<'a>(alloc: Global) -> Result<Command<'a>, AllocError>
+fn needed_command<'a>(alloc: Global) -> Result<Command<'a>, Memory>
     ensures { IfOk result (λ c. app_of c ≡ spec.needed_app) }
 {
     let command = place_command(alloc)?;
-    command.arg(named_arg(alloc, "repo"))
+    Ok(command.arg(named_arg(alloc, "repo"))?)
 }
 
 /// The parser of the words behind `serve`.
-fn serve_command<'a>(alloc: Global) -> Result<Command<'a>, AllocError>
+fn serve_command<'a>(alloc: Global) -> Result<Command<'a>, Memory>
     ensures { IfOk result (λ c. app_of c ≡ spec.serve_app) }
 {
     let needed = needed_command(alloc)?;
     let command = needed.arg(count_arg(alloc, "sessions", 4_096))?;
-    command.arg(count_arg(alloc, "workers", 16))
+    Ok(command.arg(count_arg(alloc, "workers", 16))?)
 }
 
 /// What a parser makes of words.

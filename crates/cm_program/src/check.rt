@@ -128,6 +128,7 @@ fn read_verdict<R: Threads + Wait + Sync, S: Source>(
     ensures status { IfOk result (λ verdict. (verdict.status ≡ 0) ⊎ (verdict.status ≡ 1)) }
     ensures fault { IfErr result (λ e. e ≡ NoVerdict.ReadFault →
         Rose (S.faults source.old) (S.faults source.new)) }
+    ensures heard { IfOk result (λ verdict. S.faults source.new ≡ S.faults source.old) }
 {
     let bytes = match read_up_to(rt, alloc, source, MANIFEST_LIMIT) {
         Ok(bytes) => bytes,
@@ -142,7 +143,7 @@ fn read_verdict<R: Threads + Wait + Sync, S: Source>(
 
 /// Says whether the manifest that the source has left is valid, or else its first fault.
 /// The result is the status.
-#[tactic(auto, using(crate::proofs::Saying::says))]
+#[tactic(auto, using(crate::proofs::whole::Saying::says))]
 pub fn run_check<R: Threads + Wait + Sync, S: Source, K: Sink, E: Sink>(
     rt: &R,
     alloc: Global,
@@ -151,6 +152,7 @@ pub fn run_check<R: Threads + Wait + Sync, S: Source, K: Sink, E: Sink>(
     err: &mut E,
 ) -> u8
     ensures read { result ≡ 3 → Rose (S.faults source.old) (S.faults source.new) }
+    ensures heard { result ≢ 3 → result ≢ 6 → S.faults source.new ≡ S.faults source.old }
     ensures write { result ≡ 4 → Rose (K.faults out.old) (K.faults out.new) }
     ensures whole { result ≢ 4 → result ≢ 6 → K.faults out.new ≡ K.faults out.old }
     ensures valid { result ≡ 0 →

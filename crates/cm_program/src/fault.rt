@@ -5,7 +5,7 @@ use cm_names::Memory;
 use std::fmt;
 
 /// What is wrong with a script that was read.
-#[derive(Debug, Clone, Copy, PartialEq, Eq)]
+#[derive(Clone, Copy)]
 pub enum Problem {
     /// 77: a block's URL is none, or has no fragment.
     BadManifestUrl,
@@ -29,7 +29,7 @@ impl fmt::Display for Problem {
 
 /// Why a script is refused: its first fault by [`read_script`](cm_command::read_script), or else
 /// its first block that the repository refuses.
-#[derive(Debug, Clone, Copy, PartialEq, Eq)]
+#[derive(Clone, Copy)]
 pub enum Fault {
     /// 70 to 76: the text is no script, by its first fault.
     Unread {

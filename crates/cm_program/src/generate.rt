@@ -39,8 +39,9 @@ fn serve_generated(alloc: Global, workload: Workload) -> Result<Served, Memory>
     }
 }
 
-/// Runs the script of a workload, and writes the line that counts its answers.
-#[tactic(auto, using(crate::proofs::Saying::says, crate::proofs::RunLemmas::idle))]
+/// Runs the script of a workload, and writes the line that counts its answers and those that were
+/// kept.
+#[tactic(auto, using(crate::proofs::whole::Saying::says, crate::proofs::whole::RunLemmas::idle))]
 pub fn run_generated<R: Threads + Wait + Sync, K: Sink, E: Sink, G: Gates + Send + Drop>(
     rt: &R,
     alloc: Global,
@@ -58,7 +59,7 @@ pub fn run_generated<R: Threads + Wait + Sync, K: Sink, E: Sink, G: Gates + Send
     ensures history { IsHistory result.book.entries }
     ensures unmade { ((served : TheServed) →
         served_script (script_of workload.seed workload.size) ≡ Ok served → ⊥) →
-        RunsNothing result.book.entries gates result.gates }
+        RunsNothing result.book.entries gates result.gates × (out.new ≡ out.old) }
     ensures cause { result.status ≡ 4 → Rose (K.faults out.old) (K.faults out.new) }
     ensures whole { result.status ≢ 4 → result.status ≢ 6 → K.faults out.new ≡ K.faults out.old }
     ensures err { Says E.written E.faults err.old err.new result.status }

@@ -60,7 +60,7 @@ pub fn path_of(alloc: Global, instance: usize) -> Result<CapPath, Memory>
 }
 
 /// The children of an instance among so many instances.
-#[tactic(auto, using(crate::proofs::GeneratorLemmas::kids_more))]
+#[tactic(auto, using(crate::proofs::texts::GeneratorLemmas::kids_more))]
 fn kids_of(alloc: Global, size: usize, instance: usize) -> Result<List<usize>, Memory>
     requires { instance ≤ 10000 }
     ensures { IfOk result (λ kids. kids ≡ spec.kids_of size instance) }
@@ -101,7 +101,7 @@ fn give_row(alloc: Global, instance: usize) -> Result<Give, Memory>
     ensures { IfOk result (λ row. row ≡ spec.give_row instance) }
 {
     let source_name = protocol_of(alloc, instance)?;
-    let target_name = protocol_of(alloc, instance)?;
+    let target_name = source_name.clone()?;
     Ok(Give {
         kind: Kind::Protocol,
         source_name,
@@ -123,22 +123,26 @@ fn offer_row(alloc: Global, instance: usize, kid: usize) -> Result<Offer, Memory
     Ok(Offer { to, give })
 }
 
-/// What an instance declares of these children, and its protocol, offered to each of them.
-fn kid_rows(
-    alloc: Global,
-    instance: usize,
-    kids: &[usize],
-) -> Result<(List<Child>, List<Offer>), Memory>
-    ensures { IfOk result (λ rows. (rows.0 ≡ map spec.child_row kids.now)
-        × (rows.1 ≡ map (spec.offer_row instance) kids.now)) }
+/// What the parent of these instances declares of them.
+fn child_rows(alloc: Global, kids: &[usize]) -> Result<List<Child>, Memory>
+    ensures { IfOk result (λ rows. rows ≡ map spec.child_row kids.now) }
 {
-    let mut children = List::new(alloc);
-    let mut offers = List::new(alloc);
+    let mut rows = List::new(alloc);
     for kid in kids {
-        children.push(child_row(alloc, *kid)?)?;
-        offers.push(offer_row(alloc, instance, *kid)?)?;
+        rows.push(child_row(alloc, *kid)?)?;
     }
-    Ok((children, offers))
+    Ok(rows)
+}
+
+/// The protocol of an instance, offered to each of these children.
+fn offer_rows(alloc: Global, instance: usize, kids: &[usize]) -> Result<List<Offer>, Memory>
+    ensures { IfOk result (λ rows. rows ≡ map (spec.offer_row instance) kids.now) }
+{
+    let mut rows = List::new(alloc);
+    for kid in kids {
+        rows.push(offer_row(alloc, instance, *kid)?)?;
+    }
+    Ok(rows)
 }
 
 /// The one capability of an instance: its protocol.
@@ -194,7 +198,8 @@ fn decl_of(alloc: Global, size: usize, instance: usize) -> Result<Decl, Memory>
 {
     let runner = read_name(alloc, &Text::from_str(alloc, "gen")?)?;
     let kids = kids_of(alloc, size, instance)?;
-    let (children, offers) = kid_rows(alloc, instance, kids.as_slice())?;
+    let children = child_rows(alloc, kids.as_slice())?;
+    let offers = offer_rows(alloc, instance, kids.as_slice())?;
     let capabilities = capability_rows(alloc, instance)?;
     let uses = use_rows(alloc, instance)?;
     Ok(Decl {
@@ -240,7 +245,7 @@ fn block_of(alloc: Global, size: usize, instance: usize) -> Result<Block, Memory
 }
 
 /// The manifests of so many instances.
-#[tactic(auto, using(crate::proofs::GeneratorLemmas::made_more))]
+#[tactic(auto, using(crate::proofs::texts::GeneratorLemmas::made_more))]
 pub fn blocks_of(alloc: Global, size: usize) -> Result<List<Block>, Memory>
     requires { size ≤ 10000 }
     ensures { IfOk result (λ blocks. blocks ≡ map (spec.block_of size) (range_with_len 0 size)) }

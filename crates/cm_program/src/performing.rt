@@ -2,6 +2,7 @@
 
 ghost use Rattle.std.specs.Prelude.{◌≡◌, All, [], length};
 ghost use Rattle.cm_world.specs.declared.frame.Frame.{Frame as TheFrame};
+ghost use Rattle.cm_cache.specs.Keeping.{IsKeptNumber};
 ghost use Rattle.cm_turn.specs.Passes.{new_passes};
 ghost use Rattle.cm_manager.specs.Work.{Shelf};
 ghost use Rattle.cm_lanes.specs.Script.{IsFit};
@@ -26,10 +27,28 @@ use std::thread::Threads;
 pub struct Performed<G> {
     /// The history of the realm, with the entries of all lanes.
     pub book: Book,
+    /// How many routes and openings of the history asked for a use whose answer was still there.
+    pub kept: u64,
     /// The gates, in the order of their lanes.
     pub gates: List<G>,
     /// What was answered to each line, in the order of the script; `None` where memory ran out.
     pub said: Option<List<Said>>,
+}
+
+/// What the lanes made of a script, by the realm that they leave.
+fn performed_in<G>(realm: Realm, gates: List<G>, said: Option<List<Said>>) -> Performed<G>
+    ensures history { result.book.entries ≡ realm.entries }
+    ensures kept { IsKeptNumber realm.frame realm.entries result.kept }
+    ensures gates { result.gates ≡ gates }
+    ensures said { result.said ≡ said }
+{
+    let kept = realm.kept();
+    Performed {
+        book: realm.into_book(),
+        kept,
+        gates,
+        said,
+    }
 }
 
 /// Runs the lines of all phases under a manager, and closes it.
@@ -54,8 +73,7 @@ fn perform_under<R: Threads + Wait + Sync, G: Gates + Send + Drop>(
         gates,
         said,
     } = run_lanes(rt, alloc, &manager, passes, gates, phases);
-    let book = manager.close(passes);
-    Performed { book, gates, said }
+    performed_in(manager.close_realm(passes), gates, said)
 }
 
 /// Runs the lines of all phases over this realm, which is new, with these manifests and gates.
@@ -77,10 +95,6 @@ pub fn perform<R: Threads + Wait + Sync, G: Gates + Send + Drop>(
 {
     match Manager::new(alloc, realm, repository, repo, 16) {
         Ok((manager, passes)) => perform_under(rt, alloc, manager, passes, phases, gates),
-        Err(realm) => Performed {
-            book: realm.into_book(),
-            gates,
-            said: None,
-        },
+        Err(realm) => performed_in(realm, gates, None),
     }
 }

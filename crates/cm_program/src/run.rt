@@ -41,7 +41,8 @@ use std::thread::Threads;
 /// the input is, with `--journal` for the history behind them, and with `--repo DIR` for manifests
 /// of that folder besides the script's. The word `check` asks for the verdict on the manifest that
 /// the input is. The words `generate G N` ask for the run of a workload of N instances, which is
-/// made from G and for which the input isn't read: the one line that is written counts its answers.
+/// made from G and for which the input isn't read: the one line that is written counts its answers,
+/// and how many of those to uses were still there.
 ///
 /// The words `serve SOCKET --root URL --repo DIR [--sessions N] [--workers W]` let links come at that
 /// place of the door: N of them are served, W at once, each by a session over one new realm of that
@@ -58,7 +59,7 @@ use std::thread::Threads;
 /// - 70 to 76: it is no script, by [`read_script`](cm_command::read_script);
 /// - 77 and 78: a manifest that [`Repository::add`](cm_repo::Repository::add) refuses, for its URL
 ///   and as one that is repeated.
-#[tactic(auto, using(crate::proofs::Saying::says, crate::proofs::RunLemmas::idle))]
+#[tactic(auto, using(crate::proofs::whole::Saying::says, crate::proofs::whole::RunLemmas::idle))]
 pub fn run<
     R: Threads + Wait + Sync,
     S: Source,
@@ -86,14 +87,16 @@ where
         (result.status ≡ 6) }
 
     // 3 comes only where the source failed in this run, 4 only where `out` did, and 5 only where the
-    // door did. 0 comes only where the door never failed in this run; and where `out` failed, no
-    // status comes but 4 and 6.
+    // door did. 0 comes only where the door never failed in this run; where the source failed, no
+    // status comes but 3 and 6, and where `out` failed, none but 4 and 6.
     ensures read { result.status ≡ 3 → Rose (S.faults input.old) (S.faults input.new) }
     ensures write { result.status ≡ 4 → Rose (K.faults out.old) (K.faults out.new) }
     ensures door { result.status ≡ 5 →
         Rose (D.counts door).faults (D.counts result.door).faults }
     ensures sound { result.status ≡ 0 →
         (D.counts result.door).faults ≡ (D.counts door).faults }
+    ensures heard { result.status ≢ 3 → result.status ≢ 6 →
+        S.faults input.new ≡ S.faults input.old }
     ensures whole { result.status ≢ 4 → result.status ≢ 6 → K.faults out.new ≡ K.faults out.old }
 
     // Nothing is written on `out` at 2, 3 and 7, and at 6 only for a script that was run. What is said
@@ -148,15 +151,16 @@ where
         × Keeps (K.written out.old) (K.written out.new)) result.status (S.left input.old) }
 
     // The same of a workload, over its own script and with no folder. What is written is the line
-    // that counts the answers, and the input is as it was. Were its script not served, the book
-    // would be empty and the gates as they were.
+    // that counts the answers, with the number that the history has of those that were still there,
+    // and the input is as it was. Were its script not served, the book would be empty, and the gates
+    // and `out` as they were.
     ensures workload { (w : TheWorkload) → words_of words.now ≡ Ok (Call.Generate w) →
         RunsOwn (λ served. RunsScript G.log G.faults (Wanted.Summary w.size) None served gates
         result.gates result.book.entries result.status (K.written out.old)
         (K.written out.new)) (script_of w.seed w.size) result.status }
     ensures unmade { (w : TheWorkload) → words_of words.now ≡ Ok (Call.Generate w) →
         ((served : TheServed) → served_script (script_of w.seed w.size) ≡ Ok served → ⊥) →
-        RunsNothing result.book.entries gates result.gates }
+        RunsNothing result.book.entries gates result.gates × (out.new ≡ out.old) }
     ensures generate { AsksGenerate words.now → IsScriptRun result.status }
     ensures unread { AsksGenerate words.now → input.new ≡ input.old }
 
@@ -230,4 +234,30 @@ where
         }
         Err(WordsFault::Memory) => stopped(alloc, want_of_memory(rt, err), gates, door),
     }
+}
+
+/// [`run`], for a crate above that has no need of what it promises: whoever proves that crate then reads
+/// none of it, which is much of what such a proof takes. The sixteen gates are wanted as there.
+pub fn perform<
+    R: Threads + Wait + Sync,
+    S: Source,
+    K: Sink,
+    E: Sink,
+    D: Door + Send,
+    G: Gates + Send + Drop,
+>(
+    rt: &R,
+    alloc: Global,
+    words: &[Text],
+    input: &mut S,
+    out: &mut K,
+    err: &mut E,
+    door: D,
+    gates: List<G>,
+) -> Ran<D, D::Link, G>
+where
+    D::Link: Send,
+    requires { length gates ≡ 16 }
+{
+    run(rt, alloc, words, input, out, err, door, gates)
 }

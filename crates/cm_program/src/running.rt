@@ -36,6 +36,8 @@ struct Sheet<'a> {
     head: &'a Text,
     /// The history.
     entries: &'a [Entry],
+    /// How many of its routes and openings asked for a use whose answer was still there.
+    kept: u64,
 }
 
 /// The head of the journal of a realm, and the realm.
@@ -70,16 +72,15 @@ fn answers_text(
     sheet: &Sheet<'_>,
 ) -> Result<Text, Memory>
     ensures { IfOk result (λ text. text ≡ printed_text phases.now said.now
-        (Wanted.Answers journal) sheet.now.head.now sheet.now.entries.now) }
+        (Wanted.Answers journal) sheet.now.head.now sheet.now.entries.now sheet.now.kept) }
 {
-    let mut text = Text::new(alloc);
+    let mut text = String::new(alloc);
     push_answers(alloc, &mut text, phases, said)?;
-    if !journal {
-        return Ok(text);
+    if journal {
+        text.push_str(sheet.head.as_str())?;
+        push_entries(alloc, &mut text, sheet.entries)?;
     }
-    text.push_str(sheet.head.as_str())?;
-    push_entries(alloc, &mut text, sheet.entries)?;
-    Ok(text)
+    Ok(Text::from_string(text))
 }
 
 /// All that is printed.
@@ -90,11 +91,11 @@ fn text_of(
     sheet: &Sheet<'_>,
 ) -> Result<Text, Memory>
     ensures { IfOk result (λ text. text ≡ printed_text phases.now said.now
-        sheet.now.wanted sheet.now.head.now sheet.now.entries.now) }
+        sheet.now.wanted sheet.now.head.now sheet.now.entries.now sheet.now.kept) }
 {
     match sheet.wanted {
         Wanted::Answers { journal } => answers_text(alloc, phases, said, journal, sheet),
-        Wanted::Summary { instances } => summary_text(alloc, instances, said),
+        Wanted::Summary { instances } => summary_text(alloc, instances, said, sheet.kept),
     }
 }
 
@@ -109,8 +110,8 @@ fn print<R: Threads + Wait + Sync, K: Sink>(
     sheet: &Sheet<'_>,
 ) -> u8
     ensures printed { IsPrinted (printed_text phases.now said.now sheet.now.wanted
-        sheet.now.head.now sheet.now.entries.now) said.now result (K.written out.old)
-        (K.written out.new) }
+        sheet.now.head.now sheet.now.entries.now sheet.now.kept) said.now result
+        (K.written out.old) (K.written out.new) }
     ensures cause { result ≡ 4 → Rose (K.faults out.old) (K.faults out.new) }
     ensures whole { result ≢ 4 → result ≢ 6 → K.faults out.new ≡ K.faults out.old }
     ensures others { IsScriptRun result }
@@ -129,7 +130,7 @@ fn print<R: Threads + Wait + Sync, K: Sink>(
 }
 
 /// Says on the error stream what the status is for, where it is want of memory.
-#[tactic(auto, using(crate::proofs::Saying::says))]
+#[tactic(auto, using(crate::proofs::whole::Saying::says))]
 fn report<R: Threads + Wait + Sync, E: Sink>(rt: &R, err: &mut E, status: u8)
     ensures { IsScriptRun status → Says E.written E.faults err.old err.new status }
 {
@@ -139,7 +140,7 @@ fn report<R: Threads + Wait + Sync, E: Sink>(rt: &R, err: &mut E, status: u8)
 }
 
 /// Writes what was made of a script.
-#[tactic(auto, using(crate::proofs::Saying::says))]
+#[tactic(auto, using(crate::proofs::whole::Saying::says))]
 fn print_performed<R: Threads + Wait + Sync, K: Sink, E: Sink, G>(
     rt: &R,
     alloc: Global,
@@ -151,8 +152,8 @@ fn print_performed<R: Threads + Wait + Sync, K: Sink, E: Sink, G>(
     done: Performed<G>,
 ) -> Finished<G>
     ensures said { (said : Seq TheSaid) → done.said ≡ Some said
-        → IsPrinted (printed_text phases.now said wanted head.now done.book.entries) said
-        result.status (K.written out.old) (K.written out.new) }
+        → IsPrinted (printed_text phases.now said wanted head.now done.book.entries done.kept)
+        said result.status (K.written out.old) (K.written out.new) }
     ensures unsaid { done.said ≡ None
         → (result.status ≡ 6) × AppendsFront (K.written out.old) (K.written out.new) [] }
     ensures book { result.book ≡ done.book }
@@ -162,7 +163,12 @@ fn print_performed<R: Threads + Wait + Sync, K: Sink, E: Sink, G>(
     ensures err { Says E.written E.faults err.old err.new result.status }
     ensures others { IsScriptRun result.status }
 {
-    let Performed { book, gates, said } = done;
+    let Performed {
+        book,
+        kept,
+        gates,
+        said,
+    } = done;
     let Some(said) = said else {
         return Finished {
             status: want_of_memory(rt, err),
@@ -174,6 +180,7 @@ fn print_performed<R: Threads + Wait + Sync, K: Sink, E: Sink, G>(
         wanted,
         head,
         entries: book.entries(),
+        kept,
     };
     let status = print(rt, alloc, out, phases, said.as_slice(), &sheet);
     report(rt, err, status);
@@ -186,7 +193,7 @@ fn print_performed<R: Threads + Wait + Sync, K: Sink, E: Sink, G>(
 
 /// Runs a script that is served, and writes what is wanted of it. Manifests that it doesn't bring
 /// along are asked of the gates, by their URL and `repo`.
-#[tactic(auto, using(crate::proofs::Saying::says))]
+#[tactic(auto, using(crate::proofs::whole::Saying::says))]
 pub fn run_served<R: Threads + Wait + Sync, K: Sink, E: Sink, G: Gates + Send + Drop>(
     rt: &R,
     alloc: Global,

@@ -60,6 +60,9 @@ fn read_served<R: Threads + Wait + Sync, S: Source>(
     ensures bad { IfErr result (λ stop. Stops stop (S.left source.old)) }
     ensures fault { IfErr result (λ stop. stop ≡ Stop.ReadFault →
         Rose (S.faults source.old) (S.faults source.new)) }
+    ensures heard { IfOk result (λ served. S.faults source.new ≡ S.faults source.old) }
+    ensures heard_refused { IfErr result (λ stop. stop ≢ Stop.ReadFault → stop ≢ Stop.Memory →
+        S.faults source.new ≡ S.faults source.old) }
 {
     let bytes = match read_up_to(rt, alloc, source, READ_LIMIT) {
         Ok(bytes) => bytes,
@@ -81,7 +84,7 @@ fn fault_line(alloc: Global, fault: Fault) -> Result<Text, Memory>
 }
 
 /// Says why the script is refused. The result is the status.
-#[tactic(auto, using(crate::proofs::Saying::says))]
+#[tactic(auto, using(crate::proofs::whole::Saying::says))]
 fn refuse<R: Threads + Wait + Sync, E: Sink>(rt: &R, alloc: Global, err: &mut E, fault: Fault) -> u8
     ensures refused { result ≡ 7 →
         IsSaid E.written E.faults err.old err.new (spec.fault_line fault) }
@@ -99,7 +102,7 @@ fn refuse<R: Threads + Wait + Sync, E: Sink>(rt: &R, alloc: Global, err: &mut E,
 
 /// Runs the script that the source has left, with the manifests of that folder besides its own, and
 /// writes what is wanted of it.
-#[tactic(auto, using(crate::proofs::Saying::says, crate::proofs::RunLemmas::idle))]
+#[tactic(auto, using(crate::proofs::whole::Saying::says, crate::proofs::whole::RunLemmas::idle))]
 pub fn run_script<R: Threads + Wait + Sync, S: Source, K: Sink, E: Sink, G: Gates + Send + Drop>(
     rt: &R,
     alloc: Global,
@@ -113,6 +116,8 @@ pub fn run_script<R: Threads + Wait + Sync, S: Source, K: Sink, E: Sink, G: Gate
     requires gates { length gates ≡ 16 }
     ensures gates { length result.gates ≡ 16 }
     ensures read { result.status ≡ 3 → Rose (S.faults script.old) (S.faults script.new) }
+    ensures heard { result.status ≢ 3 → result.status ≢ 6 →
+        S.faults script.new ≡ S.faults script.old }
     ensures write { result.status ≡ 4 → Rose (K.faults out.old) (K.faults out.new) }
     ensures whole { result.status ≢ 4 → result.status ≢ 6 → K.faults out.new ≡ K.faults out.old }
     ensures refused { result.status ≡ 7 →

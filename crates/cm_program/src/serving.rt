@@ -1,24 +1,22 @@
 //! The command `serve`: sessions over the links of a door.
 
-ghost use Rattle.std.specs.Prelude.{◌≡◌, ◌⊎◌, ◌+◌, ◌<◌, ◌≤◌, [], IfOk, Some, length, map};
+ghost use Rattle.std.specs.Prelude.{◌≡◌, ◌⊎◌, ◌+◌, ◌≤◌, [], IfOk, length, map};
 ghost use Rattle.cm_io.specs.Outside.{Rose};
-ghost use Rattle.cm_manager.specs.Work.{Shelf};
 ghost use Rattle.cm_program.specs.Calls.{IsServing};
 ghost use Rattle.cm_program.specs.Headline.{IsHistory};
 ghost use Rattle.cm_program.specs.Run.{IsServeStatus};
-ghost use Rattle.cm_program.specs.Sessions.{RunsSessions, served_frame, served_shelf, status_of};
+ghost use Rattle.cm_program.specs.Sessions.{RunsSessions, served_frame, served_shelf};
 ghost use Rattle.cm_program.specs.Written.{Says};
 ghost use Rattle.cm_session.specs.Links.{link_view};
 ghost use Rattle.cm_session.specs.Serving.{back_view};
 
 use crate::call::ServeOptions;
 use crate::ran::{Ran, door_fault, stopped, want_of_memory};
-use crate::sessions::{Attended, Service, attend};
+use crate::sessions::{Service, attend};
 use crate::stock::LIMITS;
 use cm_gate::Gates;
 use cm_io::{Door, Listen, Sink};
 use cm_names::{List, Memory, Text};
-use cm_session::Cause;
 use cm_steps::Realm;
 use std::alloc::Global;
 use std::sync::Wait;
@@ -49,70 +47,8 @@ fn service_of(alloc: Global, options: ServeOptions) -> Result<(Text, Service), M
     Ok((socket, service))
 }
 
-/// Says why no more links came, where that is a fault. The result is the status.
-#[tactic(auto, using(crate::proofs::Saying::says))]
-fn tell_cause<R: Threads + Wait + Sync, E: Sink>(rt: &R, err: &mut E, cause: Cause) -> u8
-    ensures status { result ≡ status_of cause }
-    ensures err { Says E.written E.faults err.old err.new result }
-{
-    match cause {
-        Cause::Done => 0,
-        Cause::DoorFault => door_fault(rt, err),
-        Cause::Memory => want_of_memory(rt, err),
-    }
-}
-
-/// Serves the links of a door at which they can come, and says why no more came.
-fn serve_door<R: Threads + Wait + Sync, E: Sink, D: Door + Send, G: Gates + Send + Drop>(
-    rt: &R,
-    alloc: Global,
-    service: Service,
-    err: &mut E,
-    door: D,
-    gates: List<G>,
-) -> Ran<D, D::Link, G>
-where
-    D::Link: Send,
-    requires empty { service.realm.entries ≡ [] }
-    requires gates { length gates ≡ 16 }
-    requires sessions { (0 < service.sessions) × (service.sessions ≤ 4096) }
-    requires workers { (0 < service.workers) × (service.workers ≤ 16) }
-    ensures gates { length result.gates ≡ 16 }
-    ensures runs { let shelf : Shelf = record { repo = Some service.folder; blocks = [] } in
-        let view = link_view D.Link.left D.Link.given D.Link.written D.Link.Source.faults
-        D.Link.Sink.faults in
-        RunsSessions G.log G.faults view service.realm.frame shelf service.workers gates
-        result.gates result.book.entries (map (back_view view) result.links) result.status }
-    ensures given { (D.counts result.door).links ≡ (D.counts door).links + length result.links }
-    ensures few { length result.links ≤ service.sessions }
-    ensures done { result.status ≡ 0 → (length result.links ≡ service.sessions)
-        ⊎ Rose (D.counts door).closings (D.counts result.door).closings }
-    ensures door { result.status ≡ 5 →
-        Rose (D.counts door).faults (D.counts result.door).faults }
-    ensures sound { result.status ≡ 0 →
-        (D.counts result.door).faults ≡ (D.counts door).faults }
-    ensures err { Says E.written E.faults err.old err.new result.status }
-    ensures others { IsServeStatus result.status }
-{
-    let Attended {
-        book,
-        gates,
-        door,
-        links,
-        cause,
-    } = attend(rt, alloc, service, door, gates);
-    let status = tell_cause(rt, err, cause);
-    Ran {
-        status,
-        book,
-        links,
-        gates,
-        door,
-    }
-}
-
 /// Lets links come at a door, and serves each by a session over one new realm.
-#[tactic(auto, using(crate::proofs::Saying::says, crate::proofs::RunLemmas::idle))]
+#[tactic(auto, using(crate::proofs::whole::Saying::says, crate::proofs::whole::RunLemmas::idle))]
 pub fn run_sessions<R: Threads + Wait + Sync, E: Sink, D: Door + Send, G: Gates + Send + Drop>(
     rt: &R,
     alloc: Global,
@@ -148,7 +84,7 @@ where
     };
     let mut door = door;
     match door.listen(rt, socket.as_str()) {
-        Listen::Ready => serve_door(rt, alloc, service, err, door, gates),
+        Listen::Ready => attend(rt, alloc, service, err, door, gates),
         Listen::Failed => {
             drop(service);
             stopped(alloc, door_fault(rt, err), gates, door)

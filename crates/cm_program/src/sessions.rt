@@ -5,17 +5,19 @@ ghost use Rattle.cm_io.specs.Outside.{Rose};
 ghost use Rattle.cm_world.specs.declared.frame.Frame.{Frame as TheFrame};
 ghost use Rattle.cm_turn.specs.Passes.{new_passes};
 ghost use Rattle.cm_manager.specs.Work.{Shelf};
+ghost use Rattle.cm_program.specs.Run.{IsServeStatus};
 ghost use Rattle.cm_program.specs.Sessions.{RunsSessions, status_of};
+ghost use Rattle.cm_program.specs.Written.{Says};
 ghost use Rattle.cm_session.specs.Links.{link_view};
 ghost use Rattle.cm_session.specs.Serving.{back_view};
 
-use cm_book::Book;
+use crate::ran::{Ran, door_fault, stopped, want_of_memory};
 use cm_gate::Gates;
-use cm_io::Door;
+use cm_io::{Door, Sink};
 use cm_manager::Manager;
 use cm_names::{List, Text};
 use cm_repo::Repository;
-use cm_session::{Back, Cause, Served, serve_sessions};
+use cm_session::{Cause, Served, serve_sessions};
 use cm_steps::Realm;
 use cm_turn::Pass;
 use cm_world::{Entry, Frame};
@@ -36,32 +38,32 @@ pub struct Service {
     pub workers: u32,
 }
 
-/// What came of the sessions.
-#[derive(Drop)]
-pub struct Attended<D, L, G> {
-    /// The history of the realm, with the entries of all workers.
-    pub book: Book,
-    /// The gates, in the order of their workers.
-    pub gates: List<G>,
-    /// The door.
-    pub door: D,
-    /// The links that came, worker by worker.
-    pub links: List<Back<L>>,
-    /// Why no more came.
-    pub cause: Cause,
+/// Says why no more links came, where that is a fault. The result is the status.
+#[tactic(auto, using(crate::proofs::whole::Saying::says))]
+fn tell_cause<R: Threads + Wait + Sync, E: Sink>(rt: &R, err: &mut E, cause: Cause) -> u8
+    ensures status { result ≡ status_of cause }
+    ensures err { Says E.written E.faults err.old err.new result }
+{
+    match cause {
+        Cause::Done => 0,
+        Cause::DoorFault => door_fault(rt, err),
+        Cause::Memory => want_of_memory(rt, err),
+    }
 }
 
-/// Serves the links of a door under a manager, and closes it.
-fn attend_under<R: Threads + Wait + Sync, G: Gates + Send + Drop, D: Door + Send>(
+/// Serves the links of a door under a manager, closes it, and says why no more came.
+#[tactic(auto, using(crate::proofs::whole::Saying::says))]
+fn attend_under<R: Threads + Wait + Sync, E: Sink, D: Door + Send, G: Gates + Send + Drop>(
     rt: &R,
     alloc: Global,
     manager: Manager,
     passes: List<Pass<Entry, Frame>>,
+    err: &mut E,
     door: D,
     gates: List<G>,
     sessions: u32,
     workers: u32,
-) -> Attended<D, D::Link, G>
+) -> Ran<D, D::Link, G>
 where
     D::Link: Send,
     requires count { manager.turn.passes ≡ 16 }
@@ -74,15 +76,17 @@ where
         let view = link_view D.Link.left D.Link.given D.Link.written D.Link.Source.faults
         D.Link.Sink.faults in
         RunsSessions G.log G.faults view f manager.shelf workers gates result.gates
-        result.book.entries (map (back_view view) result.links) (status_of result.cause) }
-    ensures links { (D.counts result.door).links ≡ (D.counts door).links + length result.links }
+        result.book.entries (map (back_view view) result.links) result.status }
+    ensures given { (D.counts result.door).links ≡ (D.counts door).links + length result.links }
     ensures few { length result.links ≤ sessions }
-    ensures done { result.cause ≡ Cause.Done → (length result.links ≡ sessions)
+    ensures done { result.status ≡ 0 → (length result.links ≡ sessions)
         ⊎ Rose (D.counts door).closings (D.counts result.door).closings }
-    ensures fault { result.cause ≡ Cause.DoorFault →
+    ensures door { result.status ≡ 5 →
         Rose (D.counts door).faults (D.counts result.door).faults }
-    ensures sound { result.cause ≡ Cause.Done →
+    ensures sound { result.status ≡ 0 →
         (D.counts result.door).faults ≡ (D.counts door).faults }
+    ensures err { Says E.written E.faults err.old err.new result.status }
+    ensures others { IsServeStatus result.status }
 {
     let Served {
         passes,
@@ -92,23 +96,27 @@ where
         cause,
     } = serve_sessions(rt, alloc, &manager, passes, gates, door, sessions, workers);
     let book = manager.close(passes);
-    Attended {
+    let status = tell_cause(rt, err, cause);
+    Ran {
+        status,
         book,
+        links,
         gates,
         door,
-        links,
-        cause,
     }
 }
 
-/// Serves the links that come at a door, over this realm, with these gates.
-pub fn attend<R: Threads + Wait + Sync, G: Gates + Send + Drop, D: Door + Send>(
+/// Serves the links that come at a door, over this realm, with these gates, and says why no more
+/// came.
+#[tactic(auto, using(crate::proofs::whole::Saying::says))]
+pub fn attend<R: Threads + Wait + Sync, E: Sink, D: Door + Send, G: Gates + Send + Drop>(
     rt: &R,
     alloc: Global,
     service: Service,
+    err: &mut E,
     door: D,
     gates: List<G>,
-) -> Attended<D, D::Link, G>
+) -> Ran<D, D::Link, G>
 where
     D::Link: Send,
     requires empty { service.realm.entries ≡ [] }
@@ -120,16 +128,17 @@ where
         let view = link_view D.Link.left D.Link.given D.Link.written D.Link.Source.faults
         D.Link.Sink.faults in
         RunsSessions G.log G.faults view service.realm.frame shelf service.workers gates
-        result.gates result.book.entries (map (back_view view) result.links)
-        (status_of result.cause) }
-    ensures links { (D.counts result.door).links ≡ (D.counts door).links + length result.links }
+        result.gates result.book.entries (map (back_view view) result.links) result.status }
+    ensures given { (D.counts result.door).links ≡ (D.counts door).links + length result.links }
     ensures few { length result.links ≤ service.sessions }
-    ensures done { result.cause ≡ Cause.Done → (length result.links ≡ service.sessions)
+    ensures done { result.status ≡ 0 → (length result.links ≡ service.sessions)
         ⊎ Rose (D.counts door).closings (D.counts result.door).closings }
-    ensures fault { result.cause ≡ Cause.DoorFault →
+    ensures door { result.status ≡ 5 →
         Rose (D.counts door).faults (D.counts result.door).faults }
-    ensures sound { result.cause ≡ Cause.Done →
+    ensures sound { result.status ≡ 0 →
         (D.counts result.door).faults ≡ (D.counts door).faults }
+    ensures err { Says E.written E.faults err.old err.new result.status }
+    ensures others { IsServeStatus result.status }
 {
     let Service {
         realm,
@@ -139,14 +148,11 @@ where
     } = service;
     match Manager::new(alloc, realm, Repository::new(alloc), Some(folder), 16) {
         Ok((manager, passes)) => attend_under(
-            rt, alloc, manager, passes, door, gates, sessions, workers,
+            rt, alloc, manager, passes, err, door, gates, sessions, workers,
         ),
-        Err(realm) => Attended {
-            book: realm.into_book(),
-            gates,
-            door,
-            links: List::new(alloc),
-            cause: Cause::Memory,
-        },
+        Err(realm) => {
+            drop(realm);
+            stopped(alloc, want_of_memory(rt, err), gates, door)
+        }
     }
 }

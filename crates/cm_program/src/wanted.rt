@@ -9,14 +9,14 @@ use cm_world::{Answer, Refusal};
 use std::alloc::Global;
 
 /// What is to be printed of the run of a script.
-#[derive(Debug, Clone, Copy)]
+#[derive(Clone, Copy)]
 pub enum Wanted {
     /// The answer to each line, and behind them the journal where it is wanted.
     Answers {
         /// Whether it is.
         journal: bool,
     },
-    /// One line that counts the answers.
+    /// One line that counts the answers, and those to uses that were still there.
     Summary {
         /// So many instances the script is for.
         instances: usize,
@@ -68,17 +68,22 @@ fn count_shown(said: &[Said]) -> usize
     said.iter().filter(|s| is_shown(&s.result)).count()
 }
 
-/// The line that counts these answers.
-#[tactic(auto, using(crate::proofs::Printing::counted))]
-pub fn summary_text(alloc: Global, instances: usize, said: &[Said]) -> Result<Text, Memory>
+/// The line that counts these answers, with the number of those to uses that were still there.
+#[tactic(auto, using(crate::proofs::lanes::Printing::counted))]
+pub fn summary_text(
+    alloc: Global,
+    instances: usize,
+    said: &[Said],
+    kept: u64,
+) -> Result<Text, Memory>
     ensures { IfOk result (λ text. text ≡ spec.summary_text instances
-        (map (λ s. s.result) said.now)) }
+        (map (λ s. s.result) said.now) kept) }
 {
     let started = count_started(said);
     let opened = count_opened(said);
     let shown = count_shown(said);
     let mut text = Text::new(alloc);
     text.push(format_args!("instances {instances} started {started} "))?;
-    text.push(format_args!("opened {opened} shown {shown}\n"))?;
+    text.push(format_args!("opened {opened} shown {shown} kept {kept}\n"))?;
     Ok(text)
 }

@@ -45,15 +45,20 @@ registration_names_at Debug at d = item_names_at kind.Protocol at d
 abbrev pub registration : Origin → Option (List ℕ) → List ℕ → Registration
 registration from target name = record { name = name; from = from; target = unwrap_or target name }
 
+-- a registration for each of these names
+unfoldable pub registered_at : Place → List (List ℕ) → Data → Read (List Registration)
+registered_at at names d = do
+  from ← static_from_at at d
+  target ← as_at at names d
+  Ok (map (registration from target) names)
+
 -- an item of `runners` or of `debug`: a registration for each name
 unfoldable pub registration_at : Registry → Place → Data → Read (List Registration)
 registration_at which at d = do
   members ← object_at at d
   known ← known_at at (registration_fields which) members
   names ← registration_names_at which at d
-  from ← static_from_at at d
-  target ← as_at at names d
-  Ok (map (registration from target) names)
+  registered_at at names d
 
 -- the registrations of the items, one item after another; all stand at the place of the environment
 abbrev pub registrations_in_at : Registry → Place → Items → Read (List Registration)
@@ -91,13 +96,18 @@ environment_fields =
     codes "name" ∷ codes "extends" ∷ codes "runners" ∷ codes "debug" ∷ codes "resolvers"
     ∷ codes "__stop_timeout_ms" ∷ []
 
--- an item of `environments`: one row
-unfoldable pub environment_item_at : Place → Data → Read (List Environment)
-environment_item_at at d = do
-  members ← object_at at d
-  known ← known_at at environment_fields members
+-- the row of an environment, whose fields are known
+unfoldable pub environment_row_at : Place → Data → Read (List Environment)
+environment_row_at at d = do
   name ← name_at at (codes "name") d
   extends ← extends_at at d
   runners ← registry_at Runners at d
   debug ← registry_at Debug at d
   Ok (record { name = name; extends = extends; runners = runners; debug = debug } ∷ [])
+
+-- an item of `environments`: one row
+unfoldable pub environment_item_at : Place → Data → Read (List Environment)
+environment_item_at at d = do
+  members ← object_at at d
+  known ← known_at at environment_fields members
+  environment_row_at at d

@@ -52,26 +52,29 @@ use Rattle.cm_read.specs.Words.{static_from_at, storage_from_at, storage_use_fro
 abbrev pub child_fields : List (List ℕ)
 child_fields = codes "name" ∷ codes "url" ∷ codes "startup" ∷ codes "environment" ∷ []
 
--- an item of `children`: one row
-unfoldable pub child_at : Place → Data → Read (List Child)
-child_at at d = do
-  members ← object_at at d
-  known ← known_at at child_fields members
+-- the row of a child, whose fields are known
+unfoldable pub child_row_at : Place → Data → Read (List Child)
+child_row_at at d = do
   name ← name_at at (codes "name") d
   url ← url_at at (codes "url") d
   eager ← startup_at at d
   environment ← environment_at at d
   Ok (record { name = name; url = url; eager = eager; environment = environment } ∷ [])
 
+-- an item of `children`: one row
+unfoldable pub child_at : Place → Data → Read (List Child)
+child_at at d = do
+  members ← object_at at d
+  known ← known_at at child_fields members
+  child_row_at at d
+
 -- the fields of a collection
 abbrev pub collection_fields : List (List ℕ)
 collection_fields = codes "name" ∷ codes "durability" ∷ codes "allowed_offers" ∷ codes "environment" ∷ []
 
--- an item of `collections`: one row
-unfoldable pub collection_at : Place → Data → Read (List Collection)
-collection_at at d = do
-  members ← object_at at d
-  known ← known_at at collection_fields members
+-- the row of a collection, whose fields are known
+unfoldable pub collection_row_at : Place → Data → Read (List Collection)
+collection_row_at at d = do
   name ← name_at at (codes "name") d
   durability ← durability_at at d
   dynamic_offers ← allowed_offers_at at d
@@ -82,6 +85,13 @@ collection_at at d = do
     dynamic_offers = dynamic_offers;
     environment = environment;
   } ∷ [])
+
+-- an item of `collections`: one row
+unfoldable pub collection_at : Place → Data → Read (List Collection)
+collection_at at d = do
+  members ← object_at at d
+  known ← known_at at collection_fields members
+  collection_row_at at d
 
 -- ---- kinds
 
@@ -284,15 +294,20 @@ protocol_use_row (source.From from) path dependency availability name =
 protocol_use_row source.Debug path dependency availability name =
     use_row.Debug (debug_use path name)
 
--- a row for each name
-unfoldable pub protocol_use_at : Place → Data → Read (List UseRow)
-protocol_use_at at d = do
-  names ← item_names_at kind.Protocol at d
+-- a row for each of these names
+unfoldable pub protocols_used_at : Place → List (List ℕ) → Data → Read (List UseRow)
+protocols_used_at at names d = do
   from ← use_source_at at d
   path ← protocol_path_at at names d
   dependency ← dependency_at at d
   availability ← availability_at at d
   Ok (map (protocol_use_row from path dependency availability) names)
+
+-- a row for each name
+unfoldable pub protocol_use_at : Place → Data → Read (List UseRow)
+protocol_use_at at d = do
+  names ← item_names_at kind.Protocol at d
+  protocols_used_at at names d
 
 -- one row
 unfoldable pub directory_use_at : Place → Data → Read (List UseRow)
@@ -402,11 +417,10 @@ offer_row give to = record { to = to; give = give }
 abbrev pub offer_rows : List (List ℕ) → Give → List OfferRow
 offer_rows targets give = map (λ to. offered.Offer (offer_row give to)) targets
 
--- beside these declared children, for each of its names in turn a row for each of its targets; `rights` and
+-- beside these declared children, for each of these names in turn a row for each target; `rights` and
 -- `subdir` are known for directories alone
-unfoldable pub routed_offer_at : Kind → List Child → Place → Data → Read (List OfferRow)
-routed_offer_at k children at d = do
-  names ← item_names_at k at d
+unfoldable pub offered_at : Kind → List Child → Place → List (List ℕ) → Data → Read (List OfferRow)
+offered_at k children at names d = do
   from ← offer_from_at at d
   targets ← targets_at at d
   target ← as_at at names d
@@ -425,6 +439,12 @@ routed_offer_at k children at d = do
     availability = availability;
   })) names))
 
+-- the same of the names of the item
+unfoldable pub routed_offer_at : Kind → List Child → Place → Data → Read (List OfferRow)
+routed_offer_at k children at d = do
+  names ← item_names_at k at d
+  offered_at k children at names d
+
 -- the row of a target
 abbrev pub storage_offer : Origin → Option (List ℕ) → List ℕ → List ℕ → StorageOffer
 storage_offer from target name to = record {
@@ -439,15 +459,20 @@ abbrev pub storage_offer_rows : Origin → Option (List ℕ) → List (List ℕ)
 storage_offer_rows from target targets name =
     map (λ to. offered.Storage (storage_offer from target name to)) targets
 
--- likewise; its availability isn't kept
-unfoldable pub storage_offer_at : Place → Data → Read (List OfferRow)
-storage_offer_at at d = do
-  names ← storage_names_at at d
+-- for each of these names in turn a row for each target; its availability isn't kept
+unfoldable pub storages_offered_at : Place → List (List ℕ) → Data → Read (List OfferRow)
+storages_offered_at at names d = do
   from ← storage_from_at at d
   targets ← targets_at at d
   target ← as_at at names d
   availability ← given_availability_at at d
   Ok (flat_map (storage_offer_rows from target targets) names)
+
+-- the same of the names of the item
+unfoldable pub storage_offer_at : Place → Data → Read (List OfferRow)
+storage_offer_at at d = do
+  names ← storage_names_at at d
+  storages_offered_at at names d
 
 -- the rows of an offer of that sort
 abbrev pub offer_of_sort : Sort → List Child → Place → Data → Read (List OfferRow)
@@ -471,13 +496,9 @@ expose_fields kind.Directory =
     codes "directory" ∷ codes "from" ∷ codes "to" ∷ codes "as" ∷ codes "rights" ∷ codes "subdir"
     ∷ codes "availability" ∷ codes "source_availability" ∷ []
 
--- an item of `expose` beside these declared children: a row for each name
-unfoldable pub expose_at : List Child → Place → Data → Read (List Give)
-expose_at children at d = do
-  members ← object_at at d
-  k ← kind_at at d
-  known ← known_at at (expose_fields k) members
-  names ← item_names_at k at d
+-- beside these declared children, a row for each of these names
+unfoldable pub exposed_at : Kind → List Child → Place → List (List ℕ) → Data → Read (List Give)
+exposed_at k children at names d = do
   from ← expose_from_at at d
   to ← expose_to_at at d
   target ← as_at at names d
@@ -494,3 +515,12 @@ expose_at children at d = do
     dependency = Strong;
     availability = availability;
   })) names)
+
+-- an item of `expose` beside these declared children: a row for each name
+unfoldable pub expose_at : List Child → Place → Data → Read (List Give)
+expose_at children at d = do
+  members ← object_at at d
+  k ← kind_at at d
+  known ← known_at at (expose_fields k) members
+  names ← item_names_at k at d
+  exposed_at k children at names d

@@ -1,6 +1,5 @@
 //! Several values that are read, or the first fault among them.
 
-ghost use Rattle.std.specs.Prelude.{◌≡◌};
 ghost use Rattle.cm_read.specs.Both as spec;
 
 use crate::fault::ReadFault;
@@ -11,7 +10,7 @@ pub fn both<A: Drop, B: Drop>(
     first: Result<A, ReadFault>,
     second: Result<B, ReadFault>,
 ) -> Result<(A, B), ReadFault>
-    ensures { result ≡ spec.both first second }
+    ensures { spec.GivesBoth first second result }
 {
     match first {
         Ok(first) => match second {

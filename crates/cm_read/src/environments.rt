@@ -3,7 +3,6 @@
 ghost use Rattle.std.specs.Prelude.{◌≡◌, [], ◌∷◌, IfOk, OnOk};
 ghost use Rattle.serde_json.specs.View.{view, items_view};
 ghost use Rattle.cm_read.specs.Environments as spec;
-ghost use Rattle.cm_read.specs.Parts as parts;
 ghost use Rattle.cm_read.specs.Reading.{Gives, IsFault};
 ghost use Rattle.cm_read.specs.Writing as writing;
 ghost use Rattle.cm_read.specs.Writing.{Puts};
@@ -59,22 +58,25 @@ fn registration_names_of(
 }
 
 /// The registrations that an item with these names gives, one for each of them.
-#[tactic(auto, unfolding(crate::specs::Parts::registered_at))]
+#[tactic(auto, unfolding(crate::specs::Environments::registered_at))]
 fn registered(
     alloc: Global,
     at: Place,
     names: &[Name],
     item: &Value,
 ) -> Result<List<Registration>, ReadFault>
-    ensures { Gives result (parts.registered_at at names.now (view item.now)) }
+    ensures { Gives result (spec.registered_at at names.now (view item.now)) }
 {
-    let from = static_from_of(alloc, at, item)?;
-    let target = as_of(alloc, at, names, item)?;
+    let read = both(
+        static_from_of(alloc, at, item),
+        as_of(alloc, at, names, item),
+    )?;
+    let (from, target) = read;
     Ok(registrations_from(alloc, from, target, names)?)
 }
 
 /// The registrations that an item gives, one for each name.
-#[tactic(auto, unfolding(crate::specs::Environments::registration_at, crate::specs::Parts::registered_at))]
+#[tactic(auto, unfolding(crate::specs::Environments::registration_at))]
 fn registration_of(
     alloc: Global,
     which: Registry,
@@ -156,8 +158,9 @@ fn registry_of(
 }
 
 /// The row of an item of `environments`, whose fields are known.
+#[tactic(auto, unfolding(crate::specs::Environments::environment_row_at))]
 fn environment_row(alloc: Global, at: Place, item: &Value) -> Result<List<Environment>, ReadFault>
-    ensures { Gives result (parts.environment_row_at at (view item.now)) }
+    ensures { Gives result (spec.environment_row_at at (view item.now)) }
 {
     let read = both(
         both(

@@ -75,42 +75,36 @@ fn targets_of(alloc: Global, at: Place, item: &Value) -> Result<List<Name>, Read
     references_of(alloc, at, value, "to")
 }
 
-/// What an offer asks of what it gives.
-#[tactic(auto, unfolding(crate::specs::Parts::offer_asked_at))]
-fn offer_asked(alloc: Global, at: Place, names: &[Name], item: &Value) -> Result<Asked, ReadFault>
-    ensures { Gives result (parts.offer_asked_at at names.now (view item.now)) }
+/// What an item asks of what it gives by these names, with the dependency that was read.
+#[tactic(auto, unfolding(crate::specs::Parts::asked_at))]
+fn asked_of(
+    alloc: Global,
+    at: Place,
+    names: &[Name],
+    dependency: Result<Dependency, ReadFault>,
+    item: &Value,
+) -> Result<Asked, ReadFault>
+    ensures { parts.GivesAsked dependency at names.now (view item.now) result }
 {
-    let target = as_of(alloc, at, names, item)?;
-    let rights = given_rights_of(alloc, at, item)?;
-    let subdir = subdir_of(alloc, at, item, "subdir")?;
-    let dependency = dependency_of(alloc, at, item)?;
-    let availability = given_availability_of(alloc, at, item)?;
-    let unknown = source_unknown_of(alloc, at, item)?;
+    let read = both(
+        both(
+            as_of(alloc, at, names, item),
+            given_rights_of(alloc, at, item),
+        ),
+        both(
+            both(subdir_of(alloc, at, item, "subdir"), dependency),
+            both(
+                given_availability_of(alloc, at, item),
+                source_unknown_of(alloc, at, item),
+            ),
+        ),
+    )?;
+    let ((target, rights), ((subdir, dependency), (availability, unknown))) = read;
     Ok(Asked {
         target,
         rights,
         subdir,
         dependency,
-        availability,
-        unknown,
-    })
-}
-
-/// What an expose asks of what it gives.
-#[tactic(auto, unfolding(crate::specs::Parts::expose_asked_at))]
-fn expose_asked(alloc: Global, at: Place, names: &[Name], item: &Value) -> Result<Asked, ReadFault>
-    ensures { Gives result (parts.expose_asked_at at names.now (view item.now)) }
-{
-    let target = as_of(alloc, at, names, item)?;
-    let rights = given_rights_of(alloc, at, item)?;
-    let subdir = subdir_of(alloc, at, item, "subdir")?;
-    let availability = given_availability_of(alloc, at, item)?;
-    let unknown = source_unknown_of(alloc, at, item)?;
-    Ok(Asked {
-        target,
-        rights,
-        subdir,
-        dependency: Dependency::Strong,
         availability,
         unknown,
     })
@@ -145,39 +139,42 @@ fn offer_each(
     offer_rows(alloc, targets, gives.as_slice())
 }
 
-/// The same of terms, names and targets that are handed over.
-fn offered(
+/// The same of terms and targets that are handed over.
+fn offer_by(
     alloc: Global,
     terms: Terms,
-    names: List<Name>,
+    names: &[Name],
     targets: List<Name>,
 ) -> Result<List<OfferRow>, Memory>
     ensures { IfOk result (λ rows. rows
-        ≡ flat_map (spec.offer_rows targets) (map (spec.give_row terms) names)) }
+        ≡ flat_map (spec.offer_rows targets) (map (spec.give_row terms) names.now)) }
 {
-    offer_each(alloc, &terms, names.as_slice(), targets.as_slice())
+    offer_each(alloc, &terms, names, targets.as_slice())
 }
 
-/// The rows of a protocol or a directory that is offered, by its parts.
-#[tactic(auto, unfolding(crate::specs::Parts::routed_offer_by_parts_at))]
-fn routed_offer_by_parts(
+/// The rows of protocols or directories with these names that are offered.
+#[tactic(auto, unfolding(crate::specs::Items::offered_at))]
+fn offered(
     alloc: Global,
     kind: Kind,
     at: Place,
     children: &[Child],
+    names: &[Name],
     item: &Value,
 ) -> Result<List<OfferRow>, ReadFault>
-    ensures { Gives result (parts.routed_offer_by_parts_at kind children.now at (view item.now)) }
+    ensures { Gives result (spec.offered_at kind children.now at names.now (view item.now)) }
 {
-    let names = item_names_of(alloc, kind, at, item)?;
-    let from = offer_from_of(alloc, at, item)?;
-    let targets = targets_of(alloc, at, item)?;
-    let asked = offer_asked(alloc, at, names.as_slice(), item)?;
+    let read = both(
+        both(offer_from_of(alloc, at, item), targets_of(alloc, at, item)),
+        asked_of(alloc, at, names, dependency_of(alloc, at, item), item),
+    )?;
+    let ((from, targets), asked) = read;
     let terms = terms_by(kind, from, children, asked);
-    Ok(offered(alloc, terms, names, targets)?)
+    Ok(offer_by(alloc, terms, names, targets)?)
 }
 
 /// The rows of a protocol or a directory that is offered: for each name in turn one for each target.
+#[tactic(auto, unfolding(crate::specs::Items::routed_offer_at))]
 fn routed_offer(
     alloc: Global,
     kind: Kind,
@@ -187,18 +184,19 @@ fn routed_offer(
 ) -> Result<List<OfferRow>, ReadFault>
     ensures { Gives result (spec.routed_offer_at kind children.now at (view item.now)) }
 {
-    routed_offer_by_parts(alloc, kind, at, children, item)
+    let names = item_names_of(alloc, kind, at, item)?;
+    offered(alloc, kind, at, children, names.as_slice(), item)
 }
 
 /// The rows of storages with these names that are offered; their availability isn't kept.
-#[tactic(auto, unfolding(crate::specs::Parts::storages_offered_at))]
+#[tactic(auto, unfolding(crate::specs::Items::storages_offered_at))]
 fn storages_offered(
     alloc: Global,
     at: Place,
     names: &[Name],
     item: &Value,
 ) -> Result<List<OfferRow>, ReadFault>
-    ensures { Gives result (parts.storages_offered_at at names.now (view item.now)) }
+    ensures { Gives result (spec.storages_offered_at at names.now (view item.now)) }
 {
     let read = both(
         both(
@@ -215,7 +213,7 @@ fn storages_offered(
 }
 
 /// The rows of a storage that is offered; its availability isn't kept.
-#[tactic(auto, unfolding(crate::specs::Items::storage_offer_at, crate::specs::Parts::storages_offered_at))]
+#[tactic(auto, unfolding(crate::specs::Items::storage_offer_at))]
 fn storage_offer(alloc: Global, at: Place, item: &Value) -> Result<List<OfferRow>, ReadFault>
     ensures { Gives result (spec.storage_offer_at at (view item.now)) }
 {
@@ -245,43 +243,35 @@ impl Item for OfferRow {
     }
 }
 
-/// A row for each name, of terms and names that are handed over.
-fn exposed_each(alloc: Global, terms: Terms, names: List<Name>) -> Result<List<Give>, Memory>
-    ensures { IfOk result (λ rows. rows ≡ map (spec.give_row terms) names) }
+/// A row for each name, of terms that are handed over.
+fn expose_by(alloc: Global, terms: Terms, names: &[Name]) -> Result<List<Give>, Memory>
+    ensures { IfOk result (λ rows. rows ≡ map (spec.give_row terms) names.now) }
 {
-    give_rows(alloc, &terms, names.as_slice())
+    give_rows(alloc, &terms, names)
 }
 
-/// The rows of a protocol or a directory that is exposed, by its parts.
-#[tactic(auto, unfolding(crate::specs::Parts::exposed_by_parts_at))]
-fn exposed_by_parts(
-    alloc: Global,
-    kind: Kind,
-    at: Place,
-    children: &[Child],
-    item: &Value,
-) -> Result<List<Give>, ReadFault>
-    ensures { Gives result (parts.exposed_by_parts_at kind children.now at (view item.now)) }
-{
-    let names = item_names_of(alloc, kind, at, item)?;
-    let from = expose_from_of(alloc, at, item)?;
-    expose_to_of(alloc, at, item)?;
-    let asked = expose_asked(alloc, at, names.as_slice(), item)?;
-    let terms = terms_by(kind, from, children, asked);
-    Ok(exposed_each(alloc, terms, names)?)
-}
-
-/// The rows of a protocol or a directory that is exposed, one for each name.
+/// The rows of protocols or directories with these names that are exposed, one for each.
+#[tactic(auto, unfolding(crate::specs::Items::exposed_at))]
 fn exposed(
     alloc: Global,
     kind: Kind,
     at: Place,
     children: &[Child],
+    names: &[Name],
     item: &Value,
 ) -> Result<List<Give>, ReadFault>
-    ensures { Gives result (parts.exposed_at kind children.now at (view item.now)) }
+    ensures { Gives result (spec.exposed_at kind children.now at names.now (view item.now)) }
 {
-    exposed_by_parts(alloc, kind, at, children, item)
+    let read = both(
+        both(
+            expose_from_of(alloc, at, item),
+            expose_to_of(alloc, at, item),
+        ),
+        asked_of(alloc, at, names, Ok(Dependency::Strong), item),
+    )?;
+    let ((from, ()), asked) = read;
+    let terms = terms_by(kind, from, children, asked);
+    Ok(expose_by(alloc, terms, names)?)
 }
 
 impl Item for Give {
@@ -289,7 +279,7 @@ impl Item for Give {
 
     ghost reads = { expose_at };
 
-    #[tactic(auto, unfolding(crate::specs::Items::expose_at, crate::specs::Parts::exposed_at))]
+    #[tactic(auto, unfolding(crate::specs::Items::expose_at))]
     fn read(
         alloc: Global,
         at: Place,
@@ -299,6 +289,7 @@ impl Item for Give {
         let members = object_of(alloc, at, item)?;
         let kind = kind_of(alloc, at, item)?;
         check_keys(alloc, at, Object::Expose(kind), members)?;
-        exposed(alloc, kind, at, children, item)
+        let names = item_names_of(alloc, kind, at, item)?;
+        exposed(alloc, kind, at, children, names.as_slice(), item)
     }
 }

@@ -4,7 +4,6 @@ ghost use Rattle.std.specs.Prelude.{◌≡◌};
 ghost use Rattle.serde_json.specs.View.{view};
 ghost use Rattle.cm_decl.specs.Words.{kind_word};
 ghost use Rattle.cm_read.specs.Items as spec;
-ghost use Rattle.cm_read.specs.Parts as parts;
 ghost use Rattle.cm_read.specs.Reading.{Gives};
 
 use crate::both::both;
@@ -14,7 +13,7 @@ use crate::fields::{
 };
 use crate::known::{Object, check_keys};
 use crate::number::{KIND_COUNT, NOT_WITH_MANY};
-use crate::rows::{CapabilityRow, Reach, Sort, UseRow, one_row, protocol_rows, uses_from};
+use crate::rows::{CapabilityRow, Sort, UseRow, one_row, protocol_rows, uses_from};
 use crate::sections::Item;
 use crate::storage::{storage_capability, storage_use};
 use crate::words::{
@@ -27,9 +26,9 @@ use serde_json::Value;
 use std::alloc::Global;
 
 /// The row of an item of `children`, whose fields are known.
-#[tactic(auto, unfolding(crate::specs::Parts::child_row_at))]
+#[tactic(auto, unfolding(crate::specs::Items::child_row_at))]
 fn child_row(alloc: Global, at: Place, item: &Value) -> Result<List<Child>, ReadFault>
-    ensures { Gives result (parts.child_row_at at (view item.now)) }
+    ensures { Gives result (spec.child_row_at at (view item.now)) }
 {
     let read = both(
         both(
@@ -53,7 +52,7 @@ impl Item for Child {
 
     ghost reads = { λ _. child_at };
 
-    #[tactic(auto, unfolding(crate::specs::Items::child_at, crate::specs::Parts::child_row_at))]
+    #[tactic(auto, unfolding(crate::specs::Items::child_at))]
     fn read(
         alloc: Global,
         at: Place,
@@ -67,9 +66,9 @@ impl Item for Child {
 }
 
 /// The row of an item of `collections`, whose fields are known.
-#[tactic(auto, unfolding(crate::specs::Parts::collection_row_at))]
+#[tactic(auto, unfolding(crate::specs::Items::collection_row_at))]
 fn collection_row(alloc: Global, at: Place, item: &Value) -> Result<List<Collection>, ReadFault>
-    ensures { Gives result (parts.collection_row_at at (view item.now)) }
+    ensures { Gives result (spec.collection_row_at at (view item.now)) }
 {
     let read = both(
         both(
@@ -96,7 +95,7 @@ impl Item for Collection {
 
     ghost reads = { λ _. collection_at };
 
-    #[tactic(auto, unfolding(crate::specs::Items::collection_at, crate::specs::Parts::collection_row_at))]
+    #[tactic(auto, unfolding(crate::specs::Items::collection_at))]
     fn read(
         alloc: Global,
         at: Place,
@@ -227,9 +226,14 @@ fn directory_capability(
 ) -> Result<List<CapabilityRow>, ReadFault>
     ensures { Gives result (spec.directory_capability_at at (view item.now)) }
 {
-    let name = directory_name_of(alloc, at, item)?;
-    let path = path_of(alloc, at, item, "path")?;
-    let rights = rights_of(alloc, at, item, "rights")?;
+    let read = both(
+        both(
+            directory_name_of(alloc, at, item),
+            path_of(alloc, at, item, "path"),
+        ),
+        rights_of(alloc, at, item, "rights"),
+    )?;
+    let ((name, path), rights) = read;
     let row = CapabilityRow::Capability(Capability {
         kind: Kind::Directory,
         name,
@@ -263,24 +267,31 @@ impl Item for CapabilityRow {
 }
 
 /// The rows of protocols with these names that are used, one for each.
-#[tactic(auto, unfolding(crate::specs::Parts::protocols_used_at))]
+#[tactic(auto, unfolding(crate::specs::Items::protocols_used_at))]
 fn protocols_used(
     alloc: Global,
     at: Place,
     names: &[Name],
     item: &Value,
 ) -> Result<List<UseRow>, ReadFault>
-    ensures { Gives result (parts.protocols_used_at at names.now (view item.now)) }
+    ensures { Gives result (spec.protocols_used_at at names.now (view item.now)) }
 {
-    let from = use_source_of(alloc, at, item)?;
-    let path = protocol_path_of(alloc, at, names, item)?;
-    let dependency = dependency_of(alloc, at, item)?;
-    let availability = availability_of(alloc, at, item)?;
+    let read = both(
+        both(
+            use_source_of(alloc, at, item),
+            protocol_path_of(alloc, at, names, item),
+        ),
+        both(
+            dependency_of(alloc, at, item),
+            availability_of(alloc, at, item),
+        ),
+    )?;
+    let ((from, path), (dependency, availability)) = read;
     Ok(uses_from(alloc, from, path, dependency, availability, names)?)
 }
 
 /// The rows of a protocol that is used, one for each name.
-#[tactic(auto, unfolding(crate::specs::Items::protocol_use_at, crate::specs::Parts::protocols_used_at))]
+#[tactic(auto, unfolding(crate::specs::Items::protocol_use_at))]
 fn protocol_use(alloc: Global, at: Place, item: &Value) -> Result<List<UseRow>, ReadFault>
     ensures { Gives result (spec.protocol_use_at at (view item.now)) }
 {
@@ -288,51 +299,42 @@ fn protocol_use(alloc: Global, at: Place, item: &Value) -> Result<List<UseRow>, 
     protocols_used(alloc, at, names.as_slice(), item)
 }
 
-/// Where a directory is used, and how.
-#[tactic(auto, unfolding(crate::specs::Parts::reach_at))]
-fn reach_of(alloc: Global, at: Place, item: &Value) -> Result<Reach, ReadFault>
-    ensures { Gives result (parts.reach_at at (view item.now)) }
+/// The row of a directory that is used.
+#[tactic(auto, unfolding(crate::specs::Items::directory_use_at))]
+fn directory_use(alloc: Global, at: Place, item: &Value) -> Result<List<UseRow>, ReadFault>
+    ensures { Gives result (spec.directory_use_at at (view item.now)) }
 {
-    let path = path_of(alloc, at, item, "path")?;
-    let rights = rights_of(alloc, at, item, "rights")?;
-    let subdir = subdir_of(alloc, at, item, "subdir")?;
-    let dependency = dependency_of(alloc, at, item)?;
-    let availability = availability_of(alloc, at, item)?;
-    Ok(Reach {
-        path,
-        rights,
-        subdir,
-        dependency,
-        availability,
-    })
-}
-
-/// The row of a directory that is used, by its parts.
-#[tactic(auto, unfolding(crate::specs::Parts::directory_use_by_parts_at))]
-fn directory_use_by_parts(alloc: Global, at: Place, item: &Value) -> Result<List<UseRow>, ReadFault>
-    ensures { Gives result (parts.directory_use_by_parts_at at (view item.now)) }
-{
-    let name = directory_name_of(alloc, at, item)?;
-    let from = use_from_of(alloc, at, item)?;
-    let reach = reach_of(alloc, at, item)?;
+    let read = both(
+        both(
+            both(
+                directory_name_of(alloc, at, item),
+                use_from_of(alloc, at, item),
+            ),
+            both(
+                path_of(alloc, at, item, "path"),
+                rights_of(alloc, at, item, "rights"),
+            ),
+        ),
+        both(
+            subdir_of(alloc, at, item, "subdir"),
+            both(
+                dependency_of(alloc, at, item),
+                availability_of(alloc, at, item),
+            ),
+        ),
+    )?;
+    let (((name, from), (path, rights)), (subdir, (dependency, availability))) = read;
     let row = UseRow::Usage(Usage {
         kind: Kind::Directory,
         name,
         from,
-        path: reach.path,
-        rights: Some(reach.rights),
-        subdir: reach.subdir,
-        dependency: reach.dependency,
-        availability: reach.availability,
+        path,
+        rights: Some(rights),
+        subdir,
+        dependency,
+        availability,
     });
     one_row(alloc, row)
-}
-
-/// The row of a directory that is used.
-fn directory_use(alloc: Global, at: Place, item: &Value) -> Result<List<UseRow>, ReadFault>
-    ensures { Gives result (spec.directory_use_at at (view item.now)) }
-{
-    directory_use_by_parts(alloc, at, item)
 }
 
 impl Item for UseRow {

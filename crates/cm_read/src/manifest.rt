@@ -209,7 +209,7 @@ fn decl_of(alloc: Global, value: &Value) -> Result<Decl, ReadFault>
 /// # Errors
 ///
 /// [`ReadFault`] says when each fault comes; `Err(Memory)` where memory runs out.
-#[tactic(auto, using(crate::proofs::DeclRead::is_of_data))]
+#[tactic(auto, using(crate::proofs::reading::DeclRead::is_of_data))]
 pub fn read_decl_text(alloc: Global, text: &str) -> Result<Decl, ReadFault>
     ensures decl { Gives result (spec.decl_of_json text.now) }
     ensures readable { IfOk result IsReadable }

@@ -71,32 +71,6 @@ pub enum Registry {
     Debug,
 }
 
-/// What a storage says of its directory.
-#[derive(Drop)]
-pub struct Backing {
-    /// The name that the directory has at its source.
-    pub backing: Name,
-    /// `subdir`, if it is there.
-    pub subdir: Option<SubDir>,
-    /// Whether an instance without an id gets a place by its moniker.
-    pub by_moniker: bool,
-}
-
-/// Where a directory is used, and how.
-#[derive(Drop)]
-pub struct Reach {
-    /// `path`.
-    pub path: CapPath,
-    /// `rights`.
-    pub rights: Rights,
-    /// `subdir`, if it is there.
-    pub subdir: Option<SubDir>,
-    /// `dependency`.
-    pub dependency: Dependency,
-    /// `availability`.
-    pub availability: Availability,
-}
-
 /// The rows of all sections that list them.
 #[derive(Drop)]
 pub struct SectionRows {

@@ -2,61 +2,18 @@
 
 ghost use Rattle.serde_json.specs.View.{view};
 ghost use Rattle.cm_read.specs.Items as spec;
-ghost use Rattle.cm_read.specs.Parts as parts;
 ghost use Rattle.cm_read.specs.Reading.{Gives};
 
 use crate::both::both;
 use crate::fault::{Place, ReadFault};
 use crate::fields::{name_of, names_of, needed, path_of, subdir_of};
 use crate::puts::{Row, plain_use, put_from, put_subdir, put_text, put_to, storage_id_word};
-use crate::rows::{Backing, CapabilityRow, UseRow, one_row};
+use crate::rows::{CapabilityRow, UseRow, one_row};
 use crate::words::{availability_of, static_from_of, storage_id_of, storage_use_from_of};
 use cm_decl::{Storage, StorageOffer, StorageUse};
 use cm_names::{List, Memory, Name};
 use serde_json::{Map, Value};
 use std::alloc::Global;
-
-/// What a storage says of its directory.
-#[tactic(auto, unfolding(crate::specs::Parts::backing_part_at, crate::specs::Items::backing_at))]
-fn backing_part(alloc: Global, at: Place, item: &Value) -> Result<Backing, ReadFault>
-    ensures { Gives result (parts.backing_part_at at (view item.now)) }
-{
-    let backing = name_of(alloc, at, item, "backing_dir")?;
-    let subdir = subdir_of(alloc, at, item, "subdir")?;
-    let by_moniker = storage_id_of(alloc, at, item)?;
-    Ok(Backing {
-        backing,
-        subdir,
-        by_moniker,
-    })
-}
-
-/// The row of a storage that is provided, by its parts.
-#[tactic(auto, unfolding(crate::specs::Parts::storage_by_parts_at, crate::specs::Items::storage_name_at))]
-fn storage_by_parts(
-    alloc: Global,
-    at: Place,
-    item: &Value,
-) -> Result<List<CapabilityRow>, ReadFault>
-    ensures { Gives result (parts.storage_by_parts_at at (view item.now)) }
-{
-    let read = both(
-        both(
-            name_of(alloc, at, item, "storage"),
-            static_from_of(alloc, at, item),
-        ),
-        backing_part(alloc, at, item),
-    )?;
-    let ((name, from), part) = read;
-    let row = CapabilityRow::Storage(Storage {
-        name,
-        from,
-        backing: part.backing,
-        subdir: part.subdir,
-        by_moniker: part.by_moniker,
-    });
-    one_row(alloc, row)
-}
 
 /// The row of a storage that is provided.
 pub fn storage_capability(
@@ -66,7 +23,28 @@ pub fn storage_capability(
 ) -> Result<List<CapabilityRow>, ReadFault>
     ensures { Gives result (spec.storage_at at (view item.now)) }
 {
-    storage_by_parts(alloc, at, item)
+    let read = both(
+        both(
+            name_of(alloc, at, item, "storage"),
+            static_from_of(alloc, at, item),
+        ),
+        both(
+            name_of(alloc, at, item, "backing_dir"),
+            both(
+                subdir_of(alloc, at, item, "subdir"),
+                storage_id_of(alloc, at, item),
+            ),
+        ),
+    )?;
+    let ((name, from), (backing, (subdir, by_moniker))) = read;
+    let row = CapabilityRow::Storage(Storage {
+        name,
+        from,
+        backing,
+        subdir,
+        by_moniker,
+    });
+    one_row(alloc, row)
 }
 
 /// The row of a storage that is used; its availability isn't kept.

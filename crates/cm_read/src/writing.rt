@@ -206,7 +206,7 @@ fn put_environments(
 }
 
 /// Puts `environments` and `program` among the members, where they are there.
-#[tactic(auto, using(crate::proofs::PairLemmas::with_pairs_append))]
+#[tactic(auto, using(crate::proofs::back::PairLemmas::with_pairs_append))]
 fn put_optional(alloc: Global, members: &mut Map<String, Value>, decl: &Decl) -> Result<(), Memory>
     ensures { OnOk result
         (Puts members.old.entries members.new.entries
@@ -292,7 +292,7 @@ fn value_of(alloc: Global, decl: &Decl) -> Result<Value, Memory>
 ///
 /// A readable declaration (`IsReadable`) is read back by [`read_decl_text`](crate::read_decl_text).
 /// `Err(Memory)` where memory runs out.
-#[tactic(auto, using(crate::proofs::PairLemmas::text_reads_back))]
+#[tactic(auto, using(crate::proofs::back::PairLemmas::text_reads_back))]
 pub fn write_decl(alloc: Global, decl: &Decl) -> Result<Text, Memory>
     ensures text { IfOk result (λ text. text ≡ spec.decl_text decl.now) }
     ensures reads_back { IfOk result

@@ -1,16 +1,18 @@
 //! The texts of answers to commands.
 
-ghost use Rattle.std.specs.Prelude.{◌≡◌, ◌++◌, IfOk};
+ghost use Rattle.std.specs.Prelude.{◌≡◌, ◌++◌, codes, IfOk, OnOk};
 ghost use Rattle.cm_world.specs.declared.answer.Answer.TheVariants as answer;
+ghost use Rattle.cm_command.specs.Written as written;
+ghost use Rattle.cm_reply.specs.Lists.{Gains};
+ghost use Rattle.cm_reply.specs.States.{incarnation_text, look_text};
 ghost use Rattle.cm_reply.specs.Answers as spec;
 
-use crate::lists::{Item, push_each, written};
-use crate::refusals::refusal_text;
-use crate::routes::{place_text, route_text};
-use crate::states::{look_text, when};
-use crate::words::{named, numbered, worded};
+use crate::lists::{Item, push, push_each, push_moniker, push_value, roomy};
+use crate::refusals::push_refusal;
+use crate::routes::{push_place, push_route};
+use crate::states::{push_look, when};
+use crate::words::{push_incarnation, push_number};
 use cm_command::Command;
-use cm_command::writer::target_text;
 use cm_names::{CapPath, Memory, Shared, Text};
 use cm_world::{Answer, Checked, Kid, Look, Refusal, Route, Target};
 use std::alloc::Global;
@@ -72,33 +74,52 @@ pub fn reply_text(
 ) -> Result<Text, Memory>
     ensures { IfOk result (λ text. text ≡ spec.reply_text command.now reply.now) }
 {
+    let mut text = roomy(alloc)?;
+    push_reply(&mut text, command, reply)?;
+    Ok(Text::from_string(text))
+}
+
+/// Puts the answer to the command, or why it was refused, at the end, as [`reply_text`] writes it.
+/// `Err` where memory runs out; a front of it may stand there then.
+pub fn push_reply(
+    text: &mut String,
+    command: &Command,
+    reply: &Result<Answer, Refusal>,
+) -> Result<(), Memory>
+    ensures { OnOk result (Gains text.old text.new (spec.reply_text command.now reply.now)) }
+{
     match reply {
-        Ok(answer) => answer_text(alloc, command, answer),
-        Err(refusal) => refusal_text(alloc, refusal),
+        Ok(answer) => push_answer(text, command, answer),
+        Err(refusal) => push_refusal(text, refusal),
     }
 }
 
-/// The text of the answer to the command.
-fn answer_text(alloc: Global, command: &Command, answer: &Answer) -> Result<Text, Memory>
-    ensures { IfOk result (λ text. text ≡ spec.answer_text command.now answer.now) }
+/// Puts the answer to the command at the end.
+fn push_answer(text: &mut String, command: &Command, answer: &Answer) -> Result<(), Memory>
+    ensures { OnOk result (Gains text.old text.new (spec.answer_text command.now answer.now)) }
 {
     match answer {
-        Answer::Resolved(action) => done_text(alloc, "resolved", command, *action),
-        Answer::Started(action) => done_text(alloc, "started", command, *action),
-        Answer::Stopped(action, forced) => stopped_text(alloc, command, *action, *forced),
-        Answer::Shut => of_target(alloc, "shut", command),
-        Answer::Created(inc) => created_text(alloc, command, *inc),
-        Answer::Destroyed => of_target(alloc, "destroyed", command),
-        Answer::Children(kids) => children_text(alloc, command, kids.as_slice()),
-        Answer::Opened(route) => worded(alloc, "opened", place_text(alloc, route.get())?),
-        Answer::Routed(route) => worded(alloc, "route", route_text(alloc, route.get())?),
-        Answer::Shown(look) => shown_text(alloc, command, look),
-        Answer::Surveyed(rows) => counted_text(alloc, "survey", command, rows.as_slice()),
-        Answer::Doctored(lines) => counted_text(alloc, "doctor", command, lines.as_slice()),
+        Answer::Resolved(action) => push_done(text, "resolved", command, *action),
+        Answer::Started(action) => push_done(text, "started", command, *action),
+        Answer::Stopped(action, forced) => push_stopped(text, command, *action, *forced),
+        Answer::Shut => push_of_target(text, "shut", command),
+        Answer::Created(inc) => push_created(text, command, *inc),
+        Answer::Destroyed => push_of_target(text, "destroyed", command),
+        Answer::Children(kids) => push_children(text, command, kids.as_slice()),
+        Answer::Opened(route) => {
+            push(text, "opened ")?;
+            push_place(text, route.get())
+        }
+        Answer::Routed(route) => {
+            push(text, "route ")?;
+            push_route(text, route.get())
+        }
+        Answer::Shown(look) => push_shown(text, command, look),
+        Answer::Surveyed(rows) => push_listing(text, "survey", command, rows.as_slice()),
+        Answer::Doctored(lines) => push_listing(text, "doctor", command, lines.as_slice()),
         Answer::Left(was_on) => {
-            let text = of_target(alloc, "exited", command)?;
-            let already = when(!*was_on, " already");
-            written(alloc, format_args!("{text}{already}"))
+            push_of_target(text, "exited", command)?;
+            push(text, when(!*was_on, " already"))
         }
     }
 }
@@ -125,130 +146,157 @@ fn target_of(command: &Command) -> &Target
     }
 }
 
-/// The word, and the instance as the command names it.
-fn of_target(alloc: Global, word: &str, command: &Command) -> Result<Text, Memory>
-    ensures { IfOk result (λ text. text ≡ spec.of_target word.now command.now) }
+/// Puts the instance that a target names at the end, as a command writes it.
+fn push_target(text: &mut String, target: &Target) -> Result<(), Memory>
+    ensures { OnOk result (Gains text.old text.new (written.target_text target.now)) }
 {
-    worded(alloc, word, target_text(alloc, target_of(command))?)
-}
-
-/// The action that did it, or that it was so before.
-fn done_by(alloc: Global, action: Option<u64>) -> Result<Text, Memory>
-    ensures { IfOk result (λ text. text ≡ spec.done_by action) }
-{
-    match action {
-        None => Text::from_str(alloc, " already"),
-        Some(action) => numbered(alloc, " action", action),
+    match target {
+        Target::Named(moniker) => push_moniker(text, moniker),
+        Target::Inc(inc) => push_value(text, format_args!("@{inc}")),
     }
 }
 
-/// The word, the instance, and what did it.
-fn done_text(
-    alloc: Global,
+/// Puts the word at the end, and the instance as the command names it.
+fn push_of_target(text: &mut String, word: &str, command: &Command) -> Result<(), Memory>
+    ensures { OnOk result (Gains text.old text.new (spec.of_target word.now command.now)) }
+{
+    push(text, word)?;
+    push(text, " ")?;
+    push_target(text, target_of(command))
+}
+
+/// Puts the action that did it at the end, or that it was so before.
+fn push_done_by(text: &mut String, action: Option<u64>) -> Result<(), Memory>
+    ensures { OnOk result (Gains text.old text.new (spec.done_by action)) }
+{
+    match action {
+        None => push(text, " already"),
+        Some(action) => push_number(text, " action", action),
+    }
+}
+
+/// Puts the word, the instance, and what did it at the end.
+fn push_done(
+    text: &mut String,
     word: &str,
     command: &Command,
     action: Option<u64>,
-) -> Result<Text, Memory>
-    ensures { IfOk result (λ text. text ≡ spec.of_target word.now command.now
-        ++ spec.done_by action) }
+) -> Result<(), Memory>
+    ensures { OnOk result (Gains text.old text.new
+        (spec.of_target word.now command.now ++ spec.done_by action)) }
 {
-    let text = of_target(alloc, word, command)?;
-    let done = done_by(alloc, action)?;
-    written(alloc, format_args!("{text}{done}"))
+    push_of_target(text, word, command)?;
+    push_done_by(text, action)
 }
 
-/// That the instance is stopped.
-fn stopped_text(
-    alloc: Global,
+/// Puts at the end that the instance is stopped.
+fn push_stopped(
+    text: &mut String,
     command: &Command,
     action: Option<u64>,
     forced: bool,
-) -> Result<Text, Memory>
-    ensures { IfOk result (λ text. text
-        ≡ spec.answer_text command.now (answer.Stopped action forced)) }
+) -> Result<(), Memory>
+    ensures { OnOk result (Gains text.old text.new
+        (spec.answer_text command.now (answer.Stopped action forced))) }
 {
-    let text = of_target(alloc, "stopped", command)?;
-    let by_force = when(forced, " by-force");
-    let done = done_by(alloc, action)?;
-    written(alloc, format_args!("{text}{by_force}{done}"))
+    push_of_target(text, "stopped", command)?;
+    push(text, when(forced, " by-force"))?;
+    push_done_by(text, action)
 }
 
-/// The child that the command creates, with its collection; nothing for any other command.
-fn child_text(alloc: Global, command: &Command) -> Result<Text, Memory>
-    ensures { IfOk result (λ text. text ≡ spec.child_of command.now) }
+/// Puts the child that the command creates at the end, with its collection; nothing for any other
+/// command.
+fn push_child_of(text: &mut String, command: &Command) -> Result<(), Memory>
+    ensures { OnOk result (Gains text.old text.new (spec.child_of command.now)) }
 {
     match command {
-        Command::Create { coll, name, .. } => written(alloc, format_args!("{coll}:{name}")),
-        _ => Ok(Text::new(alloc)),
+        Command::Create { coll, name, .. } => push_value(text, format_args!("{coll}:{name}")),
+        _ => Ok(()),
     }
 }
 
-/// The collection whose children the command lists; nothing for any other command.
-fn collection_text(alloc: Global, command: &Command) -> Result<Text, Memory>
-    ensures { IfOk result (λ text. text ≡ spec.collection_of command.now) }
+/// Puts the collection whose children the command lists at the end; nothing for any other command.
+fn push_collection(text: &mut String, command: &Command) -> Result<(), Memory>
+    ensures { OnOk result (Gains text.old text.new (spec.collection_of command.now)) }
 {
     match command {
-        Command::ListChildren { coll, .. } => written(alloc, format_args!("{coll}")),
-        _ => Ok(Text::new(alloc)),
+        Command::ListChildren { coll, .. } => push(text, coll.as_str()),
+        _ => Ok(()),
     }
 }
 
-/// That the child was created which the command names.
-fn created_text(alloc: Global, command: &Command, inc: u64) -> Result<Text, Memory>
-    ensures { IfOk result (λ text. text ≡ spec.answer_text command.now (answer.Created inc)) }
+/// Puts at the end that the child was created which the command names.
+fn push_created(text: &mut String, command: &Command, inc: u64) -> Result<(), Memory>
+    ensures { OnOk result (Gains text.old text.new
+        (spec.answer_text command.now (answer.Created inc))) }
 {
-    let text = of_target(alloc, "created", command)?;
-    let child = child_text(alloc, command)?;
-    named(alloc, text.as_str(), child.as_str(), inc)
+    push_of_target(text, "created", command)?;
+    push(text, " ")?;
+    push_child_of(text, command)?;
+    push_incarnation(text, inc)
 }
 
-/// The children of the collection that the command names.
-fn children_text(alloc: Global, command: &Command, kids: &[Kid]) -> Result<Text, Memory>
-    ensures { IfOk result (λ text. text ≡ spec.answer_text command.now (answer.Children kids.now)) }
+/// Puts the children of the collection that the command names at the end.
+fn push_children(text: &mut String, command: &Command, kids: &[Kid]) -> Result<(), Memory>
+    ensures { OnOk result (Gains text.old text.new
+        (spec.answer_text command.now (answer.Children kids.now))) }
 {
-    let text = of_target(alloc, "children", command)?;
-    let collection = collection_text(alloc, command)?;
-    let lines = counted(alloc, kids)?;
-    written(alloc, format_args!("{text} {collection}{lines}"))
+    push_of_target(text, "children", command)?;
+    push(text, " ")?;
+    push_collection(text, command)?;
+    push_counted(text, kids)
 }
 
-/// How the instance is.
-fn shown_text(alloc: Global, command: &Command, look: &Look) -> Result<Text, Memory>
-    ensures { IfOk result (λ text. text ≡ spec.answer_text command.now (answer.Shown look.now)) }
+/// Puts the number of the instance and its URL at the end.
+fn push_url(text: &mut String, look: &Look) -> Result<(), Memory>
+    ensures { OnOk result (Gains text.old text.new
+        (incarnation_text look.now.inc ++ (codes " url " ++ look.now.url))) }
 {
-    let text = of_target(alloc, "shown", command)?;
-    let inc = look.inc;
-    let url = &look.url;
-    let state = look_text(alloc, look)?;
-    written(
-        alloc,
-        format_args!("{text} incarnation {inc} url {url} {state}"),
-    )
+    push_incarnation(text, look.inc)?;
+    push(text, " url ")?;
+    push(text, look.url.as_str())
 }
 
-/// How many items there are, and each on a line of its own.
-fn counted<T: Item>(alloc: Global, items: &[T]) -> Result<Text, Memory>
-    ensures { IfOk result (λ text. text ≡ spec.counted T.written items.now) }
+/// Puts the number of the instance, its URL and how it is at the end.
+fn push_standing(text: &mut String, look: &Look) -> Result<(), Memory>
+    ensures { OnOk result (Gains text.old text.new (incarnation_text look.now.inc
+        ++ (codes " url " ++ (look.now.url ++ (codes " " ++ look_text look.now))))) }
+{
+    push_url(text, look)?;
+    push(text, " ")?;
+    push_look(text, look)
+}
+
+/// Puts at the end how the instance is.
+fn push_shown(text: &mut String, command: &Command, look: &Look) -> Result<(), Memory>
+    ensures { OnOk result (Gains text.old text.new
+        (spec.answer_text command.now (answer.Shown look.now))) }
+{
+    push_of_target(text, "shown", command)?;
+    push_standing(text, look)
+}
+
+/// Puts at the end how many items there are, and each on a line of its own.
+fn push_counted<T: Item>(text: &mut String, items: &[T]) -> Result<(), Memory>
+    ensures { OnOk result (Gains text.old text.new (spec.counted T.written items.now)) }
 {
     let count = items.len();
-    let mut text = written(alloc, format_args!(" {count}"))?;
-    push_each(alloc, &mut text, "\n  ", items)?;
-    Ok(text)
+    push_value(text, format_args!(" {count}"))?;
+    push_each(text, "\n  ", items)
 }
 
-/// The word, the instance, how many items there are, and each on a line of its own.
-fn counted_text<T: Item>(
-    alloc: Global,
+/// Puts the word, the instance, how many items there are, and each on a line of its own at the end.
+fn push_listing<T: Item>(
+    text: &mut String,
     word: &str,
     command: &Command,
     items: &[T],
-) -> Result<Text, Memory>
-    ensures { IfOk result (λ text. text ≡ spec.of_target word.now command.now
-        ++ spec.counted T.written items.now) }
+) -> Result<(), Memory>
+    ensures { OnOk result (Gains text.old text.new
+        (spec.of_target word.now command.now ++ spec.counted T.written items.now)) }
 {
-    let text = of_target(alloc, word, command)?;
-    let lines = counted(alloc, items)?;
-    written(alloc, format_args!("{text}{lines}"))
+    push_of_target(text, word, command)?;
+    push_counted(text, items)
 }
 
 /// It is written as `MONIKER PATH` and the text of its route or refusal, or as
@@ -258,34 +306,38 @@ impl Item for Checked {
 
     ghost written = { checked_text };
 
-    fn text(&self, alloc: Global) -> Result<Text, Memory> {
-        let moniker = self.moniker.write(alloc)?;
-        let words = checked_words(alloc, &self.path, &self.result)?;
-        written(alloc, format_args!("{moniker} {words}"))
+    fn push_to(&self, text: &mut String) -> Result<(), Memory> {
+        push_moniker(text, &self.moniker)?;
+        push(text, " ")?;
+        push_checked(text, &self.path, &self.result)
     }
 }
 
-/// The path of a use, and its route or why it has none.
-fn checked_words(
-    alloc: Global,
+/// Puts the path of a use, and its route or why it has none, at the end.
+fn push_checked(
+    text: &mut String,
     path: &Option<CapPath>,
     found: &Result<Shared<Route>, Refusal>,
-) -> Result<Text, Memory>
-    ensures { IfOk result (λ text. text ≡ spec.checked_words path.now found.now) }
+) -> Result<(), Memory>
+    ensures { OnOk result (Gains text.old text.new (spec.checked_words path.now found.now)) }
 {
     let Some(path) = path else {
-        return Text::from_str(alloc, "unresolved");
+        return push(text, "unresolved");
     };
-    let found = found_text(alloc, found)?;
-    written(alloc, format_args!("{path} {found}"))
+    push(text, path.as_str())?;
+    push(text, " ")?;
+    push_found(text, found)
 }
 
-/// The route of a use, or why it has none.
-fn found_text(alloc: Global, found: &Result<Shared<Route>, Refusal>) -> Result<Text, Memory>
-    ensures { IfOk result (λ text. text ≡ spec.found_text found.now) }
+/// Puts the route of a use, or why it has none, at the end.
+fn push_found(text: &mut String, found: &Result<Shared<Route>, Refusal>) -> Result<(), Memory>
+    ensures { OnOk result (Gains text.old text.new (spec.found_text found.now)) }
 {
     match found {
-        Ok(route) => worded(alloc, "route", route_text(alloc, route.get())?),
-        Err(refusal) => refusal_text(alloc, refusal),
+        Ok(route) => {
+            push(text, "route ")?;
+            push_route(text, route.get())
+        }
+        Err(refusal) => push_refusal(text, refusal),
     }
 }

@@ -1,12 +1,12 @@
 //! The journal.
 
-ghost use Rattle.std.specs.Prelude.{◌≡◌, IfOk};
-ghost use Rattle.cm_reply.specs.Lists.{when_some};
+ghost use Rattle.std.specs.Prelude.{◌≡◌, ◌++◌, flat_map, IfOk, OnOk};
+ghost use Rattle.cm_reply.specs.Lists.{Gains, when_some};
 ghost use Rattle.cm_reply.specs.Journal as spec;
 
-use crate::events::event_text;
-use crate::lists::{Item, push_each, written};
-use crate::replies::replied_text;
+use crate::events::push_event;
+use crate::lists::{push, push_value, roomy};
+use crate::replies::push_replied;
 use cm_decl::Kind;
 use cm_names::{Memory, Rights, Text};
 use cm_world::{Builtin, Entry, Frame};
@@ -24,10 +24,11 @@ pub fn header_text(alloc: Global, frame: &Frame) -> Result<Text, Memory>
     ensures { IfOk result (λ text. text ≡ spec.header_text frame.now) }
 {
     let root = &frame.root;
-    let mut text = Text::from_str(alloc, "journal\n")?;
-    push_each(alloc, &mut text, "", frame.builtins.as_slice())?;
-    text.push(format_args!("root {root}\n"))?;
-    Ok(text)
+    let mut text = roomy(alloc)?;
+    push(&mut text, "journal\n")?;
+    push_builtins(&mut text, frame.builtins.as_slice())?;
+    push_value(&mut text, format_args!("root {root}\n"))?;
+    Ok(Text::from_string(text))
 }
 
 /// An entry of a history as a journal has it, without a line feed:
@@ -75,51 +76,79 @@ pub fn header_text(alloc: Global, frame: &Frame) -> Result<Text, Memory>
 pub fn entry_text(alloc: Global, number: u64, entry: &Entry) -> Result<Text, Memory>
     ensures { IfOk result (λ text. text ≡ spec.entry_text number entry.now) }
 {
-    let caller = entry.caller;
-    let event = event_text(alloc, &entry.event)?;
-    let reply = replied_text(alloc, &entry.reply)?;
-    written(alloc, format_args!("{number} {caller} {event} => {reply}"))
+    let mut text = roomy(alloc)?;
+    push_entry(&mut text, number, entry)?;
+    Ok(Text::from_string(text))
 }
 
-/// It is written as a line of a journal, with its line feed.
-impl Item for Builtin {
-    ghost use Rattle.cm_reply.specs.Journal.{builtin_line};
-
-    ghost written = { builtin_line };
-
-    fn text(&self, alloc: Global) -> Result<Text, Memory> {
-        let text = builtin_text(alloc, self)?;
-        written(alloc, format_args!("{text}\n"))
-    }
-}
-
-/// The builtin capability as its line says it.
-fn builtin_text(alloc: Global, builtin: &Builtin) -> Result<Text, Memory>
-    ensures { IfOk result (λ text. text ≡ spec.builtin_text builtin.now) }
+/// Puts an entry of a history at the end, as [`entry_text`] writes it. `Err` where memory runs out;
+/// a front of it may stand there then.
+pub fn push_entry(text: &mut String, number: u64, entry: &Entry) -> Result<(), Memory>
+    ensures { OnOk result (Gains text.old text.new (spec.entry_text number entry.now)) }
 {
-    let name = &builtin.name;
-    let path = &builtin.path;
+    let caller = entry.caller;
+    push_value(text, format_args!("{number} {caller} "))?;
+    push_event(text, &entry.event)?;
+    push(text, " => ")?;
+    push_replied(text, &entry.reply)
+}
+
+/// Puts a line for each builtin capability at the end.
+fn push_builtins(text: &mut String, builtins: &[Builtin]) -> Result<(), Memory>
+    ensures { OnOk result (Gains text.old text.new (flat_map spec.builtin_line builtins.now)) }
+{
+    for builtin in builtins {
+        push_builtin(text, builtin)?;
+        push(text, "\n")?;
+    }
+    Ok(())
+}
+
+/// Puts the builtin capability at the end, as its line says it.
+fn push_builtin(text: &mut String, builtin: &Builtin) -> Result<(), Memory>
+    ensures { OnOk result (Gains text.old text.new (spec.builtin_text builtin.now)) }
+{
+    push(text, "builtin ")?;
+    push_words(text, builtin)
+}
+
+/// Puts the builtin capability at the end, behind its first word.
+fn push_words(text: &mut String, builtin: &Builtin) -> Result<(), Memory>
+    ensures { OnOk result (Gains text.old text.new
+        (spec.builtin_words builtin.now.kind builtin.now)) }
+{
     match builtin.kind {
-        Kind::Protocol => written(alloc, format_args!("builtin protocol {name}")),
+        Kind::Protocol => {
+            push(text, "protocol ")?;
+            push(text, builtin.name.as_str())
+        }
         Kind::Directory => {
-            let rights = provided_text(alloc, builtin.rights)?;
-            written(
-                alloc,
-                format_args!("builtin directory {name} {path}{rights}"),
-            )
+            push(text, "directory ")?;
+            push(text, builtin.name.as_str())?;
+            push(text, " ")?;
+            push_served(text, builtin)
         }
     }
 }
 
-/// The rights of a directory behind a space; nothing where it has none.
-fn provided_text(alloc: Global, rights: Option<Rights>) -> Result<Text, Memory>
-    ensures { IfOk result (λ text. text ≡ when_some spec.provided_rights rights) }
+/// Puts the path of a directory at the end, and its rights behind a space, where it has some.
+fn push_served(text: &mut String, builtin: &Builtin) -> Result<(), Memory>
+    ensures { OnOk result (Gains text.old text.new
+        (builtin.now.path ++ when_some spec.provided_rights builtin.now.rights)) }
+{
+    push(text, builtin.path.as_str())?;
+    push_provided(text, builtin.rights)
+}
+
+/// Puts the rights of a directory at the end, behind a space; nothing where it has none.
+fn push_provided(text: &mut String, rights: Option<Rights>) -> Result<(), Memory>
+    ensures { OnOk result (Gains text.old text.new (when_some spec.provided_rights rights)) }
 {
     match rights {
-        None => Ok(Text::new(alloc)),
+        None => Ok(()),
         Some(rights) => {
-            let words = rights.text(alloc)?;
-            written(alloc, format_args!(" {words}"))
+            let words = rights.text(*text.allocator())?;
+            push_value(text, format_args!(" {words}"))
         }
     }
 }

@@ -31,5 +31,5 @@ mod routes;
 mod states;
 mod words;
 
-pub use answers::reply_text;
-pub use journal::{entry_text, header_text};
+pub use answers::{push_reply, reply_text};
+pub use journal::{entry_text, header_text, push_entry};

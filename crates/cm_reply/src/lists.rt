@@ -1,58 +1,109 @@
 //! Texts of lists.
 
-ghost use Rattle.std.specs.Prelude.{◌≡◌, ◌++◌, IfOk, OnOk, IfSome};
+ghost use Rattle.std.specs.Prelude.{◌≡◌, [], string_bytes, IfOk, OnOk, IfSome};
+ghost use Rattle.cm_names.specs.Moniker.{moniker_text};
 ghost use Rattle.cm_reply.specs.Lists as spec;
+ghost use Rattle.cm_reply.specs.Lists.{Gains};
 
-use cm_names::{Memory, Text};
+use cm_names::{ChildName, Memory, Moniker};
 use std::alloc::Global;
 use std::fmt;
 
+/// So many bytes a text has room for at first: most answers and lines of a journal are shorter.
+const FIRST_ROOM: usize = 128;
+
+/// An empty string with room for most texts. `Err` where memory runs out.
+pub fn roomy(alloc: Global) -> Result<String, Memory>
+    ensures { IfOk result (λ text. string_bytes text ≡ []) }
+{
+    Ok(String::with_capacity(alloc, FIRST_ROOM)?)
+}
+
 /// What stands in a list that is written.
 pub trait Item {
-    ghost use Rattle.std.specs.Prelude.{◌≡◌, List as Seq, ℕ, IfOk};
+    ghost use Rattle.std.specs.Prelude.{List as Seq, ℕ, OnOk};
+    ghost use Rattle.cm_reply.specs.Lists.{Gains};
 
     // The text of the item.
     ghost written: { Self → Seq ℕ };
 
-    /// The text of the item. `Err` where memory runs out.
-    fn text(&self, alloc: Global) -> Result<Text, Memory>
-        ensures { IfOk result (λ text. text ≡ written self.now) };
+    /// Puts the text of the item at the end. `Err` where memory runs out.
+    fn push_to(&self, text: &mut String) -> Result<(), Memory>
+        ensures { OnOk result (Gains text.old text.new (written self.now)) };
 }
 
-/// What `{}` writes of the value. `Err` where memory runs out.
-pub fn written<D: fmt::Display + Drop>(alloc: Global, value: D) -> Result<Text, Memory>
-    ensures { IfOk result (λ text. IfSome (D.output value) (λ bytes. text ≡ bytes)) }
+/// Puts these words at the end. `Err` where memory runs out.
+pub fn push(text: &mut String, words: &str) -> Result<(), Memory>
+    ensures { OnOk result (Gains text.old text.new words.now) }
 {
-    Ok(Text::from_string(value.to_string(alloc)?))
+    text.push_str(words)?;
+    Ok(())
+}
+
+/// Puts what `{}` writes of the value at the end. `Err` where memory runs out.
+pub fn push_value<D: fmt::Display + Drop>(text: &mut String, value: D) -> Result<(), Memory>
+    ensures { OnOk result (IfSome (D.output value) (Gains text.old text.new)) }
+{
+    text.write(value)?;
+    Ok(())
+}
+
+/// It is written as its name, or as `COLLECTION:NAME`.
+impl Item for ChildName {
+    ghost use Rattle.cm_names.specs.Child.{child_text};
+
+    ghost written = { child_text };
+
+    fn push_to(&self, text: &mut String) -> Result<(), Memory> {
+        match &self.coll {
+            None => push(text, self.name.as_str()),
+            Some(coll) => {
+                push(text, coll.as_str())?;
+                push(text, ":")?;
+                push(text, self.name.as_str())
+            }
+        }
+    }
+}
+
+/// Puts names of children at the end, with slashes between them; a dot for none.
+fn push_parts(text: &mut String, parts: &[ChildName]) -> Result<(), Memory>
+    ensures { OnOk result (Gains text.old text.new (spec.parts_text parts.now)) }
+{
+    let [first, others @ ..] = parts else {
+        return push(text, ".");
+    };
+    first.push_to(text)?;
+    push_each(text, "/", others)
+}
+
+/// Puts where an instance stands at the end. `Err` where memory runs out.
+pub fn push_moniker(text: &mut String, moniker: &Moniker) -> Result<(), Memory>
+    ensures { OnOk result (Gains text.old text.new (moniker_text moniker.now)) }
+{
+    push_parts(text, moniker.parts.as_slice())
 }
 
 /// Puts the text of each item, behind that mark, at the end. `Err` where memory runs out.
-pub fn push_each<T: Item>(
-    alloc: Global,
-    text: &mut Text,
-    mark: &str,
-    items: &[T],
-) -> Result<(), Memory>
-    ensures { OnOk result (text.new ≡ text.old ++ spec.each_behind mark.now T.written items.now) }
+pub fn push_each<T: Item>(text: &mut String, mark: &str, items: &[T]) -> Result<(), Memory>
+    ensures { OnOk result (Gains text.old text.new (spec.each_behind mark.now T.written items.now)) }
 {
     for item in items {
-        let item = item.text(alloc)?;
-        text.push_str(mark)?;
-        text.push_str(item.as_str())?;
+        push(text, mark)?;
+        item.push_to(text)?;
     }
     Ok(())
 }
 
 /// Puts the text of each item, behind a space and between brackets, at the end. `Err` where
 /// memory runs out.
-pub fn push_bracketed<T: Item>(alloc: Global, text: &mut Text, items: &[T]) -> Result<(), Memory>
-    ensures { OnOk result (text.new ≡ text.old ++ spec.bracketed T.written items.now) }
+pub fn push_bracketed<T: Item>(text: &mut String, items: &[T]) -> Result<(), Memory>
+    ensures { OnOk result (Gains text.old text.new (spec.bracketed T.written items.now)) }
 {
     for item in items {
-        let item = item.text(alloc)?;
-        text.push_str(" [")?;
-        text.push_str(item.as_str())?;
-        text.push_str("]")?;
+        push(text, " [")?;
+        item.push_to(text)?;
+        push(text, "]")?;
     }
     Ok(())
 }

@@ -1,50 +1,55 @@
 //! The texts of replies to events.
 
-ghost use Rattle.std.specs.Prelude.{◌≡◌, ◌++◌, length, codes, decimal, IfOk};
-ghost use Rattle.cm_reply.specs.Lists.{bracketed};
+ghost use Rattle.std.specs.Prelude.{◌++◌, length, codes, decimal, OnOk};
+ghost use Rattle.cm_reply.specs.Lists.{Gains, bracketed};
 ghost use Rattle.cm_reply.specs.Replies as spec;
 
-use crate::lists::{Item, push_bracketed, push_each, written};
-use crate::refusals::cycle_text;
-use crate::routes::{failure_text, route_text};
-use crate::states::{look_text, outcome_text};
-use crate::words::{numbered, numbers, worded};
-use cm_names::{Memory, Text};
+use crate::lists::{Item, push, push_bracketed, push_each, push_moniker, push_value};
+use crate::refusals::push_cycle;
+use crate::routes::{push_failure, push_route};
+use crate::states::{push_look, push_outcome};
+use crate::words::{push_number, push_numbers};
+use cm_names::Memory;
 use cm_world::Reply;
-use std::alloc::Global;
 
-/// The reply as a journal has it. `Err` where memory runs out.
-pub fn replied_text(alloc: Global, reply: &Reply) -> Result<Text, Memory>
-    ensures { IfOk result (λ text. text ≡ spec.replied_text reply.now) }
+/// Puts the reply at the end as a journal has it. `Err` where memory runs out.
+pub fn push_replied(text: &mut String, reply: &Reply) -> Result<(), Memory>
+    ensures { OnOk result (Gains text.old text.new (spec.replied_text reply.now)) }
 {
     match reply {
-        Reply::Found(inc) => numbered(alloc, "found", *inc),
-        Reply::Need(inc) => numbered(alloc, "need", *inc),
-        Reply::Shut(inc) => numbered(alloc, "shut", *inc),
-        Reply::Gone(inc) => numbered(alloc, "gone", *inc),
-        Reply::NotFound(moniker) => worded(alloc, "not-found", moniker.write(alloc)?),
-        Reply::Begun(work) => numbered(alloc, "begun", work.action),
-        Reply::Joined(action) => numbered(alloc, "joined", *action),
-        Reply::Already => Text::from_str(alloc, "already"),
-        Reply::Ended(outcome) => worded(alloc, "ended", outcome_text(alloc, *outcome)?),
-        Reply::Created(inc) => numbered(alloc, "created", *inc),
-        Reply::Closing(inc) => numbered(alloc, "closing", *inc),
-        Reply::NoCollection => Text::from_str(alloc, "no-collection"),
-        Reply::Exists(inc) => numbered(alloc, "exists", *inc),
-        Reply::OffersRefused => Text::from_str(alloc, "offers-refused"),
-        Reply::BadOffer(index, number) => {
-            numbers(alloc, "bad-offer", u64::from(*index), u64::from(*number))
+        Reply::Found(inc) => push_number(text, "found", *inc),
+        Reply::Need(inc) => push_number(text, "need", *inc),
+        Reply::Shut(inc) => push_number(text, "shut", *inc),
+        Reply::Gone(inc) => push_number(text, "gone", *inc),
+        Reply::NotFound(moniker) => {
+            push(text, "not-found ")?;
+            push_moniker(text, moniker)
         }
-        Reply::Cycle(nodes) => cycle_text(alloc, "cycle", nodes.as_slice()),
-        Reply::Full => Text::from_str(alloc, "full"),
-        Reply::Marked => Text::from_str(alloc, "marked"),
-        Reply::NotDynamic => Text::from_str(alloc, "not-dynamic"),
-        Reply::Done => Text::from_str(alloc, "done"),
-        Reply::Stopping(work) => numbers(alloc, "stopping", work.inc, work.action),
-        Reply::ShutDown(inc) => numbered(alloc, "shutdown", *inc),
-        Reply::Purged(lost) => numbered(alloc, "purged", lost.len() as u64),
-        Reply::PurgedBefore => Text::from_str(alloc, "purged-before"),
-        _ => other_text(alloc, reply),
+        Reply::Begun(work) => push_number(text, "begun", work.action),
+        Reply::Joined(action) => push_number(text, "joined", *action),
+        Reply::Already => push(text, "already"),
+        Reply::Ended(outcome) => {
+            push(text, "ended ")?;
+            push_outcome(text, *outcome)
+        }
+        Reply::Created(inc) => push_number(text, "created", *inc),
+        Reply::Closing(inc) => push_number(text, "closing", *inc),
+        Reply::NoCollection => push(text, "no-collection"),
+        Reply::Exists(inc) => push_number(text, "exists", *inc),
+        Reply::OffersRefused => push(text, "offers-refused"),
+        Reply::BadOffer(index, number) => {
+            push_numbers(text, "bad-offer", u64::from(*index), u64::from(*number))
+        }
+        Reply::Cycle(nodes) => push_cycle(text, "cycle", nodes.as_slice()),
+        Reply::Full => push(text, "full"),
+        Reply::Marked => push(text, "marked"),
+        Reply::NotDynamic => push(text, "not-dynamic"),
+        Reply::Done => push(text, "done"),
+        Reply::Stopping(work) => push_numbers(text, "stopping", work.inc, work.action),
+        Reply::ShutDown(inc) => push_number(text, "shutdown", *inc),
+        Reply::Purged(lost) => push_number(text, "purged", lost.len() as u64),
+        Reply::PurgedBefore => push(text, "purged-before"),
+        _ => push_other(text, reply),
     }
 }
 
@@ -54,46 +59,59 @@ impl Item for u64 {
 
     ghost written = { decimal };
 
-    fn text(&self, alloc: Global) -> Result<Text, Memory> {
-        written(alloc, *self)
+    fn push_to(&self, text: &mut String) -> Result<(), Memory> {
+        push_value(text, *self)
     }
 }
 
-/// The reply, where it is one that tells of routes, of lists and looks, of programs that have
-/// ended, or of what is left to be removed.
-fn other_text(alloc: Global, reply: &Reply) -> Result<Text, Memory>
-    ensures { IfOk result (λ text. text ≡ spec.other_text reply.now) }
+/// Puts the reply at the end, where it is one that tells of routes, of lists and looks, of programs
+/// that have ended, or of what is left to be removed.
+fn push_other(text: &mut String, reply: &Reply) -> Result<(), Memory>
+    ensures { OnOk result (Gains text.old text.new (spec.other_text reply.now)) }
 {
     match reply {
-        Reply::NoSuchUse => Text::from_str(alloc, "no-such-use"),
-        Reply::ClientOff => Text::from_str(alloc, "client-off"),
-        Reply::SourceShut(inc) => numbered(alloc, "source-shut", *inc),
-        Reply::NeedStart(inc) => numbered(alloc, "need-start", *inc),
-        Reply::Failed(hop, why) => worded(alloc, "failed", failure_text(alloc, hop.get(), *why)?),
-        Reply::Void(hop) => worded(alloc, "void at", hop.get().text(alloc)?),
-        Reply::Given(route) => worded(alloc, "given", route_text(alloc, route.get())?),
-        Reply::Opened(route) => worded(alloc, "opened", route_text(alloc, route.get())?),
-        Reply::Listed(kids) => listed_text(alloc, "listed", kids.as_slice()),
-        Reply::Shown(look) => worded(alloc, "shown", look_text(alloc, look)?),
-        Reply::Surveyed(rows) => listed_text(alloc, "surveyed", rows.as_slice()),
-        Reply::Left(_) => Text::from_str(alloc, "left"),
-        Reply::Tailed(count) => numbered(alloc, "tailed", *count),
-        Reply::Reaping(incs) => {
-            let mut text = Text::from_str(alloc, "reaping")?;
-            push_each(alloc, &mut text, " ", incs.as_slice())?;
-            Ok(text)
+        Reply::NoSuchUse => push(text, "no-such-use"),
+        Reply::ClientOff => push(text, "client-off"),
+        Reply::SourceShut(inc) => push_number(text, "source-shut", *inc),
+        Reply::NeedStart(inc) => push_number(text, "need-start", *inc),
+        Reply::Failed(hop, why) => {
+            push(text, "failed ")?;
+            push_failure(text, hop.get(), *why)
         }
-        _ => Ok(Text::new(alloc)),
+        Reply::Void(hop) => {
+            push(text, "void at ")?;
+            hop.get().push_to(text)
+        }
+        Reply::Given(route) => {
+            push(text, "given ")?;
+            push_route(text, route.get())
+        }
+        Reply::Opened(route) => {
+            push(text, "opened ")?;
+            push_route(text, route.get())
+        }
+        Reply::Listed(kids) => push_listed(text, "listed", kids.as_slice()),
+        Reply::Shown(look) => {
+            push(text, "shown ")?;
+            push_look(text, look)
+        }
+        Reply::Surveyed(rows) => push_listed(text, "surveyed", rows.as_slice()),
+        Reply::Left(_) => push(text, "left"),
+        Reply::Tailed(count) => push_number(text, "tailed", *count),
+        Reply::Reaping(incs) => {
+            push(text, "reaping")?;
+            push_each(text, " ", incs.as_slice())
+        }
+        _ => Ok(()),
     }
 }
 
-/// The word, how many items there are, and each between brackets.
-fn listed_text<T: Item>(alloc: Global, word: &str, items: &[T]) -> Result<Text, Memory>
-    ensures { IfOk result (λ text. text ≡ word.now ++ (codes " "
-        ++ (decimal (length items.now) ++ bracketed T.written items.now))) }
+/// Puts the word, how many items there are, and each between brackets at the end.
+fn push_listed<T: Item>(text: &mut String, word: &str, items: &[T]) -> Result<(), Memory>
+    ensures { OnOk result (Gains text.old text.new (word.now ++ (codes " "
+        ++ (decimal (length items.now) ++ bracketed T.written items.now)))) }
 {
     let count = items.len();
-    let mut list = Text::new(alloc);
-    push_bracketed(alloc, &mut list, items)?;
-    written(alloc, format_args!("{word} {count}{list}"))
+    push_value(text, format_args!("{word} {count}"))?;
+    push_bracketed(text, items)
 }

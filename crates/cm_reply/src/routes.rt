@@ -1,13 +1,13 @@
 //! The texts of routes.
 
-ghost use Rattle.std.specs.Prelude.{◌≡◌, codes, IfOk};
-ghost use Rattle.cm_reply.specs.Lists.{joined_by, when_some};
+ghost use Rattle.std.specs.Prelude.{◌≡◌, codes, OnOk};
+ghost use Rattle.cm_reply.specs.Lists.{Gains, joined_by, when_some};
 ghost use Rattle.cm_reply.specs.Routes as spec;
 
-use crate::lists::{Item, push_each, written};
-use cm_names::{Memory, Rights, Text};
+use crate::lists::{Item, push, push_each, push_moniker};
+use crate::words::push_incarnation;
+use cm_names::{Memory, Rights};
 use cm_world::{Hop, Provider, Route, StepKind, Why};
-use std::alloc::Global;
 
 /// The word for a hop.
 fn step_word(step: StepKind) -> &'static str
@@ -43,78 +43,80 @@ impl Item for Hop {
 
     ghost written = { hop_text };
 
-    fn text(&self, alloc: Global) -> Result<Text, Memory> {
-        let moniker = self.moniker.write(alloc)?;
-        let word = step_word(self.step);
-        written(alloc, format_args!("{word} {moniker}"))
+    fn push_to(&self, text: &mut String) -> Result<(), Memory> {
+        push(text, step_word(self.step))?;
+        push(text, " ")?;
+        push_moniker(text, &self.moniker)
     }
 }
 
-/// The hops, with commas between them.
-fn hops_text(alloc: Global, hops: &[Hop]) -> Result<Text, Memory>
-    ensures { IfOk result (λ text. text ≡ joined_by (codes ", ") spec.hop_text hops.now) }
+/// Puts the hops at the end, with commas between them.
+fn push_hops(text: &mut String, hops: &[Hop]) -> Result<(), Memory>
+    ensures { OnOk result (Gains text.old text.new (joined_by (codes ", ") spec.hop_text hops.now)) }
 {
     let [first, others @ ..] = hops else {
-        return Ok(Text::new(alloc));
+        return Ok(());
     };
-    let mut text = first.text(alloc)?;
-    push_each(alloc, &mut text, ", ", others)?;
-    Ok(text)
+    first.push_to(text)?;
+    push_each(text, ", ", others)
 }
 
-/// Who provides the capability.
-fn source_text(alloc: Global, provider: &Provider) -> Result<Text, Memory>
-    ensures { IfOk result (λ text. text ≡ spec.source_text provider.now) }
+/// Puts who provides the capability at the end.
+fn push_source(text: &mut String, provider: &Provider) -> Result<(), Memory>
+    ensures { OnOk result (Gains text.old text.new (spec.source_text provider.now)) }
 {
     match provider {
         Provider::Instance(inc, moniker) => {
-            let moniker = moniker.write(alloc)?;
-            written(alloc, format_args!("{moniker} incarnation {inc}"))
+            push_moniker(text, moniker)?;
+            push_incarnation(text, *inc)
         }
-        Provider::Framework => Text::from_str(alloc, "framework"),
-        Provider::Builtin => Text::from_str(alloc, "builtin"),
+        Provider::Framework => push(text, "framework"),
+        Provider::Builtin => push(text, "builtin"),
     }
 }
 
-/// The rights that a directory is opened with, behind ` rights `; nothing for a protocol.
-fn rights_text(alloc: Global, rights: Option<Rights>) -> Result<Text, Memory>
-    ensures { IfOk result (λ text. text ≡ when_some spec.rights_words rights) }
+/// Puts the rights that a directory is opened with at the end, behind ` rights `; nothing for a
+/// protocol.
+fn push_rights(text: &mut String, rights: Option<Rights>) -> Result<(), Memory>
+    ensures { OnOk result (Gains text.old text.new (when_some spec.rights_words rights)) }
 {
     match rights {
-        None => Ok(Text::new(alloc)),
+        None => Ok(()),
         Some(rights) => {
-            let words = rights.text(alloc)?;
-            written(alloc, format_args!(" rights {words}"))
+            let words = rights.text(*text.allocator())?;
+            push(text, " rights ")?;
+            push(text, words.as_str())
         }
     }
 }
 
-/// Where the route leads: `PATH at SOURCE`, with ` rights RIGHTS` for a directory. `Err` where
-/// memory runs out.
-pub fn place_text(alloc: Global, route: &Route) -> Result<Text, Memory>
-    ensures { IfOk result (λ text. text ≡ spec.place_text route.now) }
+/// Puts at the end where the route leads: `PATH at SOURCE`, with ` rights RIGHTS` for a directory.
+/// `Err` where memory runs out.
+pub fn push_place(text: &mut String, route: &Route) -> Result<(), Memory>
+    ensures { OnOk result (Gains text.old text.new (spec.place_text route.now)) }
 {
-    let path = &route.path;
-    let source = source_text(alloc, &route.provider)?;
-    let rights = rights_text(alloc, route.rights)?;
-    written(alloc, format_args!("{path} at {source}{rights}"))
+    push(text, route.path.as_str())?;
+    push(text, " at ")?;
+    push_source(text, &route.provider)?;
+    push_rights(text, route.rights)
 }
 
-/// Where the route leads, then ` through ` and its hops, with commas between them. `Err` where
-/// memory runs out.
-pub fn route_text(alloc: Global, route: &Route) -> Result<Text, Memory>
-    ensures { IfOk result (λ text. text ≡ spec.route_text route.now) }
+/// Puts at the end where the route leads, then ` through ` and its hops, with commas between them.
+/// `Err` where memory runs out.
+pub fn push_route(text: &mut String, route: &Route) -> Result<(), Memory>
+    ensures { OnOk result (Gains text.old text.new (spec.route_text route.now)) }
 {
-    let place = place_text(alloc, route)?;
-    let hops = hops_text(alloc, route.hops.as_slice())?;
-    written(alloc, format_args!("{place} through {hops}"))
+    push_place(text, route)?;
+    push(text, " through ")?;
+    push_hops(text, route.hops.as_slice())
 }
 
-/// Why there is no route: `WHY at HOP`, with the hop that fails. `Err` where memory runs out.
-pub fn failure_text(alloc: Global, hop: &Hop, why: Why) -> Result<Text, Memory>
-    ensures { IfOk result (λ text. text ≡ spec.failure_text hop.now why) }
+/// Puts at the end why there is no route: `WHY at HOP`, with the hop that fails. `Err` where memory
+/// runs out.
+pub fn push_failure(text: &mut String, hop: &Hop, why: Why) -> Result<(), Memory>
+    ensures { OnOk result (Gains text.old text.new (spec.failure_text hop.now why)) }
 {
-    let hop = hop.text(alloc)?;
-    let word = why_word(why);
-    written(alloc, format_args!("{word} at {hop}"))
+    push(text, why_word(why))?;
+    push(text, " at ")?;
+    hop.push_to(text)
 }

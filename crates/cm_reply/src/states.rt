@@ -1,15 +1,14 @@
 //! The texts of actions and of the states of instances.
 
-ghost use Rattle.std.specs.Prelude.{◌≡◌, ◌++◌, codes, IfOk};
-ghost use Rattle.cm_reply.specs.Lists.{when, when_some};
+ghost use Rattle.std.specs.Prelude.{◌≡◌, ◌++◌, codes, OnOk};
+ghost use Rattle.cm_reply.specs.Lists.{Gains, when, when_some};
 ghost use Rattle.cm_reply.specs.States as spec;
 
-use crate::lists::{Item, written};
-use crate::words::standing;
+use crate::lists::{Item, push, push_moniker, push_value};
+use crate::words::push_incarnation;
 use cm_names::{Memory, Text};
 use cm_read::ReadFault;
 use cm_world::{ActKind, FaultNote, Kid, Look, Outcome, SurveyRow};
-use std::alloc::Global;
 
 /// The word for an action.
 pub fn act_word(kind: ActKind) -> &'static str
@@ -22,36 +21,36 @@ pub fn act_word(kind: ActKind) -> &'static str
     }
 }
 
-/// The fault of a manifest, as `invalid 51 offer 0`.
-fn note_text(alloc: Global, note: FaultNote) -> Result<Text, Memory>
-    ensures { IfOk result (λ text. text ≡ spec.note_text note) }
+/// Puts the fault of a manifest at the end, as `invalid 51 offer 0`.
+fn push_note(text: &mut String, note: FaultNote) -> Result<(), Memory>
+    ensures { OnOk result (Gains text.old text.new (spec.note_text note)) }
 {
     let fault = ReadFault::Bad {
         number: note.number,
         section: note.section,
         index: note.index,
-        field: Text::new(alloc),
+        field: Text::new(*text.allocator()),
     };
-    written(alloc, fault)
+    push_value(text, fault)
 }
 
-/// What became of an action: a word, and for a manifest that isn't valid its fault. `Err` where
-/// memory runs out.
-pub fn outcome_text(alloc: Global, outcome: Outcome) -> Result<Text, Memory>
-    ensures { IfOk result (λ text. text ≡ spec.outcome_text outcome) }
+/// Puts at the end what became of an action: a word, and for a manifest that isn't valid its fault.
+/// `Err` where memory runs out.
+pub fn push_outcome(text: &mut String, outcome: Outcome) -> Result<(), Memory>
+    ensures { OnOk result (Gains text.old text.new (spec.outcome_text outcome)) }
 {
     match outcome {
-        Outcome::Resolved => Text::from_str(alloc, "resolved"),
-        Outcome::Started => Text::from_str(alloc, "started"),
-        Outcome::Stopped => Text::from_str(alloc, "stopped"),
-        Outcome::Killed => Text::from_str(alloc, "killed"),
-        Outcome::Absent => Text::from_str(alloc, "absent"),
-        Outcome::BadUrl => Text::from_str(alloc, "bad-url"),
-        Outcome::Invalid(note) => note_text(alloc, note),
-        Outcome::Declined => Text::from_str(alloc, "declined"),
-        Outcome::GateFailed => Text::from_str(alloc, "gate-failed"),
-        Outcome::Full => Text::from_str(alloc, "full"),
-        Outcome::NoMemory => Text::from_str(alloc, "no-memory"),
+        Outcome::Resolved => push(text, "resolved"),
+        Outcome::Started => push(text, "started"),
+        Outcome::Stopped => push(text, "stopped"),
+        Outcome::Killed => push(text, "killed"),
+        Outcome::Absent => push(text, "absent"),
+        Outcome::BadUrl => push(text, "bad-url"),
+        Outcome::Invalid(note) => push_note(text, note),
+        Outcome::Declined => push(text, "declined"),
+        Outcome::GateFailed => push(text, "gate-failed"),
+        Outcome::Full => push(text, "full"),
+        Outcome::NoMemory => push(text, "no-memory"),
     }
 }
 
@@ -74,43 +73,39 @@ pub fn when(holds: bool, text: &'static str) -> &'static str
     if holds { text } else { "" }
 }
 
-/// The action that hasn't ended, behind ` pending `; nothing where there is none.
-fn pending_text(alloc: Global, pending: Option<ActKind>) -> Result<Text, Memory>
-    ensures { IfOk result (λ text. text ≡ when_some spec.pending_words pending) }
+/// Puts the action that hasn't ended at the end, behind ` pending `; nothing where there is none.
+fn push_pending(text: &mut String, pending: Option<ActKind>) -> Result<(), Memory>
+    ensures { OnOk result (Gains text.old text.new (when_some spec.pending_words pending)) }
 {
     match pending {
-        None => Ok(Text::new(alloc)),
+        None => Ok(()),
         Some(kind) => {
-            let word = act_word(kind);
-            written(alloc, format_args!(" pending {word}"))
+            push(text, " pending ")?;
+            push(text, act_word(kind))
         }
     }
 }
 
-/// How an instance is, as `resolved on closing pending stop`. `Err` where memory runs out.
-pub fn look_text(alloc: Global, look: &Look) -> Result<Text, Memory>
-    ensures { IfOk result (λ text. text ≡ spec.look_text look.now) }
+/// Puts at the end how an instance is, as `resolved on closing pending stop`. `Err` where memory
+/// runs out.
+pub fn push_look(text: &mut String, look: &Look) -> Result<(), Memory>
+    ensures { OnOk result (Gains text.old text.new (spec.look_text look.now)) }
 {
-    let resolved = resolved_word(look.resolved);
-    let on = on_word(look.on);
-    let closing = when(look.closing, " closing");
-    let shut = when(look.shut, " shut");
-    let pending = pending_text(alloc, look.pending)?;
-    written(
-        alloc,
-        format_args!("{resolved}{on}{closing}{shut}{pending}"),
-    )
+    push(text, resolved_word(look.resolved))?;
+    push(text, on_word(look.on))?;
+    push(text, when(look.closing, " closing"))?;
+    push(text, when(look.shut, " shut"))?;
+    push_pending(text, look.pending)
 }
 
-/// How an instance of a survey is. `Err` where memory runs out.
-fn state_text(alloc: Global, row: &SurveyRow) -> Result<Text, Memory>
-    ensures { IfOk result (λ text. text ≡ spec.resolved_word row.now.resolved
-        ++ (spec.on_word row.now.on ++ when row.now.shut (codes " shut"))) }
+/// Puts at the end how an instance of a survey is.
+fn push_state(text: &mut String, row: &SurveyRow) -> Result<(), Memory>
+    ensures { OnOk result (Gains text.old text.new (spec.resolved_word row.now.resolved
+        ++ (spec.on_word row.now.on ++ when row.now.shut (codes " shut")))) }
 {
-    let resolved = resolved_word(row.resolved);
-    let on = on_word(row.on);
-    let shut = when(row.shut, " shut");
-    written(alloc, format_args!("{resolved}{on}{shut}"))
+    push(text, resolved_word(row.resolved))?;
+    push(text, on_word(row.on))?;
+    push(text, when(row.shut, " shut"))
 }
 
 /// It is written as `MONIKER incarnation N` and how it is.
@@ -119,10 +114,11 @@ impl Item for SurveyRow {
 
     ghost written = { survey_text };
 
-    fn text(&self, alloc: Global) -> Result<Text, Memory> {
-        let state = state_text(alloc, self)?;
-        let moniker = self.moniker.write(alloc)?;
-        standing(alloc, moniker.as_str(), self.inc, state.as_str())
+    fn push_to(&self, text: &mut String) -> Result<(), Memory> {
+        push_moniker(text, &self.moniker)?;
+        push_incarnation(text, self.inc)?;
+        push(text, " ")?;
+        push_state(text, self)
     }
 }
 
@@ -132,9 +128,8 @@ impl Item for Kid {
 
     ghost written = { kid_text };
 
-    fn text(&self, alloc: Global) -> Result<Text, Memory> {
-        let name = &self.name;
-        let inc = self.inc;
-        written(alloc, format_args!("{name} incarnation {inc}"))
+    fn push_to(&self, text: &mut String) -> Result<(), Memory> {
+        push(text, self.name.as_str())?;
+        push_incarnation(text, self.inc)
     }
 }

@@ -1,54 +1,38 @@
 //! Words, and what belongs to them.
 
-ghost use Rattle.std.specs.Prelude.{◌≡◌, ◌++◌, codes, decimal, IfOk};
+ghost use Rattle.std.specs.Prelude.{◌++◌, codes, decimal, OnOk};
+ghost use Rattle.cm_reply.specs.Lists.{Gains};
 ghost use Rattle.cm_reply.specs.States.{incarnation_text};
 
-use crate::lists::written;
-use cm_names::{Memory, Text};
-use std::alloc::Global;
+use crate::lists::push_value;
+use cm_names::Memory;
 
-/// The words and the number. `Err` where memory runs out.
-pub fn numbered(alloc: Global, words: &str, number: u64) -> Result<Text, Memory>
-    ensures { IfOk result (λ text. text ≡ words.now ++ (codes " " ++ decimal number)) }
+/// Puts the words and the number at the end. `Err` where memory runs out.
+pub fn push_number(text: &mut String, words: &str, number: u64) -> Result<(), Memory>
+    ensures { OnOk result (Gains text.old text.new (words.now ++ (codes " " ++ decimal number))) }
 {
-    written(alloc, format_args!("{words} {number}"))
+    push_value(text, format_args!("{words} {number}"))
 }
 
-/// The words and two numbers. `Err` where memory runs out.
-pub fn numbers(alloc: Global, words: &str, first: u64, second: u64) -> Result<Text, Memory>
-    ensures { IfOk result (λ text. text ≡ words.now ++ (codes " " ++ (decimal first
-        ++ (codes " " ++ decimal second)))) }
+/// Puts the words and two numbers at the end. `Err` where memory runs out.
+pub fn push_numbers(text: &mut String, words: &str, first: u64, second: u64) -> Result<(), Memory>
+    ensures { OnOk result (Gains text.old text.new (words.now ++ (codes " " ++ (decimal first
+        ++ (codes " " ++ decimal second))))) }
 {
-    written(alloc, format_args!("{words} {first} {second}"))
+    push_value(text, format_args!("{words} {first} {second}"))
 }
 
-/// The words and a text. `Err` where memory runs out.
-pub fn worded(alloc: Global, words: &str, part: Text) -> Result<Text, Memory>
-    ensures { IfOk result (λ text. text ≡ words.now ++ (codes " " ++ part)) }
+/// Puts the words, a number and further words at the end. `Err` where memory runs out.
+pub fn push_noted(text: &mut String, words: &str, number: u64, note: &str) -> Result<(), Memory>
+    ensures { OnOk result (Gains text.old text.new (words.now ++ (codes " " ++ (decimal number
+        ++ (codes " " ++ note.now))))) }
 {
-    written(alloc, format_args!("{words} {part}"))
+    push_value(text, format_args!("{words} {number} {note}"))
 }
 
-/// The words, a number and a text. `Err` where memory runs out.
-pub fn noted(alloc: Global, words: &str, number: u64, part: &str) -> Result<Text, Memory>
-    ensures { IfOk result (λ text. text ≡ words.now ++ (codes " " ++ (decimal number
-        ++ (codes " " ++ part.now)))) }
+/// Puts the number of an instance at the end. `Err` where memory runs out.
+pub fn push_incarnation(text: &mut String, inc: u64) -> Result<(), Memory>
+    ensures { OnOk result (Gains text.old text.new (incarnation_text inc)) }
 {
-    written(alloc, format_args!("{words} {number} {part}"))
-}
-
-/// Who, its incarnation, and how it is. `Err` where memory runs out.
-pub fn standing(alloc: Global, who: &str, inc: u64, state: &str) -> Result<Text, Memory>
-    ensures { IfOk result (λ text. text ≡ who.now ++ (incarnation_text inc
-        ++ (codes " " ++ state.now))) }
-{
-    written(alloc, format_args!("{who} incarnation {inc} {state}"))
-}
-
-/// The words, who, and its incarnation. `Err` where memory runs out.
-pub fn named(alloc: Global, words: &str, who: &str, inc: u64) -> Result<Text, Memory>
-    ensures { IfOk result (λ text. text ≡ words.now ++ (codes " "
-        ++ (who.now ++ incarnation_text inc))) }
-{
-    written(alloc, format_args!("{words} {who} incarnation {inc}"))
+    push_value(text, format_args!(" incarnation {inc}"))
 }

@@ -4,6 +4,7 @@ use Rattle.cm_world.specs.World.{World, owed}
 use Rattle.cm_laws.specs.Story.{Story, world_of, IsLegal}
 use Rattle.cm_laws.specs.Tasks.{IsNumbered, IsTasked}
 use Rattle.cm_cache.specs.Beside.{IsBeside}
+use Rattle.cm_order.specs.Plans.{IsPlan}
 use Rattle.cm_steps.specs.Tasks.{is_open_resolve}
 use Rattle.cm_steps.specs.declared.realm.Realm.TheInside.{Inside}
 
@@ -29,7 +30,8 @@ pub record Stands (s : Story) (w : World) : Type 0 where
   pub world : world_of s ≡ w
 
 -- the fields are the tree that the book leaves; open resolves are counted, and room is kept for each of them
--- and for the entries that are owed; the keeper's answers are those of the book's history
+-- and for the entries that are owed; the keeper's answers are those of the book's history; what is known of
+-- levels holds in this tree
 pub record IsKept (a : Inside) : Type 0 where
   pub stands : Stands (story_of a) (world_in a)
   pub owes : a.book.reserved ≡ owed a.acts.items a.joins.items
@@ -41,3 +43,4 @@ pub record IsKept (a : Inside) : Type 0 where
   pub numbers : IsNumbered 1 a.acts.items
   pub tasks : IsTasked a.table.rows a.acts.items
   pub beside : IsBeside a.frame a.book.entries a.keeper
+  pub planned : IsPlan a.table.rows a.plan

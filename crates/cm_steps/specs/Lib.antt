@@ -1,4 +1,5 @@
 pub mod Tasks
+pub mod Planned
 pub mod Inside
 pub mod Rooms
 pub mod Steps

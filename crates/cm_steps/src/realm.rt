@@ -34,6 +34,7 @@ use crate::rooms::{add_join, copy_in_room, make_room, next_action, put_down};
 use cm_book::Book;
 use cm_cache::Keeper;
 use cm_names::{CapPath, List, Memory, Moniker, Name, Text};
+use cm_order::Plan;
 use cm_table::Table;
 use cm_turn::Storied;
 use cm_world::{Act, ActKind, Builtin, Entry, Event, Frame, Join, Limits, Reply};
@@ -51,6 +52,7 @@ pub struct Realm {
     joins: Vec<Join>,
     book: Book,
     keeper: Keeper,
+    plan: Plan,
 }
 
 impl Model for Realm {
@@ -105,6 +107,7 @@ impl Realm {
             joins: Vec::new(alloc),
             book: Book::new(alloc, limits.entries),
             keeper,
+            plan: Plan::new(alloc),
         })
     }
 
@@ -129,6 +132,7 @@ impl Realm {
             joins: _,
             book,
             keeper: _,
+            plan: _,
         } = self;
         book
     }
@@ -170,7 +174,13 @@ impl Realm {
                     event,
                     reply,
                 };
-                put_down(&mut self.book, &mut self.keeper, entry, false);
+                put_down(
+                    &mut self.book,
+                    &mut self.keeper,
+                    &mut self.plan,
+                    entry,
+                    false,
+                );
                 Ok(told)
             }
             Err(fault) => {
@@ -456,7 +466,13 @@ impl Realm {
             event: Event::Begin(kind, inc),
             reply: Reply::Joined(action),
         };
-        put_down(&mut self.book, &mut self.keeper, entry, false);
+        put_down(
+            &mut self.book,
+            &mut self.keeper,
+            &mut self.plan,
+            entry,
+            false,
+        );
         Ok(Reply::Joined(action))
     }
 
@@ -509,7 +525,13 @@ impl Realm {
                     event,
                     reply,
                 };
-                put_down(&mut self.book, &mut self.keeper, entry, false);
+                put_down(
+                    &mut self.book,
+                    &mut self.keeper,
+                    &mut self.plan,
+                    entry,
+                    false,
+                );
                 Ok(told)
             }
             Err(fault) => {
@@ -578,7 +600,13 @@ impl Realm {
             event: Event::Exited(inc),
             reply: Reply::Left(moniker),
         };
-        put_down(&mut self.book, &mut self.keeper, entry, doomed);
+        put_down(
+            &mut self.book,
+            &mut self.keeper,
+            &mut self.plan,
+            entry,
+            doomed,
+        );
         Ok(Reply::Left(told))
     }
 }

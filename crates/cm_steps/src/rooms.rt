@@ -16,10 +16,11 @@ ghost use Rattle.cm_world.specs.After.{joined};
 ghost use Rattle.cm_book.specs.Refusal.{Fits};
 ghost use Rattle.cm_table.specs.Change.{with_row};
 ghost use Rattle.cm_table.specs.Tree.{fit};
-ghost use Rattle.cm_cache.specs.Beside.{followed};
+ghost use Rattle.cm_cache.specs.Beside.{followed, is_emptied};
 ghost use Rattle.cm_dynamic.specs.Laws.{CanTake};
 ghost use Rattle.cm_steps.specs.Tasks as tasks;
 ghost use Rattle.cm_steps.specs.Rooms.{Lacks};
+ghost use Rattle.cm_steps.specs.Planned.{IsPlannedBy};
 
 use crate::copies::copied;
 use crate::nostep::NoStep;
@@ -29,6 +30,7 @@ use cm_book::Book;
 use cm_cache::Keeper;
 use cm_decl::Give;
 use cm_names::{List, Memory, Name, Plain, Text};
+use cm_order::Plan;
 use cm_table::{Table, TableFault};
 use cm_world::{Act, ActKind, Entry, Join};
 use std::alloc::Global;
@@ -56,14 +58,19 @@ pub fn copy_in_room<T: Plain>(book: &mut Book, value: &T) -> Result<T, NoStep>
 }
 
 /// Puts down an entry that asks for no use, in room that is reserved, and forgets the answers that
-/// are kept where it changes what walks read; whether it dooms an instance is told.
-pub fn put_down(book: &mut Book, keeper: &mut Keeper, entry: Entry, doomed: bool)
+/// are kept, and what is known of levels, where it changes what walks read; whether it dooms an
+/// instance is told.
+pub fn put_down(book: &mut Book, keeper: &mut Keeper, plan: &mut Plan, entry: Entry, doomed: bool)
     requires { 0 < book.old.reserved }
     ensures book { let entries = book.old.entries ++ entry ∷ [] in
         book.new ≡ record book.old { entries = entries; reserved = book.old.reserved - 1 } }
     ensures keeper { keeper.new ≡ followed entry.event entry.reply doomed keeper.old }
+    ensures plan { let emptied = is_emptied entry.event entry.reply doomed in
+        IsPlannedBy emptied plan.old plan.new }
 {
-    keeper.follow(&entry.event, &entry.reply, doomed);
+    if keeper.follow(&entry.event, &entry.reply, doomed) {
+        plan.forget();
+    }
     book.push_reserved(entry);
 }
 

@@ -1,5 +1,6 @@
 pub mod Tree
 pub mod Ready
+pub mod Offers
 pub mod Names
 pub mod Keys
 pub mod Slots

@@ -9,7 +9,7 @@ ghost use Rattle.cm_table.specs.Keys.{IsAt, IsPlace, Filled, Rising, alone, firs
 ghost use Rattle.cm_table.specs.Slots.{inc_of, slot_of, flat, slots_in, indexed_by, with_row_by};
 ghost use Rattle.cm_table.specs.declared.slot.Slot.{Slot as OneSlot};
 
-use crate::change::{Change, apply};
+use crate::change::Change;
 use crate::slot::{Index, Slot};
 use std::mem::swap;
 
@@ -28,7 +28,7 @@ fn first_of(block: &Block) -> u64
 {
     match block.slots.as_slice() {
         [] => 0,
-        [slot, ..] => slot.row.inc,
+        [slot, ..] => slot.inc(),
     }
 }
 
@@ -46,7 +46,7 @@ fn slots_upto(slots: &[Slot], inc: u64) -> usize
     requires { Rising inc_of slots.now }
     ensures { IsPlace inc_of alone slots.now inc result }
 {
-    slots.partition_point(|slot| slot.row.inc <= inc)
+    slots.partition_point(|slot| slot.inc() <= inc)
 }
 
 /// The place of the slot of that incarnation, among slots by rising ones.
@@ -60,7 +60,7 @@ fn place_at(slots: &[Slot], inc: u64) -> Option<usize>
         return None;
     }
     let slot = &slots[count - 1];
-    if slot.row.inc == inc {
+    if slot.inc() == inc {
         return Some(count - 1);
     }
     None
@@ -111,7 +111,7 @@ pub fn slot_in(blocks: &[Block], inc: u64) -> Option<&Slot>
 fn change(slot: &mut Slot, change: Change)
     ensures { slot.new ≡ with_row_by (change_row change) slot.old }
 {
-    apply(&mut slot.row, change);
+    slot.row.apply(change);
 }
 
 /// Changes the row of that incarnation, among slots by rising ones.

@@ -11,7 +11,9 @@
 //!
 //! A row is found by its incarnation in a logarithm of the number of rows, and so are a child by
 //! its name and the next child: rows stand in blocks by rising incarnations, which are searched by
-//! halves, and each row has an index of its children beside it. A resolve takes no memory and goes
+//! halves, and each row has an index of its children beside it. An offer is found by its target, its
+//! name there and its kind in a logarithm of the number of offers, since an order of them is made
+//! with each declaration before it is taken over. A resolve takes no memory and goes
 //! through the children that it brings; a removal goes down by last children, and takes a
 //! logarithm for each row, and the time to close the gap in the lists. Names are kept by an order
 //! and not by a hash: no choice of names can make a look-up slow.
@@ -20,6 +22,8 @@
 mod block;
 mod change;
 mod links;
+mod offers;
+mod ordered;
 pub mod prepared;
 mod reading;
 mod slot;

@@ -119,7 +119,7 @@ pub fn parent_in(blocks: &[Block], inc: u64) -> Option<u64>
 {
     match slot_in(blocks, inc) {
         None => None,
-        Some(slot) => slot.row.parent,
+        Some(slot) => slot.row.get().parent,
     }
 }
 
@@ -131,7 +131,7 @@ fn name_in(blocks: &[Block], inc: u64) -> Option<&ChildName>
 {
     match slot_in(blocks, inc) {
         None => None,
-        Some(slot) => slot.row.name.as_ref(),
+        Some(slot) => slot.row.get().name.as_ref(),
     }
 }
 

@@ -12,6 +12,7 @@ ghost use Rattle.cm_table.specs.Keys.{Each};
 ghost use Rattle.cm_table.specs.Slots.{rows_in, kids_at, named_at, with_row_by};
 ghost use Rattle.cm_table.specs.Numbering.{placed, numbered, IsBare};
 
+use crate::ordered::{OrderedDecl, OrderedRow};
 use crate::slot::{Index, Slot};
 use cm_decl::{Child, Decl};
 use cm_names::{ChildName, List, Memory, Shared, Text};
@@ -20,12 +21,12 @@ use std::alloc::Global;
 use std::marker::Model;
 
 /// A valid declaration and its absolute URL, with all the memory that a resolve needs to take
-/// them over: the rows of its children with their index, and for the history a copy of the URL
-/// and a share in the declaration.
+/// them over: the order of its offers, the rows of its children with their index, and for the
+/// history a copy of the URL and a share in the declaration.
 #[derive(Drop)]
 pub struct Prepared {
     absolute: Text,
-    decl: Shared<Decl>,
+    decl: OrderedDecl,
     kept_absolute: Text,
     kept_decl: Shared<Decl>,
     index: Index,
@@ -51,8 +52,8 @@ pub(crate) struct Parts {
     pub finish: Finish,
     /// The absolute URL, for the row.
     pub absolute: Text,
-    /// The declaration, for the row.
-    pub decl: Shared<Decl>,
+    /// The declaration with the order of its offers, for the row.
+    pub decl: OrderedDecl,
     /// The index of the children, for the slot.
     pub index: Index,
     /// The slots of the children.
@@ -65,7 +66,7 @@ impl Prepared {
         requires { IsValid decl }
         ensures { IfOk result (λ made. made ≡ record { absolute = absolute; decl = decl }) }
     {
-        let decl = Shared::new(alloc, decl)?;
+        let decl = OrderedDecl::make(alloc, decl)?;
         let made = made_for(alloc, &absolute, &decl)?;
         let Made {
             kept_absolute,
@@ -163,7 +164,7 @@ struct Made {
 
 /// What a valid declaration gets beside it: the copies for the history, and the rows of its
 /// children with their index.
-fn made_for(alloc: Global, absolute: &Text, decl: &Shared<Decl>) -> Result<Made, Memory>
+fn made_for(alloc: Global, absolute: &Text, decl: &OrderedDecl) -> Result<Made, Memory>
     requires { IsValid decl.now }
     ensures absolute { IfOk result (λ made. made.kept_absolute ≡ absolute.now) }
     ensures decl { IfOk result (λ made. made.kept_decl ≡ decl.now) }
@@ -178,7 +179,7 @@ fn made_for(alloc: Global, absolute: &Text, decl: &Shared<Decl>) -> Result<Made,
     let children = slots_of(alloc, decl.get().children.as_slice())?;
     let index = index_of(alloc, decl.get())?;
     let kept_absolute = absolute.clone()?;
-    let kept_decl = decl.clone()?;
+    let kept_decl = decl.share()?;
     Ok(Made {
         kept_absolute,
         kept_decl,
@@ -217,6 +218,7 @@ fn slots_of(alloc: Global, children: &[Child]) -> Result<Vec<Slot>, Memory>
     let mut slots = Vec::new(alloc);
     for child in children {
         let row = row_for(alloc, child)?;
+        let row = OrderedRow::new(alloc, row);
         slots.push(Slot { row, index: None })?;
     }
     Ok(slots)
@@ -252,8 +254,7 @@ fn index_of(alloc: Global, decl: &Decl) -> Result<Index, Memory>
 fn place_row(slot: &mut Slot, parent: u64, inc: u64)
     ensures { slot.new ≡ with_row_by (placed parent inc) slot.old }
 {
-    slot.row.inc = inc;
-    slot.row.parent = Some(parent);
+    slot.row.place(parent, inc);
 }
 
 /// Puts rows under their parent, by rising incarnations.

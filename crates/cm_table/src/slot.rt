@@ -12,8 +12,8 @@ ghost use Rattle.cm_table.specs.Keys.{Each, IsPlace, Rising, alone, nth};
 ghost use Rattle.cm_table.specs.Slots.{kids_at, named_at, kids_of, named_in};
 ghost use Rattle.cm_table.specs.Links.{unless, Rises};
 
+use crate::ordered::OrderedRow;
 use cm_names::{ChildName, Memory};
-use cm_world::Row;
 use std::alloc::Global;
 use std::collections::BTreeMap;
 
@@ -33,9 +33,18 @@ pub struct Index {
 #[derive(Drop)]
 pub struct Slot {
     /// The row.
-    pub row: Row,
+    pub row: OrderedRow,
     /// The index of its children.
     pub index: Option<Index>,
+}
+
+impl Slot {
+    /// The incarnation of the row.
+    pub fn inc(&self) -> u64
+        ensures { result ≡ self.now.row.inc }
+    {
+        self.row.get().inc
+    }
 }
 
 impl Index {

@@ -1,7 +1,7 @@
 //! Tables.
 
 ghost use Rattle.std.specs.Prelude.{◌≡◌, ◌+◌, ◌-◌, ◌≤◌, ◌<◌, ◌^◌, ◌==◌, ◌∷◌, ◌++◌, ◌↔◌, [], ℕ};
-ghost use Rattle.std.specs.Prelude.{length, true, false};
+ghost use Rattle.std.specs.Prelude.{length, true, false, None};
 ghost use Rattle.std.specs.Prelude.{IfOk, IfErr, IfSome, IfNone, OnOk, OnErr, IsTrue, option_map};
 ghost use Rattle.std.specs.Prelude.{option_and_then};
 ghost use Rattle.std.specs.Option.{option_copied};
@@ -25,6 +25,7 @@ ghost use Rattle.cm_table.specs.Refusal.{RefusesRow};
 use crate::block::{Block, change_in, push_block, remove_in, slot_in, swap_in};
 use crate::change::Change;
 use crate::links::{link, parent_in, unlink};
+use crate::ordered::OrderedRow;
 use crate::prepared::{Parts, Prepared};
 use crate::slot::{Slot, last_in};
 use cm_decl::Give;
@@ -111,7 +112,7 @@ impl Table {
     {
         match self.slot(inc) {
             None => None,
-            Some(slot) => Some(&slot.row.url),
+            Some(slot) => Some(&slot.row.get().url),
         }
     }
 
@@ -122,7 +123,7 @@ impl Table {
     {
         match self.slot(inc) {
             None => None,
-            Some(slot) => slot.row.absolute.as_ref(),
+            Some(slot) => slot.row.get().absolute.as_ref(),
         }
     }
 
@@ -441,9 +442,11 @@ impl Table {
 
 /// The slots of one row, which has no index.
 fn slots_of(alloc: Global, row: Row) -> Result<Vec<Slot>, Memory>
+    requires { row.decl ≡ None }
     ensures { IfOk result (λ made. made.items ≡ bare_slot row ∷ []) }
 {
     let mut slots = Vec::new(alloc);
+    let row = OrderedRow::new(alloc, row);
     slots.push(Slot { row, index: None })?;
     Ok(slots)
 }
@@ -455,6 +458,7 @@ fn room_for(
     spare: u32,
     row: Row,
 ) -> Result<Vec<Slot>, Memory>
+    requires { row.decl ≡ None }
     ensures made { IfOk result (λ made. made.items ≡ bare_slot row ∷ []) }
     ensures same { blocks.new.items ≡ blocks.old.items }
     ensures room { OnOk result (length blocks.new.items + spare + 1 ≤ vec_capacity blocks.new) }

@@ -3,8 +3,9 @@
 ghost use Rattle.std.specs.Prelude.{◌≡◌};
 ghost use Rattle.cm_table.specs.Tree.{Tree};
 ghost use Rattle.cm_world.specs.Rows as told;
+ghost use Rattle.cm_world.specs.Offering.{offer_for};
 
-use crate::reading::is_that;
+use crate::reading::{is_that, told_index};
 use crate::slot::{child_in, next_in};
 use crate::table::Table;
 use cm_decl::{Decl, Give, Kind};
@@ -21,21 +22,21 @@ impl View for Table {
     fn facts(&self, inc: u64) -> Option<Facts> {
         match self.slot(inc) {
             None => None,
-            Some(slot) => Some(facts_of(&slot.row)),
+            Some(slot) => Some(facts_of(slot.row.get())),
         }
     }
 
     fn name(&self, inc: u64) -> Option<&ChildName> {
         match self.slot(inc) {
             None => None,
-            Some(slot) => slot.row.name.as_ref(),
+            Some(slot) => slot.row.get().name.as_ref(),
         }
     }
 
     fn decl(&self, inc: u64) -> Option<&Decl> {
         match self.slot(inc) {
             None => None,
-            Some(slot) => match &slot.row.decl {
+            Some(slot) => match &slot.row.get().decl {
                 None => None,
                 Some(decl) => Some(decl.get()),
             },
@@ -45,7 +46,7 @@ impl View for Table {
     fn gives(&self, inc: u64) -> Option<&List<Give>> {
         match self.slot(inc) {
             None => None,
-            Some(slot) => Some(&slot.row.gives),
+            Some(slot) => Some(&slot.row.get().gives),
         }
     }
 
@@ -63,11 +64,37 @@ impl View for Table {
         }
     }
 
+    fn offer_at(&self, inc: u64, kind: Kind, name: &Name) -> Option<u32> {
+        let Some(slot) = self.slot(inc) else {
+            return None;
+        };
+        match self.parent_offer(slot.row.get(), kind, name) {
+            None => None,
+            Some(place) => Some(told_index(place)),
+        }
+    }
+
     fn builtin(&self, kind: Kind, name: &Name) -> Option<&Builtin> {
         self.builtins
             .as_slice()
             .iter()
             .find(|builtin| is_that(builtin, kind, name))
+    }
+}
+
+impl Table {
+    /// The place of the first offer of that kind and name to the row, in the declaration of its
+    /// parent.
+    fn parent_offer(&self, row: &Row, kind: Kind, name: &Name) -> Option<usize>
+        ensures { result ≡ offer_for self.now.rows kind name.now row.now }
+    {
+        let Some(parent) = row.parent else {
+            return None;
+        };
+        match (self.slot(parent), &row.name) {
+            (Some(slot), Some(child)) => slot.row.offer(child, kind, name),
+            _ => None,
+        }
     }
 }
 

@@ -12,7 +12,7 @@ use Rattle.cm_text.specs.Spelling.{spelling_behind_space, is_pending}
 use Rattle.cm_text.specs.Writing.{json_behind, json_pending, pending_spelling}
 use Rattle.cm_text.specs.declared.token.Token.{Token as CodeToken}
 use Rattle.cm_text.proofs.ByteLemmas.{both_left}
-use Rattle.cm_text.proofs.StringLemmas.{within_spells}
+use Rattle.cm_text.proofs.found.StringLemmas.{within_spells}
 
 -- ---- strings in double quotes
 

@@ -1,14 +1,6 @@
 pub mod OnLiterals
 pub mod Examples
 pub mod ByteLemmas
-pub mod PieceLemmas
-pub mod FaultLemmas
-pub mod ScanLemmas
-pub mod SoundLemmas
-pub mod CoverLemmas
-pub mod StringLemmas
-pub mod CutLemmas
-pub mod OutlineLemmas
-pub mod CharLemmas
+pub mod pieces
+pub mod found
 pub mod JsonLemmas
-pub mod LoopLemmas

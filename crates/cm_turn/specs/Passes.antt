@@ -68,6 +68,27 @@ abbrev pub IsKnown : {S E F : Type 0} → (S → List E) → (S → F) → (E �
 IsKnown story frame by s p =
     (p.frame ≡ Some (frame s)) × StartsWith (story s) p.seen × (entries_by by p.caller (story s) ≡ p.mine)
 
+-- ---- a turn
+
+module _ {S E F : Type 0} (story : S → List E) where
+  -- the pass that had this turn has seen the whole list, and has the entries that were added to it as its own
+  pub record Leaves (by : E → ℕ) (h : HeldView S E F) (p : PassView E F) : Type 0 where
+    pub lock : p.lock ≡ h.pass.lock
+    pub frame : p.frame ≡ h.pass.frame
+    pub caller : p.caller ≡ h.pass.caller
+    pub seen : p.seen ≡ story h.state
+    pub own : IsOwn by p
+    pub mine : (es : List E) → story h.state ≡ h.pass.seen ++ es → p.mine ≡ h.pass.mine ++ es
+
+  -- a pass has entered this turn: the state has its frame, the list begins with what it had seen, and its
+  -- caller's entries in the list are its own, all of which it had seen. It has seen the whole list now
+  pub record Enters (frame_of : S → F) (by : E → ℕ) (p : PassView E F) (h : HeldView S E F) : Type 0 where
+    pub pass : h.pass ≡ seen_up_to (story h.state) p
+    pub frame : p.frame ≡ Some (frame_of h.state)
+    pub begins : StartsWith (story h.state) p.seen
+    pub own : entries_by by p.caller (story h.state) ≡ p.mine
+    pub known : IsOwn by p
+
 -- How the values of this crate are seen.
 module _ {E F : Type 0} where
   -- the view of a badge that is alone

@@ -5,6 +5,7 @@ ghost use Rattle.cm_turn.specs.History.{StartsWith, entries_by, longer};
 ghost use Rattle.cm_turn.specs.Views.{with_longer, with_told, maker, gatherer, idle_maker};
 ghost use Rattle.cm_turn.specs.Passes.{LockView, HeldView, pass_of, IsHolding, AreAll, new_passes};
 ghost use Rattle.cm_turn.specs.Passes.{seen_up_to, IsKnown, IsLockTable, HasCaller, known_as, IsOwn};
+ghost use Rattle.cm_turn.specs.Passes.{Enters, Leaves};
 
 use crate::bells::Bells;
 use crate::pass::Pass;
@@ -114,11 +115,7 @@ impl<S: Storied> Turn<S> {
     /// parks.
     pub fn enter<R: Wait>(&self, rt: &R, pass: Pass<S::Entry, S::Frame>) -> Held<S>
         requires lock { pass.lock ≡ self.now.lock }
-        ensures pass { result.pass ≡ seen_up_to (S.story result.state) pass }
-        ensures frame { pass.frame ≡ Some (S.frame result.state) }
-        ensures begins { StartsWith (S.story result.state) pass.seen }
-        ensures own { entries_by S.by pass.caller (S.story result.state) ≡ pass.mine }
-        ensures known { IsOwn S.by pass }
+        ensures { Enters S.story S.frame S.by pass result }
     {
         let Pass { badge, number } = pass;
         let table = &self.table.shared;
@@ -145,13 +142,7 @@ impl<S: Storied> Turn<S> {
         requires entries { (es : Seq S.Entry)
             × (S.story held.state ≡ held.pass.seen ++ es)
             × All (λ e. S.by e ≡ held.pass.caller) es }
-        ensures lock { result.lock ≡ held.pass.lock }
-        ensures frame { result.frame ≡ held.pass.frame }
-        ensures caller { result.caller ≡ held.pass.caller }
-        ensures seen { result.seen ≡ S.story held.state }
-        ensures own { IsOwn S.by result }
-        ensures mine { (es : Seq S.Entry) → S.story held.state ≡ held.pass.seen ++ es
-            → result.mine ≡ held.pass.mine ++ es }
+        ensures { Leaves S.story S.by held result }
     {
         let Held {
             state,

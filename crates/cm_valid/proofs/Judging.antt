@@ -4,7 +4,7 @@ use Rattle.cm_decl.specs.Faults.{Fault, IsFaultless}
 use Rattle.cm_decl.specs.Valid.{IsValid, IsFaultOf, is_well_formed, cycle_fault}
 use Rattle.cm_decl.proofs.Computed.{first_fault}
 use Rattle.cm_decl.proofs.FirstFaults.{computes_some, computes_none}
-use Rattle.cm_deps.proofs.Picked.{acyclic_or_picked}
+use Rattle.cm_deps.proofs.given.Picked.{acyclic_or_picked}
 
 -- a well-formed declaration without a fault at a row is valid, or has the fault of a cycle
 judged_by_graph : (d : Decl) → IsTrue (is_well_formed d) → IsFaultless d → IsValid d ⊎ ((f : Fault) × IsFaultOf d f)

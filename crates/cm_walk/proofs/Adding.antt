@@ -9,7 +9,7 @@ use Rattle.std.proofs.lemmas.Bool.{and_from, or_right}
 use Rattle.cm_world.specs.declared.row.Row.{Row}
 use Rattle.cm_world.specs.Rows.{row_of, has_parent, is_behind}
 use Rattle.cm_world.specs.Sound.{IsOrderly}
-use Rattle.cm_world.proofs.Finding.{none_some, row_of-inc}
+use Rattle.cm_world.proofs.trees.Finding.{none_some, row_of-inc}
 use Rattle.cm_walk.specs.Ahead.{is_child}
 use Rattle.cm_walk.proofs.Behind.{IsNext, next_of, is_next, behind_more, none_by}
 use Rattle.cm_walk.proofs.Standing.{find_least, find_some}

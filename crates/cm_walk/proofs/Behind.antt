@@ -7,8 +7,8 @@ use Rattle.cm_decl.proofs.Sameness.{and_first, and_second}
 use Rattle.cm_world.specs.declared.row.Row.{Row}
 use Rattle.cm_world.specs.Rows.{row_of, is_behind}
 use Rattle.cm_world.specs.Sound.{IsRising, IsOrderly}
-use Rattle.cm_world.proofs.Finding.{none_some, some_same, find-passes}
-use Rattle.cm_world.proofs.Walks.{find-lives}
+use Rattle.cm_world.proofs.trees.Finding.{none_some, some_same, find-passes}
+use Rattle.cm_world.proofs.trees.Walks.{find-lives}
 
 -- the rows whose incarnations are above one, or all rows
 abbrev pub behind : Option ℕ → List Row → List Row

@@ -12,7 +12,7 @@ use Rattle.cm_decl.proofs.Sameness.{and_first, and_second, or_split}
 use Rattle.cm_world.specs.declared.row.Row.{Row}
 use Rattle.cm_world.specs.Rows.{row_of, is_live, has_parent, is_below, is_behind, subtree}
 use Rattle.cm_world.specs.Sound.{IsOrderly, IsParent}
-use Rattle.cm_world.proofs.Finding.{row_of-inc, find-passes}
+use Rattle.cm_world.proofs.trees.Finding.{row_of-inc, find-passes}
 use Rattle.cm_walk.specs.Ahead.{is_in_set, is_child}
 use Rattle.cm_walk.proofs.Behind.{behind, IsNext, next_of, is_next, behind_more, taken_first, taken_more, taken_all, made_of}
 use Rattle.cm_walk.proofs.Standing.{below_lives, below_self, below_parent, below_cases, find_least, find_some}

@@ -6,5 +6,6 @@ pub mod Adding
 pub mod Descending
 pub mod NoUse
 pub mod Sources
+pub mod Offers
 pub mod Steps
 pub mod Trails

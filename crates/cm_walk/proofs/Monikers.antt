@@ -5,7 +5,7 @@ use Rattle.cm_names.specs.declared.child.ChildName.{ChildName}
 use Rattle.cm_world.specs.declared.row.Row.{Row}
 use Rattle.cm_world.specs.Rows.{row_of, names_to}
 use Rattle.cm_world.specs.Sound.{IsOrderly}
-use Rattle.cm_world.proofs.Climbing.{names_to-step, names_root}
+use Rattle.cm_world.proofs.trees.Climbing.{names_to-step, names_root}
 
 -- an incarnation, which falls on the way up, and at last none
 abbrev pub height : Option ℕ → ℕ

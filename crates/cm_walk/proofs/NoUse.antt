@@ -17,7 +17,7 @@ use Rattle.cm_world.specs.declared.route.Walked.TheVariants.{Failed, NoSuchUse}
 use Rattle.cm_world.specs.Stations.{Station, use_station, offer_station, expose_station}
 use Rattle.cm_world.specs.Next.{Next, To, Ends, Needs, FromVoid, NoChild, Misses, next_of}
 use Rattle.cm_world.specs.Route.{Named, First, NoUse, NoneExposed, IsDecided, IsWalkedFrom, trial_by, said_by, weak_availability, weak_rights, unless_fitting, unless_within, is_offer_or_expose, standing, asked_rights}
-use Rattle.cm_world.proofs.Finding.{none_some}
+use Rattle.cm_world.proofs.trees.Finding.{none_some}
 use Rattle.cm_walk.specs.Laws.{SaysNoUse}
 
 -- whether an answer is that there is no such use

@@ -11,8 +11,8 @@ use Rattle.cm_world.specs.declared.route.StepKind.TheVariants.{OfferHop}
 use Rattle.cm_world.specs.declared.route.Why.TheVariants.{NoOffer}
 use Rattle.cm_world.specs.Rows.{row_of, decl_of, facts_of}
 use Rattle.cm_world.specs.Stations.{Station, offer_station, bare_hop}
-use Rattle.cm_world.specs.Next.{Next, To, Misses, by_builtin, builtin_of, next_above, from_above, offered, offered_by, by_offer}
-use Rattle.cm_world.proofs.Finding.{some_same, none_some, row_of-inc}
+use Rattle.cm_world.specs.Next.{To, Misses, by_builtin, builtin_of, next_above, from_above, offered, offered_by, by_offer}
+use Rattle.cm_world.proofs.trees.Finding.{some_same, none_some, row_of-inc}
 
 -- an offer of a parent with this declaration
 pub offered_to : (rows : List Row) (p : ℕ) (r : Row) (kind : Kind) (name : List ℕ) (d : Decl) (g : Give) (s : Station) → Some d ≡ decl_of rows p → Some g ≡ option_and_then (λ c. offered d c r.gives kind name) r.name → s ≡ offer_station rows p g → To s ≡ offered_by rows p r kind name (decl_of rows p)
@@ -34,9 +34,3 @@ root_by rows builtins kind name i facts (Some r) lives told above =
 -- above the root stand the builtins
 pub above_root : (rows : List Row) (builtins : List Builtin) (kind : Kind) (name : List ℕ) (i : ℕ) (facts : Facts) → Some facts ≡ option_map facts_of (row_of rows i) → facts.parent ≡ None → by_builtin rows i kind name (builtin_of builtins kind name) ≡ from_above rows builtins kind name (row_of rows i)
 above_root rows builtins kind name i facts told above = root_by rows builtins kind name i facts (row_of rows i) refl told above
-
-parent_by : (rows : List Row) (builtins : List Builtin) (kind : Kind) (name : List ℕ) (i p : ℕ) (facts : Facts) (n : Next) (o : Option Row) → row_of rows i ≡ o → Some facts ≡ option_map facts_of o → facts.parent ≡ Some p → ((r : Row) → row_of rows i ≡ Some r → n ≡ offered_by rows p r kind name (decl_of rows p)) → n ≡ from_above rows builtins kind name o
-parent_by rows builtins kind name i p facts n None lives told above found = absurd (none_some facts (sym told))
-parent_by rows builtins kind name i p facts n (Some r) lives told above found =
-    let parent : r.parent ≡ Some p = sym (ap (λ f. f.parent) (some_same facts (facts_of r) told)) ∙ above in
-    found r lives ∙ sym (ap (next_above rows builtins r kind name) parent)

@@ -6,8 +6,8 @@ use Rattle.cm_decl.proofs.Sameness.{or_split}
 use Rattle.cm_world.specs.declared.row.Row.{Row}
 use Rattle.cm_world.specs.Rows.{row_of, at_or_above, is_below}
 use Rattle.cm_world.specs.Sound.{IsRising, IsOrderly}
-use Rattle.cm_world.proofs.Climbing.{some_above-step, above_root}
-use Rattle.cm_world.proofs.Finding.{row_of-inc, none_some, some_same}
+use Rattle.cm_world.proofs.trees.Climbing.{some_above-step, above_root}
+use Rattle.cm_world.proofs.trees.Finding.{row_of-inc, none_some, some_same}
 use Rattle.cm_walk.proofs.Up.{nothing_above}
 
 -- ---- below

@@ -12,7 +12,7 @@ use Rattle.cm_world.specs.Next.{Next, To, Ends, Needs, FromVoid, NoChild, Misses
 use Rattle.cm_world.specs.Route.{IsChain, IsDecided, IsVerdict, trial_by, said_by, weak_availability, weak_rights}
 use Rattle.cm_world.specs.Sound.{IsOrderly}
 use Rattle.cm_world.specs.Ending.{steps_left, KeepsDown}
-use Rattle.cm_world.proofs.Walks.{steps_fall}
+use Rattle.cm_world.proofs.trees.Walks.{steps_fall}
 use Rattle.cm_walk.specs.declared.station.Station.{Station}
 use Rattle.cm_walk.specs.declared.trail.Trail.{Trail}
 use Rattle.cm_walk.specs.declared.walking.Step.{Step}

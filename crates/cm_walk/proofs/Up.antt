@@ -5,8 +5,8 @@ use Rattle.cm_world.specs.declared.row.Row.{Row}
 use Rattle.cm_world.specs.declared.view.Facts.{Facts}
 use Rattle.cm_world.specs.Rows.{row_of, facts_of, at_or_above, some_above}
 use Rattle.cm_world.specs.Sound.{IsOrderly}
-use Rattle.cm_world.proofs.Climbing.{some_above-step, above_root}
-use Rattle.cm_world.proofs.Finding.{none_some, some_same, row_of-inc}
+use Rattle.cm_world.proofs.trees.Climbing.{some_above-step, above_root}
+use Rattle.cm_world.proofs.trees.Finding.{none_some, some_same, row_of-inc}
 use Rattle.cm_walk.specs.declared.above.Mark.{Mark}
 use Rattle.cm_walk.specs.declared.above.Mark.TheVariants.{Number}
 use Rattle.cm_walk.specs.Marks.{has_mark}

@@ -1,11 +1,12 @@
 //! Rows of a declaration, by their kind and name.
 
-ghost use Rattle.std.specs.Prelude.{◌≡◌, ◌&&◌, find, unwrap_or};
+ghost use Rattle.std.specs.Prelude.{◌≡◌, ◌&&◌, Some, find, option_map};
 ghost use Rattle.std.specs.Option.{option_copied};
 ghost use Rattle.std.specs.Str.{bytes_eq};
 ghost use Rattle.cm_decl.specs.Graph.{target_of};
 ghost use Rattle.cm_decl.specs.Same as same;
 ghost use Rattle.cm_world.specs.Next as spec;
+ghost use Rattle.cm_world.specs.Offering.{offer_index, told_index};
 
 use cm_decl::{Capability, Decl, Give, Kind, Offer, Usage};
 use cm_names::{CapPath, ChildName, Name};
@@ -45,13 +46,26 @@ pub(crate) fn capability<'a>(decl: &'a Decl, kind: Kind, name: &Name) -> Option<
         && capability.name.as_str() == name.as_str())
 }
 
-/// The first offer of that kind to the child, or to its collection, that has that name there.
+/// The first offer of that kind to the child, or to its collection, that has that name there, if
+/// its index is told as this one. Which one an index of 2^32 - 1 tells has to be looked for.
 pub(crate) fn offer<'a>(
     decl: &'a Decl,
     child: &ChildName,
     kind: Kind,
     name: &Name,
+    index: u32,
 ) -> Option<&'a Offer>
+    ensures { option_map told_index (offer_index decl.now kind name.now child.now) ≡ Some index
+        → option_copied result ≡ spec.offer_of decl.now child.now kind name.now }
+{
+    if index < u32::MAX {
+        return decl.offers.get(index as usize);
+    }
+    search_offer(decl, child, kind, name)
+}
+
+/// The first offer of that kind to the child, or to its collection, that has that name there.
+fn search_offer<'a>(decl: &'a Decl, child: &ChildName, kind: Kind, name: &Name) -> Option<&'a Offer>
     ensures { option_copied result ≡ spec.offer_of decl.now child.now kind name.now }
 {
     decl.offers

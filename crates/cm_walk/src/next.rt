@@ -13,7 +13,7 @@ use crate::station::{
     Source, Station, builtin_station, capability_station, expose_station, framework_station,
     offer_station,
 };
-use cm_decl::{Decl, Give, Kind, Origin};
+use cm_decl::{Decl, Give, Kind, Offer, Origin};
 use cm_names::{CapPath, ChildName, Memory, Name};
 use cm_world::{Hop, StepKind, View, Why};
 use std::alloc::Global;
@@ -140,7 +140,7 @@ fn offered<V: View>(
     name: &Name,
 ) -> Result<Next, Memory>
     ensures { IfOk result (λ found. (r : Row) → row_of (V.rows view.now) inc ≡ Some r
-        → as_next found
+        → r.parent ≡ Some parent → as_next found
         ≡ spec.offered_by (V.rows view.now) parent r kind name.now (decl_of
         (V.rows view.now) parent)) }
 {
@@ -159,7 +159,7 @@ fn offered<V: View>(
     }
 }
 
-/// What the instance is offered by this declaration of its parent, else by its creation.
+/// What the instance is offered by its parent, which has this declaration, else by its creation.
 fn offered_by<'a, V: View>(
     view: &'a V,
     decl: &'a Decl,
@@ -167,15 +167,34 @@ fn offered_by<'a, V: View>(
     kind: Kind,
     name: &Name,
 ) -> Option<&'a Give>
-    ensures { (r : Row) → row_of (V.rows view.now) inc ≡ Some r → option_copied result
+    ensures { (r : Row) → row_of (V.rows view.now) inc ≡ Some r
+        → option_and_then (decl_of (V.rows view.now)) r.parent ≡ Some decl.now
+        → option_copied result
         ≡ option_and_then (λ c. spec.offered decl.now c r.gives kind name.now) r.name }
 {
     let child = view.name(inc)?;
-    if let Some(offer) = find::offer(decl, child, kind, name) {
+    if let Some(offer) = offered_to(view, decl, inc, child, kind, name) {
         return Some(&offer.give);
     }
     let gives = view.gives(inc)?;
     find::give(gives.as_slice(), kind, name)
+}
+
+/// The offer to the instance, which has this name, by this declaration of its parent.
+fn offered_to<'a, V: View>(
+    view: &V,
+    decl: &'a Decl,
+    inc: u64,
+    child: &ChildName,
+    kind: Kind,
+    name: &Name,
+) -> Option<&'a Offer>
+    ensures { (r : Row) → row_of (V.rows view.now) inc ≡ Some r → r.name ≡ Some child.now
+        → option_and_then (decl_of (V.rows view.now)) r.parent ≡ Some decl.now
+        → option_copied result ≡ spec.offer_of decl.now child.now kind name.now }
+{
+    let index = view.offer_at(inc, kind, name)?;
+    find::offer(decl, child, kind, name, index)
 }
 
 /// What comes from a child, if it is there.

@@ -1,14 +1,2 @@
-pub mod Finding
-pub mod Climbing
-pub mod Chains
-pub mod Once
-pub mod Walks
-pub mod Histories
-pub mod Levels
-pub mod Picks
-pub mod Fresh
-pub mod Declarations
-pub mod Routes
-pub mod Actions
-pub mod Shutdowns
-pub mod Expiries
+pub mod trees
+pub mod examples

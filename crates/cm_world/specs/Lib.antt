@@ -3,6 +3,7 @@ pub mod Rows
 pub mod World
 pub mod Stations
 pub mod Next
+pub mod Offering
 pub mod Route
 pub mod Level
 pub mod Stopping

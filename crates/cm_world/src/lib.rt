@@ -9,6 +9,7 @@
 //! |---|---|
 //! | `World`, `Rows` | what the tree is, and what is read of its rows |
 //! | `Next`, `Route` | where a capability comes from, and what a walk along its route comes to |
+//! | `Offering` | where the offer stands by which a row gets what it wants from its parent |
 //! | `Level`, `Stopping`, `Clients` | which instance depends on which, and which may stop now |
 //! | `Work`, `Begin`, `End` | the replies to actions, and what they change |
 //! | `Find`, `Create`, `Marks`, `Openings`, `Reports` | the other replies, kind by kind |

@@ -29,6 +29,7 @@ pub trait View: Drop {
     ghost use Rattle.cm_world.specs.declared.row.Row.{Row};
     ghost use Rattle.cm_world.specs.Rows.{row_of, name_of, decl_of, child_of, child_behind, facts_of};
     ghost use Rattle.cm_world.specs.Next.{builtin_of};
+    ghost use Rattle.cm_world.specs.Offering as offering;
     ghost use Rattle.cm_world.specs.Sound.{IsOrderly};
 
     // The rows of the tree.
@@ -67,6 +68,13 @@ pub trait View: Drop {
     /// is no other. Children that are being destroyed are among them.
     fn next_child(&self, parent: u64, after: Option<u64>) -> Option<u64>
         ensures { result ≡ child_behind (rows self.now) parent after };
+
+    /// Where the first offer of that kind and target name to the instance, or to its collection,
+    /// stands in the declaration of its parent, counted from 0. An index above 2^32 - 1 is told as
+    /// that. `None` exactly where there is none, where the instance is the root or doesn't live,
+    /// and where its parent isn't resolved.
+    fn offer_at(&self, inc: u64, kind: Kind, name: &Name) -> Option<u32>
+        ensures { result ≡ offering.offer_at (rows self.now) inc kind name.now };
 
     /// The first capability of that kind and name above the root, or `None` where there is none.
     fn builtin(&self, kind: Kind, name: &Name) -> Option<&Builtin>

@@ -1,8 +1,8 @@
 //! A component manager: it runs the commands of a script of component manifests, of a workload that
 //! it generates or of links over a Unix socket, and says whether a manifest is valid.
 //!
-//! [`cm_program::run::run`] is the top call; `main` makes the standard streams, the door and the
-//! gates for it.
+//! [`cm_program::run::run`] is the top call. `main` makes the standard streams, the door and the gates
+//! for it, and has no need of what it promises ([`perform`](cm_program::run::perform)).
 #![tactic(auto)]
 
 #[cfg(test)]
@@ -10,16 +10,15 @@ mod tests;
 
 ghost use Rattle.std.specs.Prelude.{◌≡◌, IfOk, length};
 
-use cm_gate::{FolderGates, Gates};
-use cm_io::{Door, Reading, Sink, SocketDoor, Source, Writing};
+use cm_gate::FolderGates;
+use cm_io::{Door, Reading, SocketDoor, Writing};
 use cm_names::{List, Memory, Text};
-use cm_program::{Ran, run, want_of_memory};
+use cm_program::run::perform;
+use cm_program::{Ran, want_of_memory};
 use std::alloc::Global;
 use std::io::ErrorKind;
 use std::process::ExitCode;
 use std::rt::Files;
-use std::sync::Wait;
-use std::thread::Threads;
 use std::{env, io};
 
 /// The words behind the program's name. Words that can't be read are no words of a command.
@@ -54,31 +53,6 @@ fn folder_gates<F: Files + Copy + Drop>(
         gates.push(FolderGates::new(files))?;
     }
     Ok(gates)
-}
-
-/// The top call, of which nobody here has to read what it promises.
-fn perform<
-    R: Threads + Wait + Sync,
-    S: Source,
-    K: Sink,
-    E: Sink,
-    D: Door + Send,
-    G: Gates + Send + Drop,
->(
-    rt: &R,
-    alloc: Global,
-    words: &[Text],
-    input: &mut S,
-    out: &mut K,
-    err: &mut E,
-    door: D,
-    gates: List<G>,
-) -> Ran<D, D::Link, G>
-where
-    D::Link: Send,
-    requires { length gates ≡ 16 }
-{
-    run::run(rt, alloc, words, input, out, err, door, gates)
 }
 
 fn main(rt: HostRuntime) -> ExitCode {

@@ -67,19 +67,7 @@ pub const NAMES: &str = "\
     == subdir ..\n\
     => fault DotPart(0)\n\
     == subdir a/b\tc\n\
-    => fault BadByte(3)\n\
-    == service fuchsia.logger.LogSink\n\
-    => /svc/fuchsia.logger.LogSink\n\
-    == joined /svc a/b c\n\
-    => /svc/a/b/c\n\
-    == paths /data logs\n\
-    => /data logs\n\
-    == inside /svc/a /svc\n\
-    => true\n\
-    == inside /svcs/a /svc\n\
-    => false\n\
-    == inside /svc /svc\n\
-    => false\n";
+    => fault BadByte(3)\n";
 
 /// Monikers. A fault has the longest front that some moniker begins with.
 pub const MONIKERS: &str = "\
@@ -113,10 +101,6 @@ pub const MONIKERS: &str = "\
     => fault BadMoniker(2)\n\
     == moniker a/\u{e9}\n\
     => fault BadMoniker(2)\n\
-    == child core\n\
-    => core\n\
-    == child tests:one\n\
-    => tests:one\n\
     == below core/item core\n\
     => true\n\
     == below core/item .\n\

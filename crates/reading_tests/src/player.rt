@@ -7,50 +7,47 @@
 use crate::readers::told;
 use cm_names::{Memory, Text};
 use std::alloc::Global;
-use std::test::Fail;
 
-/// The cases that tell something else, or that can't be read: the line at which each begins, the
-/// case, and what it tells.
+/// The cases that tell something else, or that can't be read: each, and behind it what it tells.
 pub fn odd_cases(alloc: Global, table: &str) -> Result<Text, Memory> {
     let mut odd = Text::new(alloc);
-    let mut line: usize = 1;
     for case in table.split("== ") {
-        push_if_odd(alloc, &mut odd, line, case)?;
-        line = line.saturating_add(case.matches('\n').count());
+        if !case.is_empty() {
+            push_if_odd(alloc, &mut odd, case)?;
+        }
     }
     Ok(odd)
 }
 
-/// Puts a case down that begins at this line, where it tells something else.
-fn push_if_odd(alloc: Global, odd: &mut Text, line: usize, case: &str) -> Result<(), Memory> {
-    if case.is_empty() {
+/// Puts a case down, where it isn't as its reader tells it.
+fn push_if_odd(alloc: Global, odd: &mut Text, case: &str) -> Result<(), Memory> {
+    match retold(alloc, case) {
+        Some(again) => push_if_else(odd, case, again.as_str()),
+        None => odd.push(format_args!("== {case}can't be read\n")),
+    }
+}
+
+fn push_if_else(odd: &mut Text, case: &str, again: &str) -> Result<(), Memory> {
+    if case == again {
         return Ok(());
     }
-    match told_of(alloc, case) {
-        Some(told) => push_if_else(odd, line, case, told.as_str()),
-        None => odd.push(format_args!("line {line}: {case}nothing\n")),
-    }
+    odd.push(format_args!("== {case}is told as\n{again}"))
 }
 
-/// Puts a case down that tells this, where it should tell something else.
-fn push_if_else(odd: &mut Text, line: usize, case: &str, told: &str) -> Result<(), Memory> {
-    match parts_of(case) {
-        Some((_, expected)) if told == expected => Ok(()),
-        _ => odd.push(format_args!("line {line}: {case}{told}\n")),
-    }
-}
-
-/// What is read in a case, and what it should tell.
-fn parts_of(case: &str) -> Option<(&str, &str)> {
-    let (read, told) = case.split_once("\n=> ")?;
-    Some((read, told.strip_suffix('\n')?))
-}
-
-/// What a case tells, where it can be read.
-fn told_of(alloc: Global, case: &str) -> Option<Text> {
-    let (read, _) = parts_of(case)?;
+/// A case as its reader tells it, where it can be read.
+fn retold(alloc: Global, case: &str) -> Option<Text> {
+    let (read, _) = case.split_once("\n=> ")?;
     let (reader, input) = read.split_once(' ')?;
-    told(alloc, reader, input)
+    match told(alloc, reader, input) {
+        Some(told) => written(alloc, read, told.as_str()),
+        None => None,
+    }
+}
+
+fn written(alloc: Global, read: &str, told: &str) -> Option<Text> {
+    let mut case = Text::new(alloc);
+    case.push(format_args!("{read}\n=> {told}\n")).ok()?;
+    Some(case)
 }
 
 /// A table in which the second case is wrong, and the third and the fourth can't be read.
@@ -65,12 +62,29 @@ const WRONG: &str = "\
     == name f\n\
     => f\n";
 
+/// What is told of that table.
+const ODD: &str = "\
+    == name b\n\
+    => c\n\
+    is told as\n\
+    name b\n\
+    => b\n\
+    == nome d\n\
+    => d\n\
+    can't be read\n\
+    == name e\n\
+    can't be read\n";
+
+/// Whether this is told of the odd cases of a table.
+fn is_told(alloc: Global, table: &str, wanted: &str) -> bool {
+    match odd_cases(alloc, table) {
+        Ok(odd) => odd.as_str() == wanted,
+        Err(_) => false,
+    }
+}
+
 #[test]
-fn finds_wrong_cases(rt: HostRuntime) -> Result<(), Fail> {
-    assert_eq!(rt;
-        odd_cases(rt.alloc(), WRONG)?.as_str(),
-        "line 3: name b\n=> c\nb\nline 5: nome d\n=> d\nnothing\nline 7: name e\nnothing\n"
-    );
-    assert!(rt; !odd_cases(rt.alloc(), "no case")?.is_empty());
-    Ok(())
+fn finds_wrong_cases(rt: HostRuntime) {
+    assert!(rt; is_told(rt.alloc(), WRONG, ODD));
+    assert!(rt; is_told(rt.alloc(), "no case", "== no casecan't be read\n"));
 }

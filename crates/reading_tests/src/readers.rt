@@ -14,8 +14,6 @@ use std::fmt;
 pub fn told(alloc: Global, reader: &str, input: &str) -> Option<Text> {
     match reader {
         "subdir" => subdir(alloc, input),
-        "service" => service(alloc, input),
-        "child" => child(alloc, input),
         "rights" => rights(alloc, input),
         "blocks" => repositories::blocks(alloc, input),
         "number-word" => number_word(alloc, input.as_bytes()),
@@ -28,9 +26,6 @@ pub fn told(alloc: Global, reader: &str, input: &str) -> Option<Text> {
 /// What the readers of several values tell.
 fn told_of_values(alloc: Global, reader: &str, input: &str) -> Option<Text> {
     match reader {
-        "joined" => values::joined(alloc, input),
-        "inside" => values::inside(alloc, input),
-        "paths" => values::paths(alloc, input),
         "below" => values::below(alloc, input),
         "child-of" => values::child_of(alloc, input),
         "is-root" => values::is_root(alloc, input),
@@ -90,25 +85,12 @@ fn subdir(alloc: Global, input: &str) -> Option<Text> {
     }
 }
 
-/// The path of the service of a name.
-fn service(alloc: Global, input: &str) -> Option<Text> {
-    let name = Name::read(alloc, input).ok()?;
-    shown(alloc, CapPath::service(alloc, &name).ok()?)
-}
-
 /// A moniker, as it is written.
 fn moniker(alloc: Global, input: &str) -> Option<Text> {
     match Moniker::read(alloc, input) {
         Ok(moniker) => moniker.write(alloc).ok(),
         Err(found) => fault(alloc, found),
     }
-}
-
-/// The name of the last instance of a moniker, as its copy is written.
-fn child(alloc: Global, input: &str) -> Option<Text> {
-    let moniker = Moniker::read(alloc, input).ok()?;
-    let name = moniker.parts.as_slice().last()?;
-    shown(alloc, name.clone().ok()?)
 }
 
 /// A relaxed text, as JSON.
@@ -149,7 +131,11 @@ fn moniker_word(alloc: Global, word: &[u8]) -> Option<Text> {
 /// The line that the command of a line is written as.
 fn written_again(alloc: Global, line: &[u8]) -> Option<Text> {
     match command_of(alloc, line) {
-        Ok(command) => written(alloc, &command),
+        Ok(command) => {
+            let line = written(alloc, &command);
+            drop(command);
+            line
+        }
         Err(_) => None,
     }
 }
@@ -181,8 +167,17 @@ fn is_settled(alloc: Global, line: &str) -> bool {
 fn many(alloc: Global, input: &str) -> Option<Text> {
     let (head, rest) = input.split_once('\n')?;
     let (reader, times) = head.split_once(' ')?;
-    let whole = repeated(alloc, times.parse().ok()?, rest)?;
-    shortened(alloc, told_of_large(alloc, reader, whole.as_str())?)
+    match repeated(alloc, times.parse().ok()?, rest) {
+        Some(whole) => told_of_whole(alloc, reader, whole.as_str()),
+        None => None,
+    }
+}
+
+fn told_of_whole(alloc: Global, reader: &str, whole: &str) -> Option<Text> {
+    match told_of_large(alloc, reader, whole) {
+        Some(text) => shortened(alloc, text),
+        None => None,
+    }
 }
 
 /// So many times the text of the second line, between those of the first and of all others.

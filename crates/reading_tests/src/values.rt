@@ -1,4 +1,4 @@
-//! Values that no text reads or that take several: words, lists, paths, monikers and sections.
+//! Values that no text reads or that take several: words, lists, monikers and sections.
 
 use crate::readers::shown;
 use cm_decl::Node;
@@ -6,42 +6,20 @@ use cm_names::*;
 use std::alloc::Global;
 use std::collections::HashMap;
 
-/// A path with two subdirectories more.
-pub fn joined(alloc: Global, input: &str) -> Option<Text> {
-    let (folder, rest) = input.split_once(' ')?;
-    let folder = CapPath::read(alloc, folder).ok()?;
-    let subdirs = two_of(alloc, rest)?;
-    folder.join(alloc, subdirs.as_slice()).ok()
-}
-
-fn two_of(alloc: Global, input: &str) -> Option<[SubDir; 2]> {
-    let (first, second) = input.split_once(' ')?;
-    let first = SubDir::read(alloc, first).ok()?;
-    Some([first, SubDir::read(alloc, second).ok()?])
-}
-
-/// Whether a path is inside a folder.
-pub fn inside(alloc: Global, input: &str) -> Option<Text> {
-    let (path, folder) = input.split_once(' ')?;
-    let path = CapPath::read(alloc, path).ok()?;
-    let folder = CapPath::read(alloc, folder).ok()?;
-    shown(alloc, path.is_inside(&folder))
-}
-
-/// A path and a subdirectory, as they are written.
-pub fn paths(alloc: Global, input: &str) -> Option<Text> {
-    let (path, subdir) = input.split_once(' ')?;
-    let path = CapPath::read(alloc, path).ok()?;
-    let subdir = SubDir::read(alloc, subdir).ok()?;
-    shown(alloc, format_args!("{path} {subdir}"))
-}
-
 /// Whether the moniker of an instance starts with that of another.
 pub fn below(alloc: Global, input: &str) -> Option<Text> {
     let (below, above) = input.split_once(' ')?;
-    let below = Moniker::read(alloc, below).ok()?;
-    let above = Moniker::read(alloc, above).ok()?;
-    shown(alloc, below.starts_with(&above))
+    match Moniker::read(alloc, below) {
+        Ok(below) => starts_with(alloc, &below, above),
+        Err(_) => None,
+    }
+}
+
+fn starts_with(alloc: Global, below: &Moniker, above: &str) -> Option<Text> {
+    match Moniker::read(alloc, above) {
+        Ok(above) => shown(alloc, below.starts_with(&above)),
+        Err(_) => None,
+    }
 }
 
 /// The moniker of the child of an instance by a name.

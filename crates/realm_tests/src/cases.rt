@@ -31,6 +31,8 @@ const CLIENT: &str = "{
 
 const COLLECTION: &str = "{collections:[{name:'coll',durability:'transient'}]}";
 
+const PROVIDER: &str = "{capabilities:[{protocol:'p'}],expose:[{protocol:'p',from:'self'}]}";
+
 /// The manifest of that name, or else the word itself.
 pub fn manifest_of(word: &str) -> &str {
     match word {
@@ -38,6 +40,7 @@ pub fn manifest_of(word: &str) -> &str {
         "@store" => STORE,
         "@client" => CLIENT,
         "@collection" => COLLECTION,
+        "@provider" => PROVIDER,
         manifest => manifest,
     }
 }
@@ -315,6 +318,100 @@ pub const EXPIRIES: &str = "\
     12 0 begin stop 0 => begun 5\n\
     13 0 end 5 killed => ended killed\n\
     14 0 reap 0 => reaping 1 2\n";
+
+/// Answers to uses that are kept. A child that is created, one that is marked to be destroyed, and the
+/// end of a resolve empty what is kept, so that the next answer is that of a walk in the tree as it is by
+/// then. An opening by a client that is on finds what a route has left, and the other way round; what
+/// fails is kept, and what needs an instance isn't, nor what is exposed.
+pub const KEPT: &str = "\
+    == realm 9 99 walks anew behind a child that is destroyed, and behind one that is created\n\
+    0 resolve 0 {collections:[{name:'dyn',durability:'transient',\
+    allowed_offers:'static_and_dynamic'}]}\n\
+    0 create 0 create . dyn x #x\n\
+    0 create 0 create . dyn z #z + protocol p #dyn:x\n\
+    0 resolve 1 @provider\n\
+    0 resolve 2 {use:[{protocol:'p'}]}\n\
+    --\n\
+    0 route 2 /svc/p\n\
+    0 route 2 /svc/p\n\
+    0 doom 1\n\
+    0 route 2 /svc/p\n\
+    0 create 0 create . dyn x #x\n\
+    0 route 2 /svc/p\n\
+    0 route 2 /svc/p\n\
+    0 resolve 3 @provider\n\
+    0 route 2 /svc/p\n\
+    =>\n\
+    9 0 route 2 /svc/p => given /svc/p at dyn:x incarnation 1 through use dyn:z, offer ., \
+    expose dyn:x, capability dyn:x\n\
+    10 0 route 2 /svc/p => given /svc/p at dyn:x incarnation 1 through use dyn:z, offer ., \
+    expose dyn:x, capability dyn:x\n\
+    kept 1\n\
+    11 0 mark doomed 1 => marked\n\
+    12 0 route 2 /svc/p => failed no-instance at offer .\n\
+    13 0 create 0 dyn x #x => created 3\n\
+    14 0 route 2 /svc/p => need 3\n\
+    15 0 route 2 /svc/p => need 3\n\
+    16 0 begin resolve 3 => begun 4\n\
+    17 0 end 4 resolved fuchsia-pkg://t/a#x {\"capabilities\":[{\"path\":\"/svc/p\",\
+    \"protocol\":\"p\"}],\"children\":[],\"collections\":[],\"expose\":[{\"as\":\"p\",\
+    \"availability\":\"required\",\"from\":\"self\",\"protocol\":\"p\"}],\"offer\":[],\"use\":[]} \
+    => ended resolved\n\
+    18 0 route 2 /svc/p => given /svc/p at dyn:x incarnation 3 through use dyn:z, offer ., \
+    expose dyn:x, capability dyn:x\n\
+    == realm 9 99 walks anew behind the end of a resolve\n\
+    0 resolve 0 {children:[{name:'store',url:'#store'},{name:'client',url:'#client'},\
+    {name:'other',url:'#other'}],offer:[{protocol:'log',from:'#store',to:'#client'}]}\n\
+    0 resolve 1 @store\n\
+    0 resolve 2 @client\n\
+    --\n\
+    0 route 2 /svc/log\n\
+    0 resolve 3 {}\n\
+    0 route 2 /svc/log\n\
+    0 route 2 /svc/log\n\
+    =>\n\
+    7 0 route 2 /svc/log => given /svc/log at store incarnation 1 through use client, offer ., \
+    expose store, capability store\n\
+    8 0 begin resolve 3 => begun 4\n\
+    9 0 end 4 resolved fuchsia-pkg://t/a#x {\"capabilities\":[],\"children\":[],\"collections\":[],\
+    \"expose\":[],\"offer\":[],\"use\":[]} => ended resolved\n\
+    10 0 route 2 /svc/log => given /svc/log at store incarnation 1 through use client, offer ., \
+    expose store, capability store\n\
+    11 0 route 2 /svc/log => given /svc/log at store incarnation 1 through use client, offer ., \
+    expose store, capability store\n\
+    kept 1\n\
+    == realm 9 99 keeps answers to routes and openings alike\n\
+    0 resolve 0 @root\n\
+    0 resolve 1 @store\n\
+    0 resolve 2 @client\n\
+    --\n\
+    0 route 2 /svc/log\n\
+    0 open 2 /svc/log\n\
+    0 started 2\n\
+    0 open 2 /svc/log\n\
+    0 route 2 /svc/secret\n\
+    0 open 2 /svc/secret\n\
+    0 open 2 /in\n\
+    0 route 2 /in\n\
+    0 open-exposed 1 log\n\
+    0 open-exposed 1 log\n\
+    =>\n\
+    7 0 route 2 /svc/log => given /svc/log at store incarnation 1 through use client, offer ., \
+    expose store, capability store\n\
+    8 0 open 2 /svc/log => client-off\n\
+    9 0 begin start 2 => begun 4\n\
+    10 0 end 4 started => ended started\n\
+    11 0 open 2 /svc/log => need-start 1\n\
+    kept 1\n\
+    12 0 route 2 /svc/secret => failed no-offer at offer .\n\
+    13 0 open 2 /svc/secret => failed no-offer at offer .\n\
+    kept 2\n\
+    14 0 open 2 /in => need-start 1\n\
+    15 0 route 2 /in => given /data at store incarnation 1 rights connect,enumerate,get_attributes,\
+    read_bytes,traverse through use client, offer ., expose store, capability store\n\
+    kept 3\n\
+    16 0 open-exposed 1 log => need-start 1\n\
+    17 0 open-exposed 1 log => need-start 1\n";
 
 /// Walks in a tree without instances; then walks from the offer at an index of a root with that manifest,
 /// whose children aren't resolved.

@@ -12,6 +12,8 @@ mod book;
 #[cfg(test)]
 mod cases;
 #[cfg(test)]
+mod creating;
+#[cfg(test)]
 mod declarations;
 #[cfg(test)]
 mod endings;

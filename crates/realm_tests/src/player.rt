@@ -4,7 +4,7 @@
 //! A case begins with `== `, the word of what is played and a space. Then comes what is played, and
 //! behind a line `=>` what has to be told of it, line by line.
 
-use crate::cases::{CALLERS, EXPIRIES, LIMITS, SHUTDOWNS, WALKS};
+use crate::cases::{CALLERS, EXPIRIES, KEPT, LIMITS, SHUTDOWNS, WALKS};
 use crate::{realms, walks};
 use cm_names::{Memory, Text};
 use std::alloc::Global;
@@ -61,13 +61,14 @@ fn table_of(number: u8) -> &'static str {
         2 => SHUTDOWNS,
         3 => EXPIRIES,
         4 => WALKS,
+        5 => KEPT,
         _ => "",
     }
 }
 
 #[test]
 fn cases_tell_what_they_should(rt: HostRuntime) -> Result<(), Fail> {
-    for number in 0..5 {
+    for number in 0..6 {
         let odd = odd_cases(rt.alloc(), table_of(number))?;
         assert!(rt; odd.is_empty(), "table {number}: {odd}");
     }

@@ -5,10 +5,11 @@
 //! history.
 
 use crate::cases::manifest_of;
+use crate::creating::create;
 use crate::endings::{killed, resolve, started};
 use crate::meanwhile::{doom_while_starting, join_and_decline};
 use crate::words::{line_of, moniker_of, name_of, path_of};
-use cm_names::{List, Memory, Name, Text};
+use cm_names::{List, Memory, Text};
 use cm_steps::{NoStep, Realm};
 use cm_world::{ActKind, Entry, Limits};
 use std::alloc::Global;
@@ -19,14 +20,17 @@ pub fn realm_of(alloc: Global, rows: u32, entries: u64) -> Option<Realm> {
     Realm::new(alloc, root, List::new(alloc), Limits { rows, entries }).ok()
 }
 
-/// Takes the steps of lines, and puts down what each tells: why no step was made, and the new lines
-/// of the history. Nothing where a line can't be read.
+/// Takes the steps of lines, and puts down what each tells: why no step was made, the new lines of the
+/// history, and how many answers of walks were there again, where that rose. Nothing where a line can't be
+/// read.
 pub fn take_all(realm: &mut Realm, alloc: Global, lines: &str, told: &mut Text) -> Option<()> {
     for line in lines.split('\n') {
         let first = length_of(realm);
+        let kept = kept_in(realm);
         let refused = take(realm, alloc, line)?;
         tell_refusal(told, refused).ok()?;
         tell_lines(told, alloc, realm.entries(), first).ok()?;
+        tell_kept(told, kept, kept_in(realm)).ok()?;
     }
     Some(())
 }
@@ -34,6 +38,11 @@ pub fn take_all(realm: &mut Realm, alloc: Global, lines: &str, told: &mut Text) 
 /// How many entries a history has.
 fn length_of(realm: &Realm) -> usize {
     realm.entries().len()
+}
+
+/// How many answers of walks were there again.
+fn kept_in(realm: &Realm) -> u64 {
+    realm.kept()
 }
 
 /// Takes the step of a line: why no step was made, or none where one was.
@@ -208,52 +217,6 @@ fn mark(realm: &mut Realm, caller: u32, doom: bool, inc: u64) -> Option<NoStep> 
     realm.mark(caller, doom, inc).err()
 }
 
-/// Creates a child by a command to create one, whose parent isn't read and which offers nothing.
-fn create(
-    realm: &mut Realm,
-    alloc: Global,
-    caller: u32,
-    parent: u64,
-    word: &str,
-) -> Option<Option<NoStep>> {
-    let (_, rest) = word.split_once(" . ")?;
-    let (coll, rest) = rest.split_once(' ')?;
-    let (name, url) = rest.split_once(' ')?;
-    match (name_of(alloc, coll), name_of(alloc, name)) {
-        (Some(coll), Some(name)) => create_at(realm, alloc, caller, parent, coll, name, url),
-        _ => None,
-    }
-}
-
-fn create_at(
-    realm: &mut Realm,
-    alloc: Global,
-    caller: u32,
-    parent: u64,
-    coll: Name,
-    name: Name,
-    url: &str,
-) -> Option<Option<NoStep>> {
-    match Text::from_str(alloc, url) {
-        Ok(url) => Some(create_child(realm, alloc, caller, parent, coll, name, url)),
-        Err(_) => None,
-    }
-}
-
-fn create_child(
-    realm: &mut Realm,
-    alloc: Global,
-    caller: u32,
-    parent: u64,
-    coll: Name,
-    name: Name,
-    url: Text,
-) -> Option<NoStep> {
-    realm
-        .create(alloc, caller, parent, coll, name, url, List::new(alloc))
-        .err()
-}
-
 /// Puts down why no step was made.
 fn tell_refusal(told: &mut Text, refused: Option<NoStep>) -> Result<(), Memory> {
     match refused {
@@ -276,4 +239,12 @@ fn tell_lines(
         told.push(format_args!("{line}\n"))?;
     }
     Ok(())
+}
+
+/// Puts down how many answers of walks were there again, where that isn't as before.
+fn tell_kept(told: &mut Text, before: u64, kept: u64) -> Result<(), Memory> {
+    if kept == before {
+        return Ok(());
+    }
+    told.push(format_args!("kept {kept}\n"))
 }

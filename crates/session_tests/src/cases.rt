@@ -83,9 +83,21 @@ pub const ENDS: &str = "\
 /// Stops whose history becomes full: what went with the instance stays marked to be destroyed, and is
 /// removed as far as there is room. Up to the end of the root's stop the lines make 17 entries; then come
 /// one for what goes with the root, four until the child is shut, and one for its removal. Each of the
-/// three picks asks for room for two entries.
+/// three picks asks for room for two entries. A row has how many entries the history takes, and what the
+/// last three lines of `STOP` are answered.
 pub const LIMITS: &str = "\
-    == 17 65536 - - both\n\
+    17 full full full\n\
+    18 full full full\n\
+    19 full gone full\n\
+    20 full full full\n\
+    21 full gone full\n\
+    22 full gone full\n\
+    23 stopped full full\n\
+    24 stopped gone full\n";
+
+/// The case of a stop, behind the number of entries and up to what its last three lines are answered.
+pub const STOP: &str = "\
+    65536 - - both\n\
     start .\n\
     create . coll x #meta/x.cm\n\
     start coll:x\n\
@@ -96,112 +108,14 @@ pub const LIMITS: &str = "\
     => End\n\
     started . action 2\n\
     created . coll:x incarnation 1\n\
-    started coll:x action 4\n\
-    refused 69 history-full\n\
-    refused 69 history-full\n\
-    refused 69 history-full\n\
-    == 18 65536 - - both\n\
-    start .\n\
-    create . coll x #meta/x.cm\n\
-    start coll:x\n\
-    stop .\n\
-    show @1\n\
-    show @1\n\
-    \n\
-    => End\n\
-    started . action 2\n\
-    created . coll:x incarnation 1\n\
-    started coll:x action 4\n\
-    refused 69 history-full\n\
-    refused 69 history-full\n\
-    refused 69 history-full\n\
-    == 19 65536 - - both\n\
-    start .\n\
-    create . coll x #meta/x.cm\n\
-    start coll:x\n\
-    stop .\n\
-    show @1\n\
-    show @1\n\
-    \n\
-    => End\n\
-    started . action 2\n\
-    created . coll:x incarnation 1\n\
-    started coll:x action 4\n\
-    refused 69 history-full\n\
-    refused 81 gone incarnation 1\n\
-    refused 69 history-full\n\
-    == 20 65536 - - both\n\
-    start .\n\
-    create . coll x #meta/x.cm\n\
-    start coll:x\n\
-    stop .\n\
-    show @1\n\
-    show @1\n\
-    \n\
-    => End\n\
-    started . action 2\n\
-    created . coll:x incarnation 1\n\
-    started coll:x action 4\n\
-    refused 69 history-full\n\
-    refused 69 history-full\n\
-    refused 69 history-full\n\
-    == 21 65536 - - both\n\
-    start .\n\
-    create . coll x #meta/x.cm\n\
-    start coll:x\n\
-    stop .\n\
-    show @1\n\
-    show @1\n\
-    \n\
-    => End\n\
-    started . action 2\n\
-    created . coll:x incarnation 1\n\
-    started coll:x action 4\n\
-    refused 69 history-full\n\
-    refused 81 gone incarnation 1\n\
-    refused 69 history-full\n\
-    == 22 65536 - - both\n\
-    start .\n\
-    create . coll x #meta/x.cm\n\
-    start coll:x\n\
-    stop .\n\
-    show @1\n\
-    show @1\n\
-    \n\
-    => End\n\
-    started . action 2\n\
-    created . coll:x incarnation 1\n\
-    started coll:x action 4\n\
-    refused 69 history-full\n\
-    refused 81 gone incarnation 1\n\
-    refused 69 history-full\n\
-    == 23 65536 - - both\n\
-    start .\n\
-    create . coll x #meta/x.cm\n\
-    start coll:x\n\
-    stop .\n\
-    show @1\n\
-    show @1\n\
-    \n\
-    => End\n\
-    started . action 2\n\
-    created . coll:x incarnation 1\n\
-    started coll:x action 4\n\
-    stopped . action 5\n\
-    refused 69 history-full\n\
-    refused 69 history-full\n\
-    == 24 65536 - - both\n\
-    start .\n\
-    create . coll x #meta/x.cm\n\
-    start coll:x\n\
-    stop .\n\
-    show @1\n\
-    show @1\n\
-    \n\
-    => End\n\
-    started . action 2\n\
-    created . coll:x incarnation 1\n\
-    started coll:x action 4\n\
-    stopped . action 5\n\
-    refused 81 gone incarnation 1\n\
-    refused 69 history-full\n";
+    started coll:x action 4\n";
+
+/// The answer that a word of a row stands for.
+pub fn answer_of(word: &str) -> Option<&'static str> {
+    match word {
+        "full" => Some("refused 69 history-full"),
+        "gone" => Some("refused 81 gone incarnation 1"),
+        "stopped" => Some("stopped . action 5"),
+        _ => None,
+    }
+}

@@ -1,4 +1,5 @@
-//! Tests of sessions. They stand here, above `cm_session`, so that it is proved once.
+//! Tests of sessions. They stand here, above `cm_session`, so that it is proved once. What comes of several
+//! links, and what is written to them, is shown by runs, above the top call, at no cost of proof.
 #![tactic(auto)]
 
 #[cfg(test)]
@@ -7,5 +8,3 @@ mod cases;
 mod meeting;
 #[cfg(test)]
 mod player;
-#[cfg(test)]
-mod serving;

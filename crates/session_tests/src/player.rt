@@ -4,7 +4,7 @@
 ghost use Rattle.std.specs.Prelude.{◌≡◌, [], All, IfSome};
 ghost use Rattle.cm_turn.specs.Passes.{LockView};
 
-use crate::cases::{ENDS, LIMITS};
+use crate::cases::{ENDS, LIMITS, STOP, answer_of};
 use cm_gate::QuietGates;
 use cm_io::{MemoryLink, MemorySink, MemorySource, Plan};
 use cm_manager::Manager;
@@ -21,14 +21,22 @@ use std::thread::Threads;
 /// A plan that moves so many bytes at once and fails at this call, if at any.
 fn plan_of(alloc: Global, piece: &str, failing: &str) -> Option<Plan> {
     let piece = piece.parse().ok()?;
-    let mut calls = Vec::new(alloc);
-    if failing != "-" {
-        calls.push(failing.parse().ok()?).ok()?;
+    match failing_of(alloc, failing) {
+        Some(failing) => Some(Plan {
+            piece,
+            failing: List::from_vec(failing),
+        }),
+        None => None,
     }
-    Some(Plan {
-        piece,
-        failing: List::from_vec(calls),
-    })
+}
+
+/// The call that fails, or none for `-`.
+fn failing_of(alloc: Global, word: &str) -> Option<Vec<u64>> {
+    if word == "-" {
+        return Some(Vec::new(alloc));
+    }
+    let call = word.parse().ok()?;
+    vec![in alloc; call].ok()
 }
 
 /// The word of a head at this place.
@@ -57,7 +65,7 @@ fn link_of(alloc: Global, head: &str, input: &str) -> Option<MemoryLink> {
 }
 
 /// A new realm, whose history takes so many entries.
-fn new_realm(alloc: Global, entries: u64) -> Option<Realm>
+pub fn new_realm(alloc: Global, entries: u64) -> Option<Realm>
     ensures { IfSome result (λ realm. realm.entries ≡ []) }
 {
     let root = Text::from_str(alloc, "fuchsia-pkg://t/a#meta/root.cm").ok()?;
@@ -69,7 +77,7 @@ fn new_realm(alloc: Global, entries: u64) -> Option<Realm>
 }
 
 /// Adds a manifest under its URL.
-fn add(alloc: Global, manifests: &mut Repository, url: &str, text: &str) -> Option<()> {
+pub fn add(alloc: Global, manifests: &mut Repository, url: &str, text: &str) -> Option<()> {
     let bytes = text.as_bytes().to_vec(alloc).ok()?;
     manifests.add(url, Bytes::from_vec(bytes)).ok()
 }
@@ -104,6 +112,39 @@ fn last(passes: List<Pass<Entry, Frame>>) -> Option<Pass<Entry, Frame>>
     passes.pop()
 }
 
+/// A session over this link, of which no caller has to read what it promises.
+fn served<R: Threads + Wait + Sync>(
+    rt: &R,
+    alloc: Global,
+    manager: &Manager,
+    pass: Pass<Entry, Frame>,
+    link: &mut MemoryLink,
+) -> (Pass<Entry, Frame>, Ended)
+    requires { pass.lock ≡ manager.now.turn.lock }
+{
+    session(rt, alloc, manager, pass, &mut QuietGates, link)
+}
+
+/// The end of a session over this link, with the last of these passes of a manager.
+fn end_by<R: Threads + Wait + Sync>(
+    rt: &R,
+    alloc: Global,
+    manager: &Manager,
+    passes: List<Pass<Entry, Frame>>,
+    link: &mut MemoryLink,
+) -> Option<Ended>
+    requires { All (λ p. p.lock ≡ manager.now.turn.lock) passes }
+{
+    match last(passes) {
+        Some(pass) => {
+            let (pass, ended) = served(rt, alloc, manager, pass, link);
+            drop(pass);
+            Some(ended)
+        }
+        None => None,
+    }
+}
+
 /// The end of a session over this link, with a new manager of a realm and its manifests.
 fn end_of<R: Threads + Wait + Sync>(
     rt: &R,
@@ -114,14 +155,17 @@ fn end_of<R: Threads + Wait + Sync>(
 ) -> Option<Ended>
     requires empty { realm.entries ≡ [] }
 {
-    let Ok((manager, passes)) = Manager::new(alloc, realm, manifests, None, 1) else {
-        return None;
-    };
-    let Some(pass) = last(passes) else {
-        return None;
-    };
-    let (_, ended) = session(rt, alloc, &manager, pass, &mut QuietGates, link);
-    Some(ended)
+    match Manager::new(alloc, realm, manifests, None, 1) {
+        Ok((manager, passes)) => {
+            let ended = end_by(rt, alloc, &manager, passes, link);
+            drop(manager);
+            ended
+        }
+        Err(realm) => {
+            drop(realm);
+            None
+        }
+    }
 }
 
 /// The end of the session of a case.
@@ -135,7 +179,10 @@ fn end_of_case<R: Threads + Wait + Sync>(
     match new_realm(alloc, entries) {
         Some(realm) => match manifests_of(alloc, head) {
             Some(manifests) => end_of(rt, alloc, realm, manifests, link),
-            None => None,
+            None => {
+                drop(realm);
+                None
+            }
         },
         None => None,
     }
@@ -143,9 +190,9 @@ fn end_of_case<R: Threads + Wait + Sync>(
 
 /// What is told of a session that ended so: the end, and then what was written.
 fn told_of(alloc: Global, ended: Ended, written: &[u8]) -> Option<Text> {
+    let written = str::from_utf8(written).ok()?;
     let mut told = Text::new(alloc);
-    told.push(format_args!("{ended:?}\n")).ok()?;
-    told.push_str(str::from_utf8(written).ok()?).ok()?;
+    told.push(format_args!("{ended:?}\n{written}")).ok()?;
     Some(told)
 }
 
@@ -158,11 +205,22 @@ fn told_by<R: Threads + Wait + Sync>(
 ) -> Option<Text> {
     match link_of(alloc, head, input) {
         Some(mut link) => {
-            let ended = end_of_case(rt, alloc, head, &mut link)?;
-            told_of(alloc, ended, link.sink.bytes())
+            let told = told_over(rt, alloc, head, &mut link);
+            drop(link);
+            told
         }
         None => None,
     }
+}
+
+fn told_over<R: Threads + Wait + Sync>(
+    rt: &R,
+    alloc: Global,
+    head: &str,
+    link: &mut MemoryLink,
+) -> Option<Text> {
+    let ended = end_of_case(rt, alloc, head, link)?;
+    told_of(alloc, ended, link.sink.bytes())
 }
 
 /// Puts down the case that begins here, where it tells something else or can't be read.
@@ -174,8 +232,15 @@ fn push_if_odd<R: Threads + Wait + Sync>(
 ) -> Option<()> {
     let (given, wanted) = case.split_once("\n=> ")?;
     let (head, input) = given.split_once('\n')?;
-    let told = told_by(rt, alloc, head, input)?;
-    if told.as_str() == wanted || wanted.strip_suffix('\n') == Some(told.as_str()) {
+    match told_by(rt, alloc, head, input) {
+        Some(told) => push_if_else(odd, case, wanted, told.as_str()),
+        None => None,
+    }
+}
+
+/// Puts a case down that tells this, where it should tell something else.
+fn push_if_else(odd: &mut Text, case: &str, wanted: &str, told: &str) -> Option<()> {
+    if told == wanted || wanted.strip_suffix('\n') == Some(told) {
         return Some(());
     }
     odd.push(format_args!("{case}{told}\n")).ok()
@@ -196,9 +261,50 @@ fn sessions_end(rt: HostRuntime) {
     assert!(rt; odd.is_some_and(|odd| odd.is_empty()));
 }
 
+/// Puts down what the last lines of a stop are answered.
+fn push_answers(case: &mut Text, words: &str) -> Option<()> {
+    for word in words.split(' ') {
+        let answer = answer_of(word)?;
+        case.push(format_args!("{answer}\n")).ok()?;
+    }
+    Some(())
+}
+
+/// The case of a row of stops.
+fn stop_of(alloc: Global, row: &str) -> Option<Text> {
+    let (entries, words) = row.split_once(' ')?;
+    let stop = STOP;
+    let mut case = Text::new(alloc);
+    case.push(format_args!("{entries} {stop}")).ok()?;
+    push_answers(&mut case, words)?;
+    Some(case)
+}
+
+/// Puts down the stop of a row, where it tells something else or can't be read.
+fn push_odd_stop<R: Threads + Wait + Sync>(
+    rt: &R,
+    alloc: Global,
+    odd: &mut Text,
+    row: &str,
+) -> Option<()> {
+    match stop_of(alloc, row) {
+        Some(case) => push_if_odd(rt, alloc, odd, case.as_str()),
+        None => None,
+    }
+}
+
+/// The stops that tell something else; nothing where one can't be read.
+fn odd_stops<R: Threads + Wait + Sync>(rt: &R, alloc: Global) -> Option<Text> {
+    let mut odd = Text::new(alloc);
+    for row in LIMITS.lines() {
+        push_odd_stop(rt, alloc, &mut odd, row)?;
+    }
+    Some(odd)
+}
+
 #[test]
 fn full_histories_cut_removals(rt: HostRuntime) {
-    let odd = odd_cases(&rt, rt.alloc(), LIMITS);
+    let odd = odd_stops(&rt, rt.alloc());
     assert!(rt; odd.is_some_and(|odd| odd.is_empty()));
 }
 

@@ -15,7 +15,7 @@ use Rattle.cm_world.specs.World.{World, start}
 use Rattle.cm_world.specs.Step.{MayEnd, is_join}
 use Rattle.cm_world.specs.After.{after}
 use Rattle.cm_world.specs.Legal.{replay}
-use Rattle.cm_world.proofs.Histories.{replay-push}
+use Rattle.cm_world.proofs.trees.Histories.{replay-push}
 use Rattle.cm_laws.specs.Story.{Story, world_of, Tells, entry_of}
 use Rattle.cm_laws.specs.Laws.{AreOthers, IsJoined, BeginnersMayEnd, JoinersAreJoined, OthersLeaveEnds, OthersLeaveJoins}
 use Rattle.cm_laws.specs.Shutdowns.{PickersMayEnd}

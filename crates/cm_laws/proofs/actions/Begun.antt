@@ -17,7 +17,7 @@ use Rattle.cm_world.specs.Work.{work_of}
 use Rattle.cm_world.specs.End.{fits_kind, HasValid}
 use Rattle.cm_world.specs.Step.{MayEnd, PicksOn}
 use Rattle.cm_world.specs.After.{new_act, with_action, after}
-use Rattle.cm_world.proofs.Finding.{some_same}
+use Rattle.cm_world.proofs.trees.Finding.{some_same}
 use Rattle.cm_laws.specs.Story.{entry_of}
 use Rattle.cm_laws.proofs.actions.Tasks.{find_last, unused}
 use Rattle.cm_laws.proofs.actions.Numbers.{IsCounted}

@@ -11,7 +11,7 @@ use Rattle.cm_world.specs.declared.action.Finish.{Finish}
 use Rattle.cm_world.specs.declared.action.Finish.TheVariants as finish
 use Rattle.cm_world.specs.End.{fits_kind, changed, end_row, set_decl, set_pending, rows_by, ended, child_rows}
 use Rattle.cm_world.specs.Step.{MayEnd}
-use Rattle.cm_world.proofs.Finding.{none_some}
+use Rattle.cm_world.proofs.trees.Finding.{none_some}
 use Rattle.cm_laws.specs.Tasks.{IsTasked}
 use Rattle.cm_laws.proofs.actions.Tasks.{tasked_ended, idle_kids}
 

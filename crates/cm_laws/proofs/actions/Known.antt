@@ -21,7 +21,7 @@ use Rattle.cm_world.specs.End.{changed, set_pending, set_on, set_closing, set_do
 use Rattle.cm_world.specs.Create.{created_row}
 use Rattle.cm_world.specs.Expiring.{goes_with, expired, is_stopped}
 use Rattle.cm_world.specs.After.{with_end_of, moved}
-use Rattle.cm_world.proofs.Finding.{none_some, some_same}
+use Rattle.cm_world.proofs.trees.Finding.{none_some, some_same}
 use Rattle.cm_laws.specs.Lasting.{begun_by}
 use Rattle.cm_laws.proofs.actions.Ends.{end_idle}
 

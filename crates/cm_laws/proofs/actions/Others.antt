@@ -19,7 +19,7 @@ use Rattle.cm_world.specs.End.{put_outcome, ended}
 use Rattle.cm_world.specs.Step.{MayEnd, IsEnabled, is_join}
 use Rattle.cm_world.specs.After.{new_act, with_end_of, moved, after}
 use Rattle.cm_world.specs.Legal.{IsStep}
-use Rattle.cm_world.proofs.Finding.{some_same}
+use Rattle.cm_world.proofs.trees.Finding.{some_same}
 use Rattle.cm_laws.proofs.actions.Tasks.{find_left, edit_other}
 
 -- ---- actions

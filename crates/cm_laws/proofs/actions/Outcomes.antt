@@ -20,7 +20,7 @@ use Rattle.cm_world.specs.End.{put_outcome, ended}
 use Rattle.cm_world.specs.Step.{MayEnd, IsEnabled, Allowed}
 use Rattle.cm_world.specs.After.{new_act, with_end_of, moved, moves, after}
 use Rattle.cm_world.specs.Legal.{IsStep, Legal, replay}
-use Rattle.cm_world.proofs.Finding.{none_some, some_same, find-passes}
+use Rattle.cm_world.proofs.trees.Finding.{none_some, some_same, find-passes}
 use Rattle.cm_laws.specs.Lasting.{begun_by, joined_by, ended_by, awaited_by, IsBegun, IsEnded, IsAwaited, KeepsOutcomes, OutcomesAreOne}
 use Rattle.cm_laws.proofs.actions.Tasks.{by_test, find_left, find_last, find_split, only_by, edit_at, edit_other, unused}
 use Rattle.cm_laws.proofs.actions.Numbers.{IsCounted, counted_after, counted_history}

@@ -14,7 +14,7 @@ use Rattle.cm_world.specs.Rows.{row_of}
 use Rattle.cm_world.specs.After.{new_act}
 use Rattle.cm_world.specs.World.{root_row, act_of}
 use Rattle.cm_world.specs.End.{changed, set_pending, put_outcome, ended, child_row, child_rows}
-use Rattle.cm_world.proofs.Finding.{none_some, some_same, find-passes}
+use Rattle.cm_world.proofs.trees.Finding.{none_some, some_same, find-passes}
 use Rattle.cm_laws.specs.Tasks.{IsPendingAt, IsNumbered, HasRow, IsTasked}
 
 -- ---- what is found in a list

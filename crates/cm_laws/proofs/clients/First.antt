@@ -9,7 +9,7 @@ use Rattle.cm_world.specs.Stopping.{MayStop}
 use Rattle.cm_world.specs.Sound.{IsSound}
 use Rattle.cm_world.specs.Step.{Allowed}
 use Rattle.cm_world.specs.Legal.{replay}
-use Rattle.cm_world.proofs.Finding.{none_some, some_same}
+use Rattle.cm_world.proofs.trees.Finding.{none_some, some_same}
 use Rattle.cm_laws.specs.Clients.{picked_by, HasClientsShut, ClientsStopFirst}
 use Rattle.cm_laws.specs.Shutdowns.{TreesStaySound}
 use Rattle.cm_laws.proofs.Entries.{of_each_entry}

@@ -21,11 +21,11 @@ use Rattle.cm_world.specs.Ending.{is_from_parent, KeepsDown}
 use Rattle.cm_world.specs.Stations.{Station, use_station, offer_station, expose_station, capability_station}
 use Rattle.cm_world.specs.Next.{To, Ends, next_of, next_by}
 use Rattle.cm_world.specs.Route.{Named, First, NoUse, IsChain, last_of}
-use Rattle.cm_world.proofs.Finding.{none_some, some_same}
-use Rattle.cm_world.proofs.Walks.{child_lives, steps_fall, begins_down}
+use Rattle.cm_world.proofs.trees.Finding.{none_some, some_same}
+use Rattle.cm_world.proofs.trees.Walks.{child_lives, steps_fall, begins_down}
 use Rattle.cm_order.specs.Kids.{IsKid}
-use Rattle.cm_order.proofs.Trees.{below_self, below_trans, kid_below, parent_lives, eq_some}
-use Rattle.cm_order.proofs.Edges.{kid_node}
+use Rattle.cm_order.proofs.trees.Trees.{below_self, below_trans, kid_below, parent_lives, eq_some}
+use Rattle.cm_order.proofs.names.Edges.{kid_node}
 use Rattle.cm_laws.proofs.levels.Kept.{decl_row}
 use Rattle.cm_laws.proofs.clients.Next.{provided_at, instance_of, IsOffered, IsNext, by_parent, by_kid, by_itself, by_others, next_is}
 use Rattle.cm_laws.proofs.clients.Edges.{own_node, offer_edge, use_edge}

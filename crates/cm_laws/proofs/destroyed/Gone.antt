@@ -31,10 +31,10 @@ use Rattle.cm_world.specs.Step.{Allowed}
 use Rattle.cm_world.specs.After.{others_than, moved, after, dooms}
 use Rattle.cm_world.specs.Legal.{IsStep, Legal, replay}
 use Rattle.cm_world.specs.Sound.{IsOrderly, IsParent}
-use Rattle.cm_world.proofs.Finding.{some_same}
-use Rattle.cm_world.proofs.Histories.{replay-append, replay-push, Legal-split}
-use Rattle.cm_table.proofs.Rows.{lives_below}
-use Rattle.cm_order.proofs.Trees.{climb, or_left, or_right, true_not_false, flip_not, below_cases, below_lives, below_self}
+use Rattle.cm_world.proofs.trees.Finding.{some_same}
+use Rattle.cm_world.proofs.trees.Histories.{replay-append, replay-push, Legal-split}
+use Rattle.cm_table.proofs.tree.Rows.{lives_below}
+use Rattle.cm_order.proofs.trees.Trees.{climb, or_left, or_right, true_not_false, flip_not, below_cases, below_lives, below_self}
 use Rattle.cm_laws.specs.Destroying.{named_in, asked_of, is_removing, IsDoomed, IsDestroyed, IsPurged, IsShunned, IsForgotten, KeepsGone, LeavesGone, DoomedAreDestroyed, DestroyedStayGone}
 use Rattle.cm_laws.proofs.Entries.{of_each_entry}
 use Rattle.cm_laws.proofs.sound.Above.{above_here, above_up, above_lasts}

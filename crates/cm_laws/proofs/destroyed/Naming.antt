@@ -45,8 +45,8 @@ use Rattle.cm_world.specs.Reports.{look_at, kid_by, kid_of, has_collection, list
 use Rattle.cm_world.specs.Openings.{unready, unopened, routed, opened, opened_at, WalksUnless}
 use Rattle.cm_world.specs.Step.{PicksOn, Allowed}
 use Rattle.cm_world.specs.Expiring.{reaped}
-use Rattle.cm_world.proofs.Finding.{none_some, some_same, row_of-inc}
-use Rattle.cm_order.proofs.Trees.{all_rows, some_eq, and_pair, not_flip}
+use Rattle.cm_world.proofs.trees.Finding.{none_some, some_same, row_of-inc}
+use Rattle.cm_order.proofs.trees.Trees.{all_rows, some_eq, and_pair, not_flip}
 use Rattle.cm_laws.specs.Destroying.{incs_of_provider, incs_of_route, named_in}
 use Rattle.cm_laws.proofs.Answered.{passes_or}
 use Rattle.cm_laws.proofs.sound.Reaps.{reaped_doomed, doomed_live, all_more}

@@ -34,9 +34,9 @@ use Rattle.cm_world.specs.Sound.{IsOrderly, IsParent}
 use Rattle.cm_world.specs.Stations.{Station, use_station, offer_station, expose_station, bare_hop}
 use Rattle.cm_world.specs.Next.{Next, To, Ends, Needs, FromVoid, NoChild, Misses, by_builtin, builtin_of, by_offer, offered, offered_by, next_above, from_above, by_expose, give_of, exposed_by, from_child, by_capability, capability_of, next_from, next_by, next_of}
 use Rattle.cm_world.specs.Route.{Named, First, NoUse, NoneExposed, named_by, IsChain, provider_of, route_of, weak_availability, weak_rights, unless_fitting, unless_within, is_offer_or_expose, standing as available, asked_rights, said_by, trial_by, IsDecided, IsWalkedFrom, IsWalked}
-use Rattle.cm_world.proofs.Finding.{none_some, some_same, row_of-inc, find-passes}
-use Rattle.cm_world.proofs.Walks.{find-lives}
-use Rattle.cm_order.proofs.Trees.{some_eq, and_pair, not_true, flip_not, true_not_false}
+use Rattle.cm_world.proofs.trees.Finding.{none_some, some_same, row_of-inc, find-passes}
+use Rattle.cm_world.proofs.trees.Walks.{find-lives}
+use Rattle.cm_order.proofs.trees.Trees.{some_eq, and_pair, not_true, flip_not, true_not_false}
 use Rattle.cm_laws.specs.Destroying.{incs_of_provider, incs_of_route}
 use Rattle.cm_laws.proofs.sound.Above.{above_up, above_cases}
 

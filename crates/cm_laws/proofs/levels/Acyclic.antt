@@ -20,14 +20,14 @@ use Rattle.cm_world.specs.Sound.{IsRising, IsSound}
 use Rattle.cm_world.specs.End.{changed, set_pending, set_decl, child_rows}
 use Rattle.cm_world.specs.Create.{dynamic_name, dynamic_children, dynamic_with, created_row}
 use Rattle.cm_world.specs.After.{others_than}
-use Rattle.cm_world.proofs.Finding.{none_some, some_same, row_of-inc}
-use Rattle.cm_world.proofs.Walks.{below_next}
-use Rattle.cm_table.proofs.Rows.{lives_left, lives_pushed, Was, was_before, row_of-changed, rising_changed, rising_push}
-use Rattle.cm_table.proofs.Growth.{childless}
-use Rattle.cm_table.proofs.Taking.{orderly_taken}
+use Rattle.cm_world.proofs.trees.Finding.{none_some, some_same, row_of-inc}
+use Rattle.cm_world.proofs.trees.Walks.{below_next}
+use Rattle.cm_table.proofs.tree.Rows.{lives_left, lives_pushed, Was, was_before, row_of-changed, rising_changed, rising_push}
+use Rattle.cm_table.proofs.tree.Growth.{childless}
+use Rattle.cm_table.proofs.tree.Taking.{orderly_taken}
 use Rattle.cm_order.specs.Names.{dynamic_children as listed_children}
-use Rattle.cm_order.proofs.Trees.{or_left, or_right, and_pair, not_true}
-use Rattle.cm_order.proofs.Naming.{IsNamedKid, child, kid_not_own, row_node, gives_same}
+use Rattle.cm_order.proofs.trees.Trees.{or_left, or_right, and_pair, not_true}
+use Rattle.cm_order.proofs.names.Naming.{IsNamedKid, child, kid_not_own, row_node, gives_same}
 use Rattle.cm_laws.proofs.actions.Tasks.{by_test, find_split, edit_other}
 use Rattle.cm_laws.proofs.levels.Kept.{decl_row, row_decl, named_kid, WasKid, IsKept, kept_acyclic}
 use Rattle.cm_laws.proofs.levels.Named.{IsListed, named_acyclic, node_parts, given_parts}

@@ -15,13 +15,13 @@ use Rattle.cm_world.specs.declared.row.Row.{Row}
 use Rattle.cm_world.specs.Rows.{row_of, is_live, decl_of, has_parent, has_name, child_of}
 use Rattle.cm_world.specs.Level.{is_child_row, is_level_node, row_sources, child_row_sources, level_sources, is_from_row, LevelStrong}
 use Rattle.cm_world.specs.Sound.{IsRising, IsOrderly}
-use Rattle.cm_world.proofs.Finding.{none_some, some_same, find-passes}
-use Rattle.cm_world.proofs.Levels.{edge_source, edge_node}
-use Rattle.cm_world.proofs.Walks.{find-lives}
+use Rattle.cm_world.proofs.trees.Finding.{none_some, some_same, find-passes}
+use Rattle.cm_world.proofs.trees.Levels.{edge_source, edge_node}
+use Rattle.cm_world.proofs.trees.Walks.{find-lives}
 use Rattle.cm_order.specs.Kids.{IsKid}
-use Rattle.cm_order.proofs.Trees.{some_eq, eq_some, or_left, or_right, and_pair, flip_not}
-use Rattle.cm_order.proofs.Naming.{IsNamedKid, kid_found}
-use Rattle.cm_order.proofs.Edges.{kid_node, node_kid}
+use Rattle.cm_order.proofs.trees.Trees.{some_eq, eq_some, or_left, or_right, and_pair, flip_not}
+use Rattle.cm_order.proofs.names.Naming.{IsNamedKid, kid_found}
+use Rattle.cm_order.proofs.names.Edges.{kid_node, node_kid}
 use Rattle.cm_laws.proofs.levels.Mapped.{IsMapped, mapped_acyclic}
 
 -- ---- what is declared at a row

@@ -18,10 +18,10 @@ use Rattle.cm_decl.proofs.Sameness.{or_split, never, same_node-refl}
 use Rattle.cm_world.specs.declared.row.Row.{Row}
 use Rattle.cm_world.specs.Rows.{row_of, decl_of, child_of}
 use Rattle.cm_world.specs.Level.{child_row_sources, level_sources, is_from_row, LevelStrong}
-use Rattle.cm_world.proofs.Finding.{some_same}
-use Rattle.cm_world.proofs.Levels.{edge_source}
-use Rattle.cm_order.proofs.Trees.{some_eq, or_left, or_right, and_pair, true_not_false}
-use Rattle.cm_order.proofs.Listing.{any_map, any_flat}
+use Rattle.cm_world.proofs.trees.Finding.{some_same}
+use Rattle.cm_world.proofs.trees.Levels.{edge_source}
+use Rattle.cm_order.proofs.trees.Trees.{some_eq, or_left, or_right, and_pair, true_not_false}
+use Rattle.cm_order.proofs.names.Listing.{any_map, any_flat}
 use Rattle.cm_laws.proofs.levels.Mapped.{mapped_acyclic}
 use Rattle.cm_laws.proofs.levels.Kept.{own_or_kid, kid_sources}
 

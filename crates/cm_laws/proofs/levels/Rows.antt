@@ -14,11 +14,11 @@ use Rattle.cm_world.specs.Rows.{row_of, has_parent, is_behind}
 use Rattle.cm_world.specs.End.{child_row, child_rows}
 use Rattle.cm_world.specs.Create.{dynamic_children}
 use Rattle.cm_world.specs.Sound.{IsRising}
-use Rattle.cm_world.proofs.Finding.{none_some, some_same}
-use Rattle.cm_table.proofs.Rows.{some_is, is_some_by}
+use Rattle.cm_world.proofs.trees.Finding.{none_some, some_same}
+use Rattle.cm_table.proofs.tree.Rows.{some_is, is_some_by}
 use Rattle.cm_order.specs.Names.{dynamic_child, dynamic_children as listed_children}
-use Rattle.cm_order.proofs.Trees.{or_left, or_right}
-use Rattle.cm_order.proofs.Listing.{row_later}
+use Rattle.cm_order.proofs.trees.Trees.{or_left, or_right}
+use Rattle.cm_order.proofs.names.Listing.{row_later}
 
 -- ---- rows that are left
 

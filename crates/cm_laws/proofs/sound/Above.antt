@@ -4,8 +4,8 @@ use Rattle.cm_decl.proofs.Sameness.{or_split}
 use Rattle.cm_world.specs.declared.row.Row.{Row}
 use Rattle.cm_world.specs.Rows.{row_of, at_or_above, some_above}
 use Rattle.cm_world.specs.Sound.{IsOrderly}
-use Rattle.cm_world.proofs.Climbing.{some_above-step, above_root}
-use Rattle.cm_order.proofs.Trees.{climb, or_left, or_right, true_not_false}
+use Rattle.cm_world.proofs.trees.Climbing.{some_above-step, above_root}
+use Rattle.cm_order.proofs.trees.Trees.{climb, or_left, or_right, true_not_false}
 
 module _ (passes : Row → Bool) (rows : List Row) where
   nothing_above : (n i : ℕ) → row_of rows i ≡ None → at_or_above n passes rows (Some i) ≡ false

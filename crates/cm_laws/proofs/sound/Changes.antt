@@ -11,8 +11,8 @@ use Rattle.cm_world.specs.declared.row.Row.{Row}
 use Rattle.cm_world.specs.Rows.{row_of, has_parent, has_name, is_closing}
 use Rattle.cm_world.specs.End.{changed}
 use Rattle.cm_world.specs.Sound.{IsOrderly, IsWellShut, is_static_child, HasStatic, IsSound}
-use Rattle.cm_world.proofs.Finding.{row_of-inc}
-use Rattle.cm_table.proofs.Orderly.{IsKeeping, orderly_changed}
+use Rattle.cm_world.proofs.trees.Finding.{row_of-inc}
+use Rattle.cm_table.proofs.tree.Orderly.{IsKeeping, orderly_changed}
 use Rattle.std.proofs.lemmas.List.Sums.{sum_by-cons}
 use Rattle.cm_laws.proofs.sound.Rows.{Lasts, Follows, closing_lasts, Kept, kept, follows_changed}
 use Rattle.cm_laws.proofs.levels.Acyclic.{KeepsLevels, acyclic_changed}

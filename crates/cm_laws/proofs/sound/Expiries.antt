@@ -18,8 +18,8 @@ use Rattle.cm_world.specs.Marks.{is_dynamic}
 use Rattle.cm_world.specs.End.{changed, set_doomed}
 use Rattle.cm_world.specs.Sound.{IsRising, IsSound}
 use Rattle.cm_world.specs.Expiring.{coll_of, decl_above, is_once_by, runs_once, goes_with, expired, is_stopped, expired_by}
-use Rattle.cm_world.proofs.Finding.{some_same, row_of-inc}
-use Rattle.cm_table.proofs.Rows.{rising_changed}
+use Rattle.cm_world.proofs.trees.Finding.{some_same, row_of-inc}
+use Rattle.cm_table.proofs.tree.Rows.{rising_changed}
 use Rattle.cm_laws.specs.Tasks.{HasRow, IsTasked}
 use Rattle.cm_laws.proofs.sound.Rows.{Lasts, Follows, lasts_itself}
 use Rattle.cm_laws.proofs.sound.Marks.{doomed_lasting, sound_doomed}

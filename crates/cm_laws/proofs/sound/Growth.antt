@@ -20,15 +20,15 @@ use Rattle.cm_world.specs.Rows.{row_of, decl_of, child_of, has_parent, has_name}
 use Rattle.cm_world.specs.Create.{dynamic_name, dynamic_with, created_row}
 use Rattle.cm_world.specs.End.{changed, set_decl, set_pending, child_row, child_rows, rows_by}
 use Rattle.cm_world.specs.Sound.{IsOrderly, IsWellShut, is_static_child, HasStatic, IsSound}
-use Rattle.cm_world.proofs.Finding.{none_some, some_same, find-all}
-use Rattle.cm_table.proofs.Rows.{row_of-changed}
-use Rattle.cm_table.proofs.Orderly.{orderly_changed}
-use Rattle.cm_table.proofs.Changes.{keeping}
-use Rattle.cm_table.proofs.Growth.{childless}
-use Rattle.cm_table.proofs.Taking.{orderly_taken}
-use Rattle.cm_table.proofs.Adding.{orderly_added}
+use Rattle.cm_world.proofs.trees.Finding.{none_some, some_same, find-all}
+use Rattle.cm_table.proofs.tree.Rows.{row_of-changed}
+use Rattle.cm_table.proofs.tree.Orderly.{orderly_changed}
+use Rattle.cm_table.proofs.tree.Changes.{keeping}
+use Rattle.cm_table.proofs.tree.Growth.{childless}
+use Rattle.cm_table.proofs.tree.Taking.{orderly_taken}
+use Rattle.cm_table.proofs.tree.Adding.{orderly_added}
 use Rattle.cm_table.specs.declared.change.Change.TheVariants.{Resolve}
-use Rattle.cm_order.proofs.Trees.{all_rows, some_eq, not_true, not_flip, flip_not, true_not_false}
+use Rattle.cm_order.proofs.trees.Trees.{all_rows, some_eq, not_true, not_flip, flip_not, true_not_false}
 use Rattle.cm_laws.proofs.actions.Tasks.{by_test, find_split}
 use Rattle.cm_laws.proofs.sound.Rows.{Follows, follows_itself, follows_more, Kept, kept}
 use Rattle.cm_laws.proofs.sound.Changes.{count-cons, AreClosedWell, still_shut, IsFair, closed_changed, KeepsStatic, is_static_name, static_changed, places_same}

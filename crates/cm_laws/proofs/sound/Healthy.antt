@@ -27,8 +27,8 @@ use Rattle.cm_world.specs.Expiring.{expired, is_stopped}
 use Rattle.cm_world.specs.After.{new_act, with_action, with_end_of, with_end, with_rows, with_row, others_than, moved, after}
 use Rattle.cm_world.specs.Legal.{IsStep, Legal, replay}
 use Rattle.cm_world.specs.Sound.{IsSound}
-use Rattle.cm_world.proofs.Finding.{some_same, row_of-inc}
-use Rattle.cm_world.proofs.Fresh.{starts_sound}
+use Rattle.cm_world.proofs.trees.Finding.{some_same, row_of-inc}
+use Rattle.cm_world.proofs.examples.Fresh.{starts_sound}
 use Rattle.cm_laws.specs.Tasks.{HasRow, IsTasked}
 use Rattle.cm_laws.specs.Shutdowns.{TreesStaySound}
 use Rattle.cm_laws.proofs.actions.Tasks.{only_by, tasked_new, tasked_changed, tasked_begun, find_split}

@@ -10,7 +10,7 @@ use Rattle.cm_world.specs.Rows.{row_of, is_closing}
 use Rattle.cm_world.specs.End.{changed, set_pending, set_on, set_closing, set_doomed, set_shut, end_row}
 use Rattle.cm_world.specs.Marks.{is_dynamic}
 use Rattle.cm_world.specs.Sound.{IsSound, IsWellShut}
-use Rattle.cm_world.proofs.Finding.{some_same, row_of-inc}
+use Rattle.cm_world.proofs.trees.Finding.{some_same, row_of-inc}
 use Rattle.cm_decl.proofs.Sameness.{never}
 use Rattle.cm_laws.proofs.sound.Rows.{Lasts}
 use Rattle.cm_laws.proofs.sound.Changes.{is_static_name, sound_changed}

@@ -8,8 +8,8 @@ use Rattle.cm_world.specs.declared.row.Row.{Row}
 use Rattle.cm_world.specs.Rows.{row_of, is_below, has_parent, has_name}
 use Rattle.cm_world.specs.After.{others_than}
 use Rattle.cm_world.specs.Sound.{IsOrderly, IsParent, is_static_child, HasStatic, IsSound}
-use Rattle.cm_world.proofs.Finding.{some_same, row_of-inc}
-use Rattle.cm_order.proofs.Trees.{all_rows, some_eq, and_pair, not_true, not_flip, flip_not, true_not_false, below_up, below_cases}
+use Rattle.cm_world.proofs.trees.Finding.{some_same, row_of-inc}
+use Rattle.cm_order.proofs.trees.Trees.{all_rows, some_eq, and_pair, not_true, not_flip, flip_not, true_not_false, below_up, below_cases}
 use Rattle.cm_laws.proofs.sound.Rows.{was_left, is_left, rising_left, Follows, follows_left}
 use Rattle.cm_laws.proofs.sound.Changes.{count-cons, AreClosedWell, still_shut, is_static_name}
 use Rattle.cm_laws.proofs.sound.Growth.{static_named}

@@ -16,9 +16,9 @@ use Rattle.cm_world.specs.Marks.{is_dynamic, purge_reply}
 use Rattle.cm_world.specs.Step.{may_purge}
 use Rattle.cm_world.specs.Sound.{IsOrderly}
 use Rattle.cm_world.specs.Stopping.{MayPick}
-use Rattle.cm_world.proofs.Finding.{none_some, find-passes}
+use Rattle.cm_world.proofs.trees.Finding.{none_some, find-passes}
 use Rattle.cm_decl.proofs.Sameness.{and_first, and_second}
-use Rattle.cm_order.proofs.Trees.{climb, below_cases, below_lives}
+use Rattle.cm_order.proofs.trees.Trees.{climb, below_cases, below_lives}
 use Rattle.cm_laws.proofs.Answered.{passes_or, PassesRefusals, refused_passes}
 use Rattle.cm_laws.proofs.sound.Above.{above_here, above_up}
 

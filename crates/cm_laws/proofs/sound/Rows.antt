@@ -5,8 +5,8 @@ use Rattle.cm_world.specs.declared.row.Row.{Row}
 use Rattle.cm_world.specs.Rows.{row_of, is_closing}
 use Rattle.cm_world.specs.End.{changed}
 use Rattle.cm_world.specs.Sound.{IsRising, IsOrderly}
-use Rattle.cm_world.proofs.Finding.{none_some, some_same}
-use Rattle.cm_table.proofs.Rows.{lives_left, Was, was_before, row_of-changed, some_is, is_some_by}
+use Rattle.cm_world.proofs.trees.Finding.{none_some, some_same}
+use Rattle.cm_table.proofs.tree.Rows.{lives_left, Was, was_before, row_of-changed, some_is, is_some_by}
 use Rattle.cm_laws.proofs.actions.Tasks.{by_test, edit_other, find_split}
 use Rattle.cm_laws.proofs.sound.Above.{above_lasts}
 

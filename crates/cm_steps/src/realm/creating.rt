@@ -121,7 +121,13 @@ impl Realm {
             event: Event::Create(parent, coll, name, url, gives),
             reply: Reply::Created(inc),
         };
-        put_down(&mut self.book, &mut self.keeper, entry, false);
+        put_down(
+            &mut self.book,
+            &mut self.keeper,
+            &mut self.plan,
+            entry,
+            false,
+        );
         Ok(Reply::Created(inc))
     }
 }

@@ -41,7 +41,13 @@ impl Realm {
             event: Event::End(action, finish),
             reply: Reply::Ended(outcome),
         };
-        put_down(&mut self.book, &mut self.keeper, entry, doomed);
+        put_down(
+            &mut self.book,
+            &mut self.keeper,
+            &mut self.plan,
+            entry,
+            doomed,
+        );
         Reply::Ended(outcome)
     }
 
@@ -61,7 +67,13 @@ impl Realm {
             event: Event::Await(action),
             reply: Reply::Ended(outcome),
         };
-        put_down(&mut self.book, &mut self.keeper, entry, false);
+        put_down(
+            &mut self.book,
+            &mut self.keeper,
+            &mut self.plan,
+            entry,
+            false,
+        );
         Some(Reply::Ended(outcome))
     }
 }

@@ -89,7 +89,13 @@ impl Realm {
             event: Event::Mark(doom, inc),
             reply: Reply::Marked,
         };
-        put_down(&mut self.book, &mut self.keeper, entry, doom);
+        put_down(
+            &mut self.book,
+            &mut self.keeper,
+            &mut self.plan,
+            entry,
+            doom,
+        );
         Ok(Reply::Marked)
     }
 
@@ -174,7 +180,13 @@ impl Realm {
             event: Event::Purge(inc),
             reply: Reply::Purged(lost),
         };
-        put_down(&mut self.book, &mut self.keeper, entry, false);
+        put_down(
+            &mut self.book,
+            &mut self.keeper,
+            &mut self.plan,
+            entry,
+            false,
+        );
         Ok(Reply::Purged(told))
     }
 }

@@ -45,7 +45,7 @@ impl Realm {
         }
         trees_stay_sound();
         let next = next_action(self.acts.as_slice());
-        let answer = pick_answer(alloc, &self.table, next, target)?;
+        let answer = pick_answer(alloc, &self.table, &mut self.plan, next, target)?;
         self.pick_by(caller, target, answer)
     }
 
@@ -88,7 +88,13 @@ impl Realm {
             event: Event::Pick(target),
             reply: Reply::ShutDown(inc),
         };
-        put_down(&mut self.book, &mut self.keeper, entry, false);
+        put_down(
+            &mut self.book,
+            &mut self.keeper,
+            &mut self.plan,
+            entry,
+            false,
+        );
         Ok(Reply::ShutDown(inc))
     }
 }

@@ -3,11 +3,12 @@
 ghost use Rattle.std.specs.Prelude.{IsTrue, IfOk};
 ghost use Rattle.cm_world.specs.Sound.{IsSound};
 ghost use Rattle.cm_world.specs.Step.{may_close};
+ghost use Rattle.cm_order.specs.Plans.{IsPlan};
 ghost use Rattle.cm_steps.specs.Answers.{AnswersPick};
 
 use crate::replies::beginning::program_work;
 use cm_names::{List, Memory};
-use cm_order::{Picked, pick};
+use cm_order::{Picked, Plan, pick_with};
 use cm_table::Table;
 use cm_world::Work;
 use std::alloc::Global;
@@ -25,18 +26,21 @@ pub enum PickAnswer {
     Stops(Work),
 }
 
-/// What a pick comes to.
+/// What a pick comes to, with what is known of the levels of the tree from picks before.
 pub fn pick_answer(
     alloc: Global,
     table: &Table,
+    plan: &mut Plan,
     next_action: u64,
     target: u64,
 ) -> Result<PickAnswer, Memory>
     requires sound { IsSound table.now.rows table.now.next_inc }
     requires closing { IsTrue (may_close table.now.rows target) }
-    ensures { IfOk result (AnswersPick table.now.rows next_action target) }
+    requires plan { IsPlan table.now.rows plan.old }
+    ensures answer { IfOk result (AnswersPick table.now.rows next_action target) }
+    ensures plan { IsPlan table.now.rows plan.new }
 {
-    match pick(alloc, table, target)? {
+    match pick_with(alloc, table, plan, target)? {
         Picked::Waits(action) => Ok(PickAnswer::Busy(action)),
         Picked::Done => Ok(PickAnswer::Done),
         Picked::ShutNow(inc) => Ok(PickAnswer::Shuts(inc)),

@@ -410,59 +410,29 @@ pub const PIECES: &str = "\
     link one\n\
     piece 1\n\
     read 11\n\
-    $lines$\n\
-    => 0\n\
-    sent worker 0\n\
-    sent refused 81 gone incarnation 1\n\
+    $first-line$\n\
     == $serve$\n\
     link one\n\
     piece 2\n\
     read 6\n\
-    $lines$\n\
-    => 0\n\
-    sent worker 0\n\
-    sent refused 81 gone incarnation 1\n\
+    $first-line$\n\
     == $serve$\n\
     link one\n\
     piece 7\n\
     read 2\n\
-    $lines$\n\
-    => 0\n\
-    sent worker 0\n\
-    sent refused 81 gone incarnation 1\n\
+    $first-line$\n\
     == $serve$\n\
     link one\n\
     piece 8\n\
     read 1\n\
-    $lines$\n\
-    => 0\n\
-    sent worker 0\n\
-    sent refused 81 gone incarnation 1\n\
+    $first-line$\n\
     == $serve$\n\
     link one\n\
     piece 7\n\
-    fill 121 65537\n\
-    | \n\
-    fill 120 65536\n\
-    | \n\
-    fill 121 65537\n\
-    => 0\n\
-    sent worker 0\n\
-    sent refused 75 line-too-long\n\
-    sent refused 70 bad-command at 0\n\
-    sent refused 75 line-too-long\n\
+    $long-lines$\n\
     == $serve$\n\
     link one\n\
-    fill 121 65537\n\
-    | \n\
-    fill 120 65536\n\
-    | \n\
-    fill 121 65537\n\
-    => 0\n\
-    sent worker 0\n\
-    sent refused 75 line-too-long\n\
-    sent refused 70 bad-command at 0\n\
-    sent refused 75 line-too-long\n\
+    $long-lines$\n\
     == $serve$\n\
     link one\n\
     piece 7\n\
@@ -482,88 +452,11 @@ pub const PIECES: &str = "\
     link one\n\
     piece 3\n\
     read 5\n\
-    $lines$\n\
-    => 0\n\
-    sent worker 0\n\
-    sent refused 81 gone incarnation 1\n";
+    $first-line$\n";
 
-/// Links that end by `quit`, at their last byte or by a fault; then two links that two workers serve over one
-/// realm, of which either may come back first.
+/// Two links that two workers serve over one realm, of which either may come back first. What comes of one
+/// link alone is shown by the tests of sessions.
 pub const SESSIONS: &str = "\
-    == $serve$\n\
-    link one\n\
-    | quit\n\
-    | show .\n\
-    => 0\n\
-    sent worker 0\n\
-    == $serve$\n\
-    link one\n\
-    | show .\n\
-    + quit\n\
-    => 0\n\
-    sent worker 0\n\
-    sent shown . incarnation 0 url fuchsia-pkg://t/a#meta/root.cm unresolved off\n\
-    == $serve$\n\
-    link one\n\
-    | foo\n\
-    + show .\n\
-    => 0\n\
-    sent worker 0\n\
-    sent refused 70 bad-command at 0\n\
-    sent shown . incarnation 0 url fuchsia-pkg://t/a#meta/root.cm unresolved off\n\
-    == $serve$\n\
-    link one\n\
-    | quit \n\
-    | quit\r\n\
-    | \n\
-    | # show .\n\
-    | show . x\n\
-    | quit\n\
-    => 0\n\
-    sent worker 0\n\
-    sent refused 70 bad-command at 0\n\
-    sent refused 70 bad-command at 0\n\
-    sent refused 70 bad-command at 0\n\
-    sent refused 70 bad-command at 0\n\
-    sent refused 70 bad-command at 6\n\
-    == $serve$\n\
-    link one\n\
-    piece 1\n\
-    write 2\n\
-    | show .\n\
-    | foo\n\
-    | quit\n\
-    => 0\n\
-    sent worker 0\n\
-    sent+ sh\n\
-    == $serve$\n\
-    link one\n\
-    piece 7\n\
-    read 1\n\
-    | show .\n\
-    | foo\n\
-    => 0\n\
-    sent worker 0\n\
-    sent shown . incarnation 0 url fuchsia-pkg://t/a#meta/root.cm unresolved off\n\
-    == $serve$\n\
-    link one\n\
-    piece 6\n\
-    read 1\n\
-    | foo\n\
-    | show .\n\
-    => 0\n\
-    sent worker 0\n\
-    sent refused 70 bad-command at 0\n\
-    == $serve$\n\
-    link one\n\
-    | resolve .\n\
-    | resolve .\n\
-    | show .\n\
-    => 0\n\
-    sent worker 0\n\
-    sent refused 83 cannot-resolve action 1 absent\n\
-    sent refused 83 cannot-resolve action 2 absent\n\
-    sent shown . incarnation 0 url fuchsia-pkg://t/a#meta/root.cm unresolved off\n\
     == serve s --root fuchsia-pkg://t/a#meta/root.cm --repo r --sessions 2 --workers 2\n\
     runs 5\n\
     held @root-empty 0\n\
@@ -578,58 +471,26 @@ pub const SESSIONS: &str = "\
     | foo\n\
     + foo\n\
     => 0\n\
-    sent worker 0\n\
-    sent resolved . action 1\n\
-    sent refused 70 bad-command at 0\n\
-    sent worker 0\n\
-    sent refused 70 bad-command at 0\n\
-    sent refused 70 bad-command at 0\n\
+    $one-by-0$\n\
+    $other-by-0$\n\
     => 0\n\
-    sent worker 0\n\
-    sent resolved . action 1\n\
-    sent refused 70 bad-command at 0\n\
-    sent worker 1\n\
-    sent refused 70 bad-command at 0\n\
-    sent refused 70 bad-command at 0\n\
+    $one-by-0$\n\
+    $other-by-1$\n\
     => 0\n\
-    sent worker 1\n\
-    sent resolved . action 1\n\
-    sent refused 70 bad-command at 0\n\
-    sent worker 0\n\
-    sent refused 70 bad-command at 0\n\
-    sent refused 70 bad-command at 0\n\
+    $one-by-1$\n\
+    $other-by-0$\n\
     => 0\n\
-    sent worker 1\n\
-    sent resolved . action 1\n\
-    sent refused 70 bad-command at 0\n\
-    sent worker 1\n\
-    sent refused 70 bad-command at 0\n\
-    sent refused 70 bad-command at 0\n\
+    $one-by-1$\n\
+    $other-by-1$\n\
     => 0\n\
-    sent worker 0\n\
-    sent refused 70 bad-command at 0\n\
-    sent refused 70 bad-command at 0\n\
-    sent worker 0\n\
-    sent resolved . action 1\n\
-    sent refused 70 bad-command at 0\n\
+    $other-by-0$\n\
+    $one-by-0$\n\
     => 0\n\
-    sent worker 0\n\
-    sent refused 70 bad-command at 0\n\
-    sent refused 70 bad-command at 0\n\
-    sent worker 1\n\
-    sent resolved . action 1\n\
-    sent refused 70 bad-command at 0\n\
+    $other-by-0$\n\
+    $one-by-1$\n\
     => 0\n\
-    sent worker 1\n\
-    sent refused 70 bad-command at 0\n\
-    sent refused 70 bad-command at 0\n\
-    sent worker 0\n\
-    sent resolved . action 1\n\
-    sent refused 70 bad-command at 0\n\
+    $other-by-1$\n\
+    $one-by-0$\n\
     => 0\n\
-    sent worker 1\n\
-    sent refused 70 bad-command at 0\n\
-    sent refused 70 bad-command at 0\n\
-    sent worker 1\n\
-    sent resolved . action 1\n\
-    sent refused 70 bad-command at 0\n";
+    $other-by-1$\n\
+    $one-by-1$\n";

@@ -5,7 +5,8 @@
 //! afterwards; `out+`, `err+` and `sent+` a text that no line feed ends; `entries` the length of the
 //! history. The gates and the history are only looked at where a line speaks of them.
 
-use super::input::{number_of, push_line};
+use super::input::{number_of, push_line, push_text};
+use super::texts::is_one_of;
 use cm_gate::{Asked, Fetched, Gates, PlannedGates};
 use cm_names::{Memory, Text};
 use std::alloc::Global;
@@ -21,6 +22,9 @@ pub struct Came<'a> {
     pub told: &'a str,
 }
 
+/// The words that a line of an end may begin with.
+const WORDS: &str = "=> out out+ err err+ sent sent+ told entries";
+
 /// Whether each line of these ends begins with a word that is known, or is a status.
 pub fn are_known_ends(ends: &str) -> bool {
     for line in ends.split('\n') {
@@ -33,16 +37,8 @@ pub fn are_known_ends(ends: &str) -> bool {
 
 fn is_known(line: &str) -> bool {
     match line.split_once(' ') {
-        Some((word, _)) => is_word(word),
+        Some((word, _)) => is_one_of(WORDS, word),
         None => line.is_empty() || line.parse::<u8>().is_ok(),
-    }
-}
-
-fn is_word(word: &str) -> bool {
-    match word {
-        "=>" | "out" | "out+" | "err" | "err+" | "told" | "entries" => true,
-        "sent" | "sent+" => true,
-        _ => false,
     }
 }
 
@@ -92,15 +88,18 @@ fn is_told(alloc: Global, told: &str, lines: &str) -> Option<bool> {
 fn lines_of(alloc: Global, lines: &str, line: &str, text: &str) -> Option<Vec<u8>> {
     let mut bytes = Vec::new(alloc);
     for each in lines.split('\n') {
-        if let Some((word, rest)) = each.split_once(' ') {
-            if word == line {
-                push_line(&mut bytes, rest)?;
-            } else if word == text {
-                bytes.extend_from_slice(rest.as_bytes()).ok()?;
-            }
-        }
+        push_said(&mut bytes, each, line, text)?;
     }
     Some(bytes)
+}
+
+/// Puts down what a line says, where it begins with one of the words.
+fn push_said(bytes: &mut Vec<u8>, each: &str, line: &str, text: &str) -> Option<()> {
+    match each.split_once(' ') {
+        Some((word, rest)) if word == line => push_line(bytes, rest),
+        Some((word, rest)) if word == text => push_text(bytes, rest),
+        _ => Some(()),
+    }
 }
 
 fn word_of(answer: &Fetched) -> &'static str {

@@ -4,16 +4,16 @@
 pub const GENERATED: &str = "\
     == generate 1 5\n\
     => 0\n\
-    out instances 5 started 5 opened 4 shown 1\n\
+    out instances 5 started 5 opened 4 shown 1 kept 2\n\
     == generate +1 05\n\
     => 0\n\
-    out instances 5 started 5 opened 4 shown 1\n\
+    out instances 5 started 5 opened 4 shown 1 kept 2\n\
     == generate 7 1\n\
     => 0\n\
-    out instances 1 started 1 opened 0 shown 1\n\
+    out instances 1 started 1 opened 0 shown 1 kept 0\n\
     == generate 2147483647 3\n\
     => 0\n\
-    out instances 3 started 3 opened 3 shown 0\n\
+    out instances 3 started 3 opened 3 shown 0 kept 1\n\
     == generate 2147483648 3\n\
     => 2\n\
     err usage: run, check, serve, audit, generate\n\
@@ -29,7 +29,7 @@ pub const GENERATED: &str = "\
     == generate 3 20\n\
     runs 2\n\
     => 0\n\
-    out instances 20 started 20 opened 19 shown 1\n";
+    out instances 20 started 20 opened 19 shown 1 kept 8\n";
 
 /// A workload of which no draw is the root.
 pub const LARGE: &str = "\
@@ -37,4 +37,4 @@ pub const LARGE: &str = "\
     runs 2\n\
     room 2000\n\
     => 0\n\
-    out instances 2000 started 2000 opened 2000 shown 0\n";
+    out instances 2000 started 2000 opened 2000 shown 0 kept 741\n";

@@ -19,10 +19,14 @@
 //!   it as the input is, and `piece`, `read` and `write` among them are its own.
 
 use super::manifests::named;
+use super::texts::is_one_of;
 use cm_gate::Manifest;
 use cm_io::{MemorySource, Plan};
 use cm_names::{Bytes, List, Text};
 use std::alloc::Global;
+
+/// The words that a line may begin with.
+const WORDS: &str = "| + fill names piece read write say held declined failing room runs door link";
 
 /// Whether each line behind the first begins with a word that is known.
 pub fn are_known(case: &str) -> bool {
@@ -39,17 +43,8 @@ pub fn are_known(case: &str) -> bool {
 
 fn is_known(line: &str) -> bool {
     match line.split_once(' ') {
-        Some((word, _)) => is_word(word),
+        Some((word, _)) => is_one_of(WORDS, word),
         None => line.starts_with('@'),
-    }
-}
-
-fn is_word(word: &str) -> bool {
-    match word {
-        "|" | "+" | "fill" | "piece" | "read" | "write" => true,
-        "say" | "held" | "declined" | "failing" | "room" | "runs" => true,
-        "door" | "link" | "names" => true,
-        _ => false,
     }
 }
 
@@ -79,7 +74,7 @@ pub fn values_of(alloc: Global, case: &str, word: &str) -> Option<Vec<Text>> {
     for line in case.split('\n') {
         if let Some((first, value)) = line.split_once(' ') {
             if first == word {
-                values.push(text_of(alloc, value)?).ok()?;
+                push_value(alloc, &mut values, value)?;
             }
         }
     }
@@ -90,6 +85,13 @@ fn text_of(alloc: Global, text: &str) -> Option<Text> {
     Some(Text::from_string(String::from_str(alloc, text).ok()?))
 }
 
+fn push_value(alloc: Global, values: &mut Vec<Text>, value: &str) -> Option<()> {
+    match text_of(alloc, value) {
+        Some(value) => values.push(value).ok(),
+        None => None,
+    }
+}
+
 /// The words of a run, which stand in the first line of its case.
 pub fn words_of(alloc: Global, case: &str) -> Option<Vec<Text>> {
     let (head, _) = case.split_once('\n').unwrap_or((case, ""));
@@ -98,7 +100,7 @@ pub fn words_of(alloc: Global, case: &str) -> Option<Vec<Text>> {
         return Some(words);
     }
     for word in head.split(' ') {
-        words.push(text_of(alloc, word)?).ok()?;
+        push_value(alloc, &mut words, word)?;
     }
     Some(words)
 }
@@ -113,23 +115,33 @@ fn fill(bytes: &mut Vec<u8>, byte: u8, count: u64) -> Option<()> {
 
 /// Puts down what a line says of the input.
 fn push_input(alloc: Global, bytes: &mut Vec<u8>, line: &str) -> Option<()> {
-    if line.starts_with('@') {
-        return bytes.extend_from_slice(named(line)?.as_bytes()).ok();
+    match line.split_once(' ') {
+        Some((word, text)) => push_by_word(alloc, bytes, word, text),
+        None => push_text(bytes, named(line)?),
     }
-    let (word, text) = line.split_once(' ')?;
+}
+
+/// Puts down what a line says by its word, if anything.
+fn push_by_word(alloc: Global, bytes: &mut Vec<u8>, word: &str, text: &str) -> Option<()> {
     match word {
         "|" => push_line(bytes, text),
-        "+" => bytes.extend_from_slice(text.as_bytes()).ok(),
+        "+" => push_text(bytes, text),
         "fill" => {
-            let (byte, count) = text.split_once(' ')?;
-            fill(bytes, byte.parse().ok()?, count.parse().ok()?)
+            let (byte, count) = counted(text)?;
+            fill(bytes, byte.parse().ok()?, count)
         }
         "names" => {
-            let (front, count) = text.split_once(' ')?;
-            push_names(alloc, bytes, front, count.parse().ok()?)
+            let (front, count) = counted(text)?;
+            push_names(alloc, bytes, front, count)
         }
         _ => Some(()),
     }
+}
+
+/// A word, and how often it is meant.
+fn counted(text: &str) -> Option<(&str, u64)> {
+    let (word, count) = text.split_once(' ')?;
+    Some((word, count.parse().ok()?))
 }
 
 /// Puts down so many names that begin with a front.
@@ -138,7 +150,12 @@ fn push_names(alloc: Global, bytes: &mut Vec<u8>, front: &str, count: u64) -> Op
     for number in 0..count {
         names.push(format_args!("'{front}{number}',")).ok()?;
     }
-    bytes.extend_from_slice(names.as_str().as_bytes()).ok()
+    push_text(bytes, names.as_str())
+}
+
+/// Puts down a text.
+pub fn push_text(bytes: &mut Vec<u8>, text: &str) -> Option<()> {
+    bytes.extend_from_slice(text.as_bytes()).ok()
 }
 
 /// Puts down a line, with its line feed.

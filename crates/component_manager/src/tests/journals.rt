@@ -189,14 +189,7 @@ pub const STOPS: &str = "\
     out 51 0 pick 0 => shutdown 0\n\
     out 52 0 pick 0 => done\n\
     == run --journal\n\
-    @root-with-collection\n\
-    | manifest fuchsia-pkg://t/a#new\n\
-    | {}\n\
-    | %%\n\
-    @root-line\n\
-    | 0 start .\n\
-    | 0 create . coll one #new\n\
-    | 0 start coll:one\n\
+    $starts-one$\n\
     | sync\n\
     | 1 shutdown .\n\
     | sync\n\
@@ -209,22 +202,7 @@ pub const STOPS: &str = "\
     out 1 shut .\n\
     out 0 shown coll:one incarnation 1 url #new resolved off shut\n\
     out 0 stopped . already\n\
-    out journal\n\
-    out root fuchsia-pkg://t/a#meta/root.cm\n\
-    out 1 0 find . => found 0\n\
-    out 2 0 begin start 0 => need 0\n\
-    out 3 0 begin resolve 0 => begun 1\n\
-    out 4 0 end 1 resolved fuchsia-pkg://t/a#meta/root.cm $collection$ => ended resolved\n\
-    out 5 0 begin start 0 => begun 2\n\
-    out 6 0 end 2 started => ended started\n\
-    out 7 0 find . => found 0\n\
-    out 8 0 create 0 coll one #new => created 1\n\
-    out 9 0 find coll:one => found 1\n\
-    out 10 0 begin start 1 => need 1\n\
-    out 11 0 begin resolve 1 => begun 3\n\
-    out 12 0 end 3 resolved fuchsia-pkg://t/a#new $nothing$ => ended resolved\n\
-    out 13 0 begin start 1 => begun 4\n\
-    out 14 0 end 4 started => ended started\n\
+    $journal-of-one$\n\
     out 15 1 find . => found 0\n\
     out 16 1 mark closing 0 => marked\n\
     out 17 1 pick 0 => stopping 1 5\n\
@@ -239,14 +217,7 @@ pub const STOPS: &str = "\
     out 26 0 find . => found 0\n\
     out 27 0 begin stop 0 => already\n\
     == run --journal\n\
-    @root-with-collection\n\
-    | manifest fuchsia-pkg://t/a#new\n\
-    | {}\n\
-    | %%\n\
-    @root-line\n\
-    | 0 start .\n\
-    | 0 create . coll one #new\n\
-    | 0 start coll:one\n\
+    $starts-one$\n\
     | 0 stop .\n\
     | 0 start @1\n\
     | 0 start .\n\
@@ -259,22 +230,7 @@ pub const STOPS: &str = "\
     out 0 refused 81 gone incarnation 1\n\
     out 0 started . action 7\n\
     out 0 stopped . action 8\n\
-    out journal\n\
-    out root fuchsia-pkg://t/a#meta/root.cm\n\
-    out 1 0 find . => found 0\n\
-    out 2 0 begin start 0 => need 0\n\
-    out 3 0 begin resolve 0 => begun 1\n\
-    out 4 0 end 1 resolved fuchsia-pkg://t/a#meta/root.cm $collection$ => ended resolved\n\
-    out 5 0 begin start 0 => begun 2\n\
-    out 6 0 end 2 started => ended started\n\
-    out 7 0 find . => found 0\n\
-    out 8 0 create 0 coll one #new => created 1\n\
-    out 9 0 find coll:one => found 1\n\
-    out 10 0 begin start 1 => need 1\n\
-    out 11 0 begin resolve 1 => begun 3\n\
-    out 12 0 end 3 resolved fuchsia-pkg://t/a#new $nothing$ => ended resolved\n\
-    out 13 0 begin start 1 => begun 4\n\
-    out 14 0 end 4 started => ended started\n\
+    $journal-of-one$\n\
     out 15 0 find . => found 0\n\
     out 16 0 begin stop 0 => begun 5\n\
     out 17 0 end 5 stopped => ended stopped\n\

@@ -13,11 +13,11 @@ use super::input::{
     are_known, calls_of, manifests_of, number_of, plan_of, source_of, values_of, words_of,
 };
 use super::repeated::expanded;
-use crate::perform;
 use cm_gate::{GatePlan, Gates, Manifest, PlannedGates};
 use cm_io::{Door, MemoryDoor, MemoryLink, MemorySink, MemorySource};
 use cm_names::{List, Memory, Text};
 use cm_program::Ran;
+use cm_program::run::perform;
 use std::alloc::Global;
 use std::sync::Wait;
 use std::thread::Threads;

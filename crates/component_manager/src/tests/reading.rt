@@ -555,82 +555,34 @@ pub const WRITTEN: &str = "\
     |         facets: { any: [ true, 1.5, null ] },\n\
     |     }\n\
     | %%\n\
-    @root-line\n\
-    | 0 resolve .\n\
-    => 0\n\
-    out 0 resolved . action 1\n\
-    out journal\n\
-    out root fuchsia-pkg://t/a#meta/root.cm\n\
-    out 1 0 find . => found 0\n\
-    out 2 0 begin resolve 0 => begun 1\n\
-    out 3 0 end 1 resolved fuchsia-pkg://t/a#meta/root.cm $session$ => ended resolved\n\
+    $resolves-the-root$ $session$ => ended resolved\n\
     == run --journal\n\
     | manifest fuchsia-pkg://t/a#meta/root.cm\n\
     | $session$\n\
     | %%\n\
-    @root-line\n\
-    | 0 resolve .\n\
-    => 0\n\
-    out 0 resolved . action 1\n\
-    out journal\n\
-    out root fuchsia-pkg://t/a#meta/root.cm\n\
-    out 1 0 find . => found 0\n\
-    out 2 0 begin resolve 0 => begun 1\n\
-    out 3 0 end 1 resolved fuchsia-pkg://t/a#meta/root.cm $session$ => ended resolved\n\
+    $resolves-the-root$ $session$ => ended resolved\n\
     == run --journal\n\
     | manifest fuchsia-pkg://t/a#meta/root.cm\n\
     | {use:[{storage:'s',path:'/s'},{protocol:'p',from:'debug'},{protocol:'q',\n\
     | availability:'transitional'}]}\n\
     | %%\n\
-    @root-line\n\
-    | 0 resolve .\n\
-    => 0\n\
-    out 0 resolved . action 1\n\
-    out journal\n\
-    out root fuchsia-pkg://t/a#meta/root.cm\n\
-    out 1 0 find . => found 0\n\
-    out 2 0 begin resolve 0 => begun 1\n\
-    out 3 0 end 1 resolved fuchsia-pkg://t/a#meta/root.cm $uses$ => ended resolved\n\
+    $resolves-the-root$ $uses$ => ended resolved\n\
     == run --journal\n\
     | manifest fuchsia-pkg://t/a#meta/root.cm\n\
     | $uses$\n\
     | %%\n\
-    @root-line\n\
-    | 0 resolve .\n\
-    => 0\n\
-    out 0 resolved . action 1\n\
-    out journal\n\
-    out root fuchsia-pkg://t/a#meta/root.cm\n\
-    out 1 0 find . => found 0\n\
-    out 2 0 begin resolve 0 => begun 1\n\
-    out 3 0 end 1 resolved fuchsia-pkg://t/a#meta/root.cm $uses$ => ended resolved\n\
+    $resolves-the-root$ $uses$ => ended resolved\n\
     == run --journal\n\
     | manifest fuchsia-pkg://t/a#meta/root.cm\n\
     | {environments:[{name:'e',extends:'realm',runners:[{runner:'r',from:'#a',as:'s'}],\n\
     | debug:[{protocol:['p','q'],from:'parent'}]}]}\n\
     | %%\n\
-    @root-line\n\
-    | 0 resolve .\n\
-    => 0\n\
-    out 0 resolved . action 1\n\
-    out journal\n\
-    out root fuchsia-pkg://t/a#meta/root.cm\n\
-    out 1 0 find . => found 0\n\
-    out 2 0 begin resolve 0 => begun 1\n\
-    out 3 0 end 1 resolved fuchsia-pkg://t/a#meta/root.cm $environment$ => ended resolved\n\
+    $resolves-the-root$ $environment$ => ended resolved\n\
     == run --journal\n\
     | manifest fuchsia-pkg://t/a#meta/root.cm\n\
     | $environment$\n\
     | %%\n\
-    @root-line\n\
-    | 0 resolve .\n\
-    => 0\n\
-    out 0 resolved . action 1\n\
-    out journal\n\
-    out root fuchsia-pkg://t/a#meta/root.cm\n\
-    out 1 0 find . => found 0\n\
-    out 2 0 begin resolve 0 => begun 1\n\
-    out 3 0 end 1 resolved fuchsia-pkg://t/a#meta/root.cm $environment$ => ended resolved\n\
+    $resolves-the-root$ $environment$ => ended resolved\n\
     == run --journal\n\
     | manifest fuchsia-pkg://t/a#meta/root.cm\n\
     | {children:[{name:'a',url:'u',environment:'#e'}],capabilities:[{storage:'s',from:'#a',\n\
@@ -638,25 +590,9 @@ pub const WRITTEN: &str = "\
     't'],\n\
     | from:'self',to:['#a','#c']}]}\n\
     | %%\n\
-    @root-line\n\
-    | 0 resolve .\n\
-    => 0\n\
-    out 0 resolved . action 1\n\
-    out journal\n\
-    out root fuchsia-pkg://t/a#meta/root.cm\n\
-    out 1 0 find . => found 0\n\
-    out 2 0 begin resolve 0 => begun 1\n\
-    out 3 0 end 1 resolved fuchsia-pkg://t/a#meta/root.cm $storage$ => ended resolved\n\
+    $resolves-the-root$ $storage$ => ended resolved\n\
     == run --journal\n\
     | manifest fuchsia-pkg://t/a#meta/root.cm\n\
     | $storage$\n\
     | %%\n\
-    @root-line\n\
-    | 0 resolve .\n\
-    => 0\n\
-    out 0 resolved . action 1\n\
-    out journal\n\
-    out root fuchsia-pkg://t/a#meta/root.cm\n\
-    out 1 0 find . => found 0\n\
-    out 2 0 begin resolve 0 => begun 1\n\
-    out 3 0 end 1 resolved fuchsia-pkg://t/a#meta/root.cm $storage$ => ended resolved\n";
+    $resolves-the-root$ $storage$ => ended resolved\n";

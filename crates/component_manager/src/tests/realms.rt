@@ -108,6 +108,35 @@ pub const REALMS: &str = "\
     out 0 destroyed dyn:x\n\
     out 0 refused 64 offer-cycle dyn:x dyn:z dyn:x\n\
     == run\n\
+    @root-with-offers\n\
+    | manifest fuchsia-pkg://t/a#meta/x.cm\n\
+    | {capabilities:[{protocol:'p'}],expose:[{protocol:'p',from:'self'}]}\n\
+    | %%\n\
+    | manifest fuchsia-pkg://t/a#meta/z.cm\n\
+    | {use:[{protocol:'p'}]}\n\
+    | %%\n\
+    @root-line\n\
+    | 0 create . dyn x #meta/x.cm\n\
+    | 0 create . dyn z #meta/z.cm + protocol p #dyn:x\n\
+    | 0 route dyn:z /svc/p\n\
+    | 0 route dyn:z /svc/p\n\
+    | 0 destroy dyn:x\n\
+    | 0 route dyn:z /svc/p\n\
+    | 0 create . dyn x #meta/x.cm\n\
+    | 0 route dyn:z /svc/p\n\
+    => 0\n\
+    out 0 created . dyn:x incarnation 1\n\
+    out 0 created . dyn:z incarnation 2\n\
+    out 0 route /svc/p at dyn:x incarnation 1 through use dyn:z, offer ., expose dyn:x, capability dyn:x\
+    \n\
+    out 0 route /svc/p at dyn:x incarnation 1 through use dyn:z, offer ., expose dyn:x, capability dyn:x\
+    \n\
+    out 0 destroyed dyn:x\n\
+    out 0 refused 87 no-instance at offer .\n\
+    out 0 created . dyn:x incarnation 3\n\
+    out 0 route /svc/p at dyn:x incarnation 3 through use dyn:z, offer ., expose dyn:x, capability dyn:x\
+    \n\
+    == run\n\
     @root\n\
     @logger\n\
     @client\n\

@@ -220,80 +220,35 @@ pub const SERVING: &str = "\
     sent worker 15\n\
     sent refused 70 bad-command at 0\n\
     == serve\n\
-    link one\n\
-    | show .\n\
-    => 2\n\
-    $usage$\n\
+    $unserved$\n\
     == serve s\n\
-    link one\n\
-    | show .\n\
-    => 2\n\
-    $usage$\n\
+    $unserved$\n\
     == serve s --root u\n\
-    link one\n\
-    | show .\n\
-    => 2\n\
-    $usage$\n\
+    $unserved$\n\
     == serve s --repo r\n\
-    link one\n\
-    | show .\n\
-    => 2\n\
-    $usage$\n\
+    $unserved$\n\
     == serve --root u --repo r\n\
-    link one\n\
-    | show .\n\
-    => 2\n\
-    $usage$\n\
+    $unserved$\n\
     == serve s t --root u --repo r\n\
-    link one\n\
-    | show .\n\
-    => 2\n\
-    $usage$\n\
+    $unserved$\n\
     == serve s --root fuchsia-pkg://t/a#meta/root.cm --repo r --sessions 0\n\
-    link one\n\
-    | show .\n\
-    => 2\n\
-    $usage$\n\
+    $unserved$\n\
     == serve s --root fuchsia-pkg://t/a#meta/root.cm --repo r --sessions 4097\n\
-    link one\n\
-    | show .\n\
-    => 2\n\
-    $usage$\n\
+    $unserved$\n\
     == serve s --root fuchsia-pkg://t/a#meta/root.cm --repo r --sessions -1\n\
-    link one\n\
-    | show .\n\
-    => 2\n\
-    $usage$\n\
+    $unserved$\n\
     == serve s --root fuchsia-pkg://t/a#meta/root.cm --repo r --sessions x\n\
-    link one\n\
-    | show .\n\
-    => 2\n\
-    $usage$\n\
+    $unserved$\n\
     == serve s --root fuchsia-pkg://t/a#meta/root.cm --repo r --workers 0\n\
-    link one\n\
-    | show .\n\
-    => 2\n\
-    $usage$\n\
+    $unserved$\n\
     == serve s --root fuchsia-pkg://t/a#meta/root.cm --repo r --workers 17\n\
-    link one\n\
-    | show .\n\
-    => 2\n\
-    $usage$\n\
+    $unserved$\n\
     == serve s --root fuchsia-pkg://t/a#meta/root.cm --repo r --workers\n\
-    link one\n\
-    | show .\n\
-    => 2\n\
-    $usage$\n\
+    $unserved$\n\
     == serve s --root fuchsia-pkg://t/a#meta/root.cm --repo r --journal\n\
-    link one\n\
-    | show .\n\
-    => 2\n\
-    $usage$\n\
+    $unserved$\n\
     == serve --help\n\
-    link one\n\
-    | show .\n\
-    => 2\n\
-    $usage$\n\
+    $unserved$\n\
     == serve s --root fuchsia-pkg://t/a#meta/root.cm --repo r --sessions 4096 --workers 16\n\
     door 0\n\
     => 5\n\

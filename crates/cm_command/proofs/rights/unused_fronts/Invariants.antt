@@ -1,7 +1,7 @@
 use Rattle.std.proofs.Common.{◌≡◌, take, map}
 use Rattle.cm_command.specs.Counts.{CountsFronts}
 use Rattle.cm_command.specs.Words.{right_words}
-use Rattle.cm_command.proofs.RightCounts.{IsLeft}
+use Rattle.cm_command.proofs.counts.RightCounts.{IsLeft}
 use Rattle.cm_command.proofs.rights.unused_fronts.Given as goal
 
 -- the count of the unused words so far

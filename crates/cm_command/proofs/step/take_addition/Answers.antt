@@ -1,4 +1,4 @@
-use Rattle.cm_command.proofs.StepLemmas.{addition_fault}
+use Rattle.cm_command.proofs.line.StepLemmas.{addition_fault}
 use Rattle.cm_command.proofs.step.take_addition.Goals as goal
 
 pub returns-in-Err : goal.returns-in-Err

@@ -1,5 +1,5 @@
 use Rattle.cm_command.specs.Counts.{CountsFronts}
-use Rattle.cm_command.proofs.StepLemmas.{IsFirstVerb}
+use Rattle.cm_command.proofs.line.StepLemmas.{IsFirstVerb}
 use Rattle.cm_command.proofs.step.verb_fronts.Given as goal
 
 -- the fronts that the verbs so far begin with

@@ -1,7 +1,7 @@
 use Rattle.std.proofs.Common.{rules, arith, sym, subst}
 use Rattle.cm_names.specs.Name.{IsName}
 use Rattle.cm_command.specs.Counts.{CountsFronts}
-use Rattle.cm_command.proofs.NameCounts.{no_byte, bad_first, good_first, split_first, nil_of}
+use Rattle.cm_command.proofs.counts.NameCounts.{no_byte, bad_first, good_first, split_first, nil_of}
 use Rattle.cm_command.proofs.tokens.name_fronts.Goals as goal
 
 pub returns-in-empty : goal.returns-in-empty

@@ -1,4 +1,4 @@
-use Rattle.cm_command.proofs.PathCounts.{subdir_counts}
+use Rattle.cm_command.proofs.counts.PathCounts.{subdir_counts}
 use Rattle.cm_command.proofs.tokens.subdir_fronts.Goals as goal
 
 pub returns : goal.returns

@@ -1,5 +1,5 @@
 use Rattle.std.proofs.Common.{rules}
-use Rattle.cm_command.proofs.UrlLemmas.{url_counts, url_whole}
+use Rattle.cm_command.proofs.counts.UrlLemmas.{url_counts, url_whole}
 use Rattle.cm_command.proofs.tokens.url_fronts.Goals as goal
 
 pub returns : goal.returns

@@ -1,6 +1,6 @@
 use Rattle.std.proofs.Common.{ℕ, ◌<◌, List, Bool}
 use Rattle.cm_deps.specs.Edges.{IsListing, IsSettled}
-use Rattle.cm_deps.proofs.Peeling.{IsPeeling}
+use Rattle.cm_deps.proofs.listed.Peeling.{IsPeeling}
 use Rattle.cm_deps.proofs.edges.peel.Given as goal
 
 -- the nodes before x are settled

@@ -1,7 +1,7 @@
 use Rattle.std.proofs.Common.{sym, ◌∙◌, ap, subst}
 use Rattle.cm_deps.specs.Edges.{holds, IsPeeled}
 use Rattle.cm_deps.specs.Implied.{IsFull, IsOrdered}
-use Rattle.cm_deps.proofs.Shaping.{reach_inside, ordered}
+use Rattle.cm_deps.proofs.listed.Shaping.{reach_inside, ordered}
 use Rattle.cm_deps.proofs.order.put_in_order.Goals as goal
 
 pub with_implied-requires-clause-inside : goal.with_implied-requires-clause-inside

@@ -1,6 +1,6 @@
 use Rattle.std.proofs.Common.{◌∷◌, [], ◌++◌, get_or, sym, ◌∙◌, ap}
 use Rattle.cm_deps.specs.Nodes.{at}
-use Rattle.cm_deps.proofs.Outcomes.{nodes_more, number_held}
+use Rattle.cm_deps.proofs.given.Outcomes.{nodes_more, number_held}
 use Rattle.cm_deps.proofs.outcome.nodes_at.Goals as goal
 
 pub node_at-requires : goal.node_at-requires

@@ -1,6 +1,6 @@
 use Rattle.std.proofs.Common.{◌≡◌, [], ◌∷◌, ◌++◌, sym, ◌∙◌}
 use Rattle.cm_deps.specs.Sources.{ListsMore}
-use Rattle.cm_deps.proofs.Sourcing.{source_absent, added_none, added_number, on_ok}
+use Rattle.cm_deps.proofs.given.Sourcing.{source_absent, added_none, added_number, on_ok}
 use Rattle.cm_deps.proofs.sources.add_source.Goals as goal
 
 pub returns-in-None : goal.returns-in-None

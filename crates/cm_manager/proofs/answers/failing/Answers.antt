@@ -1,6 +1,6 @@
 use Rattle.std.proofs.Common.{Some, sym, ap, ◌∙◌}
 use Rattle.cm_world.specs.declared.action.ActKind.{ActKind}
-use Rattle.cm_manager.proofs.Readings.{cannot, cannot_start, fails_so}
+use Rattle.cm_manager.proofs.onward.Readings.{cannot, cannot_start, fails_so}
 use Rattle.cm_manager.proofs.answers.failing.Goals as goal
 
 pub returns-in-Resolve : goal.returns-in-Resolve

@@ -1,5 +1,5 @@
 use Rattle.std.proofs.Common.{sym, ◌∙◌}
-use Rattle.cm_manager.proofs.DoctorLines.{cut_line, more_line}
+use Rattle.cm_manager.proofs.checks.DoctorLines.{cut_line, more_line}
 use Rattle.cm_manager.proofs.doctor.found_at.Goals as goal
 
 pub returns-in-Some : goal.returns-in-Some

@@ -1,5 +1,5 @@
 use Rattle.std.proofs.Common.{refl}
-use Rattle.cm_manager.proofs.Launches.{failure_by}
+use Rattle.cm_manager.proofs.starts.Launches.{failure_by}
 use Rattle.cm_manager.proofs.starting.if_failed.Goals as goal
 
 pub returns-else-went_well : goal.returns-else-went_well

@@ -1,6 +1,6 @@
 use Rattle.std.proofs.Common.{sym, ap, ◌∙◌}
 use Rattle.cm_world.specs.declared.event.Event.TheVariants as event
-use Rattle.cm_manager.proofs.Turning.{steps_by}
+use Rattle.cm_manager.proofs.onward.Turning.{steps_by}
 use Rattle.cm_manager.proofs.turns.tell.Goals as goal
 
 pub returns-in_ok-path-in-Route-clause-steps : goal.returns-in_ok-path-in-Route-clause-steps

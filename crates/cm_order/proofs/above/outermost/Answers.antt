@@ -1,5 +1,5 @@
 use Rattle.cm_walk.proofs.Monikers.{loop-lower}
-use Rattle.cm_order.proofs.Tops.{goes_up}
+use Rattle.cm_order.proofs.trees.Tops.{goes_up}
 use Rattle.cm_order.proofs.above.outermost.Goals as goal
 
 pub up-smaller : goal.up-smaller

@@ -1,7 +1,7 @@
 use Rattle.std.proofs.Common.{sym, ◌∙◌, subst}
-use Rattle.cm_order.proofs.Kids.{next_kid}
-use Rattle.cm_order.proofs.Turns.{IsLooking, alone, under, own_open, looking_first, looking_on, looking_found}
-use Rattle.cm_order.proofs.Weights.{falls}
+use Rattle.cm_order.proofs.levels.Kids.{next_kid}
+use Rattle.cm_order.proofs.searches.Turns.{IsLooking, alone, under, own_open, looking_first, looking_on, looking_found}
+use Rattle.cm_order.proofs.searches.Weights.{falls}
 use Rattle.cm_order.proofs.below.all_shut.Goals as goal
 
 pub returns-then-unshut : goal.returns-then-unshut

@@ -1,5 +1,5 @@
 use Rattle.std.proofs.Common.{sym, ◌∙◌}
-use Rattle.cm_order.proofs.Glancing.{last_if}
+use Rattle.cm_order.proofs.levels.Glancing.{last_if}
 use Rattle.cm_order.proofs.glance.is_last.Goals as goal
 
 pub returns : goal.returns

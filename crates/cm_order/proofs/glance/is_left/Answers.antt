@@ -1,5 +1,5 @@
 use Rattle.std.proofs.Common.{sym, ◌∙◌}
-use Rattle.cm_order.proofs.Turns.{own_open}
+use Rattle.cm_order.proofs.searches.Turns.{own_open}
 use Rattle.cm_order.proofs.glance.is_left.Goals as goal
 
 pub returns-then-unshut : goal.returns-then-unshut

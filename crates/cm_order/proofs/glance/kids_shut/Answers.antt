@@ -1,6 +1,6 @@
 use Rattle.std.proofs.Common.{sym, ◌∙◌, refl, inl}
-use Rattle.cm_order.proofs.Gathering.{room_less}
-use Rattle.cm_order.proofs.Glancing.{shut_more, shut_ends}
+use Rattle.cm_order.proofs.levels.Gathering.{room_less}
+use Rattle.cm_order.proofs.levels.Glancing.{shut_more, shut_ends}
 use Rattle.cm_order.proofs.glance.kids_shut.Goals as goal
 
 pub loop-child-init : goal.loop-child-init

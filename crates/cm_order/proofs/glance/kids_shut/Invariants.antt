@@ -1,5 +1,5 @@
-use Rattle.cm_order.proofs.Gathering.{room}
-use Rattle.cm_order.proofs.Glancing.{AreShutSoFar}
+use Rattle.cm_order.proofs.levels.Gathering.{room}
+use Rattle.cm_order.proofs.levels.Glancing.{AreShutSoFar}
 use Rattle.cm_order.proofs.glance.kids_shut.Given as goal
 
 abbrev pub invariant-loop-child : goal.invariant-loop-child

@@ -1,4 +1,4 @@
-use Rattle.cm_order.proofs.Glancing.{uses_by}
+use Rattle.cm_order.proofs.levels.Glancing.{uses_by}
 use Rattle.cm_order.proofs.glance.uses_child.Goals as goal
 
 pub returns-in-Some : goal.returns-in-Some

@@ -1,4 +1,4 @@
-use Rattle.cm_order.proofs.Sources.{bound_none}
+use Rattle.cm_order.proofs.names.Sources.{bound_none}
 use Rattle.cm_order.proofs.named.named_at.Goals as goal
 
 pub returns-in-None : goal.returns-in-None

@@ -1,7 +1,7 @@
 use Rattle.std.proofs.Common.{◌≡◌, false, sym, ◌∙◌, subst}
 use Rattle.std.specs.List.{list_any}
 use Rattle.cm_order.specs.Glances.{is_in_set, HasSources, is_aimed_from, is_used_from, is_wired}
-use Rattle.cm_order.proofs.Sources.{bound_by}
+use Rattle.cm_order.proofs.names.Sources.{bound_by}
 use Rattle.cm_order.proofs.named.named_by.Goals as goal
 
 pub returns : goal.returns

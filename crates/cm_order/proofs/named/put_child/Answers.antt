@@ -1,8 +1,8 @@
 use Rattle.std.proofs.Common.{sym, ◌∙◌, ap}
 use Rattle.std.specs.List.{list_any}
 use Rattle.cm_order.specs.Glances.{is_wired}
-use Rattle.cm_order.proofs.Trees.{flip_not}
-use Rattle.cm_order.proofs.Sources.{seen_plain}
+use Rattle.cm_order.proofs.trees.Trees.{flip_not}
+use Rattle.cm_order.proofs.names.Sources.{seen_plain}
 use Rattle.cm_order.proofs.named.put_child.Goals as goal
 
 pub returns-then-not-gives_wired-clause-seen : goal.returns-then-not-gives_wired-clause-seen

@@ -1,5 +1,5 @@
 use Rattle.std.specs.Ordering.{is_eq, nat_cmp}
-use Rattle.cm_order.proofs.Sources.{put_kept, put_here}
+use Rattle.cm_order.proofs.names.Sources.{put_kept, put_here}
 use Rattle.cm_order.proofs.named.put_found.Goals as goal
 
 pub returns-in_ok-insert-in-Some : goal.returns-in_ok-insert-in-Some

@@ -1,6 +1,6 @@
 use Rattle.std.proofs.Common.{◌∙◌}
-use Rattle.cm_world.proofs.Finding.{none_some}
-use Rattle.cm_order.proofs.Sources.{target_put}
+use Rattle.cm_world.proofs.trees.Finding.{none_some}
+use Rattle.cm_order.proofs.names.Sources.{target_put}
 use Rattle.cm_order.proofs.named.put_name.Goals as goal
 
 pub returns-in-None : goal.returns-in-None

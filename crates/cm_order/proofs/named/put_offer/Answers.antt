@@ -1,7 +1,7 @@
 use Rattle.std.proofs.Common.{sym, ◌∙◌}
 use Rattle.cm_decl.proofs.Sameness.{and_first, and_second}
 use Rattle.cm_order.specs.Glances.{is_aimed, is_offered_from}
-use Rattle.cm_order.proofs.Trees.{true_not_false}
+use Rattle.cm_order.proofs.trees.Trees.{true_not_false}
 use Rattle.cm_order.proofs.named.put_offer.Goals as goal
 
 pub returns-then-not-is_aimed-clause-here : goal.returns-then-not-is_aimed-clause-here

@@ -2,7 +2,7 @@ use Rattle.std.proofs.Common.{◌≡◌, rules, subst, IsTrue}
 use Rattle.std.specs.Ordering.{is_eq, nat_cmp}
 use Rattle.std.specs.Cmp.Lexicographic.{slice_cmp}
 use Rattle.cm_order.specs.Glances.{is_in_texts}
-use Rattle.cm_order.proofs.Sources.{texts_kept}
+use Rattle.cm_order.proofs.names.Sources.{texts_kept}
 use Rattle.cm_order.proofs.named.put_text.Goals as goal
 
 pub returns : goal.returns

@@ -1,15 +1,4 @@
-use Rattle.std.proofs.Common.{sym}
-use Rattle.cm_order.proofs.Answering.{none_left, own_top}
 use Rattle.cm_order.proofs.picking.pick.Goals as goal
 
-pub returns-in_default : goal.returns-in_default
-returns-in_default g c =
-    none_left (g.V.View.rows c.args.view.now) (g.V.View.next_inc c.args.view.now) c.requires.sound c.args.target c.requires.closing (sym c.in_default.ensures)
-
-pub quick-requires-clause-top : goal.quick-requires-clause-top
-quick-requires-clause-top g c =
-    own_top (g.V.View.rows c.args.view.now) (g.V.View.next_inc c.args.view.now) c.requires.sound c.args.target c.in-Some.top (sym c.in-Some.ensures)
-
-pub search-requires-clause-top : goal.search-requires-clause-top
-search-requires-clause-top g c =
-    own_top (g.V.View.rows c.args.view.now) (g.V.View.next_inc c.args.view.now) c.requires.sound c.args.target c.in-Some.top (sym c.in-Some.ensures)
+pub pick_with-requires-clause-plan : goal.pick_with-requires-clause-plan
+pick_with-requires-clause-plan g c = λ p named known. absurd (cc (c.new-plan.ensures p, known))

@@ -1,25 +1,27 @@
 use Rattle.std.proofs.Common.{subst}
 use Rattle.cm_order.specs.Glances.{IsGlance}
-use Rattle.cm_order.proofs.Tops.{top_lives}
-use Rattle.cm_order.proofs.Going.{at_first, at_on, at_lower, at_found}
+use Rattle.cm_order.proofs.trees.Tops.{top_lives}
+use Rattle.cm_order.proofs.searches.Going.{at_first, at_on, at_lower, at_found}
 use Rattle.cm_order.proofs.quick.quick.Goals as goal
 
 pub down-init : goal.down-init
 down-init g c =
     let row : _ = top_lives (g.V.View.rows c.args.view.now) (g.V.View.next_inc c.args.view.now) c.requires.sound.orderly c.args.top c.args.top c.requires.top in
-    at_first (g.V.View.rows c.args.view.now) (g.V.View.next_inc c.args.view.now) c.requires.sound.orderly c.args.top c.requires.top row.0 row.1
+    (at_first (g.V.View.rows c.args.view.now) (g.V.View.next_inc c.args.view.now) c.requires.sound.orderly c.args.top c.requires.top row.0 row.1, c.requires.plan)
 
-pub returns-in-Here : goal.returns-in-Here
-returns-in-Here g c =
-    at_found (g.V.View.rows c.args.view.now) (g.V.View.next_inc c.args.view.now) c.requires.sound.orderly c.args.top c.in-Some.here c.down.at c.requires.top c.in-Some.is c.down.invariant
-    (subst (IsGlance (g.V.View.rows c.args.view.now) c.in-Some.here) c.in-Here.is c.in_ok-glance.ensures)
+pub returns-in-Here-clause-quick : goal.returns-in-Here-clause-quick
+returns-in-Here-clause-quick g c =
+    at_found (g.V.View.rows c.args.view.now) (g.V.View.next_inc c.args.view.now) c.requires.sound.orderly c.args.top c.in-Some.here c.down.at c.requires.top c.in-Some.is c.down.invariant.0
+    (subst (IsGlance (g.V.View.rows c.args.view.now) c.in-Some.here) c.in-Here.is c.in_ok-glance.ensures.glance)
 
 pub down-smaller : goal.down-smaller
 down-smaller g c =
-    at_lower (g.V.View.rows c.args.view.now) (g.V.View.next_inc c.args.view.now) c.requires.sound.orderly c.args.top c.in-Some.here c.down.at c.in-Below.child c.in-Some.is c.down.invariant
-    (subst (IsGlance (g.V.View.rows c.args.view.now) c.in-Some.here) c.in-Below.is c.in_ok-glance.ensures)
+    at_lower (g.V.View.rows c.args.view.now) (g.V.View.next_inc c.args.view.now) c.requires.sound.orderly c.args.top c.in-Some.here c.down.at c.in-Below.child c.in-Some.is c.down.invariant.0
+    (subst (IsGlance (g.V.View.rows c.args.view.now) c.in-Some.here) c.in-Below.is c.in_ok-glance.ensures.glance)
 
 pub down-preserved : goal.down-preserved
-down-preserved g c =
-    at_on (g.V.View.rows c.args.view.now) (g.V.View.next_inc c.args.view.now) c.requires.sound.orderly c.args.top c.in-Some.here c.down.at c.in-Below.child c.in-Some.is c.down.invariant
-    (subst (IsGlance (g.V.View.rows c.args.view.now) c.in-Some.here) c.in-Below.is c.in_ok-glance.ensures)
+down-preserved g c = (
+  at_on (g.V.View.rows c.args.view.now) (g.V.View.next_inc c.args.view.now) c.requires.sound.orderly c.args.top c.in-Some.here c.down.at c.in-Below.child c.in-Some.is c.down.invariant.0
+      (subst (IsGlance (g.V.View.rows c.args.view.now) c.in-Some.here) c.in-Below.is c.in_ok-glance.ensures.glance),
+  c.in_ok-glance.ensures.plan,
+)

@@ -1,5 +1,5 @@
-use Rattle.cm_order.proofs.Searching.{IsSearching}
-use Rattle.cm_order.proofs.Weights.{weigh}
+use Rattle.cm_order.proofs.searches.Searching.{IsSearching}
+use Rattle.cm_order.proofs.searches.Weights.{weigh}
 use Rattle.cm_order.proofs.search.search.Given as goal
 
 -- what is left to look at decides

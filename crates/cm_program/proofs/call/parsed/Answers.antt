@@ -2,7 +2,7 @@ use Rattle.std.proofs.Common.{◌≡◌, true, map, ◌∙◌}
 use Rattle.clap.specs.Words.{app_of, found_of}
 use Rattle.clap.specs.Walk.{rows_of}
 use Rattle.clap.specs.Simple.{is_simple}
-use Rattle.cm_program.proofs.WordLemmas.{map-id, front_true, rows_ok, rows_err}
+use Rattle.cm_program.proofs.texts.WordLemmas.{map-id, front_true, rows_ok, rows_err}
 use Rattle.cm_program.proofs.call.parsed.Goals as goal
 
 pub returns-in-Ok : goal.returns-in-Ok

@@ -1,4 +1,4 @@
-use Rattle.cm_program.proofs.CheckLemmas.{valid_verdict}
+use Rattle.cm_program.proofs.whole.CheckLemmas.{valid_verdict}
 use Rattle.cm_program.proofs.check.verdict_of.Goals as goal
 
 pub returns-in-Err-validate-clause-verdict : goal.returns-in-Err-validate-clause-verdict

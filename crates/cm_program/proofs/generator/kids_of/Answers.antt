@@ -1,4 +1,4 @@
-use Rattle.cm_program.proofs.GeneratorLemmas.{kids_more}
+use Rattle.cm_program.proofs.texts.GeneratorLemmas.{kids_more}
 use Rattle.cm_program.proofs.generator.kids_of.Goals as goal
 
 pub loop-place-preserved : goal.loop-place-preserved

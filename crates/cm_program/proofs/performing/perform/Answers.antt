@@ -1,8 +1,7 @@
-use Rattle.std.proofs.Common.{◌∙◌, ap}
-use Rattle.cm_program.proofs.RunLemmas.{performs_nothing}
+use Rattle.cm_program.proofs.whole.RunLemmas.{performs_nothing}
 use Rattle.cm_program.proofs.performing.perform.Goals as goal
 
 pub returns-in-Err-clause-performs : goal.returns-in-Err-clause-performs
 returns-in-Err-clause-performs g c =
-    performs_nothing g.G.Gates.log g.G.Gates.faults (record { repo = c.args.repo; blocks = c.args.repository }) c.args.realm.frame c.args.phases.now c.args.gates c.into_book.result
-    (c.into_book.ensures ∙ ap (λ s. s.entries) c.in-Err.ensures.err ∙ c.requires.empty)
+    performs_nothing g.G.Gates.log g.G.Gates.faults (record { repo = c.args.repo; blocks = c.args.repository }) c.args.realm c.args.phases.now c.args.gates c.in-Err.realm c.performed_in.result
+    c.requires.empty c.in-Err.ensures.err c.performed_in.ensures.history c.performed_in.ensures.kept c.performed_in.ensures.gates c.performed_in.ensures.said

@@ -1,12 +1,13 @@
-use Rattle.cm_program.proofs.RunLemmas.{performs_by}
-use Rattle.cm_program.proofs.Sixteen.{sixteen_all}
+use Rattle.cm_program.proofs.whole.RunLemmas.{performs_by}
+use Rattle.cm_program.proofs.lanes.Sixteen.{sixteen_all}
 use Rattle.cm_program.proofs.performing.perform_under.Goals as goal
 
-pub close-book-requires-clause-passes : goal.close-book-requires-clause-passes
-close-book-requires-clause-passes g c =
+pub close_realm-requires-clause-passes : goal.close_realm-requires-clause-passes
+close_realm-requires-clause-passes g c =
     sixteen_all c.args.manager.turn c.run_lanes-passes.result.passes c.requires.count c.run_lanes-passes.ensures.passes
 
 pub returns-clause-performs : goal.returns-clause-performs
 returns-clause-performs g c f new =
-    performs_by g.G.Gates.log g.G.Gates.faults c.args.manager.shelf c.args.manager.turn f c.args.phases.now c.args.passes c.args.gates c.run_lanes-passes.result c.close-book.result
-    new c.requires.gates c.run_lanes-passes.ensures.passes c.close-book.ensures.closes c.close-book.ensures.ended c.run_lanes-passes.ensures.ran
+    performs_by g.G.Gates.log g.G.Gates.faults c.args.manager.shelf c.args.manager.turn f c.args.phases.now c.args.passes c.args.gates c.run_lanes-passes.result c.close_realm.result c.performed_in.result
+    new c.requires.gates c.run_lanes-passes.ensures.passes c.close_realm.ensures.closes c.close_realm.ensures.ended c.close_realm.ensures.frames c.performed_in.ensures.kept c.run_lanes-passes.ensures.ran
+    c.performed_in.ensures.history c.performed_in.ensures.gates c.performed_in.ensures.said

@@ -1,6 +1,6 @@
 use Rattle.std.proofs.Common.{rules}
-use Rattle.cm_program.proofs.FrontLemmas.{served_some, fault_known}
-use Rattle.cm_program.proofs.StockLemmas.{stops_for}
+use Rattle.cm_program.proofs.whole.FrontLemmas.{served_some, fault_known}
+use Rattle.cm_program.proofs.texts.StockLemmas.{stops_for}
 use Rattle.cm_program.proofs.scripts.read_served.Goals as goal
 
 pub returns-in-Ok-serve-clause-good : goal.returns-in-Ok-serve-clause-good

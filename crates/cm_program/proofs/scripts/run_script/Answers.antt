@@ -1,4 +1,4 @@
-use Rattle.std.proofs.Common.{◌≡◌, ◌⊎◌, ℕ, List, Option, ◌∙◌, sym, subst}
+use Rattle.std.proofs.Common.{◌≡◌, ◌⊎◌, inl, ℕ, List, Option, ◌∙◌, refl, sym, subst}
 use Rattle.std.proofs.KnownBytes.{Keeps-refl}
 use Rattle.cm_program.specs.Run.{Stops}
 use Rattle.cm_program.specs.Stock.{Serves}
@@ -7,27 +7,32 @@ use Rattle.cm_program.specs.declared.stock.Served.{Served}
 use Rattle.cm_program.specs.declared.scripts.Stop.{Stop}
 use Rattle.cm_program.specs.Run.{IsRefusal}
 use Rattle.cm_program.specs.Headline.{RunsNothing}
-use Rattle.cm_program.proofs.RunLemmas.{not_faulty, as_served, known_nothing, known_of_some, refused_runs, history_of, some_refused, some_served, some_unread}
+use Rattle.cm_program.proofs.whole.RunLemmas.{not_faulty, as_served, known_nothing, known_of_some, refused_runs, history_of, some_refused, some_served, some_unread}
+use Rattle.cm_program.proofs.Statuses.{not_run, run_goes_on}
 use Rattle.cm_program.proofs.scripts.run_script.Goals as goal
 
 known : (served : Served) (left : Option (List ℕ)) → OfSome (λ bytes. Serves bytes served) left → OfKnown (λ bytes. Serves bytes served) left
 known served left some = known_of_some (λ bytes. Serves bytes served) left some
 
-pub returns-in-Ok-clause-some : goal.returns-in-Ok-clause-some
-returns-in-Ok-clause-some g c = λ ran. some_served _ _ _ _ c.in-Ok.served c.in-Ok.ensures.good c.run_served.ensures.runs
-
-pub returns-in-Ok-clause-faulty : goal.returns-in-Ok-clause-faulty
-returns-in-Ok-clause-faulty g c = not_faulty (IsRefusal c.run_served.result.status) (g.S.Source.left c.args.script.now) c.in-Ok.served (known c.in-Ok.served (g.S.Source.left c.args.script.now) c.in-Ok.ensures.good)
-
-pub returns-in-Ok-clause-unserved : goal.returns-in-Ok-clause-unserved
-returns-in-Ok-clause-unserved g c =
-    not_faulty (RunsNothing c.run_served.result.book.entries c.args.gates c.run_served.result.gates) (g.S.Source.left c.args.script.now) c.in-Ok.served (known c.in-Ok.served (g.S.Source.left c.args.script.now) c.in-Ok.ensures.good)
-
-pub returns-in-Ok-clause-history : goal.returns-in-Ok-clause-history
-returns-in-Ok-clause-history g c = history_of g.G.Gates.log g.G.Gates.faults _ _ _ _ _ _ _ _ _ c.run_served.ensures.runs
-
-pub returns-in-Ok-clause-headline : goal.returns-in-Ok-clause-headline
-returns-in-Ok-clause-headline g c = λ ran. as_served _ (g.S.Source.left c.args.script.now) c.in-Ok.served (known c.in-Ok.served (g.S.Source.left c.args.script.now) c.in-Ok.ensures.good) c.run_served.ensures.runs
+pub returns-in-Ok : goal.returns-in-Ok
+returns-in-Ok g c =
+    record {
+      gates = c.run_served.ensures.gates;
+      read = not_run 3 c.run_served.result.status refl c.run_served.ensures.others;
+      heard = λ three six. c.in-Ok.ensures.heard;
+      write = c.run_served.ensures.cause;
+      whole = c.run_served.ensures.whole;
+      refused = not_run 7 c.run_served.result.status refl c.run_served.ensures.others;
+      faulty = not_faulty (IsRefusal c.run_served.result.status) (g.S.Source.left c.args.script.now) c.in-Ok.served (known c.in-Ok.served (g.S.Source.left c.args.script.now) c.in-Ok.ensures.good);
+      headline = λ ended. as_served _ (g.S.Source.left c.args.script.now) c.in-Ok.served (known c.in-Ok.served (g.S.Source.left c.args.script.now) c.in-Ok.ensures.good) c.run_served.ensures.runs;
+      some = λ ended. some_served _ _ _ _ c.in-Ok.served c.in-Ok.ensures.good c.run_served.ensures.runs;
+      history = history_of g.G.Gates.log g.G.Gates.faults _ _ _ _ _ _ _ _ _ c.run_served.ensures.runs;
+      empty = run_goes_on c.run_served.result.status c.run_served.ensures.others;
+      unserved = not_faulty (RunsNothing c.run_served.result.book.entries c.args.gates c.run_served.result.gates) (g.S.Source.left c.args.script.now) c.in-Ok.served (known c.in-Ok.served (g.S.Source.left c.args.script.now) c.in-Ok.ensures.good);
+      silent = run_goes_on c.run_served.result.status c.run_served.ensures.others;
+      err = c.run_served.ensures.err;
+      others = inl c.run_served.ensures.others;
+    }
 
 pub returns-in-Err-Refused-clause-headline : goal.returns-in-Err-Refused-clause-headline
 returns-in-Err-Refused-clause-headline g c = λ ran. refused_runs _ (g.S.Source.left c.args.script.now) c.in-Err-Refused.fault (subst (λ (stop : Stop). Stops stop (g.S.Source.left c.args.script.now)) c.in-Err-Refused.field-0-is c.in-Err-Refused.ensures.bad)

@@ -2,7 +2,7 @@ use Rattle.std.proofs.Common.{map, ap}
 use Rattle.cm_session.specs.Links.{link_view}
 use Rattle.cm_session.specs.Serving.{back_view}
 use Rattle.cm_program.specs.Sessions.{served_frame, served_shelf}
-use Rattle.cm_program.proofs.Attending.{runs_no_session}
+use Rattle.cm_program.proofs.links.Attending.{runs_no_session}
 use Rattle.cm_program.proofs.serving.run_sessions.Goals as goal
 
 pub returns-in_default-clause-runs : goal.returns-in_default-clause-runs

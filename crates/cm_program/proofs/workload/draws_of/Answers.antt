@@ -1,6 +1,6 @@
 use Rattle.std.proofs.Common.{◌<◌, ◌≤◌, ◌∙◌, All, List, ℕ, length, sym, ap, subst, arith}
 use Rattle.cm_program.specs.Generated.{drawn}
-use Rattle.cm_program.proofs.GeneratorLemmas.{drawn_all, drawn_low, drawn_long}
+use Rattle.cm_program.proofs.texts.GeneratorLemmas.{drawn_all, drawn_low, drawn_long}
 use Rattle.cm_program.proofs.workload.draws_of.Goals as goal
 
 pub returns-clause-within : goal.returns-clause-within

@@ -1,6 +1,6 @@
-use Rattle.std.proofs.Common.{◌≡◌, ◌++◌, take}
-use Rattle.cm_reply.specs.Lists.{bracketed}
+use Rattle.std.proofs.Common.{take}
+use Rattle.cm_reply.specs.Lists.{Gains, bracketed}
 use Rattle.cm_reply.proofs.lists.push_bracketed.Given as goal
 
 abbrev pub invariant-loop-item : goal.invariant-loop-item
-invariant-loop-item g l = l.text ≡ l.fn.text ++ bracketed g.T.Item.written (take l.item-index l.items)
+invariant-loop-item g l = Gains l.fn.text l.text (bracketed g.T.Item.written (take l.item-index l.items))

@@ -1,5 +1,5 @@
 use Rattle.std.proofs.Common.{refl, sym, ◌∙◌}
-use Rattle.cm_session.proofs.Making.{making_all, making_pushed}
+use Rattle.cm_session.proofs.work.Making.{making_all, making_pushed}
 use Rattle.cm_session.proofs.crew.make_crew.Goals as goal
 
 pub loop-pass-preserved : goal.loop-pass-preserved

@@ -1,5 +1,5 @@
 use Rattle.std.proofs.Common.{vec_capacity}
-use Rattle.cm_session.proofs.Making.{Making}
+use Rattle.cm_session.proofs.work.Making.{Making}
 use Rattle.cm_session.proofs.crew.make_crew.Given as goal
 
 abbrev pub invariant-loop-pass : goal.invariant-loop-pass

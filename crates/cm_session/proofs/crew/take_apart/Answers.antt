@@ -1,6 +1,6 @@
 use Rattle.std.proofs.Common.{subst, sym, List, ◌∙◌}
 use Rattle.cm_session.specs.declared.workers.Worker.{Worker}
-use Rattle.cm_session.proofs.Making.{Taking, taking_none, taking_more, taking_all}
+use Rattle.cm_session.proofs.work.Making.{Taking, taking_none, taking_more, taking_all}
 use Rattle.cm_session.proofs.crew.take_apart.Goals as goal
 
 pub loop-worker-init : goal.loop-worker-init

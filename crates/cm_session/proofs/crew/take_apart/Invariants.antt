@@ -1,4 +1,4 @@
-use Rattle.cm_session.proofs.Making.{Taking}
+use Rattle.cm_session.proofs.work.Making.{Taking}
 use Rattle.cm_session.proofs.crew.take_apart.Given as goal
 
 abbrev pub invariant-loop-worker : goal.invariant-loop-worker

@@ -1,4 +1,4 @@
-use Rattle.cm_session.proofs.Sessions.{put-front}
+use Rattle.cm_session.proofs.spoken.Sessions.{put-front}
 use Rattle.cm_session.proofs.lines.put_reply.Goals as goal
 
 pub returns-then-wanting-clause-wrote : goal.returns-then-wanting-clause-wrote

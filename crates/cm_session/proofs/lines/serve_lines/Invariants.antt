@@ -1,6 +1,6 @@
 use Rattle.cm_manager.specs.Gated.{gates_view}
 use Rattle.cm_session.specs.Links.{link_view}
-use Rattle.cm_session.proofs.Sessions.{Going}
+use Rattle.cm_session.proofs.spoken.Sessions.{Going}
 use Rattle.cm_session.proofs.lines.serve_lines.Given as goal
 
 abbrev pub invariant-loop-line : goal.invariant-loop-line

@@ -1,4 +1,4 @@
-use Rattle.cm_session.proofs.Sessions.{session-none}
+use Rattle.cm_session.proofs.spoken.Sessions.{session-none}
 use Rattle.cm_session.proofs.lines.serve_link.Goals as goal
 
 pub returns-in-Err : goal.returns-in-Err

@@ -1,5 +1,5 @@
 use Rattle.std.proofs.Common.{sym, ◌∙◌}
-use Rattle.cm_session.proofs.Sessions.{session-over}
+use Rattle.cm_session.proofs.spoken.Sessions.{session-over}
 use Rattle.cm_session.proofs.lines.session.Goals as goal
 
 pub returns : goal.returns

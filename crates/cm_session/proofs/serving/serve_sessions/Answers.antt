@@ -1,7 +1,7 @@
 use Rattle.std.proofs.Common.{vec_capacity}
 use Rattle.cm_session.specs.Links.{link_view}
-use Rattle.cm_session.proofs.Coming.{closing_ready, comes, comes_not}
-use Rattle.cm_session.proofs.Ending.{have_passes, ready_all, room_left}
+use Rattle.cm_session.proofs.ends.Coming.{closing_ready, comes, comes_not}
+use Rattle.cm_session.proofs.ends.Ending.{have_passes, ready_all, room_left}
 use Rattle.cm_session.proofs.serving.serve_sessions.Goals as goal
 
 pub returns-in_default : goal.returns-in_default

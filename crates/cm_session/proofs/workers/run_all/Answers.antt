@@ -1,4 +1,4 @@
-use Rattle.cm_session.proofs.Ending.{crew_worked}
+use Rattle.cm_session.proofs.ends.Ending.{crew_worked}
 use Rattle.cm_session.proofs.workers.run_all.Goals as goal
 
 pub returns : goal.returns

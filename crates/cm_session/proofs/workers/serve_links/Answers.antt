@@ -1,5 +1,5 @@
 use Rattle.std.proofs.Common.{◌∙◌, Some, ap}
-use Rattle.cm_session.proofs.Going.{going_none, on_closed, on_failed, on_room, on_served, on_lost, on_over}
+use Rattle.cm_session.proofs.work.Going.{going_none, on_closed, on_failed, on_room, on_served, on_lost, on_over}
 use Rattle.cm_session.proofs.workers.serve_links.Goals as goal
 
 pub loop-init : goal.loop-init

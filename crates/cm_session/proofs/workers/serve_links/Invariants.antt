@@ -1,7 +1,7 @@
 use Rattle.std.proofs.Common.{vec_capacity}
 use Rattle.cm_manager.specs.Gated.{gates_view}
 use Rattle.cm_session.specs.Links.{link_view}
-use Rattle.cm_session.proofs.Going.{Going}
+use Rattle.cm_session.proofs.work.Going.{Going}
 use Rattle.cm_session.proofs.workers.serve_links.Given as goal
 
 abbrev pub invariant-loop : goal.invariant-loop

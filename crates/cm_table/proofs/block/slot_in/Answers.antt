@@ -1,7 +1,7 @@
 use Rattle.std.proofs.Common.{◌∙◌, sym, ap, subst}
 use Rattle.cm_table.specs.Keys.{Rising}
 use Rattle.cm_table.specs.Slots.{inc_of, slot_of, slots_in}
-use Rattle.cm_table.proofs.Halves.{in_last, part_rising}
+use Rattle.cm_table.proofs.lists.Halves.{in_last, part_rising}
 use Rattle.cm_table.proofs.block.slot_in.Goals as goal
 
 pub slot_at-requires : goal.slot_at-requires

@@ -2,10 +2,10 @@ use Rattle.std.proofs.Common.{◌≤◌, ◌==◌, List, None, sym, subst}
 use Rattle.cm_table.specs.declared.slot.Slot.{Slot}
 use Rattle.cm_table.specs.Keys.{Rising}
 use Rattle.cm_table.specs.Slots.{inc_of, flat, slot_of, base_of}
-use Rattle.cm_table.proofs.Rows.{some_is}
-use Rattle.cm_table.proofs.Each.{each_find}
-use Rattle.cm_table.proofs.Rowed.{rising_indexed}
-use Rattle.cm_table.proofs.Linking.{IsSwapped, linked, same_said, on_ok, on_err}
+use Rattle.cm_table.proofs.tree.Rows.{some_is}
+use Rattle.cm_table.proofs.lists.Each.{each_find}
+use Rattle.cm_table.proofs.slots.Rowed.{rising_indexed}
+use Rattle.cm_table.proofs.slots.Linking.{IsSwapped, linked, same_said, on_ok, on_err}
 use Rattle.cm_table.proofs.links.link.Goals as goal
 
 pub put_child-put-requires : goal.put_child-put-requires

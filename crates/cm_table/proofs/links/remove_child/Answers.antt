@@ -1,7 +1,7 @@
 use Rattle.std.proofs.Common.{◌-◌, ◌≤◌, ◌==◌, ◌∙◌, ap, sym, arith}
 use Rattle.cm_world.specs.Edits.{drop_first}
 use Rattle.cm_table.specs.Slots.{kids_of}
-use Rattle.cm_table.proofs.Naming.{sum_above, kept_low, remove_kids}
+use Rattle.cm_table.proofs.indexes.Naming.{sum_above, kept_low, remove_kids}
 use Rattle.cm_table.proofs.links.remove_child.Goals as goal
 
 pub returns-then-inc-own-clause-kids : goal.returns-then-inc-own-clause-kids

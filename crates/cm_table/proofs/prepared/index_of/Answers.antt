@@ -3,8 +3,8 @@ use Rattle.std.specs.BTreeMap.{get}
 use Rattle.cm_decl.specs.Graph.{static_name}
 use Rattle.cm_decl.specs.Same.{same_child}
 use Rattle.cm_table.specs.Names.{child_cmp}
-use Rattle.cm_table.proofs.Adding.{none_mapped}
-use Rattle.cm_table.proofs.Preparing.{no_kids, kids_more, names_more}
+use Rattle.cm_table.proofs.tree.Adding.{none_mapped}
+use Rattle.cm_table.proofs.indexes.Preparing.{no_kids, kids_more, names_more}
 use Rattle.cm_table.proofs.prepared.index_of.Goals as goal
 
 pub loop-child-init : goal.loop-child-init

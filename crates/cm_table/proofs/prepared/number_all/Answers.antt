@@ -1,7 +1,7 @@
 use Rattle.std.proofs.Common.{arith, ◌∙◌, ap, sym}
 use Rattle.cm_table.specs.Slots.{with_row_by}
 use Rattle.cm_table.specs.Numbering.{placed}
-use Rattle.cm_table.proofs.Numbers.{numbered_over_more}
+use Rattle.cm_table.proofs.slots.Numbers.{numbered_over_more}
 use Rattle.cm_table.proofs.prepared.number_all.Goals as goal
 
 pub loop-slot-preserved : goal.loop-slot-preserved

@@ -1,8 +1,8 @@
-use Rattle.std.proofs.Common.{◌<◌, ◌∷◌, [], length, refl, sym, subst, arith}
+use Rattle.std.proofs.Common.{◌<◌, ◌∷◌, [], length, refl, sym, subst, arith, ◌∙◌}
 use Rattle.cm_table.specs.Keys.{Each}
 use Rattle.cm_table.specs.Numbering.{IsBare, bare_slot}
-use Rattle.cm_table.proofs.Each.{each_append}
-use Rattle.cm_table.proofs.Preparing.{rows_pushed}
+use Rattle.cm_table.proofs.lists.Each.{each_append}
+use Rattle.cm_table.proofs.indexes.Preparing.{rows_pushed}
 use Rattle.cm_table.proofs.prepared.slots_of.Goals as goal
 
 pub loop-child-preserved : goal.loop-child-preserved
@@ -12,6 +12,6 @@ loop-child-preserved c =
     let ss = c.loop-child.slots.items in
     let lt : i < length ks = omega arith in
     record {
-      rows = rows_pushed ks i c.child-item.result ss c.push.new.self.items c.in_ok-row.row lt c.child-item.is c.loop-child.invariant.rows c.in_ok-push.ensures.items c.in_ok-row.ensures;
-      bare = subst (Each IsBare) (sym c.in_ok-push.ensures.items) (each_append IsBare ss (bare_slot c.in_ok-row.row ∷ []) c.loop-child.invariant.bare (refl, tt));
+      rows = rows_pushed ks i c.child-item.result ss c.push.new.self.items c.new-row.result lt c.child-item.is c.loop-child.invariant.rows c.in_ok-push.ensures.items (c.new-row.ensures ∙ c.in_ok-row.ensures);
+      bare = subst (Each IsBare) (sym c.in_ok-push.ensures.items) (each_append IsBare ss (bare_slot c.new-row.result ∷ []) c.loop-child.invariant.bare (refl, tt));
     }

@@ -1,6 +1,6 @@
 use Rattle.std.proofs.Common.{ℕ, leb, leb-true, arith, rules}
 use Rattle.std.proofs.lemmas.List.Sorted.{IsPartitionPoint-from_clause, IsPartitionedBy-leb}
-use Rattle.cm_table.proofs.Halves.{rising_alone, not_le}
+use Rattle.cm_table.proofs.lists.Halves.{rising_alone, not_le}
 use Rattle.cm_table.proofs.slot.kids_upto.Goals as goal
 
 pub returns : goal.returns

@@ -1,4 +1,4 @@
-use Rattle.cm_text.proofs.CharLemmas.{passed_char}
+use Rattle.cm_text.proofs.found.CharLemmas.{passed_char}
 use Rattle.cm_text.proofs.writer.write_chars.Goals as goal
 
 pub loop-c-preserved : goal.loop-c-preserved

@@ -3,7 +3,7 @@ use Rattle.cm_decl.specs.Valid.{cycle_fault}
 use Rattle.cm_deps.specs.Outcome.{IsOutcome}
 use Rattle.cm_deps.specs.declared.outcome.Order.{Order}
 use Rattle.cm_deps.specs.declared.outcome.Order.TheVariants.{Ordered, Cycle}
-use Rattle.cm_deps.proofs.Outcomes.{ordered_acyclic}
+use Rattle.cm_deps.proofs.given.Outcomes.{ordered_acyclic}
 use Rattle.cm_valid.specs.declared.found.Found.{Found}
 use Rattle.cm_valid.specs.Parts.{Anywhere, Finds, fault_of}
 use Rattle.cm_valid.proofs.PassLemmas.{is_first, is_faultless}

@@ -1,5 +1,5 @@
 use Rattle.std.proofs.Common.{sym, ◌∙◌, ap}
-use Rattle.cm_world.proofs.Walks.{begins_down}
+use Rattle.cm_world.proofs.trees.Walks.{begins_down}
 use Rattle.cm_walk.specs.Walking.{as_station, as_named}
 use Rattle.cm_walk.proofs.walking.walk.Goals as goal
 

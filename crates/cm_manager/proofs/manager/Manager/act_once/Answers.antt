@@ -1,5 +1,5 @@
 use Rattle.cm_manager.specs.Runs.{Acts}
-use Rattle.cm_manager.proofs.Launches.{begun_as, ended_acts, joined_acts, unfollowed, not_a_start, not_a_stop}
+use Rattle.cm_manager.proofs.starts.Launches.{begun_as, ended_acts, joined_acts, unfollowed, not_a_start, not_a_stop}
 use Rattle.cm_manager.proofs.manager.Manager.act_once.Goals as goal
 
 pub returns-in-Ok-Ended : goal.returns-in-Ok-Ended

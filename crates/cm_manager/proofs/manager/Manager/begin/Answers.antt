@@ -1,4 +1,4 @@
-use Rattle.cm_manager.proofs.Begins.{begun_may, joined_may, begun_help, joined_help, needs_help, quiet_help, cut_help}
+use Rattle.cm_manager.proofs.onward.Begins.{begun_may, joined_may, begun_help, joined_help, needs_help, quiet_help, cut_help}
 use Rattle.cm_manager.proofs.manager.Manager.begin.Goals as goal
 
 pub end_turn-pass-requires-clause-may : goal.end_turn-pass-requires-clause-may

@@ -1,5 +1,5 @@
 use Rattle.cm_manager.specs.Questions.{AnswersTo, asked_by}
-use Rattle.cm_manager.proofs.Calling.{performs_on, performs_missed, question_called}
+use Rattle.cm_manager.proofs.calling.Calling.{performs_on, performs_missed, question_called}
 use Rattle.cm_manager.proofs.manager.Manager.call.Goals as goal
 
 pub returns-in-Ok : goal.returns-in-Ok

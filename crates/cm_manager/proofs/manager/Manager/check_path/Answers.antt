@@ -1,4 +1,4 @@
-use Rattle.cm_manager.proofs.DoctorLines.{path_adds}
+use Rattle.cm_manager.proofs.checks.DoctorLines.{path_adds}
 use Rattle.cm_manager.proofs.manager.Manager.check_path.Goals as goal
 
 pub returns : goal.returns

@@ -1,7 +1,7 @@
 use Rattle.std.proofs.Common.{[], Ok, Err}
 use Rattle.cm_manager.specs.Doctor.{OfRow}
-use Rattle.cm_manager.proofs.Onward.{known_next}
-use Rattle.cm_manager.proofs.DoctorLines.{here_next, none_left, gathered_next, gathered_cut, gathered_all}
+use Rattle.cm_manager.proofs.onward.Onward.{known_next}
+use Rattle.cm_manager.proofs.checks.DoctorLines.{here_next, none_left, gathered_next, gathered_cut, gathered_all}
 use Rattle.cm_manager.proofs.manager.Manager.check_rows.Goals as goal
 
 pub loop-row-preserved : goal.loop-row-preserved

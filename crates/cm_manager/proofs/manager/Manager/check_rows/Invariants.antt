@@ -2,8 +2,8 @@ use Rattle.std.proofs.Common.{[], drop}
 use Rattle.cm_manager.specs.Asking.{frame_of}
 use Rattle.cm_manager.specs.Contract.{IsSamePass}
 use Rattle.cm_manager.specs.Doctor.{OfRow}
-use Rattle.cm_manager.proofs.DoctorLines.{Gathered}
-use Rattle.cm_manager.proofs.Onward.{Onward}
+use Rattle.cm_manager.proofs.checks.DoctorLines.{Gathered}
+use Rattle.cm_manager.proofs.onward.Onward.{Onward}
 use Rattle.cm_manager.proofs.manager.Manager.check_rows.Given as goal
 
 -- whatever the rows that are left come to is what all of them come to

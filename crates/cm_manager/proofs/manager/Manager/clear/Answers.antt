@@ -1,8 +1,8 @@
 use Rattle.std.proofs.Common.{Some, None, refl, get_or}
 use Rattle.std.proofs.lemmas.List.{get_or_default}
-use Rattle.cm_manager.proofs.DoctorLines.{here_next, none_left}
-use Rattle.cm_manager.proofs.Onward.{known_next}
-use Rattle.cm_manager.proofs.Sweepings.{all_marked, cleared_next, cleared_cut, cleared_all, item_marked}
+use Rattle.cm_manager.proofs.checks.DoctorLines.{here_next, none_left}
+use Rattle.cm_manager.proofs.onward.Onward.{known_next}
+use Rattle.cm_manager.proofs.shutdowns.Sweepings.{all_marked, cleared_next, cleared_cut, cleared_all, item_marked}
 use Rattle.cm_manager.proofs.manager.Manager.clear.Goals as goal
 
 pub remove_row-after-requires-clause-marked : goal.remove_row-after-requires-clause-marked

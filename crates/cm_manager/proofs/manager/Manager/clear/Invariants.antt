@@ -4,8 +4,8 @@ use Rattle.cm_laws.specs.Shutdowns.{IsMarked}
 use Rattle.cm_manager.specs.Turns.{world_after}
 use Rattle.cm_manager.specs.Asking.{frame_of}
 use Rattle.cm_manager.specs.Contract.{IsSamePass}
-use Rattle.cm_manager.proofs.Sweepings.{Clearing}
-use Rattle.cm_manager.proofs.Onward.{Onward}
+use Rattle.cm_manager.proofs.shutdowns.Sweepings.{Clearing}
+use Rattle.cm_manager.proofs.onward.Onward.{Onward}
 use Rattle.cm_manager.proofs.manager.Manager.clear.Given as goal
 
 -- whatever the rows that are left come to is what all of them come to, and all of them are marked

@@ -1,8 +1,14 @@
-use Rattle.cm_manager.proofs.Closings.{closes_by}
-use Rattle.cm_manager.proofs.HavingEnds.{history_has_ends}
+use Rattle.std.proofs.Common.{List, subst, sym}
+use Rattle.cm_world.specs.declared.reply.Entry.{Entry}
+use Rattle.cm_manager.specs.Closed.{HasEnds}
+use Rattle.cm_manager.specs.Managers.{Closes}
 use Rattle.cm_manager.proofs.manager.Manager.close.Goals as goal
 
 pub returns : goal.returns
 returns c =
-    let closes = closes_by _ _ _ c.into_book.ensures c.check_history.ensures c.close-realm.ensures.known c.close-realm.ensures.callers in
-    record { closes = closes; ended = history_has_ends _ _ closes c.requires.ended }
+    let closed = c.close_realm.ensures in
+    let same = sym c.into_book.ensures in
+    record {
+      closes = subst (λ (h : List Entry). Closes h c.args.passes) same closed.closes;
+      ended = subst HasEnds same closed.ended;
+    }

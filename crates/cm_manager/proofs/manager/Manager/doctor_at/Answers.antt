@@ -1,4 +1,4 @@
-use Rattle.cm_manager.proofs.DoctorLines.{doctors_all, not_doctored}
+use Rattle.cm_manager.proofs.checks.DoctorLines.{doctors_all, not_doctored}
 use Rattle.cm_manager.proofs.manager.Manager.doctor_at.Goals as goal
 
 pub returns-in-Ok : goal.returns-in-Ok

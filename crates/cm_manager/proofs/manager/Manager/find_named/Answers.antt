@@ -1,6 +1,6 @@
 use Rattle.std.proofs.Common.{refl}
 use Rattle.cm_world.specs.declared.event.Event.TheVariants as event
-use Rattle.cm_manager.proofs.Calling.{try_finds, find_asked, find_plain}
+use Rattle.cm_manager.proofs.calling.Calling.{try_finds, find_asked, find_plain}
 use Rattle.cm_manager.proofs.manager.Manager.find_named.Goals as goal
 
 pub try_made-pass-requires-clause-asked : goal.try_made-pass-requires-clause-asked

@@ -1,4 +1,4 @@
-use Rattle.cm_manager.proofs.ShuttingDown.{cut_pick_help, done_help, no_other_pick, off_help, on_help, picked_may}
+use Rattle.cm_manager.proofs.shutdowns.ShuttingDown.{cut_pick_help, done_help, no_other_pick, off_help, on_help, picked_may}
 use Rattle.cm_manager.proofs.manager.Manager.pick_one.Goals as goal
 
 pub ask_for-pass-requires-clause-due : goal.ask_for-pass-requires-clause-due

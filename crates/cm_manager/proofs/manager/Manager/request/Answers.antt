@@ -3,7 +3,7 @@ use Rattle.cm_manager.specs.Asking.{frame_of}
 use Rattle.cm_manager.specs.Questions.{event_for, FollowsBy}
 use Rattle.cm_manager.specs.Runs.{Onces}
 use Rattle.cm_manager.specs.Sweeps.{Sweeps}
-use Rattle.cm_manager.proofs.Followings.{nothing_follows, something_follows, no_follow, start_follows, sweep_follows}
+use Rattle.cm_manager.proofs.calling.Followings.{nothing_follows, something_follows, no_follow, start_follows, sweep_follows}
 use Rattle.cm_manager.proofs.manager.Manager.request.Goals as goal
 
 pub returns-in-Nothing : goal.returns-in-Nothing

@@ -1,5 +1,5 @@
 use Rattle.std.proofs.Common.{sym, ◌∙◌}
-use Rattle.cm_manager.proofs.ShuttingDown.{marked_at, marked_next, marked_shuts, marks_help, none_or, unmarked_shuts}
+use Rattle.cm_manager.proofs.shutdowns.ShuttingDown.{marked_at, marked_next, marked_shuts, marks_help, none_or, unmarked_shuts}
 use Rattle.cm_manager.proofs.manager.Manager.shut_row.Goals as goal
 
 pub stop_all-requires-clause-leaving : goal.stop_all-requires-clause-leaving

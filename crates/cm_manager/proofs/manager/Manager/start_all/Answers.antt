@@ -1,6 +1,6 @@
 use Rattle.std.proofs.Common.{◌∙◌, sym}
-use Rattle.cm_manager.proofs.Onward.{known_next}
-use Rattle.cm_manager.proofs.Starts.{none_left, empty_by, cut_rows, wanting_rows, settled_next, children_next}
+use Rattle.cm_manager.proofs.onward.Onward.{known_next}
+use Rattle.cm_manager.proofs.starts.Starts.{none_left, empty_by, cut_rows, wanting_rows, settled_next, children_next}
 use Rattle.cm_manager.proofs.manager.Manager.start_all.Goals as goal
 
 pub returns-in_default : goal.returns-in_default

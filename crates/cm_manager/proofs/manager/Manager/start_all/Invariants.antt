@@ -1,7 +1,7 @@
 use Rattle.cm_manager.specs.Asking.{frame_of}
 use Rattle.cm_manager.specs.Contract.{IsSamePass}
 use Rattle.cm_manager.specs.Runs.{Eagers}
-use Rattle.cm_manager.proofs.Onward.{Onward}
+use Rattle.cm_manager.proofs.onward.Onward.{Onward}
 use Rattle.cm_manager.proofs.manager.Manager.start_all.Given as goal
 
 -- whatever the rows that are left come to is what all of them come to

@@ -1,4 +1,4 @@
-use Rattle.cm_manager.proofs.Followings.{not_once, once_started}
+use Rattle.cm_manager.proofs.calling.Followings.{not_once, once_started}
 use Rattle.cm_manager.proofs.manager.Manager.start_once.Goals as goal
 
 pub returns-then-not-once : goal.returns-then-not-once

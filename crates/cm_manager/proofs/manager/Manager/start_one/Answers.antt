@@ -1,6 +1,6 @@
 use Rattle.cm_manager.specs.declared.began.Launch.TheVariants as launch
-use Rattle.cm_manager.proofs.Launches.{started_as, needing_as}
-use Rattle.cm_manager.proofs.Starts.{failed_start, resolved_next}
+use Rattle.cm_manager.proofs.starts.Launches.{started_as, needing_as}
+use Rattle.cm_manager.proofs.starts.Starts.{failed_start, resolved_next}
 use Rattle.cm_manager.proofs.manager.Manager.start_one.Goals as goal
 
 pub returns-in-Ok : goal.returns-in-Ok

@@ -1,5 +1,5 @@
 use Rattle.cm_manager.specs.Acting.{StartsBy}
-use Rattle.cm_manager.proofs.Onward.{Onward}
+use Rattle.cm_manager.proofs.onward.Onward.{Onward}
 use Rattle.cm_manager.proofs.manager.Manager.start_one.Given as goal
 
 -- whatever the start comes to from here is what the whole comes to

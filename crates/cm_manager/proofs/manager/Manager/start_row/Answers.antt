@@ -1,5 +1,5 @@
 use Rattle.std.proofs.Common.{Some, None}
-use Rattle.cm_manager.proofs.Starts.{whole_start, wanting_whole}
+use Rattle.cm_manager.proofs.starts.Starts.{whole_start, wanting_whole}
 use Rattle.cm_manager.proofs.manager.Manager.start_row.Goals as goal
 
 pub returns-in-None : goal.returns-in-None

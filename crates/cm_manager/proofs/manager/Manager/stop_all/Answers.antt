@@ -1,5 +1,5 @@
 use Rattle.std.proofs.Common.{Some, None}
-use Rattle.cm_manager.proofs.ShuttingDown.{cut_stops, done_over, done_stops, leaving_next, stops_next}
+use Rattle.cm_manager.proofs.shutdowns.ShuttingDown.{cut_stops, done_over, done_stops, leaving_next, stops_next}
 use Rattle.cm_manager.proofs.manager.Manager.stop_all.Goals as goal
 
 pub returns-in-Done : goal.returns-in-Done

@@ -2,7 +2,7 @@ use Rattle.cm_laws.specs.Shutdowns.{IsLeaving}
 use Rattle.cm_manager.specs.Turns.{world_after}
 use Rattle.cm_manager.specs.Asking.{frame_of}
 use Rattle.cm_manager.specs.Sweeps.{Stops}
-use Rattle.cm_manager.proofs.Onward.{Onward}
+use Rattle.cm_manager.proofs.onward.Onward.{Onward}
 use Rattle.cm_manager.proofs.manager.Manager.stop_all.Given as goal
 
 -- whatever the picks that are left come to is what all of them come to

@@ -1,8 +1,8 @@
 use Rattle.std.proofs.Common.{None, Some}
 use Rattle.cm_world.specs.declared.action.ActKind.TheVariants as kind
 use Rattle.cm_manager.specs.Runs.{Acts}
-use Rattle.cm_manager.proofs.Launches.{begun_as, joined_acts}
-use Rattle.cm_manager.proofs.Sweepings.{begun_here, stopped_row}
+use Rattle.cm_manager.proofs.starts.Launches.{begun_as, joined_acts}
+use Rattle.cm_manager.proofs.shutdowns.Sweepings.{begun_here, stopped_row}
 use Rattle.cm_manager.proofs.manager.Manager.stop_row.Goals as goal
 
 -- it was stopped here, and what went with it is removed

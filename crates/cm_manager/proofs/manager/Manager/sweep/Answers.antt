@@ -1,5 +1,5 @@
-use Rattle.cm_manager.proofs.Sweepings.{reaps_only, reap_marks, swept_rows, swept_not}
-use Rattle.cm_manager.proofs.Onward.{known_next}
+use Rattle.cm_manager.proofs.shutdowns.Sweepings.{reaps_only, reap_marks, swept_rows, swept_not}
+use Rattle.cm_manager.proofs.onward.Onward.{known_next}
 use Rattle.cm_manager.proofs.manager.Manager.sweep.Goals as goal
 
 pub clear-requires-clause-known : goal.clear-requires-clause-known

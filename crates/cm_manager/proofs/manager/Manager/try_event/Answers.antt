@@ -1,5 +1,5 @@
 use Rattle.std.proofs.Common.{Ok, Err, ◌∙◌, sym}
-use Rattle.cm_manager.proofs.Tryings.{cut_trying, decided_trying, failed_trying, needed_next}
+use Rattle.cm_manager.proofs.onward.Tryings.{cut_trying, decided_trying, failed_trying, needed_next}
 use Rattle.cm_manager.proofs.manager.Manager.try_event.Goals as goal
 
 pub returns-in-Decided : goal.returns-in-Decided

@@ -1,5 +1,5 @@
 use Rattle.cm_manager.specs.Runs.{Tries}
-use Rattle.cm_manager.proofs.Onward.{Onward}
+use Rattle.cm_manager.proofs.onward.Onward.{Onward}
 use Rattle.cm_manager.proofs.manager.Manager.try_event.Given as goal
 
 -- whatever the event comes to from here is what the whole comes to

@@ -1,5 +1,5 @@
-use Rattle.cm_manager.proofs.Calling.{lost_event}
-use Rattle.cm_manager.proofs.Followings.{tried_as}
+use Rattle.cm_manager.proofs.calling.Calling.{lost_event}
+use Rattle.cm_manager.proofs.calling.Followings.{tried_as}
 use Rattle.cm_manager.proofs.manager.Manager.try_made.Goals as goal
 
 pub try_event-tried-requires-clause-asked : goal.try_event-tried-requires-clause-asked

@@ -1,5 +1,5 @@
 use Rattle.cm_manager.specs.Questions.{event_for}
-use Rattle.cm_manager.proofs.Calling.{made_asked, made_plain}
+use Rattle.cm_manager.proofs.calling.Calling.{made_asked, made_plain}
 use Rattle.cm_manager.proofs.manager.Manager.try_request.Goals as goal
 
 pub try_made-requires-clause-asked : goal.try_made-requires-clause-asked

@@ -1,7 +1,7 @@
 use Rattle.std.proofs.Common.{sym, ◌∙◌}
-use Rattle.cm_order.proofs.Kids.{next_kid}
-use Rattle.cm_order.proofs.Gathering.{room_less}
-use Rattle.cm_order.proofs.Leading.{passing_on, passing_found, passing_ends}
+use Rattle.cm_order.proofs.levels.Kids.{next_kid}
+use Rattle.cm_order.proofs.levels.Gathering.{room_less}
+use Rattle.cm_order.proofs.levels.Leading.{passing_on, passing_found, passing_ends}
 use Rattle.cm_order.proofs.level.Level.next_leading.Goals as goal
 
 pub leads-requires-clause-member : goal.leads-requires-clause-member

@@ -1,5 +1,5 @@
-use Rattle.cm_order.proofs.Gathering.{room}
-use Rattle.cm_order.proofs.Leading.{IsPassing}
+use Rattle.cm_order.proofs.levels.Gathering.{room}
+use Rattle.cm_order.proofs.levels.Leading.{IsPassing}
 use Rattle.cm_order.proofs.level.Level.next_leading.Given as goal
 
 -- the children that were passed don't lead

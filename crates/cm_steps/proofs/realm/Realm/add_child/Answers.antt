@@ -9,9 +9,9 @@ use Rattle.cm_world.specs.After.{with_row}
 use Rattle.cm_dynamic.specs.Laws.{CanTake}
 use Rattle.cm_laws.specs.Story.{world_of, entry_of}
 use Rattle.cm_steps.specs.Inside.{world_in}
-use Rattle.cm_steps.proofs.Stepping.{one_pushed, kept_rows}
-use Rattle.cm_steps.proofs.Removing.{tasked_added}
-use Rattle.cm_steps.proofs.Creations.{created_fits}
+use Rattle.cm_steps.proofs.steps.Stepping.{one_pushed, kept_rows}
+use Rattle.cm_steps.proofs.expiries.Removing.{tasked_added}
+use Rattle.cm_steps.proofs.read.Creations.{created_fits}
 use Rattle.cm_cache.proofs.Dooming.{others_doom_none}
 use Rattle.cm_steps.proofs.realm.Realm.add_child.Goals as goal
 
@@ -56,4 +56,5 @@ invariant_of-self-2 c =
       unasked = refl;
       told = others_doom_none w e refl;
       keeper = c.put_down.ensures.keeper;
+      plan = c.put_down.ensures.plan;
     })

@@ -11,9 +11,9 @@ use Rattle.cm_laws.specs.Story.{Story, world_of, entry_of}
 use Rattle.cm_cache.proofs.Going.{beside_is_few, asked_after}
 use Rattle.cm_steps.specs.Asking.{may_ask, event_of, reply_of, IsRightAt}
 use Rattle.cm_steps.specs.Inside.{world_in}
-use Rattle.cm_steps.proofs.Askers.{asks_for, asks_step}
-use Rattle.cm_steps.proofs.Going.{goes_on, one_longer}
-use Rattle.cm_steps.proofs.Keepers.{asks_beside, right_in}
+use Rattle.cm_steps.proofs.asked.Askers.{asks_for, asks_step}
+use Rattle.cm_steps.proofs.steps.Going.{goes_on, one_longer}
+use Rattle.cm_steps.proofs.asked.Keepers.{asks_beside, right_in}
 use Rattle.cm_steps.proofs.realm.Realm.ask.Goals as goal
 
 pub answer-requires : goal.answer-requires
@@ -57,6 +57,7 @@ invariant_of-self-2 c =
       beside =
           asks_beside c.self.inside e c.args.inc c.args.path v _ _ c.self.invariant.stands c.self.invariant.beside more asks walked
           (c.in_ok-told.ensures.keeper ∙ c.in_ok-answered.ensures.found);
+      planned = c.self.invariant.planned;
     }
 
 pub returns-clause-step : goal.returns-clause-step

@@ -12,10 +12,12 @@ use Rattle.cm_world.specs.declared.reply.Entry.{Entry}
 use Rattle.cm_laws.specs.Story.{world_of, entry_of}
 use Rattle.cm_laws.specs.Tasks.{IsNumbered}
 use Rattle.cm_steps.specs.Inside.{world_in}
-use Rattle.cm_steps.proofs.Counts.{length-unjoined}
-use Rattle.cm_steps.proofs.Going.{goes_on, one_longer}
+use Rattle.cm_steps.proofs.steps.Counts.{length-unjoined}
+use Rattle.cm_steps.proofs.steps.Going.{goes_on, one_longer}
 use Rattle.cm_cache.proofs.Dooming.{others_doom_none}
-use Rattle.cm_steps.proofs.Keepers.{goes_beside}
+use Rattle.cm_steps.proofs.asked.Keepers.{goes_beside}
+use Rattle.cm_cache.specs.Beside.{is_emptied}
+use Rattle.cm_steps.proofs.Planning.{planned_same}
 use Rattle.cm_steps.proofs.realm.Realm.await_end.Goals as goal
 
 pub outcome_at-requires : goal.outcome_at-requires
@@ -47,4 +49,5 @@ invariant_of-self c =
       numbers = c.self.invariant.numbers;
       tasks = c.self.invariant.tasks;
       beside = goes_beside c.self.inside e false _ _ c.self.invariant.stands c.self.invariant.beside more refl (others_doom_none (world_in c.self.inside) e refl) c.put_down.ensures.keeper;
+      planned = planned_same c.self.inside.table.rows (is_emptied e.event e.reply false) c.self.inside.plan c.put_down.new.plan c.self.invariant.planned c.put_down.ensures.plan;
     }

@@ -13,13 +13,14 @@ use Rattle.cm_laws.specs.Story.{world_of, entry_of}
 use Rattle.cm_laws.specs.Tasks.{IsNumbered, IsTasked}
 use Rattle.cm_steps.specs.Tasks.{is_open_resolve, IsIdleAt}
 use Rattle.cm_steps.specs.Inside.{world_in}
-use Rattle.cm_steps.proofs.Counts.{count_more}
-use Rattle.cm_steps.proofs.Going.{goes_on, one_longer}
-use Rattle.cm_steps.proofs.Begun.{new_resolve}
+use Rattle.cm_steps.proofs.steps.Counts.{count_more}
+use Rattle.cm_steps.proofs.steps.Going.{goes_on, one_longer}
+use Rattle.cm_steps.proofs.actions.Begun.{new_resolve}
 use Rattle.cm_laws.proofs.actions.Tasks.{numbered_more, tasked_begun}
 use Rattle.cm_cache.specs.Keeping.{asked_by}
 use Rattle.cm_cache.proofs.Dooming.{others_doom_none}
-use Rattle.cm_steps.proofs.Keepers.{goes_beside}
+use Rattle.cm_steps.proofs.asked.Keepers.{goes_beside}
+use Rattle.cm_steps.proofs.Planning.{planned_after}
 use Rattle.cm_steps.proofs.realm.Realm.begin_action.Goals as goal
 
 pub invariant_of-self : goal.invariant_of-self
@@ -44,15 +45,15 @@ invariant_of-self c =
     let here : world_of c.args.self.now ≡ w = ap world_of (sym c.self.view_is) ∙ c.self.invariant.stands.world in
     let begins = subst (λ (v : World). moved v c.args.caller c.args.event c.args.reply ≡ with_action v c.args.caller c.args.kind c.args.inc) here c.requires.begins in
     let idle : IsIdleAt w.rows c.args.kind c.args.inc = subst (λ (v : World). IsIdleAt v.rows c.args.kind c.args.inc) here c.requires.idle in
+    let step : IsStep w e = subst (λ v. IsStep v e) here c.requires.step in
+    let behind : after w e ≡ left c.set_pending.new.self c.push_reserved.new.self.items (length c.put_down.new.book.entries) =
+    ap counted begins
+    ∙ ap (λ n. record (left (pended next roomy) all (length c.self.inside.book.entries + 1)) { next_action = n + 1 }) long
+    ∙ ap (λ t. left t all (length c.self.inside.book.entries + 1)) (sym table)
+    ∙ ap (λ ys. left c.set_pending.new.self ys (length c.self.inside.book.entries + 1)) (sym acts)
+    ∙ ap (left c.set_pending.new.self c.push_reserved.new.self.items) (one_longer _ _ _ more) in
     record {
-      stands =
-          goes_on _ _ w _ e c.self.invariant.stands refl more
-          (subst (λ v. IsStep v e) here c.requires.step)
-          (ap counted begins
-          ∙ ap (λ n. record (left (pended next roomy) all (length c.self.inside.book.entries + 1)) { next_action = n + 1 }) long
-          ∙ ap (λ t. left t all (length c.self.inside.book.entries + 1)) (sym table)
-          ∙ ap (λ ys. left c.set_pending.new.self ys (length c.self.inside.book.entries + 1)) (sym acts)
-          ∙ ap (left c.set_pending.new.self c.push_reserved.new.self.items) (one_longer _ _ _ more));
+      stands = goes_on _ _ w _ e c.self.invariant.stands refl more step behind;
       owes =
           let r = ap (λ (t : History). t.reserved) book in
           let one = count_more is_open xs (act next) in
@@ -87,4 +88,7 @@ invariant_of-self c =
           goes_beside c.self.inside e false _ _ c.self.invariant.stands c.self.invariant.beside more
           (subst (λ (v : World). asked_by v c.args.event ≡ None) here c.requires.unasked)
           (others_doom_none w e c.requires.undoomed) c.put_down.ensures.keeper;
+      planned =
+          planned_after c.self.inside e false c.set_pending.new.self.rows c.put_down.new.plan c.self.invariant.stands step (ap (λ (v : World). v.rows) behind)
+          (others_doom_none w e c.requires.undoomed) c.self.invariant.planned c.put_down.ensures.plan;
     }

@@ -12,12 +12,13 @@ use Rattle.cm_steps.specs.Ends.{inc_of, finish_of, takes_of}
 use Rattle.cm_steps.specs.Tasks.{is_open_resolve}
 use Rattle.cm_laws.specs.Story.{world_of, entry_of}
 use Rattle.cm_laws.specs.Tasks.{IsNumbered}
-use Rattle.cm_steps.proofs.Counts.{open_less}
-use Rattle.cm_steps.proofs.Ends.{inc-ended, can_take, kept_ended}
-use Rattle.cm_cache.specs.Beside.{followed, IsTold, goes_some_by}
+use Rattle.cm_steps.proofs.steps.Counts.{open_less}
+use Rattle.cm_steps.proofs.actions.Ends.{inc-ended, can_take, kept_ended}
+use Rattle.cm_cache.specs.Beside.{is_emptied, followed, IsTold, goes_some_by}
+use Rattle.cm_steps.specs.Planned.{IsPlannedBy}
 use Rattle.cm_cache.proofs.Dooming.{ends_doom}
 use Rattle.cm_steps.specs.Inside.{world_in}
-use Rattle.cm_steps.proofs.Keepers.{rising_in}
+use Rattle.cm_steps.proofs.asked.Keepers.{rising_in}
 use Rattle.cm_steps.proofs.realm.Realm.end.Goals as goal
 
 pub inc_at-inc-requires : goal.inc_at-inc-requires
@@ -85,4 +86,7 @@ invariant_of-self c =
       keeper =
           c.put_down.ensures.keeper
           ∙ ap (λ g. followed (End c.args.action g) (Ended o) c.goes_some_by-doomed.result c.self.inside.keeper) c.end_at-finish.ensures.finish;
+      plan =
+          subst (λ g. IsPlannedBy (is_emptied (End c.args.action g) (Ended o) c.goes_some_by-doomed.result) c.self.inside.plan c.put_down.new.plan)
+          c.end_at-finish.ensures.finish c.put_down.ensures.plan;
     })

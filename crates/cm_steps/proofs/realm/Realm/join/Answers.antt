@@ -9,10 +9,12 @@ use Rattle.cm_world.specs.Begin.{begin_reply}
 use Rattle.cm_world.specs.After.{after}
 use Rattle.cm_laws.specs.Story.{world_of, entry_of}
 use Rattle.cm_steps.specs.Inside.{world_in}
-use Rattle.cm_steps.proofs.Going.{goes_on, one_longer}
-use Rattle.cm_steps.proofs.Joined.{length-joined}
+use Rattle.cm_steps.proofs.steps.Going.{goes_on, one_longer}
+use Rattle.cm_steps.proofs.actions.Joined.{length-joined}
 use Rattle.cm_cache.proofs.Dooming.{others_doom_none}
-use Rattle.cm_steps.proofs.Keepers.{goes_beside}
+use Rattle.cm_steps.proofs.asked.Keepers.{goes_beside}
+use Rattle.cm_cache.specs.Beside.{is_emptied}
+use Rattle.cm_steps.proofs.Planning.{planned_same}
 use Rattle.cm_steps.proofs.realm.Realm.join.Goals as goal
 
 pub invariant_of-self-2 : goal.invariant_of-self-2
@@ -45,4 +47,5 @@ invariant_of-self-2 c =
       numbers = c.self.invariant.numbers;
       tasks = c.self.invariant.tasks;
       beside = goes_beside c.self.inside e false _ _ c.self.invariant.stands c.self.invariant.beside more refl (others_doom_none w e refl) c.put_down.ensures.keeper;
+      planned = planned_same c.self.inside.table.rows (is_emptied e.event e.reply false) c.self.inside.plan c.put_down.new.plan c.self.invariant.planned c.put_down.ensures.plan;
     }

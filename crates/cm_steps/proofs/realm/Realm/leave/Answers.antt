@@ -12,10 +12,10 @@ use Rattle.cm_laws.specs.Story.{world_of, entry_of}
 use Rattle.cm_laws.proofs.actions.Tasks.{tasked_changed}
 use Rattle.cm_laws.proofs.sound.Expiries.{tasked_expired}
 use Rattle.cm_steps.specs.Inside.{world_in}
-use Rattle.cm_steps.proofs.Stepping.{one_pushed, kept_rows}
+use Rattle.cm_steps.proofs.steps.Stepping.{one_pushed, kept_rows}
 use Rattle.cm_cache.specs.Beside.{IsTold, goes_some}
 use Rattle.cm_cache.proofs.Dooming.{exits_doom}
-use Rattle.cm_steps.proofs.Keepers.{rising_in}
+use Rattle.cm_steps.proofs.asked.Keepers.{rising_in}
 use Rattle.cm_steps.proofs.realm.Realm.leave.Goals as goal
 
 pub invariant_of-self-2 : goal.invariant_of-self-2
@@ -43,4 +43,5 @@ invariant_of-self-2 c =
           subst (IsTold w e) (sym (c.goes_some-doomed.ensures ∙ ap (λ (t : Tree). goes_some t.rows c.args.inc) c.set_on.ensures))
           (exits_doom w c.args.caller c.args.inc c.args.moniker (rising_in c.self.inside c.self.invariant.stands));
       keeper = c.put_down.ensures.keeper;
+      plan = c.put_down.ensures.plan;
     })

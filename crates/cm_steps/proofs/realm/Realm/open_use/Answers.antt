@@ -9,7 +9,7 @@ use Rattle.cm_cache.specs.Keeping.{asked_by}
 use Rattle.cm_steps.specs.declared.asking.Asking.TheVariants as asking
 use Rattle.cm_steps.specs.Asking.{may_ask}
 use Rattle.cm_steps.specs.Inside.{world_in}
-use Rattle.cm_steps.proofs.Askers.{asks_none}
+use Rattle.cm_steps.proofs.asked.Askers.{asks_none}
 use Rattle.cm_steps.proofs.realm.Realm.open_use.Goals as goal
 
 pub ask-requires : goal.ask-requires

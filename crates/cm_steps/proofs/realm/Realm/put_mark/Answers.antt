@@ -8,8 +8,8 @@ use Rattle.cm_world.specs.End.{changed, set_closing, set_doomed}
 use Rattle.cm_world.specs.Marks.{mark_reply}
 use Rattle.cm_laws.specs.Story.{world_of, entry_of}
 use Rattle.cm_steps.specs.Inside.{world_in}
-use Rattle.cm_steps.proofs.Stepping.{one_pushed, kept_rows}
-use Rattle.cm_steps.proofs.Removing.{tasked_marked}
+use Rattle.cm_steps.proofs.steps.Stepping.{one_pushed, kept_rows}
+use Rattle.cm_steps.proofs.expiries.Removing.{tasked_marked}
 use Rattle.cm_cache.proofs.Dooming.{marks_doom}
 use Rattle.cm_steps.proofs.realm.Realm.put_mark.Goals as goal
 
@@ -35,4 +35,5 @@ invariant_of-self-2 c =
       unasked = refl;
       told = marks_doom w c.args.caller c.args.inc c.args.doom marked;
       keeper = c.put_down.ensures.keeper;
+      plan = c.put_down.ensures.plan;
     })

@@ -9,9 +9,9 @@ use Rattle.cm_world.specs.Step.{may_purge}
 use Rattle.cm_world.specs.After.{others_than}
 use Rattle.cm_laws.specs.Story.{world_of, entry_of}
 use Rattle.cm_steps.specs.Inside.{world_in}
-use Rattle.cm_steps.proofs.Stepping.{one_pushed, kept_rows, sound_in}
+use Rattle.cm_steps.proofs.steps.Stepping.{one_pushed, kept_rows, sound_in}
 use Rattle.cm_laws.proofs.sound.Tasks.{tasked_purged}
-use Rattle.cm_steps.proofs.Removing.{purge_shut}
+use Rattle.cm_steps.proofs.expiries.Removing.{purge_shut}
 use Rattle.cm_cache.proofs.Dooming.{others_doom_none}
 use Rattle.cm_steps.proofs.realm.Realm.remove.Goals as goal
 
@@ -42,4 +42,5 @@ invariant_of-self-2 c =
       unasked = refl;
       told = others_doom_none w e refl;
       keeper = c.put_down.ensures.keeper;
+      plan = c.put_down.ensures.plan;
     })

@@ -5,10 +5,12 @@ use Rattle.cm_world.specs.Legal.{IsStep}
 use Rattle.cm_laws.specs.Story.{world_of, entry_of}
 use Rattle.cm_steps.specs.Inside.{world_in}
 use Rattle.cm_world.specs.World.{World}
-use Rattle.cm_steps.proofs.Going.{goes_on, one_longer, after-quiet}
+use Rattle.cm_steps.proofs.steps.Going.{goes_on, one_longer, after-quiet}
 use Rattle.cm_cache.specs.Keeping.{asked_by}
 use Rattle.cm_cache.proofs.Dooming.{others_doom_none}
-use Rattle.cm_steps.proofs.Keepers.{quiet_dooms, goes_beside}
+use Rattle.cm_steps.proofs.asked.Keepers.{quiet_dooms, goes_beside}
+use Rattle.cm_cache.specs.Beside.{is_emptied}
+use Rattle.cm_steps.proofs.Planning.{planned_same}
 use Rattle.cm_steps.proofs.realm.Realm.tell.Goals as goal
 
 pub invariant_of-self : goal.invariant_of-self
@@ -35,4 +37,5 @@ invariant_of-self c =
           goes_beside c.self.inside e false _ _ c.self.invariant.stands c.self.invariant.beside more
           (subst (λ (w : World). asked_by w c.args.event ≡ None) (ap world_of (sym c.self.view_is) ∙ c.self.invariant.stands.world) c.requires.unasked)
           (others_doom_none (world_in c.self.inside) e (quiet_dooms c.args.event c.args.reply c.requires.quiet)) c.put_down.ensures.keeper;
+      planned = planned_same c.self.inside.table.rows (is_emptied e.event e.reply false) c.self.inside.plan c.put_down.new.plan c.self.invariant.planned c.put_down.ensures.plan;
     }

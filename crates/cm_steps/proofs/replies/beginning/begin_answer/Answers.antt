@@ -2,7 +2,7 @@ use Rattle.std.proofs.Common.{◌≡◌, Some, sym, ◌∙◌}
 use Rattle.cm_world.specs.declared.row.Row.{Row}
 use Rattle.cm_world.specs.Rows.{row_of}
 use Rattle.cm_steps.specs.Answers.{AnswersBegin, AnswersIdle}
-use Rattle.cm_steps.proofs.Reading.{if_ok, idle_answers}
+use Rattle.cm_steps.proofs.read.Reading.{if_ok, idle_answers}
 use Rattle.cm_steps.proofs.replies.beginning.begin_answer.Goals as goal
 
 pub returns-in-None-pending : goal.returns-in-None-pending

@@ -4,7 +4,7 @@ use Rattle.cm_world.specs.declared.reply.Reply.TheVariants.{Shown}
 use Rattle.cm_world.specs.Rows.{row_of, facts_of}
 use Rattle.cm_world.specs.Reports.{look_at, show_reply}
 use Rattle.cm_walk.proofs.Up.{Told, told}
-use Rattle.cm_steps.proofs.Reading.{if_ok, shown_as}
+use Rattle.cm_steps.proofs.read.Reading.{if_ok, shown_as}
 use Rattle.cm_steps.proofs.replies.showing.shown.Goals as goal
 
 pub returns-in-Some : goal.returns-in-Some

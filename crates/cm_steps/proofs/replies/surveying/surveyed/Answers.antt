@@ -1,5 +1,5 @@
 use Rattle.std.proofs.Common.{sym, ◌∙◌}
-use Rattle.cm_steps.proofs.Reporting.{survey_all}
+use Rattle.cm_steps.proofs.read.Reporting.{survey_all}
 use Rattle.cm_steps.proofs.replies.surveying.surveyed.Goals as goal
 
 pub returns : goal.returns

@@ -7,8 +7,8 @@ use Rattle.cm_table.specs.Ready.{Ready}
 use Rattle.cm_table.specs.Keys.{Each}
 use Rattle.cm_table.specs.Slots.{rows_in}
 use Rattle.cm_table.specs.Numbering.{IsBare}
-use Rattle.cm_table.proofs.Numbers.{rows_of_numbered, bare_numbered}
-use Rattle.cm_table.proofs.Preparing.{kids_first, names_first}
+use Rattle.cm_table.proofs.slots.Numbers.{rows_of_numbered, bare_numbered}
+use Rattle.cm_table.proofs.indexes.Preparing.{kids_first, names_first}
 use Rattle.cm_table.proofs.prepared.Prepared.into_parts.Goals as goal
 
 pub returns-clause-rows : goal.returns-clause-rows

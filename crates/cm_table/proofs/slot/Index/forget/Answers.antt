@@ -1,6 +1,6 @@
 use Rattle.std.proofs.Common.{◌∙◌, ap, sym, Some}
 use Rattle.std.specs.Option.{option_copied}
-use Rattle.cm_table.proofs.Naming.{forgotten}
+use Rattle.cm_table.proofs.indexes.Naming.{forgotten}
 use Rattle.cm_table.proofs.slot.Index.forget.Goals as goal
 
 pub returns-then-found-above-clause-names : goal.returns-then-found-above-clause-names

@@ -1,8 +1,8 @@
 use Rattle.std.proofs.Common.{ℕ, ◌+◌, ◌-◌, ◌≤◌, ◌∙◌, sym, ap, subst, arith}
 use Rattle.std.specs.Prelude.{option_map}
 use Rattle.cm_table.specs.Keys.{IsPlace, alone}
-use Rattle.cm_table.proofs.Behind.{behind_item}
-use Rattle.cm_table.proofs.Naming.{all_behind, behind_above, nth-map}
+use Rattle.cm_table.proofs.lists.Behind.{behind_item}
+use Rattle.cm_table.proofs.indexes.Naming.{all_behind, behind_above, nth-map}
 use Rattle.cm_table.proofs.slot.Index.kid_behind.Goals as goal
 
 pub returns-then-inc-self : goal.returns-then-inc-self

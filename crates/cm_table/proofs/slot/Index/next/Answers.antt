@@ -1,7 +1,7 @@
 use Rattle.std.proofs.Common.{◌∙◌, sym, ap, find}
 use Rattle.cm_world.specs.Rows.{is_behind}
 use Rattle.cm_table.specs.Slots.{kids_at}
-use Rattle.cm_table.proofs.Naming.{first_behind}
+use Rattle.cm_table.proofs.indexes.Naming.{first_behind}
 use Rattle.cm_table.proofs.slot.Index.next.Goals as goal
 
 pub returns-in-None : goal.returns-in-None

@@ -1,4 +1,4 @@
-use Rattle.cm_table.proofs.Naming.{put_name}
+use Rattle.cm_table.proofs.indexes.Naming.{put_name}
 use Rattle.cm_table.proofs.slot.Index.put.Goals as goal
 
 pub returns-clause-names : goal.returns-clause-names

@@ -1,7 +1,7 @@
 use Rattle.std.proofs.Common.{ℕ, ◌∙◌, sym, subst}
 use Rattle.cm_table.specs.Keys.{IsPlace, alone}
-use Rattle.cm_table.proofs.Halves.{item_none, is_at, none_last}
-use Rattle.cm_table.proofs.Editing.{drop_none, drop_at}
+use Rattle.cm_table.proofs.lists.Halves.{item_none, is_at, none_last}
+use Rattle.cm_table.proofs.lists.Editing.{drop_none, drop_at}
 use Rattle.cm_table.proofs.slot.Index.remove.Goals as goal
 
 pub returns-then-count-eq0-clause-kids : goal.returns-then-count-eq0-clause-kids

@@ -10,11 +10,11 @@ use Rattle.cm_table.specs.Slots.{inc_of, flat, rows_in, slot_of, base_of, IsInde
 use Rattle.cm_table.specs.Links.{IsLinked, IsSame}
 use Rattle.cm_table.specs.Numbering.{bare_slot}
 use Rattle.cm_table.specs.Change.{with_row}
-use Rattle.cm_table.proofs.Adding.{orderly_added}
-use Rattle.cm_table.proofs.Fitting.{fit_below}
-use Rattle.cm_table.proofs.Rowed.{slots_rise, rows_length, rows_same}
-use Rattle.cm_table.proofs.Indexing.{all_same}
-use Rattle.cm_table.proofs.Joining.{parent_found, bases_low, rows_joined, all_joined}
+use Rattle.cm_table.proofs.tree.Adding.{orderly_added}
+use Rattle.cm_table.proofs.lists.Fitting.{fit_below}
+use Rattle.cm_table.proofs.slots.Rowed.{slots_rise, rows_length, rows_same}
+use Rattle.cm_table.proofs.indexes.Indexing.{all_same}
+use Rattle.cm_table.proofs.slots.Joining.{parent_found, bases_low, rows_joined, all_joined}
 use Rattle.cm_table.proofs.table.Table.add.Goals as goal
 
 pub link-requires-clause-rising : goal.link-requires-clause-rising

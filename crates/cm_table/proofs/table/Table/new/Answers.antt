@@ -7,7 +7,7 @@ use Rattle.cm_table.specs.declared.block.Block.{Block}
 use Rattle.cm_table.specs.Keys.{Each, Filled}
 use Rattle.cm_table.specs.Slots.{flat, rows_in, slots_in, IsIndexed}
 use Rattle.cm_table.specs.Numbering.{bare_slot}
-use Rattle.cm_table.proofs.First.{flat_first, orderly_first, indexed_first}
+use Rattle.cm_table.proofs.tree.First.{flat_first, orderly_first, indexed_first}
 use Rattle.cm_table.proofs.table.Table.new.Goals as goal
 
 pub invariant_of-result : goal.invariant_of-result

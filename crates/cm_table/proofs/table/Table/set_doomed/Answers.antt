@@ -7,12 +7,12 @@ use Rattle.cm_table.specs.declared.change.Change.TheVariants.{Doomed}
 use Rattle.cm_table.specs.Tree.{Tree}
 use Rattle.cm_table.specs.Slots.{flat, rows_in, with_row_by, inc_of}
 use Rattle.cm_table.specs.Change.{with_changed}
-use Rattle.cm_table.proofs.Edits.{length-edit_first}
-use Rattle.cm_table.proofs.Orderly.{orderly_changed}
-use Rattle.cm_table.proofs.Changes.{keeping}
-use Rattle.cm_table.proofs.Editing.{edited}
-use Rattle.cm_table.proofs.Rowed.{rows_changed, rows_length, unlinked_rows, unlinked_rise}
-use Rattle.cm_table.proofs.Indexing.{all_doomed, each_at}
+use Rattle.cm_table.proofs.lists.Edits.{length-edit_first}
+use Rattle.cm_table.proofs.tree.Orderly.{orderly_changed}
+use Rattle.cm_table.proofs.tree.Changes.{keeping}
+use Rattle.cm_table.proofs.lists.Editing.{edited}
+use Rattle.cm_table.proofs.slots.Rowed.{rows_changed, rows_length, unlinked_rows, unlinked_rise}
+use Rattle.cm_table.proofs.indexes.Indexing.{all_doomed, each_at}
 use Rattle.cm_table.proofs.table.Table.set_doomed.Goals as goal
 
 pub unlink-requires-clause-orderly : goal.unlink-requires-clause-orderly

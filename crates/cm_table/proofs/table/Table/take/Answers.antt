@@ -10,11 +10,11 @@ use Rattle.cm_table.specs.Tree.{Tree}
 use Rattle.cm_table.specs.Keys.{Each}
 use Rattle.cm_table.specs.Slots.{flat, rows_in, inc_of, with_row_by, IsIndexed}
 use Rattle.cm_table.specs.Change.{change_row, resolved}
-use Rattle.cm_table.proofs.Editing.{edited}
-use Rattle.cm_table.proofs.Taking.{orderly_taken, length-taken}
-use Rattle.cm_table.proofs.Rowed.{rows_length, slots_rise}
-use Rattle.cm_table.proofs.Resolving.{IsTaken, taken_rows, rows_taken, mid_rises, all_taken}
-use Rattle.cm_table.proofs.Fitting.{fit_below, fit_within}
+use Rattle.cm_table.proofs.lists.Editing.{edited}
+use Rattle.cm_table.proofs.tree.Taking.{orderly_taken, length-taken}
+use Rattle.cm_table.proofs.slots.Rowed.{rows_length, slots_rise}
+use Rattle.cm_table.proofs.tree.Resolving.{IsTaken, taken_rows, rows_taken, mid_rises, all_taken}
+use Rattle.cm_table.proofs.lists.Fitting.{fit_below, fit_within}
 use Rattle.cm_table.proofs.table.Table.take.Goals as goal
 
 pub change_in-requires-clause-rising : goal.change_in-requires-clause-rising

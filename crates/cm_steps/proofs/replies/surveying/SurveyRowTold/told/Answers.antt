@@ -1,5 +1,5 @@
 use Rattle.std.proofs.Common.{sym, ◌∙◌}
-use Rattle.cm_steps.proofs.Reporting.{gone_unseen, here_seen}
+use Rattle.cm_steps.proofs.read.Reporting.{gone_unseen, here_seen}
 use Rattle.cm_steps.proofs.replies.surveying.SurveyRowTold.told.Goals as goal
 
 pub returns-then-gone : goal.returns-then-gone

@@ -1,0 +1,6 @@
+pub mod LineGrammar
+pub mod LineMachine
+pub mod LineWords
+pub mod Machine
+pub mod SpacelessWords
+pub mod StepLemmas

@@ -1,0 +1,4 @@
+pub mod LaneLemmas
+pub mod Lines
+pub mod OneScript
+pub mod ScriptSteps

@@ -1,0 +1,4 @@
+pub mod ReadCommands
+pub mod WriterLemmas
+pub mod WritesLine
+pub mod WrittenLemmas

@@ -1,0 +1,4 @@
+pub mod Ways
+pub mod Rings
+pub mod Cores
+pub mod Searching

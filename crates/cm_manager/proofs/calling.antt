@@ -1,0 +1,8 @@
+pub mod Calling
+pub mod Composing
+pub mod Counting
+pub mod Doings
+pub mod Followings
+pub mod Helping
+pub mod Joining
+pub mod Keeping

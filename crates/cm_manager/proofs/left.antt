@@ -1,0 +1,5 @@
+pub mod Closing
+pub mod Closings
+pub mod HavingEnds
+pub mod Due
+pub mod Standing

@@ -1,0 +1,25 @@
+-- What a manager's history is when it is closed.
+use Rattle.std.proofs.Common.{◌≡◌, List, All, Some, subst, sym}
+use Rattle.cm_turn.specs.Passes.{IsKnown, HasCaller}
+use Rattle.cm_world.specs.declared.reply.Entry.{Entry}
+use Rattle.cm_world.specs.World.{start}
+use Rattle.cm_world.specs.Legal.{Legal}
+use Rattle.cm_laws.specs.Story.{Story, IsLegal}
+use Rattle.cm_laws.proofs.AllLaws.{histories_keep_laws}
+use Rattle.cm_manager.specs.Contract.{RealmPass}
+use Rattle.cm_manager.specs.Managers.{Closes}
+
+pub closes_by : (history : List Entry) (passes : List RealmPass) (s : Story) → history ≡ s.entries → IsLegal s → All (IsKnown (λ (s : Story). s.entries) (λ s. s.frame) (λ (e : Entry). e.caller) s) passes → All (λ (e : Entry). HasCaller passes e.caller) s.entries → Closes history passes
+unfolding IsLegal
+closes_by history passes s is legal known callers = record {
+  story = s;
+  entries = is;
+  legal = subst (Legal (start s.frame)) (sym is) legal;
+  known = known;
+  callers = subst (All (λ (e : Entry). HasCaller passes e.caller)) (sym is) callers;
+  laws = histories_keep_laws s.frame history (subst (Legal (start s.frame)) (sym is) legal);
+}
+
+-- what bears passes out has their frame
+pub known_frames : (passes : List RealmPass) (s : Story) → All (IsKnown (λ (s : Story). s.entries) (λ s. s.frame) (λ (e : Entry). e.caller) s) passes → All (λ (p : RealmPass). p.frame ≡ Some s.frame) passes
+known_frames passes s known = λ k d lt. (known k d lt).0

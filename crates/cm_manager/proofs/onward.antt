@@ -1,0 +1,7 @@
+pub mod Begins
+pub mod BeginReplies
+pub mod Turning
+pub mod Tryings
+pub mod Onward
+pub mod Readings
+pub mod Ends

@@ -1,0 +1,202 @@
+-- What a loop over the children of a row gathers.
+use Rattle.std.proofs.Common.{◌≡◌, ℕ, ◌+◌, ◌-◌, ◌<◌, List, [], ◌∷◌, ◌++◌, Bool, true, false, cond, ◌&&◌, ◌==◌, nat_lt, true≢false, Option, Some, None, IsTrue, IsSome, find, filter, flat_map, is_some, option_map, option_and_then, refl, sym, ◌∙◌, ap, subst, inl, inr, ◌⊎◌, arith, append_assoc, append-nil}
+use Rattle.std.specs.Option.{option_map_or}
+use Rattle.std.specs.Cmp.{unsigned_Decides}
+use Rattle.std.proofs.lemmas.Bool.{lt-ltb, ltb-true, le-ltb}
+use Rattle.std.proofs.lemmas.List.Folds.{list_any-append}
+use Rattle.cm_decl.specs.declared.node.DynChild.{DynChild}
+use Rattle.cm_decl.specs.declared.node.Node.TheVariants.{Own}
+use Rattle.cm_decl.proofs.Sameness.{and_second}
+use Rattle.cm_world.specs.declared.row.Row.{Row}
+use Rattle.cm_world.specs.Rows.{row_of, has_parent, is_behind, child_behind, is_shut, is_subtree_shut}
+use Rattle.cm_world.specs.Sound.{IsRising, IsOrderly}
+use Rattle.cm_world.specs.Stopping.{is_wholly_shut}
+use Rattle.cm_world.proofs.trees.Finding.{none_some, some_same}
+use Rattle.cm_world.proofs.trees.Walks.{find-lives}
+use Rattle.cm_order.specs.declared.members.Member.{Member}
+use Rattle.cm_order.specs.Kids.{IsKid, kids}
+use Rattle.cm_order.specs.Names.{child_node, node_in, dynamic_child}
+use Rattle.cm_order.specs.Levels.{Each, IsMember, has_member, AreMembers}
+use Rattle.cm_order.proofs.trees.Trees.{kid_higher, kid_within, or_left, or_right}
+use Rattle.cm_order.proofs.levels.Kids.{next_kid, other_kids, no_kids}
+use Rattle.cm_order.proofs.searches.Turns.{each_join}
+
+-- ---- how many children can be left
+
+abbrev pub room : ℕ → Option ℕ → ℕ
+room next None = next + 1
+room next (Some b) = next - b
+
+room_by : (next c : ℕ) (after : Option ℕ) → c < next → IsTrue (is_behind after c) → room next (Some c) < room next after
+room_by next c None high behind = omega arith
+room_by next c (Some b) high behind = let low : b < c = ltb-true b c behind in omega arith
+
+pub room_less : (rows : List Row) (next p c : ℕ) (after : Option ℕ) → IsOrderly rows next → Some c ≡ child_behind rows p after → room next (Some c) < room next after
+room_less rows next p c after orderly found =
+    let kid : IsKid rows p c × IsTrue (is_behind after c) = next_kid rows next orderly p after c (sym found) in
+    room_by next c after (kid_within rows next orderly p c kid.0) kid.1
+
+-- ---- the list of the children
+
+rows_from : (s : Row) (ss : List Row) → IsTrue (is_some (row_of (s ∷ ss) s.inc))
+rows_from s ss = rw ((unsigned_Decides s.inc s.inc).1 refl) refl
+
+rows_more : (t : Bool) (s : Row) (o : Option Row) → IsTrue (is_some o) → IsTrue (is_some (cond t (Some s) o))
+rows_more true s o there = refl
+rows_more false s o there = there
+
+-- two tests that say the same of all rows above an incarnation keep the same of them
+same_rows : (q r : Row → Bool) (b : ℕ) → ((s : Row) → b < s.inc → q s ≡ r s) → (xs : List Row) → ((i : ℕ) → IsSome (row_of xs i) → b < i) → filter q xs ≡ filter r xs
+same_rows q r b same [] above = refl
+same_rows q r b same (s ∷ ss) above =
+    keep (q s) (r s) refl refl (same s (above s.inc (rows_from s ss))) (same_rows q r b same ss (λ i there. above i (rows_more (s.inc == i) s (row_of ss i) there)))
+  where
+    keep : (t u : Bool) → q s ≡ t → r s ≡ u → q s ≡ r s → filter q ss ≡ filter r ss → filter q (s ∷ ss) ≡ filter r (s ∷ ss)
+    keep true true is other both rest = rw (is, other) (ap (λ l. s ∷ l) rest)
+    keep true false is other both rest = absurd (true≢false (sym is ∙ both ∙ other))
+    keep false true is other both rest = absurd (true≢false (sym other ∙ sym both ∙ is))
+    keep false false is other both rest = rw (is, other) rest
+
+false_and : (p q : Bool) → q ≡ false → (p && q) ≡ false
+false_and true q h = h
+false_and false q h = refl
+
+true_and : (p q : Bool) → q ≡ true → (p && q) ≡ p
+true_and true q h = h
+true_and false q h = refl
+
+module _ (p : ℕ) where
+  is_later : (after : Option ℕ) (s t : Row) → IsTrue (has_parent p s && is_behind after s.inc) → s.inc < t.inc → IsTrue (is_behind after t.inc)
+  is_later after s t passes low = by after (and_second (has_parent p s) (is_behind after s.inc) passes) where
+    by : (after : Option ℕ) → IsTrue (is_behind after s.inc) → IsTrue (is_behind after t.inc)
+    by None behind = refl
+    by (Some b) behind = lt-ltb b t.inc (let less : b < s.inc = ltb-true b s.inc behind in omega arith)
+
+  -- the children behind one are the first of them, and those behind it
+  pub kids_next : (rows : List Row) (next : ℕ) (after : Option ℕ) (r : Row) → IsRising next rows → find (λ s. has_parent p s && is_behind after s.inc) rows ≡ Some r → kids rows p after ≡ r ∷ kids rows p (Some r.inc)
+  kids_next [] next after r rising found = absurd (none_some r found)
+  kids_next (s ∷ ss) next after r rising found = by (has_parent p s && is_behind after s.inc) refl (λ later. kids_next ss next after r rising.1 later) where
+    by : (t : Bool) → (has_parent p s && is_behind after s.inc) ≡ t → (find (λ s. has_parent p s && is_behind after s.inc) ss ≡ Some r → kids ss p after ≡ r ∷ kids ss p (Some r.inc)) → kids (s ∷ ss) p after ≡ r ∷ kids (s ∷ ss) p (Some r.inc)
+    by true is more =
+        let same : s ≡ r = some_same s r (rw is at found) in
+        let not_itself : (has_parent p s && is_behind (Some s.inc) s.inc) ≡ false = false_and (has_parent p s) (nat_lt s.inc s.inc) (le-ltb s.inc s.inc (omega arith)) in
+        let rest : kids ss p after ≡ kids ss p (Some s.inc) =
+        same_rows (λ t. has_parent p t && is_behind after t.inc) (λ t. has_parent p t && is_behind (Some s.inc) t.inc) s.inc
+        (λ t low. true_and (has_parent p t) (is_behind after t.inc) (is_later after s t is low) ∙ sym (true_and (has_parent p t) (nat_lt s.inc t.inc) (lt-ltb s.inc t.inc low)))
+        ss rising.0.1 in
+        subst (λ z. kids (s ∷ ss) p after ≡ z ∷ kids (s ∷ ss) p (Some z.inc)) same (rw (is, not_itself) (ap (λ l. s ∷ l) rest))
+    by false is more =
+        let later : find (λ s. has_parent p s && is_behind after s.inc) ss ≡ Some r = rw is at found in
+        let low : s.inc < r.inc = rising.0.1 r.inc (rw (find-lives (λ s. has_parent p s && is_behind after s.inc) ss next r rising.1 later) refl) in
+        let before : (has_parent p s && is_behind (Some r.inc) s.inc) ≡ false = false_and (has_parent p s) (nat_lt r.inc s.inc) (le-ltb r.inc s.inc (omega arith)) in
+        rw (is, before) (more later)
+
+  pub kids_none : (rows : List Row) (after : Option ℕ) → find (λ s. has_parent p s && is_behind after s.inc) rows ≡ None → kids rows p after ≡ []
+  kids_none [] after none = refl
+  kids_none (s ∷ ss) after none = by (has_parent p s && is_behind after s.inc) refl (λ later. kids_none ss after later) where
+    by : (t : Bool) → (has_parent p s && is_behind after s.inc) ≡ t → (find (λ s. has_parent p s && is_behind after s.inc) ss ≡ None → kids ss p after ≡ []) → kids (s ∷ ss) p after ≡ []
+    by true is more = absurd (none_some s (sym (rw is at none)))
+    by false is more = rw is (more (rw is at none))
+
+-- ---- what is left, and what is there
+
+-- the members so far, where each child is one of them or still comes
+pub record AreGathered (rows : List Row) (p : ℕ) (after : Option ℕ) (members : List Member) : Type 0 where
+  pub each : Each (IsMember rows p) members
+  pub own : IsTrue (has_member members p)
+  pub rest : (x : ℕ) → IsKid rows p x → IsTrue (is_behind after x) ⊎ IsTrue (has_member members x)
+
+no_kids_left : (rows : List Row) (p : ℕ) (after : Option ℕ) (o : Option Row) → find (λ s. has_parent p s && is_behind after s.inc) rows ≡ o → None ≡ option_map (λ r. r.inc) o → kids rows p after ≡ []
+no_kids_left rows p after None found e = kids_none p rows after found
+no_kids_left rows p after (Some r) found e = absurd (none_some r.inc e)
+
+pub dynamic_ends : (rows : List Row) (p : ℕ) (after : Option ℕ) (all old : List DynChild) → None ≡ child_behind rows p after → all ≡ old ++ flat_map dynamic_child (kids rows p after) → old ≡ all
+dynamic_ends rows p after all old none so_far =
+    sym (so_far ∙ ap (λ l. old ++ flat_map dynamic_child l) (no_kids_left rows p after (find (λ s. has_parent p s && is_behind after s.inc) rows) refl none) ∙ append-nil old)
+
+pub gathered_all : (rows : List Row) (p : ℕ) (after : Option ℕ) (members : List Member) → AreGathered rows p after members → None ≡ child_behind rows p after → AreMembers rows p members
+gathered_all rows p after members are none = record {
+  each = are.each;
+  own = are.own;
+  covers = λ x kid. elim (are.rest x kid) [
+    | inl behind ↦ absurd (no_kids rows p after x (sym none) kid behind)
+    | inr there ↦ there
+  ];
+}
+
+same_inc : (i : ℕ) → IsTrue (i == i)
+same_inc i = (unsigned_Decides i i).1 refl
+
+one_member : (m : Member) (x : ℕ) → m.inc ≡ x → IsTrue (has_member (m ∷ []) x)
+one_member m x own = or_left (m.inc == x) false ((unsigned_Decides m.inc x).1 own)
+
+old_member : (old : List Member) (m : Member) (x : ℕ) → IsTrue (has_member old x) → IsTrue (has_member (old ++ m ∷ []) x)
+old_member old m x there = list_any-append (λ n. n.inc == x) old (m ∷ []) ∙ or_left (has_member old x) (has_member (m ∷ []) x) there
+
+new_member : (old : List Member) (m : Member) (x : ℕ) → m.inc ≡ x → IsTrue (has_member (old ++ m ∷ []) x)
+new_member old m x own = list_any-append (λ n. n.inc == x) old (m ∷ []) ∙ or_right (has_member old x) (has_member (m ∷ []) x) (one_member m x own)
+
+pub own_shut : (rows : List Row) (p : ℕ) → is_wholly_shut rows p p ≡ is_shut rows p
+own_shut rows p = rw (same_inc p) refl
+
+own_node : (rows : List Row) (p : ℕ) → node_in rows p p ≡ Some Own
+own_node rows p = rw (same_inc p) refl
+
+-- ---- children in collections
+
+module _ (rows : List Row) (next : ℕ) (orderly : IsOrderly rows next) where
+  some_kids : (p c : ℕ) (after : Option ℕ) (o : Option Row) → find (λ s. has_parent p s && is_behind after s.inc) rows ≡ o → Some c ≡ option_map (λ r. r.inc) o → flat_map dynamic_child (kids rows p after) ≡ option_map_or dynamic_child (row_of rows c) [] ++ flat_map dynamic_child (kids rows p (Some c))
+  some_kids p c after None found e = absurd (none_some c (sym e))
+  some_kids p c after (Some r) found e =
+      let own : c ≡ r.inc = some_same c r.inc e in
+      let lives : row_of rows c ≡ Some r = subst (λ i. row_of rows i ≡ Some r) (sym own) (find-lives (λ s. has_parent p s && is_behind after s.inc) rows next r orderly.rising found) in
+      ap (flat_map dynamic_child) (kids_next p rows next after r orderly.rising found)
+      ∙ ap (λ i. dynamic_child r ++ flat_map dynamic_child (kids rows p (Some i))) (sym own)
+      ∙ sym (ap (λ o. option_map_or dynamic_child o [] ++ flat_map dynamic_child (kids rows p (Some c))) lives)
+
+  -- one child more
+  pub dynamic_more : (p c : ℕ) (after : Option ℕ) (all old new : List DynChild) → Some c ≡ child_behind rows p after → new ≡ old ++ option_map_or dynamic_child (row_of rows c) [] → all ≡ old ++ flat_map dynamic_child (kids rows p after) → all ≡ new ++ flat_map dynamic_child (kids rows p (Some c))
+  dynamic_more p c after all old new found pushed so_far =
+      so_far
+      ∙ ap (λ l. old ++ l) (some_kids p c after (find (λ s. has_parent p s && is_behind after s.inc) rows) refl found)
+      ∙ sym (append_assoc old (option_map_or dynamic_child (row_of rows c) []) (flat_map dynamic_child (kids rows p (Some c))))
+      ∙ sym (ap (λ l. l ++ flat_map dynamic_child (kids rows p (Some c))) pushed)
+
+  -- ---- members
+
+  not_own : (p c : ℕ) → IsKid rows p c → (c == p) ≡ false
+  not_own p c kid = by (c == p) refl where
+    by : (t : Bool) → (c == p) ≡ t → (c == p) ≡ false
+    by true e =
+        let same : c ≡ p = (unsigned_Decides c p).0 e in
+        let higher : p < c = kid_higher rows next orderly p c kid in
+        absurd (omega arith)
+    by false e = e
+
+  pub kid_shut : (p c : ℕ) → IsKid rows p c → is_wholly_shut rows p c ≡ is_subtree_shut rows c
+  kid_shut p c kid = rw (not_own p c kid) refl
+
+  kid_node : (p c : ℕ) → IsKid rows p c → node_in rows p c ≡ option_and_then child_node (row_of rows c)
+  kid_node p c kid = rw (not_own p c kid) refl
+
+  kid_member : (p c : ℕ) (m : Member) → IsKid rows p c → m.inc ≡ c → m.node ≡ option_and_then child_node (row_of rows c) → m.shut ≡ is_subtree_shut rows c → IsMember rows p m
+  kid_member p c m kid own node shut = record {
+    place = inr (subst (IsKid rows p) (sym own) kid);
+    node = node ∙ sym (ap (node_in rows p) own ∙ kid_node p c kid);
+    shut = shut ∙ sym (ap (is_wholly_shut rows p) own ∙ kid_shut p c kid);
+  }
+
+  pub gathered_more : (p c : ℕ) (after : Option ℕ) (m : Member) (old new : List Member) → AreGathered rows p after old → Some c ≡ child_behind rows p after → new ≡ old ++ m ∷ [] → m.inc ≡ c → m.node ≡ option_and_then child_node (row_of rows c) → m.shut ≡ is_subtree_shut rows c → AreGathered rows p (Some c) new
+  gathered_more p c after m old new are found pushed own node shut =
+      let kid : IsKid rows p c × IsTrue (is_behind after c) = next_kid rows next orderly p after c (sym found) in
+      subst (AreGathered rows p (Some c)) (sym pushed) (record {
+        each = each_join (IsMember rows p) old (m ∷ []) are.each (kid_member p c m kid.0 own node shut, tt);
+        own = old_member old m p are.own;
+        rest = λ x other. elim (are.rest x other) [
+          | inl behind ↦ (elim (other_kids rows next orderly p after c x (sym found) other behind) [
+            | inl same ↦ inr (new_member old m x (own ∙ sym same))
+            | inr later ↦ inl later
+          ])
+          | inr there ↦ inr (old_member old m x there)
+        ];
+      })

@@ -1,0 +1,94 @@
+-- What a quick look at a level finds.
+use Rattle.std.proofs.Common.{◌≡◌, ◌≢◌, ℕ, ◌<◌, List, Bool, true, false, not, ◌&&◌, Option, Some, None, Result, Ok, Err, IfOk, IsTrue, is_none, refl, sym, ◌∙◌, ap, subst, inl, inr, ◌⊎◌, arith}
+use Rattle.std.specs.List.{list_any}
+use Rattle.std.specs.Option.{option_map_or}
+use Rattle.std.specs.BTreeSet.{BTreeSet}
+use Rattle.cm_decl.specs.declared.decl.Decl.{Decl}
+use Rattle.cm_decl.specs.declared.rows.Usage.{Usage}
+use Rattle.cm_decl.specs.Graph.{is_strong, is_from_child}
+use Rattle.cm_decl.specs.Realm.{Depends}
+use Rattle.cm_decl.proofs.Sameness.{and_first, and_second, never}
+use Rattle.cm_world.specs.declared.row.Row.{Row}
+use Rattle.cm_world.specs.Rows.{row_of, decl_of, child_behind, is_behind, is_subtree_shut}
+use Rattle.cm_world.specs.Level.{level}
+use Rattle.cm_world.specs.Sound.{IsSound}
+use Rattle.cm_world.specs.Stopping.{is_wholly_shut}
+use Rattle.cm_order.specs.declared.search.Wanted.TheVariants.{Idle}
+use Rattle.cm_order.specs.Kids.{IsKid}
+use Rattle.cm_order.specs.Search.{IsHere}
+use Rattle.cm_order.specs.Glances.{is_in_set, HasBound, IsFreeKid, AreKidsShut}
+use Rattle.cm_order.proofs.trees.Trees.{kid_higher, flip_not, true_not_false}
+use Rattle.cm_order.proofs.levels.Kids.{next_kid, other_kids, no_kids}
+use Rattle.cm_order.proofs.levels.Gathering.{own_shut, kid_shut}
+use Rattle.cm_order.proofs.searches.Turns.{under}
+use Rattle.cm_order.proofs.names.Edges.{node_kid, depends_node}
+use Rattle.cm_order.proofs.names.Graphs.{direct_acyclic}
+
+-- what the declaration of a row says of its uses
+pub uses_by : (rows : List Row) (i : ℕ) (d : Decl) (uses : List Usage) (b : Bool) → Some d ≡ decl_of rows i → uses ≡ d.uses → b ≡ list_any (λ u. is_strong u.dependency && is_from_child u.from) uses → b ≡ option_map_or (λ d. list_any (λ u. is_strong u.dependency && is_from_child u.from) d.uses) (decl_of rows i) false
+uses_by rows i d uses b found same is =
+    is ∙ ap (list_any (λ u. is_strong u.dependency && is_from_child u.from)) same ∙ ap (λ o. option_map_or (λ (d : Decl). list_any (λ u. is_strong u.dependency && is_from_child u.from) d.uses) o false) found
+
+-- the children that were asked are all shut
+abbrev pub AreShutSoFar : List Row → ℕ → Option ℕ → Type 0
+AreShutSoFar rows p behind = (c : ℕ) → IsKid rows p c → IsTrue (is_behind behind c) ⊎ IsTrue (is_subtree_shut rows c)
+
+module _ (rows : List Row) (next : ℕ) (sound : IsSound rows next) (p : ℕ) where
+  apart : (c : ℕ) → IsKid rows p c → c ≢ p
+  apart c kid = λ same. let higher : p < c = kid_higher rows next sound.orderly p c kid in absurd (omega arith)
+
+  -- a child on which nothing depends that isn't all shut is free
+  pub free_unnamed : (c : ℕ) (behind : Option ℕ) (named : BTreeSet ℕ) → HasBound rows p named → Some c ≡ child_behind rows p behind → is_in_set named c ≡ false → IsFreeKid rows p c
+  free_unnamed c behind named has found out =
+      let kid : IsKid rows p c = (next_kid rows next sound.orderly p behind c (sym found)).0 in
+      record { kid = kid; free = λ z way. by z kid way (is_wholly_shut rows p z) refl }
+    where
+      by : (z : ℕ) → IsKid rows p c → Depends (level rows p) z c → (b : Bool) → is_wholly_shut rows p z ≡ b → IsTrue (is_wholly_shut rows p z)
+      by z kid way true shut = shut
+      by z kid way false unshut = true_not_false (is_in_set named c) (has z c (apart c kid) unshut way) out
+
+  -- ---- p itself
+
+  free_by : (z : ℕ) → AreKidsShut rows p → Depends (level rows p) z p → IsTrue (is_wholly_shut rows p z)
+  free_by z kids way = elim (node_kid rows p z (depends_node rows p z p way)) [
+    | inl own ↦ absurd (direct_acyclic (level rows p) (sound.acyclic p) (p, subst (λ v. Depends (level rows p) v p) own way))
+    | inr kid ↦ kid_shut rows next sound.orderly p z kid ∙ kids z kid
+  ]
+
+  here_by : (o : Option Row) → row_of rows p ≡ o → IsTrue (option_map_or (λ r. not r.shut && is_none r.pending) o false) → AreKidsShut rows p → IsHere rows Idle (under p)
+  here_by None e idle kids = never idle
+  here_by (Some r) e idle kids = record {
+    new = refl;
+    row = r;
+    lives = e;
+    fits = and_second (not r.shut) (is_none r.pending) idle;
+    leads = record {
+      free = λ z way. free_by z kids way;
+      unshut = own_shut rows p ∙ ap (λ o. option_map_or (λ s. s.shut) o false) e ∙ flip_not r.shut (and_first (not r.shut) (is_none r.pending) idle);
+    };
+  }
+
+  -- an idle row whose children are all shut
+  pub here_last : IsTrue (option_map_or (λ r. not r.shut && is_none r.pending) (row_of rows p) false) → AreKidsShut rows p → IsHere rows Idle (under p)
+  here_last idle kids = here_by (row_of rows p) refl idle kids
+
+  pub last_if : {E : Type 0} (r : Result Bool E) → IsTrue (option_map_or (λ r. not r.shut && is_none r.pending) (row_of rows p) false) → IfOk r (λ shut. IsTrue shut → AreKidsShut rows p) → IfOk r (λ last. IsTrue last → IsHere rows Idle (under p))
+  last_if (Ok b) idle it = λ last. here_last idle (it last)
+  last_if (Err e) idle it = it
+
+  -- ---- child after child
+
+  pub shut_more : (c : ℕ) (behind : Option ℕ) → AreShutSoFar rows p behind → Some c ≡ child_behind rows p behind → IsTrue (is_subtree_shut rows c) → AreShutSoFar rows p (Some c)
+  shut_more c behind so_far found shut i kid = elim (so_far i kid) [
+    | inl later ↦ (elim (other_kids rows next sound.orderly p behind c i (sym found) kid later) [
+      | inl same ↦ inr (subst (λ z. IsTrue (is_subtree_shut rows z)) (sym same) shut)
+      | inr more ↦ inl more
+    ])
+    | inr done ↦ inr done
+  ]
+
+pub shut_ends : (rows : List Row) (p : ℕ) (behind : Option ℕ) → AreShutSoFar rows p behind → None ≡ child_behind rows p behind → AreKidsShut rows p
+shut_ends rows p behind so_far none c kid = elim (so_far c kid) [
+  | inl later ↦ absurd (no_kids rows p behind c (sym none) kid later)
+  | inr done ↦ done
+]

@@ -1,0 +1,5 @@
+pub mod Answering
+pub mod Searching
+pub mod Turns
+pub mod Weights
+pub mod Going

@@ -1,0 +1,4 @@
+pub mod Ending
+pub mod Paths
+pub mod Tops
+pub mod Trees

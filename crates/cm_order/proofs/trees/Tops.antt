@@ -1,0 +1,154 @@
+-- The outermost closing row above another.
+use Rattle.std.proofs.Common.{◌≡◌, ℕ, zero, suc, List, [], ◌∷◌, Bool, true, false, cond, ◌||◌, Option, Some, None, IsTrue, find, length, reverse, option_and_then, refl, sym, ◌∙◌, ap, subst, inl, inr}
+use Rattle.std.specs.Option.{option_map_or, option_or}
+use Rattle.std.proofs.lemmas.List.{reverse-append}
+use Rattle.std.proofs.lemmas.List.Folds.{find-append}
+use Rattle.cm_world.specs.declared.row.Row.{Row}
+use Rattle.cm_world.specs.Rows.{row_of, at_or_above, is_below, is_closing, has_closing, line_from}
+use Rattle.cm_world.specs.Sound.{IsOrderly}
+use Rattle.cm_world.specs.Stopping.{outermost}
+use Rattle.cm_world.proofs.trees.Climbing.{some_above-step, line_of-step, above_root, line_root}
+use Rattle.cm_world.proofs.trees.Finding.{none_some, some_same}
+use Rattle.cm_order.proofs.trees.Trees.{climb, below_self, below_up, below_cases, below_lives}
+
+-- the outermost closing row on a way up
+abbrev pub outermost_from : List Row → Option ℕ → Option ℕ
+outermost_from rows o = find (λ i. has_closing rows i) (reverse (line_from (length rows) rows o))
+
+find_one : (rows : List Row) (i : ℕ) (b : Bool) → has_closing rows i ≡ b → find (λ i. has_closing rows i) (i ∷ []) ≡ cond b (Some i) None
+find_one rows i b e = rw e refl
+
+or_none : (o : Option ℕ) → option_or o None ≡ o
+or_none None = refl
+or_none (Some i) = refl
+
+-- a row further down comes into question where none above it is closing
+top_more : (rows : List Row) (i : ℕ) (line : List ℕ) → find (λ i. has_closing rows i) (reverse (i ∷ line)) ≡ option_or (find (λ i. has_closing rows i) (reverse line)) (cond (has_closing rows i) (Some i) None)
+top_more rows i line =
+    ap (find (λ i. has_closing rows i)) (reverse-append (i ∷ []) line)
+    ∙ find-append (λ i. has_closing rows i) (reverse line) (i ∷ [])
+    ∙ ap (option_or (find (λ i. has_closing rows i) (reverse line))) (find_one rows i (has_closing rows i) refl)
+
+-- an outermost closing row is its own, and the row stands below it
+pub record IsTop (rows : List Row) (top i : ℕ) : Type 0 where
+  pub own : outermost rows top ≡ Some top
+  pub below : IsTrue (is_below rows top i)
+
+module _ (rows : List Row) (next : ℕ) (orderly : IsOrderly rows next) where
+  top_step : (i : ℕ) (r : Row) → row_of rows i ≡ Some r → outermost rows i ≡ option_or (outermost_from rows r.parent) (cond (has_closing rows i) (Some i) None)
+  top_step i r lives = ap (λ l. find (λ i. has_closing rows i) (reverse l)) (line_of-step rows next i r orderly lives) ∙ top_more rows i (line_from (length rows) rows r.parent)
+
+  none_from : outermost_from rows None ≡ None
+  none_from = ap (λ l. find (λ i. has_closing rows i) (reverse l)) (line_root (length rows) rows)
+
+  line_none : (n : ℕ) (i : ℕ) → row_of rows i ≡ None → line_from n rows (Some i) ≡ []
+  line_none zero i none = refl
+  line_none (suc n) i none = rw (none, line_from) refl
+
+  top_none : (i : ℕ) → row_of rows i ≡ None → outermost rows i ≡ None
+  top_none i none = ap (λ l. find (λ i. has_closing rows i) (reverse l)) (line_none (length rows) i none)
+
+  -- ---- the way up
+
+  or_or : (a c : Option ℕ) (b : Bool) (i : ℕ) → option_or (option_or a (cond b (Some i) None)) c ≡ option_or a (cond b (Some i) c)
+  or_or None c true i = refl
+  or_or None c false i = refl
+  or_or (Some x) c b i = refl
+
+  step_by : (i : ℕ) (o : Option Row) (found : Option ℕ) → row_of rows i ≡ o → option_or (outermost rows i) found ≡ option_or (outermost_from rows (option_and_then (λ r. r.parent) o)) (cond (option_map_or (λ r. r.closing) o false) (Some i) found)
+  step_by i None found e = ap (λ o. option_or o found) (top_none i e) ∙ sym (ap (λ o. option_or o found) none_from)
+  step_by i (Some r) found e =
+      ap (λ o. option_or o found) (top_step i r e)
+      ∙ or_or (outermost_from rows r.parent) found (has_closing rows i) i
+      ∙ ap (λ b. option_or (outermost_from rows r.parent) (cond b (Some i) found)) (ap (λ o. option_map_or (λ r. r.closing) o false) e)
+
+  -- a loop that is at a row goes on at its parent
+  pub goes_up : (all : Option ℕ) (here : ℕ) (at above found more : Option ℕ) → at ≡ Some here → above ≡ option_and_then (λ r. r.parent) (row_of rows here) → more ≡ cond (has_closing rows here) (Some here) found → all ≡ option_or (outermost_from rows at) found → all ≡ option_or (outermost_from rows above) more
+  goes_up all here at above found more is up closing so_far =
+      so_far
+      ∙ ap (λ o. option_or (outermost_from rows o) found) is
+      ∙ step_by here (row_of rows here) found refl
+      ∙ sym (ap (λ o. option_or (outermost_from rows o) (cond (has_closing rows here) (Some here) found)) up)
+      ∙ sym (ap (option_or (outermost_from rows above)) closing)
+
+  -- ---- what it says
+
+  here_or_above : (i : ℕ) (r : Row) (top : ℕ) (above : Option ℕ) (b : Bool) → row_of rows i ≡ Some r → outermost rows i ≡ Some top → option_or above (cond b (Some i) None) ≡ Some top → (above ≡ Some top → IsTop rows top i) → IsTop rows top i
+  here_or_above i r top (Some t) b lives all e up = up e
+  here_or_above i r top None true lives all e up =
+      let same : i ≡ top = some_same i top e in
+      subst (λ t. IsTop rows t i) same (record { own = all ∙ sym (ap Some same); below = below_self rows next orderly i r lives })
+  here_or_above i r top None false lives all e up = absurd (none_some top e)
+
+  parent_top : (i top : ℕ) (r : Row) (o : Option ℕ) → row_of rows i ≡ Some r → r.parent ≡ o → ((p : ℕ) → r.parent ≡ Some p → outermost rows p ≡ Some top → IsTop rows top p) → outermost_from rows o ≡ Some top → IsTop rows top i
+  parent_top i top r None lives parent up e = absurd (none_some top (sym none_from ∙ e))
+  parent_top i top r (Some p) lives parent up e =
+      let is : IsTop rows top p = up p parent e in
+      record { own = is.own; below = below_up rows next orderly top i p r lives parent is.below }
+
+  lives_top : (i top : ℕ) (o : Option Row) → row_of rows i ≡ o → outermost rows i ≡ Some top → (r : Row) × (row_of rows i ≡ Some r)
+  lives_top i top None e all = absurd (none_some top (sym (top_none i e) ∙ all))
+  lives_top i top (Some r) e all = (r, e)
+
+  pub top_of : (i top : ℕ) → outermost rows i ≡ Some top → IsTop rows top i
+  top_of i top all =
+      let row : (r : Row) × (row_of rows i ≡ Some r) = lives_top i top (row_of rows i) refl all in
+      climb rows next orderly (λ i. outermost rows i ≡ Some top → IsTop rows top i) step i row.0 row.1 all
+    where
+      step : (i : ℕ) (r : Row) → row_of rows i ≡ Some r → ((p : ℕ) → r.parent ≡ Some p → outermost rows p ≡ Some top → IsTop rows top p) → outermost rows i ≡ Some top → IsTop rows top i
+      step i r lives up all =
+          here_or_above i r top (outermost_from rows r.parent) (has_closing rows i) lives all (sym (top_step i r lives) ∙ all) (λ e. parent_top i top r r.parent lives refl up e)
+
+  -- all rows below an outermost closing row have that one
+  pub top_below : (top i : ℕ) → outermost rows top ≡ Some top → IsTrue (is_below rows top i) → outermost rows i ≡ Some top
+  top_below top i own below =
+      let row : (r : Row) × (row_of rows i ≡ Some r) = below_lives rows next orderly top i below in
+      climb rows next orderly (λ i. IsTrue (is_below rows top i) → outermost rows i ≡ Some top) step i row.0 row.1 below
+    where
+      step : (i : ℕ) (r : Row) → row_of rows i ≡ Some r → ((p : ℕ) → r.parent ≡ Some p → IsTrue (is_below rows top p) → outermost rows p ≡ Some top) → IsTrue (is_below rows top i) → outermost rows i ≡ Some top
+      step i r lives up below = elim (below_cases rows next orderly top i r lives below) [
+        | inl same ↦ ap (outermost rows) same ∙ own ∙ refl
+        | inr above ↦
+            top_step i r lives
+            ∙ ap (λ o. option_or (outermost_from rows o) (cond (has_closing rows i) (Some i) None)) above.1
+            ∙ ap (λ o. option_or o (cond (has_closing rows i) (Some i) None)) (up above.0 above.1 above.2)
+      ]
+
+  or_nothing : (a b : Option ℕ) → option_or a b ≡ None → (a ≡ None) × (b ≡ None)
+  or_nothing None b e = (refl, e)
+  or_nothing (Some x) b e = absurd (none_some x (sym e))
+
+  unclosing : (b : Bool) (i : ℕ) → cond b (Some i) None ≡ None → b ≡ false
+  unclosing true i e = absurd (none_some i (sym e))
+  unclosing false i e = refl
+
+  both_false : (p q : Bool) → p ≡ false → q ≡ false → (p || q) ≡ false
+  both_false true q h g = h
+  both_false false q h g = g
+
+  above_false : (r : Row) (o : Option ℕ) → r.parent ≡ o → ((p : ℕ) → r.parent ≡ Some p → outermost rows p ≡ None → is_closing rows p ≡ false) → outermost_from rows o ≡ None → at_or_above (length rows) (λ r. r.closing) rows o ≡ false
+  above_false r None parent up e = above_root (length rows) (λ r. r.closing) rows
+  above_false r (Some p) parent up e = up p parent e
+
+  nothing_closing : (n : ℕ) (i : ℕ) → row_of rows i ≡ None → at_or_above n (λ r. r.closing) rows (Some i) ≡ false
+  nothing_closing zero i none = refl
+  nothing_closing (suc n) i none = rw (none, at_or_above) refl
+
+  closing_by : (i : ℕ) (o : Option Row) → row_of rows i ≡ o → outermost rows i ≡ None → is_closing rows i ≡ false
+  closing_by i None e none = nothing_closing (length rows) i e
+  closing_by i (Some r) e none =
+      climb rows next orderly (λ i. outermost rows i ≡ None → is_closing rows i ≡ false) step i r e none
+    where
+      step : (i : ℕ) (r : Row) → row_of rows i ≡ Some r → ((p : ℕ) → r.parent ≡ Some p → outermost rows p ≡ None → is_closing rows p ≡ false) → outermost rows i ≡ None → is_closing rows i ≡ false
+      step i r lives up none =
+          let parts : (outermost_from rows r.parent ≡ None) × (cond (has_closing rows i) (Some i) None ≡ None) = or_nothing (outermost_from rows r.parent) (cond (has_closing rows i) (Some i) None) (sym (top_step i r lives) ∙ none) in
+          some_above-step (λ r. r.closing) rows next i r orderly lives
+          ∙ both_false r.closing (at_or_above (length rows) (λ r. r.closing) rows r.parent) (sym (ap (λ o. option_map_or (λ r. r.closing) o false) lives) ∙ unclosing (has_closing rows i) i parts.1) (above_false r r.parent refl up parts.0)
+
+  -- where there is none, the row isn't closing
+  pub no_top : (i : ℕ) → outermost rows i ≡ None → is_closing rows i ≡ false
+  no_top i none = closing_by i (row_of rows i) refl none
+
+  -- a row with an outermost closing one lives
+  pub top_lives : (i top : ℕ) → outermost rows i ≡ Some top → (r : Row) × (row_of rows i ≡ Some r)
+  top_lives i top all = lives_top i top (row_of rows i) refl all

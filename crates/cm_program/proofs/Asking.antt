@@ -1,0 +1,68 @@
+-- What words ask for is one thing.
+use Rattle.std.proofs.Common.{◌≡◌, Bool, true, false, Ok, Err, true≢false, sym, ap, subst, ◌∙◌}
+use Rattle.cm_program.specs.Calls.{Gives, Read}
+use Rattle.cm_program.specs.declared.call.Call.{Call}
+use Rattle.cm_program.specs.declared.call.Call.TheVariants as call
+use Rattle.cm_program.specs.declared.call.RunOptions.{RunOptions}
+use Rattle.cm_program.specs.declared.call.ServeOptions.{ServeOptions}
+use Rattle.cm_program.specs.declared.call.Workload.{Workload}
+use Rattle.cm_program.specs.declared.call.WordsFault.{WordsFault}
+use Rattle.cm_program.specs.declared.call.WordsFault.TheVariants.{Usage}
+
+-- which word a call is
+abbrev pub is_run : Call → Bool
+is_run (call.Run options) = true
+is_run call.Check = false
+is_run (call.Generate workload) = false
+is_run (call.Serve options) = false
+
+abbrev pub is_check : Call → Bool
+is_check call.Check = true
+is_check (call.Run options) = false
+is_check (call.Generate workload) = false
+is_check (call.Serve options) = false
+
+abbrev pub is_generate : Call → Bool
+is_generate (call.Generate workload) = true
+is_generate (call.Run options) = false
+is_generate call.Check = false
+is_generate (call.Serve options) = false
+
+abbrev pub is_serve : Call → Bool
+is_serve (call.Serve options) = true
+is_serve (call.Run options) = false
+is_serve call.Check = false
+is_serve (call.Generate workload) = false
+
+pub asked : {read : Read Call} {found own : Call} → read ≡ Ok found → found ≡ own → read ≡ Ok own
+asked is same = is ∙ ap Ok same
+
+pub one_call : {read : Read Call} {found own other : Call} → read ≡ Ok found → found ≡ own → read ≡ Ok other → own ≡ other
+one_call is same asks = cc (is, same, asks)
+
+-- words that ask for this ask for no other word
+pub no_other : {A : Type 0} {read : Read Call} {found own other : Call} (is_own : Call → Bool) → read ≡ Ok found → found ≡ own → read ≡ Ok other → is_own own ≡ true → is_own other ≡ false → A
+no_other {own = own} {other = other} is_own is same asks holds fails =
+    let one : own ≡ other = one_call is same asks in
+    absurd (true≢false (sym holds ∙ ap is_own one ∙ fails))
+
+-- and something is asked for
+pub no_fault : {A : Type 0} {read : Read Call} {found own : Call} {fault : WordsFault} → read ≡ Ok found → found ≡ own → read ≡ Err fault → A
+no_fault is same asks = absurd (cc (is, asks))
+
+pub same_options : {read : Read Call} {found : Call} {mine others : RunOptions} → read ≡ Ok found → found ≡ call.Run mine → read ≡ Ok (call.Run others) → mine ≡ others
+same_options is same asks = cc (is, same, asks)
+
+pub same_workload : {read : Read Call} {found : Call} {mine others : Workload} → read ≡ Ok found → found ≡ call.Generate mine → read ≡ Ok (call.Generate others) → mine ≡ others
+same_workload is same asks = cc (is, same, asks)
+
+pub same_serving : {read : Read Call} {found : Call} {mine others : ServeOptions} → read ≡ Ok found → found ≡ call.Serve mine → read ≡ Ok (call.Serve others) → mine ≡ others
+same_serving is same asks = cc (is, same, asks)
+
+-- ---- where nothing is asked for
+
+pub unusable : {read : Read Call} (fault : WordsFault) → Gives {X = Call} (Err fault) read → fault ≡ Usage → read ≡ Err Usage
+unusable {read = read} fault gives is = subst (λ (e : WordsFault). Gives {X = Call} (Err e) read) is gives
+
+pub no_call : {A : Type 0} {read : Read Call} {other : Call} (fault : WordsFault) → Gives {X = Call} (Err fault) read → fault ≡ Usage → read ≡ Ok other → A
+no_call fault gives is asks = absurd (cc (unusable fault gives is, asks))

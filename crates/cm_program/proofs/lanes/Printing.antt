@@ -1,0 +1,91 @@
+-- What is printed of answers that stand in the order of their lines.
+use Rattle.std.proofs.Common.{◌≡◌, ◌≢◌, ℕ, ◌+◌, List, [], ◌∷◌, ◌++◌, ◌≤◌, All, Bool, cond, map, flat_map, count_by, length, drop, take, Option, Some, None, Result, Err, refl, sym, ap, ◌∙◌, append_assoc, append-nil, rules}
+use Rattle.std.proofs.lemmas.List.{drop_all}
+use Rattle.std.proofs.lemmas.List.Elements.{All-nil, All-cons, All-head, All-tail}
+use Rattle.std.proofs.lemmas.List.Sums.{sum_by-cons}
+use Rattle.cm_world.specs.declared.answer.Answer.{Answer}
+use Rattle.cm_world.specs.declared.answer.Refusal.{Refusal}
+use Rattle.cm_world.specs.declared.answer.Refusal.TheVariants as refusal
+use Rattle.cm_command.specs.declared.script.Line.{Line}
+use Rattle.cm_lanes.specs.declared.said.Said.{Said}
+use Rattle.cm_lanes.specs.Script.{Answered, said_of, answered_lines}
+use Rattle.cm_program.specs.Headline.{IsNoWant}
+use Rattle.cm_program.specs.Printed.{answered_text, phases_text, results_of, texts_of}
+use Rattle.cm_program.specs.Written.{AppendsFront}
+use Rattle.cm_program.proofs.lanes.Sixteen.{all_front, all_behind}
+
+no_answers : (lines : List Line) → texts_of lines [] ≡ []
+no_answers [] = refl
+no_answers (l ∷ ls) = refl
+
+-- where no answer is left, no text is
+pub ends_early : (lines more : List Line) (at : ℕ) (said : List Said) (text whole : List ℕ) → length said ≤ at → text ++ texts_of (lines ++ more) (drop at said) ≡ whole → text ++ texts_of more (drop at said) ≡ whole
+ends_early lines more at said text whole over is =
+    let none : drop at said ≡ [] = drop_all at said over in
+    ap (λ (left : List Said). text ++ texts_of more left) none
+    ∙ ap (λ (t : List ℕ). text ++ t) (no_answers more ∙ sym (no_answers (lines ++ more)))
+    ∙ sym (ap (λ (left : List Said). text ++ texts_of (lines ++ more) left) none)
+    ∙ is
+
+texts_append : (answered : List Answered) (others : List Line) (more : List Said) → texts_of (answered_lines answered ++ others) (map said_of answered ++ more) ≡ flat_map answered_text answered ++ texts_of others more
+texts_append [] others more = refl
+texts_append (a ∷ others_answered) others more =
+    ap (λ (t : List ℕ). answered_text a ++ t) (texts_append others_answered others more)
+    ∙ sym (append_assoc (answered_text a) (flat_map answered_text others_answered) (texts_of others more))
+
+-- the answers in the order of the script are those of its phases
+pub texts_all : (answered : List (List Answered)) → texts_of (flat_map (λ lines. lines) (map answered_lines answered)) (flat_map (λ phase. map said_of phase) answered) ≡ phases_text answered
+texts_all [] = refl
+texts_all (p ∷ ps) =
+    texts_append p (flat_map (λ lines. lines) (map answered_lines ps)) (flat_map (λ phase. map said_of phase) ps)
+    ∙ ap (λ (t : List ℕ). flat_map answered_text p ++ t) (texts_all ps)
+
+-- ---- what is counted
+
+-- how many are of a kind
+pub counted : (is_one : Result Answer Refusal → Bool) (said : List Said) → count_by is_one (map (λ (s : Said). s.result) said) ≡ count_by (λ (s : Said). is_one s.result) said
+counted is_one [] = refl
+counted is_one (s ∷ others) =
+    sum_by-cons (λ (r : Result Answer Refusal). cond (is_one r) 1 0) s.result (map (λ (x : Said). x.result) others)
+    ∙ ap (λ n. cond (is_one s.result) 1 0 + n) (counted is_one others)
+    ∙ sym (sum_by-cons (λ (x : Said). cond (is_one x.result) 1 0) s others)
+
+results_append : (answered : List Answered) (more : List Said) → map (λ (s : Said). s.result) (map said_of answered ++ more) ≡ map (λ (a : Answered). a.result) answered ++ map (λ (s : Said). s.result) more
+results_append [] more = refl
+results_append (a ∷ others_answered) more = ap (λ (l : List (Result Answer Refusal)). a.result ∷ l) (results_append others_answered more)
+
+-- what is handed out has the answers of all phases
+pub results_all : (answered : List (List Answered)) → map (λ (s : Said). s.result) (flat_map (λ phase. map said_of phase) answered) ≡ results_of answered
+results_all [] = refl
+results_all (p ∷ ps) =
+    results_append p (flat_map (λ phase. map said_of phase) ps)
+    ∙ ap (λ (l : List (Result Answer Refusal)). map (λ (a : Answered). a.result) p ++ l) (results_all ps)
+
+-- ---- want of memory
+
+abbrev NoWant : Said → Type 0
+NoWant s = s.result ≢ Err refusal.Memory
+
+-- so are those of which none is want of memory
+no_want_phase : (answered : List Answered) → All NoWant (map said_of answered) → All IsNoWant answered
+no_want_phase [] none = All-nil IsNoWant
+no_want_phase (a ∷ others_answered) none = All-cons IsNoWant a others_answered (All-head NoWant (said_of a) (map said_of others_answered) none) (no_want_phase others_answered (All-tail NoWant (said_of a) (map said_of others_answered) none))
+
+pub no_want_all : (answered : List (List Answered)) → All NoWant (flat_map (λ phase. map said_of phase) answered) → All (λ phase. All IsNoWant phase) answered
+no_want_all [] none = All-nil (λ phase. All IsNoWant phase)
+no_want_all (p ∷ ps) none = All-cons (λ phase. All IsNoWant phase) p ps (no_want_phase p (all_front NoWant (map said_of p) (flat_map (λ phase. map said_of phase) ps) none)) (no_want_all ps (all_behind NoWant (map said_of p) (flat_map (λ phase. map said_of phase) ps) none))
+
+-- ---- what was written
+
+pub nothing_written : (out : Option (List ℕ)) (text : List ℕ) → AppendsFront out out text
+nothing_written None text = (0, tt)
+nothing_written (Some xs) text = (0, sym (append-nil xs))
+
+take_none : (n : ℕ) → take {A = ℕ} n [] ≡ []
+take_none n = search rules
+
+-- a front of nothing is a front of any text
+pub front_of_nothing : (old new : Option (List ℕ)) (text : List ℕ) → AppendsFront old new [] → AppendsFront old new text
+front_of_nothing None new text front = (0, tt)
+front_of_nothing (Some xs) None text front = absurd front.1
+front_of_nothing (Some xs) (Some ys) text front = (0, front.1 ∙ ap (λ (l : List ℕ). xs ++ l) (take_none front.0))

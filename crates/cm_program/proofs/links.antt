@@ -1,0 +1,4 @@
+pub mod Attending
+pub mod SessionLines
+pub mod SessionLinks
+pub mod SessionWorkers

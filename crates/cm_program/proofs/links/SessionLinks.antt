@@ -1,0 +1,106 @@
+-- What came of one link, by its own counts.
+use Rattle.std.proofs.Common.{◌≡◌, ◌≢◌, inl, inr, ℕ, ◌+◌, ◌-◌, ◌^◌, ◌<◌, ◌≤◌, min, ◌⊎◌, List, [], ◌∷◌, All, Contains, Option, length, refl, sym, ◌∙◌, subst, append-nil, arith}
+use Rattle.std.specs.Io.KnownBytes.{Appends, IsAtEnd}
+use Rattle.cm_io.specs.Lines.{lines}
+use Rattle.cm_io.specs.Outside.{AsSink, Rose}
+use Rattle.cm_reply.specs.Lists.{Text}
+use Rattle.cm_manager.specs.Asking.{frame_of}
+use Rattle.cm_manager.specs.Contract.{GatesView, RealmPass}
+use Rattle.cm_manager.specs.Done.{Follows}
+use Rattle.cm_manager.specs.Work.{Shelf}
+use Rattle.cm_session.specs.declared.ended.Ended.{Ended}
+use Rattle.cm_session.specs.declared.ended.Ended.TheVariants as ended
+use Rattle.cm_session.specs.Links.{Begins, LinkView, whole_lines}
+use Rattle.cm_session.specs.Serving.{IsNewLink, IsOfLink}
+use Rattle.cm_session.specs.Session.{Served, Session, Wrote, WroteFront, most_lines, quit}
+use Rattle.cm_session.specs.Told.{Told, done_of, replies}
+use Rattle.cm_program.specs.Sessions.{HasAll, IsSat, Sat, whole_session_lines}
+use Rattle.cm_program.proofs.links.SessionLines.{all_lines, first_lines, lines_spent, lines_to_quit, quit_given, whole_read, whole_served}
+
+-- a count that rose isn't 0
+one_positive : (a end : ℕ) → 0 < end → 0 < min (a + 1) end
+one_positive a end some = grind (arith, some)
+
+not_risen : (a b : ℕ) → Rose a b → b ≡ 0 → ⊥
+not_risen a b rose none = (let low = one_positive a (2 ^ 64 - 1) (omega arith) in omega (arith, low, rose, none))
+
+quit_or_end : (left : Option Text) (A B : Type 0) → IsAtEnd left ⊎ A → IsAtEnd left ⊎ (A ⊎ B)
+quit_or_end left A B (inl end) = inl end
+quit_or_end left A B (inr a) = inr (inl a)
+
+-- ---- by the end of the session
+
+module _ (bytes : Text) (done : List Text) (left : Option Text) where
+  begins_of : (end : Ended) → Served end bytes done left → Begins (lines bytes) done
+  begins_of ended.End s = ([], s.0 ∙ sym (append-nil done))
+  begins_of ended.Quit s = (quit ∷ s.0, s.1)
+  begins_of ended.LinesSpent s = s.0
+  begins_of ended.ReadFault s = s.0
+  begins_of ended.WriteFault s = s
+  begins_of ended.Memory s = s
+
+  module _ (none : All (λ (t : Text). t ≢ quit) done) (few : length done ≤ most_lines) (old new : AsSink) (told : List Told) (before after : ℕ) where
+    all_of : (end : Ended) → Served end bytes done left → Wrote end old new told → (end ≡ ended.ReadFault → Rose before after) → end ≢ ended.Memory → after ≡ 0 → new.faults ≡ 0 → HasAll left (record { bytes = bytes; lines_done = done; told = told })
+    all_of ended.End s w rose other read write = record { served = all_lines bytes done none s.0 s.1; nothing_left = inl s.2 }
+    all_of ended.Quit s w rose other read write = record { served = lines_to_quit bytes done none s.0 s.1 s.2; nothing_left = quit_or_end left (Contains (whole_lines bytes) quit) (length done ≡ most_lines) (quit_given bytes done left s.3) }
+    all_of ended.LinesSpent s w rose other read write = record { served = lines_spent bytes done none s.0 s.1; nothing_left = inr (inr s.1) }
+    all_of ended.ReadFault s w rose other read write = absurd (not_risen before after (rose refl) read)
+    all_of ended.WriteFault s w rose other read write = absurd (not_risen old.faults new.faults w.1 write)
+    all_of ended.Memory s w rose other read write = absurd (other refl)
+
+    whole_of : (end : Ended) → Served end bytes done left → Wrote end old new told → end ≢ ended.Memory → new.faults ≡ 0 → Begins done (whole_session_lines bytes)
+    whole_of ended.End s w other write = whole_served bytes done none (all_lines bytes done none s.0 s.1)
+    whole_of ended.Quit s w other write = whole_served bytes done none (lines_to_quit bytes done none s.0 s.1 s.2)
+    whole_of ended.LinesSpent s w other write = whole_served bytes done none (lines_spent bytes done none s.0 s.1)
+    whole_of ended.ReadFault s w other write = whole_read bytes done none s.1 few
+    whole_of ended.WriteFault s w other write = absurd (not_risen old.faults new.faults w.1 write)
+    whole_of ended.Memory s w other write = absurd (other refl)
+
+wrote_of : (end : Ended) (old new : AsSink) (told : List Told) → Wrote end old new told → end ≢ ended.Memory → new.faults ≡ 0 → Appends old.written new.written (replies told)
+wrote_of ended.End old new told w other write = w
+wrote_of ended.Quit old new told w other write = w
+wrote_of ended.LinesSpent old new told w other write = w
+wrote_of ended.ReadFault old new told w other write = w
+wrote_of ended.WriteFault old new told w other write = absurd (not_risen old.faults new.faults w.1 write)
+wrote_of ended.Memory old new told w other write = absurd (other refl)
+
+front_of : (end : Ended) (old new : AsSink) (told : List Told) → Wrote end old new told → WroteFront old.written new.written told
+front_of ended.End old new told w = inl w
+front_of ended.Quit old new told w = inl w
+front_of ended.LinesSpent old new told w = inl w
+front_of ended.ReadFault old new told w = inl w
+front_of ended.WriteFault old new told w = inr w.0
+front_of ended.Memory old new told w = w
+
+-- ---- one link
+
+module _ {L : Type 0} (view : L → LinkView) (status : ℕ) where
+  -- what came of a link, and what its worker performed
+  pub record Judged (now : LinkView) (p q : RealmPass) : Type 0 where
+    pub sat : Sat
+    pub is : IsSat view status now sat
+    pub follows : Follows (frame_of p) p.caller (done_of sat.told) p.seen q.seen
+
+  judged_link : (shelf : Shelf) (p q : RealmPass) (g h : GatesView) (came : L) (now : LinkView) (end : Ended) → IsNewLink (view came) → Session shelf p q g h (view came) now end → (status ≢ 6 → end ≢ ended.Memory) → Judged now p q
+  judged_link shelf p q g h came now end new s well = record {
+    sat = record { bytes = s.bytes; lines_done = s.lines_done; told = s.told };
+    is = record {
+      came = came;
+      new = new;
+      gave = s.gave;
+      reads = s.reads;
+      first = first_lines s.bytes s.lines_done s.no_quit (begins_of s.bytes s.lines_done now.source.left end s.served) s.few;
+      ended = s.ended_lines;
+      all = λ other read write. all_of s.bytes s.lines_done now.source.left s.no_quit s.few (view came).sink now.sink s.told (view came).source.faults now.source.faults end s.served s.wrote s.read_fault (well other) read write;
+      whole = λ other write. whole_of s.bytes s.lines_done now.source.left s.no_quit s.few (view came).sink now.sink s.told (view came).source.faults now.source.faults end s.served s.wrote (well other) write;
+      wrote = λ other write. wrote_of end (view came).sink now.sink s.told s.wrote (well other) write;
+      front = front_of end (view came).sink now.sink s.told s.wrote;
+      no_want = λ other. s.no_want (well other);
+    };
+    follows = s.follows;
+  }
+
+  -- by what the link was seen as when it came
+  pub judged : (shelf : Shelf) (p q : RealmPass) (g h : GatesView) (was now : LinkView) (end : Ended) → IsOfLink view was → IsNewLink was → Session shelf p q g h was now end → (status ≢ 6 → end ≢ ended.Memory) → Judged now p q
+  judged shelf p q g h was now end came new s well =
+      judged_link shelf p q g h came.0 now end (subst IsNewLink (sym came.1) new) (subst (λ (w : LinkView). Session shelf p q g h w now end) (sym came.1) s) well

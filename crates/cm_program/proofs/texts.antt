@@ -1,0 +1,4 @@
+pub mod ScriptLaws
+pub mod StockLemmas
+pub mod WordLemmas
+pub mod GeneratorLemmas

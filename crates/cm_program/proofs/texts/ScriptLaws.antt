@@ -1,0 +1,29 @@
+-- Bytes that are served are not refused, and ask for one thing.
+use Rattle.std.proofs.Common.{◌≡◌, ℕ, List, Result, Ok, Err, sym, ap, ◌∙◌}
+use Rattle.cm_command.proofs.scripts.OneScript.{texts_are_one_script_lem, scripts_have_no_fault_lem}
+use Rattle.cm_program.specs.Laws.{ServedAreNotRefused, BytesAskForOne}
+use Rattle.cm_program.specs.Run.{IsFaulty}
+use Rattle.cm_program.specs.Stock.{IsFault, Serves, served_script}
+use Rattle.cm_program.specs.declared.fault.Fault.{Fault}
+use Rattle.cm_program.specs.declared.fault.Fault.TheVariants.{Unread, Unserved, Memory}
+use Rattle.cm_program.specs.declared.stock.Served.{Served}
+
+ok_err : {A E : Type 0} {r : Result A E} {x : A} {e : E} → r ≡ Ok x → r ≡ Err e → ⊥
+ok_err h k = absurd (cc)
+
+refused_unserved : (bytes : List ℕ) (f : Fault) (served : Served) → IsFault bytes f → Serves bytes served → ⊥
+refused_unserved bytes (Unread line number at) served f h = scripts_have_no_fault_lem bytes h.script line number at h.reads f
+refused_unserved bytes (Unserved line problem) served f h =
+    let same = texts_are_one_script_lem bytes f.script h.script f.reads h.reads in
+    ok_err h.asks (sym (ap served_script same) ∙ f.refused)
+refused_unserved bytes Memory served f h = absurd f
+
+pub served_are_not_refused_lem : ServedAreNotRefused
+served_are_not_refused_lem bytes served h (IsFaulty.refused f g) = refused_unserved bytes f served g h
+served_are_not_refused_lem bytes served h (IsFaulty.unserved never) = never served h
+
+pub bytes_ask_for_one_lem : BytesAskForOne
+bytes_ask_for_one_lem bytes a b h k =
+    let same = texts_are_one_script_lem bytes h.script k.script h.reads k.reads in
+    let asks : served_script h.script ≡ served_script k.script = ap served_script same in
+    cc (h.asks, k.asks, asks)

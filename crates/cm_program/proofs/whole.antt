@@ -1,0 +1,5 @@
+pub mod CheckLemmas
+pub mod FrontLemmas
+pub mod Nothing
+pub mod RunLemmas
+pub mod Saying

@@ -1,0 +1,4 @@
+pub mod Closed
+pub mod Coming
+pub mod Ending
+pub mod Finishing

@@ -1,0 +1,214 @@
+-- From passes, gates and links to workers, and back.
+use Rattle.std.proofs.Common.{◌≡◌, ◌≢◌, ℕ, zero, suc, ◌<◌, ◌≤◌, List, [], ◌∷◌, ◌++◌, All, Any, map, take, drop, length, get_or, true, false, Option, Some, refl, sym, ap, ◌∙◌, subst, append-nil, arith}
+use mathlib.Core.Logic.{dite}
+use native.Mathlib.Decide.{dec_lt}
+use Rattle.std.specs.List.{slice_get}
+use Rattle.std.proofs.lemmas.List.{length-append, length-map, take_all, drop_all}
+use Rattle.std.proofs.lemmas.Option.{slice_get-get_or, slice_get_within, get_or_from_slice_get}
+use Rattle.std.proofs.Math.ListN.{get_or-append}
+use Rattle.std.proofs.Math.Seq.{get_or-append_seam}
+use Rattle.cm_gate.specs.declared.asked.Asked.{Asked}
+use Rattle.std.proofs.lemmas.List.FromFn.{length-range_with_len}
+use Rattle.cm_manager.specs.Contract.{RealmPass}
+use Rattle.cm_manager.specs.Kept.{AreSixteen}
+use Rattle.cm_manager.specs.Gated.{gates_view}
+use Rattle.cm_manager.specs.Work.{Shelf}
+use Rattle.cm_turn.specs.Passes.{LockView, new_pass, new_passes}
+use Rattle.cm_session.specs.declared.crew.Parts.{Parts}
+use Rattle.cm_session.specs.declared.doorway.Accepted.{Accepted}
+use Rattle.cm_session.specs.declared.doorway.Opening.{Opening}
+use Rattle.cm_session.specs.declared.ended.Ended.TheVariants as ended
+use Rattle.cm_session.specs.declared.workers.Worker.{Worker}
+use Rattle.cm_session.specs.Crew.{CrewWorked, DidWork, HasServed, IsReady, Worked}
+use Rattle.cm_session.specs.Doorway.{DoorPass, IsOver, sessions_of}
+use Rattle.cm_session.specs.Links.{LinkView}
+use Rattle.cm_session.specs.Parts.{AreParts, HasPasses, HasRoomIn, HasRooms, Links}
+use Rattle.cm_session.specs.Serving.{IsLost, Visit}
+use Rattle.cm_session.proofs.work.Making.{Made}
+use Rattle.cm_session.proofs.work.Places.{all_places, any_place, as_long, at_map, at_place, field_at, item_at, there_at}
+use Rattle.cm_session.proofs.work.Working.{some_same}
+
+-- a slice that took the place of a whole vector
+pub whole_slice : {A : Type 0} (xs ys : List A) (n : ℕ) → n ≡ length xs → length ys ≡ length xs → take n (ys ++ drop (length ys) xs) ≡ ys
+whole_slice xs ys n is_n long =
+    ap (λ (l : List _). take n (ys ++ l)) (drop_all (length ys) xs (omega (arith, long))) ∙ ap (take n) (append-nil ys) ∙ take_all n ys (omega (arith, is_n, long))
+
+-- ---- the passes of a new door
+
+pub new_length : (door : LockView) (o : Opening) (n : ℕ) → length (new_passes {E = Accepted} door.lock o n) ≡ n
+new_length door o zero = refl
+new_length door o (suc n) =
+    let e = length-append (new_passes {E = Accepted} door.lock o n) (new_pass door.lock o n ∷ []) in
+    let h = new_length door o n in
+    omega (arith, e, h)
+
+new_or : (door : LockView) (o : Opening) (n c : ℕ) (d : DoorPass) → c < n → get_or (new_passes door.lock o n) c d ≡ new_pass door.lock o c
+new_or door o zero c d lt = absurd (omega (arith, lt))
+new_or door o (suc n) c d lt =
+    let front = new_passes {E = Accepted} door.lock o n in
+    let last : DoorPass = new_pass door.lock o n in
+    let len : length front ≡ n = new_length door o n in
+    dite (dec_lt c n)
+    (λ low. get_or-append front (last ∷ []) d c (omega (arith, len, low)) ∙ new_or door o n c d low)
+    (λ high.
+    let here : c ≡ length front = omega (arith, len, high, lt) in
+    let is : n ≡ c = omega (arith, high, lt) in
+    ap (λ k. get_or (front ++ last ∷ []) k d) here ∙ (get_or-append_seam front last [] d ∙ ap (λ k. new_pass door.lock o k) is))
+
+-- the pass at a place
+pub new_at : (door : LockView) (o : Opening) (n c : ℕ) (d : DoorPass) → slice_get (new_passes door.lock o n) c ≡ Some d → d ≡ new_pass door.lock o c
+new_at door o n c d there = sym (get_or_from_slice_get (new_passes door.lock o n) c d d there) ∙ new_or door o n c d (subst (λ (k : ℕ). c < k) (new_length door o n) (slice_get_within (new_passes door.lock o n) c d there))
+
+-- ---- the visits of all workers
+
+module _ {G L : Type 0} (log_of : G → Option (List Asked)) (faults_of : G → ℕ) (view : L → LinkView) (shelf : Shelf) (workers : ℕ) where
+  -- these are the visits of the workers, in their order
+  pub record Team (xs ys : List (Worker G L)) (visits : List (List Visit)) : Type 0 where
+    pub count : length visits ≡ length xs
+    pub each : (k : ℕ) (x y : Worker G L) (vs : List Visit) → slice_get xs k ≡ Some x → slice_get ys k ≡ Some y → slice_get visits k ≡ Some vs → Worked log_of faults_of view shelf workers vs x y
+
+  pub team_of : (xs ys : List (Worker G L)) → length ys ≡ length xs → ((k : ℕ) (d : Worker G L) → k < length xs → DidWork log_of faults_of view shelf workers (get_or xs k d) (get_or ys k d)) → (visits : List (List Visit)) × Team xs ys visits
+  team_of [] ys long did = ([], record { count = refl; each = λ k x y vs a b c. absurd (omega (arith, slice_get_within [] k x a)) })
+  team_of (x ∷ xs) [] long did = absurd (cc long)
+  team_of (x ∷ xs) (y ∷ ys) long did =
+      let others = team_of xs ys (cc long) (λ k d lt. did (suc k) d (grind (arith, lt))) in
+      let first = did 0 x (grind arith) in
+      (first.visits ∷ others.0, record { count = ap suc others.1.count; each = each first.visits first.worked others.0 others.1 }) where
+        each : (v : List Visit) → Worked log_of faults_of view shelf workers v x y → (vs : List (List Visit)) → Team xs ys vs → (k : ℕ) (a b : Worker G L) (c : List Visit) → slice_get (x ∷ xs) k ≡ Some a → slice_get (y ∷ ys) k ≡ Some b → slice_get (v ∷ vs) k ≡ Some c → Worked log_of faults_of view shelf workers c a b
+        each v worked vs team zero a b c ha hb hc =
+            subst (λ (z : List Visit). Worked log_of faults_of view shelf workers z a b) (some_same v c hc)
+            (subst (λ (z : Worker G L). Worked log_of faults_of view shelf workers v a z) (some_same y b hb)
+            (subst (λ (z : Worker G L). Worked log_of faults_of view shelf workers v z y) (some_same x a ha) worked))
+        each v worked vs team (suc k) a b c ha hb hc = team.each k a b c ha hb hc
+
+  -- what was at one place, and what is there now
+  pub record PlaceAt (passes : List RealmPass) (at_door : List DoorPass) (gates : List G) (parts : Parts G L) (k : ℕ) (vs : List Visit) : Type 0 where
+    pub p : RealmPass
+    pub q : RealmPass
+    pub d : DoorPass
+    pub e : DoorPass
+    pub g : G
+    pub h : G
+    pub r : Links L
+    pub p_is : slice_get passes k ≡ Some p
+    pub q_is : slice_get parts.passes.items k ≡ Some q
+    pub d_is : slice_get at_door k ≡ Some d
+    pub e_is : slice_get parts.at_door.items k ≡ Some e
+    pub g_is : slice_get gates k ≡ Some g
+    pub h_is : slice_get parts.gates.items k ≡ Some h
+    pub r_is : slice_get parts.links.items k ≡ Some r
+    pub served : HasServed view shelf vs p q (gates_view log_of faults_of g) (gates_view log_of faults_of h) d e r.items
+    pub idle : workers ≤ d.caller → vs ≡ []
+    pub well : parts.lost ≡ false → All (λ v. v.ended ≢ ended.Memory) vs
+    pub over : parts.lost ≡ false → d.caller < workers → IsOver (sessions_of e) e.seen
+
+  -- what was at all places
+  pub record Places (passes : List RealmPass) (at_door : List DoorPass) (gates : List G) (parts : Parts G L) (visits : List (List Visit)) : Type 0 where
+    pub count : length visits ≡ length passes
+    pub passes_long : length parts.passes.items ≡ length passes
+    pub doors_long : length parts.at_door.items ≡ length passes
+    pub gates_long : length parts.gates.items ≡ length passes
+    pub links_long : length parts.links.items ≡ length passes
+    pub each : (k : ℕ) (vs : List Visit) → slice_get visits k ≡ Some vs → PlaceAt passes at_door gates parts k vs
+    pub lost : parts.lost ≡ true → Any (Any IsLost) visits
+
+  -- of the workers that were made, did their work and were taken apart
+  pub places_of : (passes : List RealmPass) (at_door : List DoorPass) (gates : List G) (links : List (Links L)) (xs ys : List (Worker G L)) (parts : Parts G L) (visits : List (List Visit)) → Made passes at_door gates links xs → length ys ≡ length xs → Team xs ys visits → AreParts ys parts → Places passes at_door gates parts visits
+  places_of passes at_door gates links xs ys parts visits made long team are = record {
+    count = team.count ∙ as_many;
+    passes_long = as_long Some (λ (w : Worker G L). w.pass) parts.passes.items ys are.passes ∙ long ∙ as_many;
+    doors_long = as_long Some (λ (w : Worker G L). w.at_door) parts.at_door.items ys are.at_door ∙ long ∙ as_many;
+    gates_long = ap (λ (l : List G). length l) are.gates ∙ length-map ys (λ (w : Worker G L). w.gates) ∙ long ∙ as_many;
+    links_long = ap (λ (l : List (Links L)). length l) are.links ∙ length-map ys (λ (w : Worker G L). w.links) ∙ long ∙ as_many;
+    each = place;
+    lost = λ yes. lost_at (are.lost yes);
+  } where
+    as_many : length xs ≡ length passes
+    as_many = as_long (λ (w : Worker G L). w.pass) Some xs passes made.passes_are
+
+    place : (k : ℕ) (vs : List Visit) → slice_get visits k ≡ Some vs → PlaceAt passes at_door gates parts k vs
+    place k vs there =
+        let within : k < length visits = slice_get_within visits k vs there in
+        let x = there_at xs k (grind (arith, within, team.count)) in
+        let y = there_at ys k (grind (arith, within, team.count, long)) in
+        let worked = team.each k x.0 y.0 vs x.1 y.1 there in
+        record {
+          p = worked.p;
+          q = worked.q;
+          d = worked.d;
+          e = worked.e;
+          g = x.0.gates;
+          h = y.0.gates;
+          r = y.0.links;
+          p_is = item_at (λ (w : Worker G L). w.pass) xs passes k x.0 worked.p made.passes_are x.1 worked.was;
+          q_is = item_at (λ (w : Worker G L). w.pass) ys parts.passes.items k y.0 worked.q (sym are.passes) y.1 worked.now;
+          d_is = item_at (λ (w : Worker G L). w.at_door) xs at_door k x.0 worked.d made.at_door_are x.1 worked.was_at_door;
+          e_is = item_at (λ (w : Worker G L). w.at_door) ys parts.at_door.items k y.0 worked.e (sym are.at_door) y.1 worked.now_at_door;
+          g_is = at_map (λ (w : Worker G L). w.gates) xs gates k x.0 made.gates_are x.1;
+          h_is = at_map (λ (w : Worker G L). w.gates) ys parts.gates.items k y.0 (sym are.gates) y.1;
+          r_is = at_map (λ (w : Worker G L). w.links) ys parts.links.items k y.0 (sym are.links) y.1;
+          served = worked.served;
+          idle = worked.idle;
+          well = λ no. worked.well (at_place (λ (w : Worker G L). w.lost ≡ false) ys k y.0 (are.well no) y.1);
+          over = λ no. worked.over (at_place (λ (w : Worker G L). w.lost ≡ false) ys k y.0 (are.well no) y.1);
+        }
+
+    lost_at : Any (λ (w : Worker G L). w.lost ≡ true) ys → Any (Any IsLost) visits
+    lost_at any =
+        let y_is : slice_get ys any.0 ≡ Some any.1 = slice_get-get_or ys any.0 any.1 any.2 ∙ ap Some any.3 in
+        let x = there_at xs any.0 (grind (arith, any.2, long)) in
+        let v = there_at visits any.0 (grind (arith, any.2, long, team.count)) in
+        any_place (Any IsLost) visits any.0 v.0 v.1 ((team.each any.0 x.0 any.1 v.0 x.1 y_is v.1).lost any.4)
+
+-- ---- before the work
+
+pub sixteen_long : (turn : LockView) (passes : List RealmPass) → AreSixteen turn passes → length passes ≡ 16
+sixteen_long turn passes are = sym (length-map passes (λ (p : RealmPass). p.caller)) ∙ ap (λ (l : List ℕ). length l) are.callers ∙ length-range_with_len 0 16
+
+module _ {G L : Type 0} where
+  -- the workers that are made of sixteen passes, and of those of a new door, are ready
+  pub ready_all : (realm door : LockView) (o : Opening) (workers : ℕ) (passes : List RealmPass) (at_door : List DoorPass) (gates : List G) (links : List (Links L)) (xs : List (Worker G L)) → AreSixteen realm passes → at_door ≡ new_passes door.lock o 16 → HasRooms 16 o.sessions workers links → Made passes at_door gates links xs → All (λ (w : Worker G L). w.lost ≡ false) xs → All (IsReady realm door workers) xs
+  ready_all realm door o workers passes at_door gates links xs are new rooms made well = all_places (IsReady realm door workers) xs each where
+    each : (k : ℕ) (x : Worker G L) → slice_get xs k ≡ Some x → IsReady realm door workers x
+    each k x there =
+        let within : k < length xs = slice_get_within xs k x there in
+        let long : length xs ≡ length passes = as_long (λ (w : Worker G L). w.pass) Some xs passes made.passes_are in
+        let doors_long : length xs ≡ length at_door = as_long (λ (w : Worker G L). w.at_door) Some xs at_door made.at_door_are in
+        let p = there_at passes k (grind (arith, within, long)) in
+        let d = there_at at_door k (grind (arith, within, doors_long)) in
+        let d_new : d.0 ≡ new_pass door.lock o k = new_at door o 16 k d.0 (subst (λ (l : List DoorPass). slice_get l k ≡ Some d.0) new d.1) in
+        let room_at = at_map (λ (w : Worker G L). w.links) xs links k x made.links_are there in
+        let caller : d.0.caller ≡ k = ap (λ (p : DoorPass). p.caller) d_new in
+        let sessions : sessions_of d.0 ≡ o.sessions = ap (λ (p : DoorPass). sessions_of p) d_new in
+        record {
+          pass = p.0;
+          there = field_at (λ (w : Worker G L). w.pass) xs passes k x p.0 made.passes_are there p.1;
+          of_realm = at_place (λ (p : RealmPass). p.lock ≡ realm.lock) passes k p.0 are.lock p.1;
+          at_door = d.0;
+          there_too = field_at (λ (w : Worker G L). w.at_door) xs at_door k x d.0 made.at_door_are there d.1;
+          of_door = ap (λ (p : DoorPass). p.lock) d_new;
+          new = ap (λ (p : DoorPass). p.mine) d_new;
+          none = at_place (λ (r : Links L). r.items ≡ []) links k x.links rooms.none room_at;
+          room = λ first. subst (λ (n : ℕ). n ≤ Rattle.std.specs.Prelude.vec_capacity x.links) (sym sessions) (rooms.room k x.links (subst (λ (n : ℕ). n < workers) caller first) room_at);
+          well = at_place (λ (w : Worker G L). w.lost ≡ false) xs k x well there;
+        }
+
+module _ {G L : Type 0} (log_of : G → Option (List Asked)) (faults_of : G → ℕ) (view : L → LinkView) (shelf : Shelf) (workers : ℕ) where
+  -- the workers that did their work have their passes
+  pub have_passes : (xs ys : List (Worker G L)) → CrewWorked log_of faults_of view shelf workers xs ys → All HasPasses ys
+  have_passes xs ys did k d lt =
+      let w = did.each k d (grind (arith, did.long, lt)) in
+      record { pass = w.worked.q; there = w.worked.now; at_door = w.worked.e; there_too = w.worked.now_at_door }
+
+  -- they are as many as there is room for
+  pub room_left : (realm : LockView) (passes : List RealmPass) (xs ys : List (Worker G L)) (parts : Parts G L) → AreSixteen realm passes → map (λ (w : Worker G L). w.pass) xs ≡ map Some passes → CrewWorked log_of faults_of view shelf workers xs ys → HasRoomIn 16 parts → HasRoomIn (length ys) parts
+  room_left realm passes xs ys parts are made did room =
+      subst (λ (n : ℕ). HasRoomIn n parts) (sym (did.long ∙ as_long (λ (w : Worker G L). w.pass) Some xs passes made ∙ sixteen_long realm passes are)) room
+
+  -- the workers of a slice that took the place of a whole vector
+  pub crew_worked : (xs s ys : List (Worker G L)) (n : ℕ) → s ≡ xs → n ≡ length xs → length ys ≡ length s → ((k : ℕ) (d : Worker G L) → k < length s → DidWork log_of faults_of view shelf workers (get_or s k d) (get_or ys k d)) → CrewWorked log_of faults_of view shelf workers xs (take n (ys ++ drop (length ys) xs))
+  crew_worked xs s ys n s_is n_is many did =
+      let long : length ys ≡ length xs = many ∙ ap (λ (l : List (Worker G L)). length l) s_is in
+      let each : (k : ℕ) (d : Worker G L) → k < length xs → DidWork log_of faults_of view shelf workers (get_or xs k d) (get_or ys k d) = λ k d lt.
+      subst (λ (l : List (Worker G L)). DidWork log_of faults_of view shelf workers (get_or l k d) (get_or ys k d)) s_is (did k d (subst (λ (l : List (Worker G L)). k < length l) (sym s_is) lt)) in
+      subst (λ (l : List (Worker G L)). CrewWorked log_of faults_of view shelf workers xs l) (sym (whole_slice xs ys n n_is long)) (record { long = long; each = each })

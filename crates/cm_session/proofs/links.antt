@@ -1,0 +1,4 @@
+pub mod Accepts
+pub mod Spreading
+pub mod Putting
+pub mod Visits

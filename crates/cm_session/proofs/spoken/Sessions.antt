@@ -1,0 +1,458 @@
+-- Lemmas on a session, step by step.
+use Rattle.std.proofs.Common.{◌≡◌, ◌≢◌, ◌≤◌, ◌<◌, ◌⊎◌, inl, inr, ℕ, ◌+◌, Bool, true, false, List, [], ◌∷◌, ◌++◌, take, length, length-append, refl, ap, sym, ◌∙◌, subst, append_assoc, append-nil, true≢false, Option, Some, None, Result, Err, All, arith}
+use Rattle.std.specs.List.{AllZip}
+use lib.Seq.{take_all}
+use Rattle.std.proofs.lemmas.List.Concat.{flat_map-append}
+use Rattle.std.proofs.lemmas.List.Elements.{All-append, All-from_recursion}
+use Rattle.std.specs.Io.KnownBytes.{Appends, IsAtEnd}
+use Rattle.std.proofs.KnownBytes.{Appends-trans, Consumes-nil, Consumes-trans}
+use Rattle.cm_io.specs.Lines.{EndsOnce, IsFirstLine, Moves, Reader, lines}
+use Rattle.cm_io.specs.Outside.{AsSink, AsSource, PutsAll, Rose}
+use Rattle.cm_io.specs.declared.output.Put.{Put}
+use Rattle.cm_io.specs.declared.output.Put.TheVariants as put
+use Rattle.cm_world.specs.declared.answer.Answer.{Answer}
+use Rattle.cm_world.specs.declared.answer.Refusal.{Refusal}
+use Rattle.cm_world.specs.declared.answer.Refusal.TheVariants as refusal
+use Rattle.cm_command.specs.declared.command.Command.{Command}
+use Rattle.cm_command.specs.declared.command.CommandFault.{CommandFault}
+use Rattle.cm_command.specs.declared.command.CommandFault.TheVariants.{BadCommand, Memory as OutOfMemory}
+use Rattle.cm_command.specs.Grammar.{CommandText, IsCommandFault}
+use Rattle.cm_reply.specs.Lists.{Text}
+use Rattle.cm_reply.specs.Answers.{reply_text}
+use Rattle.cm_reply.specs.Refusals.{refusal_text}
+use Rattle.cm_reply.specs.Journal.{line}
+use Rattle.cm_manager.specs.Asking.{frame_of}
+use Rattle.cm_manager.specs.Calls.{Goes}
+use Rattle.cm_manager.specs.Contract.{RealmPass, GatesView, Performs}
+use Rattle.cm_manager.specs.Done.{Follows}
+use Rattle.cm_manager.specs.Work.{Shelf}
+use Rattle.cm_manager.proofs.calling.Keeping.{keeps_helps}
+use Rattle.cm_session.specs.declared.ended.Ended.{Ended}
+use Rattle.cm_session.specs.declared.ended.Ended.TheVariants as ended
+use Rattle.cm_session.specs.Links.{Begins, GrowsByFront, LinkView, whole_lines}
+use Rattle.cm_session.specs.Told.{Told, performed, bad, too_long, Reads, reply_line, replies, done_of, IsNoWant}
+use Rattle.cm_session.specs.Session.{AreEnded, BreaksOff, KeepsOrNot, Served, Session, Wrote, most_lines, quit}
+use Rattle.cm_session.specs.Steps.{IsSilent, LineDone, LineWrote, ServedCommand, ServedLine, ServedOrNot, StepBy, Stepped}
+use Rattle.cm_session.proofs.spoken.Cutting.{Cut, cut-begins, cut-end, cut-ended, cut-ended-so-far, cut-fault, cut-more, cut-next, cut-none}
+use Rattle.cm_session.proofs.spoken.Kept.{GoesOn, does_as, goes_all, goes_lost, goes_more, goes_none, kept_same, kept_then}
+
+bool_or : (b : Bool) → (b ≡ true) ⊎ (b ≡ false)
+bool_or true = inl refl
+bool_or false = inr refl
+
+-- ---- bytes and counts
+
+pub appends-nil : (known : Option Text) → Appends known known []
+appends-nil None = tt
+appends-nil (Some xs) = sym (append-nil xs)
+
+moves-none : (source : AsSource) → Moves source source []
+moves-none source = (Consumes-nil source.left, appends-nil source.given)
+
+moves-trans : (a b c : AsSource) (xs ys : Text) → Moves a b xs → Moves b c ys → Moves a c (xs ++ ys)
+moves-trans a b c xs ys h k = (Consumes-trans a.left b.left c.left xs ys h.0 k.0, Appends-trans a.given b.given c.given xs ys h.1 k.1)
+
+end-is-no-fault : ended.End ≡ ended.ReadFault → ⊥
+end-is-no-fault e = cc
+
+quit-is-no-fault : ended.Quit ≡ ended.ReadFault → ⊥
+quit-is-no-fault e = cc
+
+write-is-no-fault : ended.WriteFault ≡ ended.ReadFault → ⊥
+write-is-no-fault e = cc
+
+memory-is-no-fault : ended.Memory ≡ ended.ReadFault → ⊥
+memory-is-no-fault e = cc
+
+spent-is-no-fault : ended.LinesSpent ≡ ended.ReadFault → ⊥
+spent-is-no-fault e = cc
+
+rose-later : (a b c : ℕ) → a ≤ b → Rose b c → Rose a c
+rose-later a b c le rose = omega (arith, le, rose)
+
+same-sink : (old now then : AsSink) (text : Text) → Appends old.written now.written text → then ≡ now → Appends old.written then.written text
+same-sink old now then text wrote same = subst (λ (s : AsSink). Appends old.written s.written text) (sym same) wrote
+
+-- all of the earlier replies and a front of the next one
+breaks-off : (a b c : Option Text) (told : List Told) (t : Told) → Appends a b (replies told) → GrowsByFront b c (reply_line t) → BreaksOff a c (told ++ t ∷ [])
+breaks-off a b c told t h (n, k) = record { before = told; last = t; all = refl; count = n; wrote = Appends-trans a b c (replies told) (take n (reply_line t)) h k }
+
+-- of lines that were ended, or of an end that came
+ended-by : (bytes : Text) (done : List Text) (over : Bool) (left : Option Text) → (over ≡ true → IsAtEnd left) → Begins (whole_lines bytes) done ⊎ (over ≡ true) → AreEnded bytes done left
+ended-by bytes done over left end (inl begins) = inl begins
+ended-by bytes done over left end (inr is) = inr (end is)
+
+-- bytes that were written are a front of themselves
+pub whole-front : (a b : Option Text) (xs : Text) → Appends a b xs → GrowsByFront a b xs
+whole-front a b xs h = (length xs, subst (Appends a b) (sym (take_all (length xs) xs (omega arith))) h)
+
+-- ---- lists
+
+all-one : {A : Type 0} (P : A → Type 0) (x : A) → P x → All P (x ∷ [])
+all-one P x p = All-from_recursion P (x ∷ []) (p, tt)
+
+all-push : {A : Type 0} (P : A → Type 0) (xs : List A) (x : A) → All P xs → P x → All P (xs ++ x ∷ [])
+all-push P xs x all p = All-append P xs (x ∷ []) all (all-one P x p)
+
+zip-push : {A B : Type 0} (R : A → B → Type 0) (xs : List A) (ys : List B) (x : A) (y : B) → AllZip R xs ys → R x y → AllZip R (xs ++ x ∷ []) (ys ++ y ∷ [])
+zip-push R [] [] x y h r = (r, tt)
+zip-push R [] (b ∷ ys) x y h r = absurd h
+zip-push R (a ∷ xs) [] x y h r = absurd h
+zip-push R (a ∷ xs) (b ∷ ys) x y h r = (h.0, zip-push R xs ys x y h.1 r)
+
+replies-push : (xs : List Told) (t : Told) → replies (xs ++ t ∷ []) ≡ replies xs ++ reply_line t
+replies-push xs t = flat_map-append reply_line xs (t ∷ []) ∙ ap (λ (l : Text). replies xs ++ l) (append-nil (reply_line t))
+
+-- ---- what a session has done so far, in n lines
+
+pub record Going (shelf : Shelf) (p q : RealmPass) (g h : GatesView) (old now : LinkView) (reader : Reader) (n : ℕ) : Type 0 where
+  pub keeps : KeepsOrNot shelf p q g h
+  pub bytes : Text
+  pub gave : Moves old.source now.source bytes
+  pub later : old.source.faults ≤ now.source.faults
+  pub end : reader.over ≡ true → IsAtEnd now.source.left
+  pub lines_done : List Text
+  pub cut : Cut bytes reader lines_done
+  pub count : length lines_done ≡ n
+  pub told : List Told
+  pub reads : AllZip Reads lines_done told
+  pub no_quit : All (λ (t : Text). t ≢ quit) lines_done
+  pub goes_on : GoesOn (frame_of p) p.caller (done_of told) p.seen q.seen
+  pub wrote : Appends old.sink.written now.sink.written (replies told)
+  pub unfailed : now.sink.faults ≡ old.sink.faults
+  pub no_want : All IsNoWant told
+
+-- the end is known, once it came
+end-more : (before after : Reader) (old new : AsSource) (given : Text) → (before.over ≡ true → IsAtEnd old.left) → EndsOnce before after old new given
+    → after.over ≡ true → IsAtEnd new.left
+end-more before after old new given end once over =
+    elim (bool_or before.over) [
+      | inl was ↦ subst (λ (s : AsSource). IsAtEnd s.left) (sym (once.still was).2) (end was)
+      | inr not ↦ once.comes not over
+    ]
+
+pub going-none : (shelf : Shelf) (p : RealmPass) (g : GatesView) (link : LinkView) (reader : Reader) → reader.held ≡ [] → reader.over ≡ false → Going shelf p p g g link link reader 0
+going-none shelf p g link reader none not = record {
+  keeps = kept_same shelf p g;
+  bytes = [];
+  gave = moves-none link.source;
+  later = omega arith;
+  end = λ over. absurd (true≢false (sym over ∙ not));
+  lines_done = [];
+  cut = cut-none reader none;
+  count = refl;
+  told = [];
+  reads = tt;
+  no_quit = λ k d lt. absurd (omega arith);
+  goes_on = goes_none (frame_of p) p.caller p.seen;
+  wrote = appends-nil link.sink.written;
+  unfailed = refl;
+  no_want = λ k d lt. absurd (omega arith);
+}
+
+pub going-more : (shelf : Shelf) (p q r : RealmPass) (g h k : GatesView) (old now then : LinkView) (before after : Reader) (n : ℕ)
+    → Going shelf p q g h old now before n → Stepped shelf q r h k before after now then None → Going shelf p r g k old then after (n + 1)
+going-more shelf p q r g h k old now then before after n go s =
+    let l = s.by in
+    let v = l.served in record {
+      keeps = kept_then shelf p q r g h k go.keeps v.keeps;
+      bytes = go.bytes ++ s.given;
+      gave = moves-trans old.source now.source then.source go.bytes s.given go.gave s.gave;
+      later = omega (arith, go.later, s.later);
+      end = end-more before after now.source then.source s.given go.end s.once;
+      lines_done = go.lines_done ++ l.line ∷ [];
+      cut = cut-more go.bytes s.given before after go.lines_done l.line go.cut (λ over. (s.once.still over).0) l.first;
+      count = length-append go.lines_done (l.line ∷ []) ∙ ap (λ (m : ℕ). m + 1) go.count;
+      told = go.told ++ v.told ∷ [];
+      reads = zip-push Reads go.lines_done go.told l.line v.told go.reads v.reads;
+      no_quit = all-push (λ (t : Text). t ≢ quit) go.lines_done l.line go.no_quit l.other;
+      goes_on = goes_more (frame_of p) p.caller go.told v.told p.seen q.seen r.seen go.goes_on (does_as shelf p q r g h v.told go.keeps v.does);
+      wrote = subst (Appends old.sink.written then.sink.written) (sym (replies-push go.told v.told))
+          (Appends-trans old.sink.written now.sink.written then.sink.written (replies go.told) (reply_line v.told) go.wrote v.wrote.0);
+      unfailed = v.wrote.1 ∙ go.unfailed;
+      no_want = all-push IsNoWant go.told v.told go.no_want v.wrote.2;
+    }
+
+-- ---- the end
+
+-- what comes of a session that ends with a line
+with-line : (shelf : Shelf) (p q r : RealmPass) (g h k : GatesView) (old now then : LinkView) (before after : Reader) (n : ℕ) (e : Ended)
+    → (go : Going shelf p q g h old now before n) → (s : Stepped shelf q r h k before after now then (Some e)) → (l : LineDone shelf q r h k (before.held ++ s.given) after now.sink then.sink (Some e))
+    → ((bytes : Text) (lines_done : List Text) (left : Option Text) → Begins (lines bytes) lines_done → Served e bytes lines_done left)
+    → Wrote e old.sink then.sink (go.told ++ l.served.told ∷ []) → (e ≢ ended.Memory → IsNoWant l.served.told) → (e ≡ ended.ReadFault → ⊥) → n < most_lines
+    → Session shelf p r g k old then e
+with-line shelf p q r g h k old now then before after n e go s l served wrote want none lt =
+    let v = l.served in
+    let count : length (go.lines_done ++ l.line ∷ []) ≡ n + 1 = length-append go.lines_done (l.line ∷ []) ∙ ap (λ (m : ℕ). m + 1) go.count in
+    let next = cut-next go.bytes s.given before after go.lines_done l.line go.cut (λ over. (s.once.still over).0) l.first in
+    record {
+      keeps = kept_then shelf p q r g h k go.keeps v.keeps;
+      bytes = go.bytes ++ s.given;
+      gave = moves-trans old.source now.source then.source go.bytes s.given go.gave s.gave;
+      lines_done = go.lines_done ++ l.line ∷ [];
+      few = omega (arith, lt, count);
+      told = go.told ++ v.told ∷ [];
+      reads = zip-push Reads go.lines_done go.told l.line v.told go.reads v.reads;
+      no_quit = all-push (λ (t : Text). t ≢ quit) go.lines_done l.line go.no_quit l.other;
+      served = served (go.bytes ++ s.given) (go.lines_done ++ l.line ∷ []) then.source.left (next.0, next.1 ∙ sym (append_assoc go.lines_done (l.line ∷ []) next.0));
+      follows = goes_all (frame_of p) p.caller (done_of (go.told ++ v.told ∷ [])) p.seen r.seen
+          (goes_more (frame_of p) p.caller go.told v.told p.seen q.seen r.seen go.goes_on (does_as shelf p q r g h v.told go.keeps v.does));
+      ended_lines = ended-by (go.bytes ++ s.given) (go.lines_done ++ l.line ∷ []) after.over then.source.left (end-more before after now.source then.source s.given go.end s.once)
+          (cut-ended-so-far (go.bytes ++ s.given) after (go.lines_done ++ l.line ∷ []) (cut-more go.bytes s.given before after go.lines_done l.line go.cut (λ over. (s.once.still over).0) l.first));
+      wrote = wrote;
+      no_want = λ other. all-push IsNoWant go.told v.told go.no_want (want other);
+      read_fault = λ fault. absurd (none fault);
+    }
+
+-- what comes of a session that ends without a line
+without-line : (shelf : Shelf) (p q r : RealmPass) (g h k : GatesView) (old now then : LinkView) (before after : Reader) (n : ℕ) (e : Ended)
+    → (go : Going shelf p q g h old now before n) → (s : Stepped shelf q r h k before after now then (Some e)) → IsSilent q r h k now.sink then.sink
+    → Served e (go.bytes ++ s.given) go.lines_done then.source.left → Wrote e old.sink then.sink go.told
+    → (e ≡ ended.ReadFault → Rose now.source.faults then.source.faults) → n < most_lines → Session shelf p r g k old then e
+without-line shelf p q r g h k old now then before after n e go s silent served wrote fault lt = record {
+  keeps = kept_then shelf p q r g h k go.keeps (inl (silent.pass, silent.gates));
+  bytes = go.bytes ++ s.given;
+  gave = moves-trans old.source now.source then.source go.bytes s.given go.gave s.gave;
+  lines_done = go.lines_done;
+  few = omega (arith, lt, go.count);
+  told = go.told;
+  reads = go.reads;
+  no_quit = go.no_quit;
+  served = served;
+  ended_lines = ended-by (go.bytes ++ s.given) go.lines_done before.over then.source.left (λ over. subst (λ (x : AsSource). IsAtEnd x.left) (sym (s.once.still over).2) (go.end over))
+      (cut-ended go.bytes s.given before go.lines_done go.cut);
+  follows = subst (λ (x : RealmPass). Follows (frame_of p) p.caller (done_of go.told) p.seen x.seen) (sym silent.pass) (goes_all (frame_of p) p.caller (done_of go.told) p.seen q.seen go.goes_on);
+  wrote = wrote;
+  no_want = λ other. go.no_want;
+  read_fault = λ is. rose-later old.source.faults now.source.faults then.source.faults go.later (fault is);
+}
+
+pub going-ends : (shelf : Shelf) (p q r : RealmPass) (g h k : GatesView) (old now then : LinkView) (before after : Reader) (n : ℕ) (e : Ended)
+    → Going shelf p q g h old now before n → n < most_lines → Stepped shelf q r h k before after now then (Some e) → Session shelf p r g k old then e
+going-ends shelf p q r g h k old now then before after n ended.End go lt s =
+    let few : length go.lines_done < most_lines = omega (arith, lt, go.count) in
+    without-line shelf p q r g h k old now then before after n ended.End go s s.by.2
+    (cut-end go.bytes s.given before go.lines_done go.cut s.by.0, few, end-more before after now.source then.source s.given go.end s.once s.by.1)
+    (same-sink old.sink now.sink then.sink (replies go.told) go.wrote s.by.2.sink)
+    (λ is. absurd (end-is-no-fault is)) lt
+going-ends shelf p q r g h k old now then before after n ended.Quit go lt s =
+    let few : length go.lines_done < most_lines = omega (arith, lt, go.count) in
+    let next = cut-next go.bytes s.given before after go.lines_done quit go.cut (λ over. (s.once.still over).0) s.by.0 in
+    without-line shelf p q r g h k old now then before after n ended.Quit go s s.by.1 (
+      next.0,
+      next.1,
+      few,
+      ended-by (go.bytes ++ s.given) (go.lines_done ++ quit ∷ []) after.over then.source.left (end-more before after now.source then.source s.given go.end s.once)
+          (cut-ended-so-far (go.bytes ++ s.given) after (go.lines_done ++ quit ∷ []) (cut-more go.bytes s.given before after go.lines_done quit go.cut (λ over. (s.once.still over).0) s.by.0)),
+    )
+    (same-sink old.sink now.sink then.sink (replies go.told) go.wrote s.by.1.sink)
+    (λ is. absurd (quit-is-no-fault is)) lt
+going-ends shelf p q r g h k old now then before after n ended.ReadFault go lt s =
+    without-line shelf p q r g h k old now then before after n ended.ReadFault go s s.by.2
+    (cut-begins go.bytes s.given before go.lines_done go.cut (λ over. (s.once.still over).0), cut-fault go.bytes s.given before go.lines_done go.cut (λ over. (s.once.still over).0) s.by.0)
+    (same-sink old.sink now.sink then.sink (replies go.told) go.wrote s.by.2.sink)
+    (λ is. s.by.1) lt
+going-ends shelf p q r g h k old now then before after n ended.WriteFault go lt s =
+    let l = s.by in
+    with-line shelf p q r g h k old now then before after n ended.WriteFault go s l (λ bytes ls left begins. begins)
+    (breaks-off old.sink.written now.sink.written then.sink.written go.told l.served.told go.wrote l.served.wrote.0, subst (λ (m : ℕ). Rose m then.sink.faults) go.unfailed l.served.wrote.1)
+    (λ other. l.served.wrote.2) write-is-no-fault lt
+going-ends shelf p q r g h k old now then before after n ended.LinesSpent go lt s = absurd s.by
+going-ends shelf p q r g h k old now then before after n ended.Memory go lt s =
+    elim s.by [
+      | inl silent ↦ without-line shelf p q r g h k old now then before after n ended.Memory go s silent
+          (cut-begins go.bytes s.given before go.lines_done go.cut (λ over. (s.once.still over).0))
+          (inl (same-sink old.sink now.sink then.sink (replies go.told) go.wrote silent.sink))
+          (λ is. absurd (memory-is-no-fault is)) lt
+      | inr l ↦ with-line shelf p q r g h k old now then before after n ended.Memory go s l (λ bytes ls left begins. begins)
+          (inr (breaks-off old.sink.written now.sink.written then.sink.written go.told l.served.told go.wrote l.served.wrote))
+          (λ other. absurd (other refl)) memory-is-no-fault lt
+    ]
+
+pub going-spent : (shelf : Shelf) (p q : RealmPass) (g h : GatesView) (old now : LinkView) (reader : Reader) (n : ℕ) → n ≡ most_lines → Going shelf p q g h old now reader n → Session shelf p q g h old now ended.LinesSpent
+going-spent shelf p q g h old now reader n all go = record {
+  keeps = go.keeps;
+  bytes = go.bytes;
+  gave = go.gave;
+  lines_done = go.lines_done;
+  few = omega (arith, all, go.count);
+  told = go.told;
+  reads = go.reads;
+  no_quit = go.no_quit;
+  served = (subst (λ (b : Text). Begins (lines b) go.lines_done) (append-nil go.bytes) (cut-begins go.bytes [] reader go.lines_done go.cut (λ over. refl)), go.count ∙ all);
+  ended_lines = ended-by go.bytes go.lines_done reader.over now.source.left go.end (cut-ended-so-far go.bytes reader go.lines_done go.cut);
+  follows = goes_all (frame_of p) p.caller (done_of go.told) p.seen q.seen go.goes_on;
+  wrote = go.wrote;
+  no_want = λ other. go.no_want;
+  read_fault = λ is. absurd (spent-is-no-fault is);
+}
+
+-- nothing was done, for want of memory
+pub session-none : (shelf : Shelf) (p : RealmPass) (g : GatesView) (link : LinkView) → Session shelf p p g g link link ended.Memory
+session-none shelf p g link = record {
+  keeps = kept_same shelf p g;
+  bytes = [];
+  gave = moves-none link.source;
+  lines_done = [];
+  few = omega arith;
+  told = [];
+  reads = tt;
+  no_quit = λ k d lt. absurd (omega arith);
+  served = (lines [], refl);
+  ended_lines = inl (whole_lines [], refl);
+  follows = goes_all (frame_of p) p.caller (done_of []) p.seen p.seen (goes_none (frame_of p) p.caller p.seen);
+  wrote = inl (appends-nil link.sink.written);
+  no_want = λ other. absurd (other refl);
+  read_fault = λ is. absurd (memory-is-no-fault is);
+}
+
+-- what a link tells stays as it is when it is hung up
+pub session-over : (shelf : Shelf) (p q : RealmPass) (g h : GatesView) (old mid new : LinkView) (end : Ended) → new.source ≡ mid.source → new.sink ≡ mid.sink
+    → Session shelf p q g h old mid end → Session shelf p q g h old new end
+session-over shelf p q g h old mid new end source sink s =
+    subst (λ (x : LinkView). Session shelf p q g h old x end) (λ i. record { source = sym source i; sink = sym sink i }) s
+
+-- ---- one reply
+
+-- what was put is a front of the text
+pub put-front : (a b : Option Text) (text : Text) (p : Put) → PutsAll a b text p → GrowsByFront a b text
+put-front a b text put.Done h = whole-front a b text h
+put-front a b text (put.WriteFault n) h = (n, h.1)
+
+-- a reply that says so much tells what follows of it
+pub wrote-as : (V W : Type 0) (end : Option Ended) (old new : AsSink) (text : Text) → (V → W) → LineWrote end old new text V → LineWrote end old new text W
+wrote-as V W None old new text f w = (w.0, w.1, f w.2)
+wrote-as V W (Some ended.WriteFault) old new text f w = (w.0, w.1, f w.2)
+wrote-as V W (Some ended.Memory) old new text f w = w
+wrote-as V W (Some ended.End) old new text f w = absurd w
+wrote-as V W (Some ended.Quit) old new text f w = absurd w
+wrote-as V W (Some ended.ReadFault) old new text f w = absurd w
+wrote-as V W (Some ended.LinesSpent) old new text f w = absurd w
+
+-- ---- one line
+
+-- a command was performed, and its reply was put
+pub command-put : (shelf : Shelf) (p q : RealmPass) (g h : GatesView) (command : Command) (answer : Result Answer Refusal) (old new : AsSink) (end : Option Ended) (text : Text) (wanting : Bool)
+    → Performs shelf (frame_of p) command p q g h answer → (wanting ≡ false → answer ≢ Err refusal.Memory) → text ≡ line (reply_text command answer)
+    → LineWrote end old new text (wanting ≡ false) → ServedCommand shelf p q g h command old new end
+command-put shelf p q g h command answer old new end text wanting way want is wrote = record {
+  answer = answer;
+  keeps = keeps_helps shelf (frame_of p) (λ a b. Goes (frame_of p) p.caller command a b answer) p q g h way;
+  goes = way.way;
+  wrote = wrote-as (wanting ≡ false) (answer ≢ Err refusal.Memory) end old new (line (reply_text command answer)) want
+      (subst (λ (t : Text). LineWrote end old new t (wanting ≡ false)) is wrote);
+}
+
+-- a command was performed, and its answer is lost, since memory ran out for the reply
+pub command-lost : (shelf : Shelf) (p q : RealmPass) (g h : GatesView) (command : Command) (answer : Result Answer Refusal) (old new : AsSink) (end : Option Ended)
+    → Performs shelf (frame_of p) command p q g h answer
+    → LineWrote end old new (line (refusal_text refusal.Memory)) (true ≡ false) → ServedCommand shelf p q g h command old new end
+command-lost shelf p q g h command answer old new end way wrote = record {
+  answer = Err refusal.Memory;
+  keeps = keeps_helps shelf (frame_of p) (λ a b. Goes (frame_of p) p.caller command a b answer) p q g h way;
+  goes = goes_lost (frame_of p) p.caller command p.seen q.seen answer way.way;
+  wrote = wrote-as (true ≡ false) (Err refusal.Memory ≢ Err refusal.Memory) end old new (line (refusal_text refusal.Memory)) (λ is. absurd (true≢false is)) wrote;
+}
+
+-- a line with a command was served
+pub line-command : (shelf : Shelf) (p q : RealmPass) (g h : GatesView) (t : Text) (command : Command) (old new : AsSink) (end : Option Ended)
+    → length t ≤ 65536 → CommandText t command → ServedCommand shelf p q g h command old new end → ServedOrNot shelf p q g h t old new end
+line-command shelf p q g h t command old new end short is s = inl (record {
+  told = performed (record { command = command; result = s.answer });
+  reads = (short, is);
+  keeps = inr s.keeps;
+  does = s.goes;
+  wrote = s.wrote;
+})
+
+bad-is-no-want : (n : ℕ) → BadCommand n ≡ OutOfMemory → ⊥
+bad-is-no-want n e = cc
+
+-- the fault of a line that is no command, where that isn't want of memory
+pub bad-fault : (t : Text) (fault : CommandFault) (at : ℕ) → fault ≡ BadCommand at → (fault ≢ OutOfMemory → IsCommandFault t fault) → IsCommandFault t (BadCommand at)
+bad-fault t fault at is of = subst (λ (x : CommandFault). IsCommandFault t x) is (of (λ e. bad-is-no-want at (sym is ∙ e)))
+
+-- a line that is no command was answered
+pub line-bad : (shelf : Shelf) (p : RealmPass) (g : GatesView) (t : Text) (at : ℕ) (old new : AsSink) (end : Option Ended)
+    → length t ≤ 65536 → IsCommandFault t (BadCommand at) → LineWrote end old new (reply_line (bad at)) (false ≡ false) → ServedOrNot shelf p p g g t old new end
+line-bad shelf p g t at old new end short is wrote = inl (record {
+  told = bad at;
+  reads = (short, is);
+  keeps = kept_same shelf p g;
+  does = refl;
+  wrote = wrote-as (false ≡ false) (IsNoWant (bad at)) end old new (reply_line (bad at)) (λ same. tt) wrote;
+})
+
+-- ---- one step
+
+step-by : (shelf : Shelf) (p q : RealmPass) (g h : GatesView) (taken : Text) (reader : Reader) (old new : LinkView) (end : Option Ended)
+    → LineDone shelf p q g h taken reader old.sink new.sink end → StepBy shelf p q g h taken reader old new end
+step-by shelf p q g h taken reader old new None l = l
+step-by shelf p q g h taken reader old new (Some ended.WriteFault) l = l
+step-by shelf p q g h taken reader old new (Some ended.Memory) l = inr l
+step-by shelf p q g h taken reader old new (Some ended.End) l = absurd l.served.wrote
+step-by shelf p q g h taken reader old new (Some ended.Quit) l = absurd l.served.wrote
+step-by shelf p q g h taken reader old new (Some ended.ReadFault) l = absurd l.served.wrote
+step-by shelf p q g h taken reader old new (Some ended.LinesSpent) l = absurd l.served.wrote
+
+step-or : (shelf : Shelf) (p q : RealmPass) (g h : GatesView) (taken line : Text) (reader : Reader) (old new : LinkView) (end : Option Ended)
+    → IsFirstLine taken reader line → (line ≡ quit → ⊥) → ServedOrNot shelf p q g h line old.sink new.sink end → StepBy shelf p q g h taken reader old new end
+step-or shelf p q g h taken line reader old new end first other (inl v) =
+    step-by shelf p q g h taken reader old new end (record { line = line; first = first; other = other; served = v })
+step-or shelf p q g h taken line reader old new end first other (inr (is, silent)) =
+    subst (λ (x : Option Ended). StepBy shelf p q g h taken reader old new x) (sym is) (inl silent)
+
+-- a line was taken, and then it was served
+pub line-step : (shelf : Shelf) (p q : RealmPass) (g h : GatesView) (before after : Reader) (old mid new : LinkView) (line given : Text) (end : Option Ended)
+    → Moves old.source mid.source given → old.source.faults ≤ mid.source.faults → EndsOnce before after old.source mid.source given → mid.sink ≡ old.sink
+    → IsFirstLine (before.held ++ given) after line → (line ≡ quit → ⊥) → ServedOrNot shelf p q g h line mid.sink new.sink end → new.source ≡ mid.source
+    → Stepped shelf p q g h before after old new end
+line-step shelf p q g h before after old mid new line given end gave later once same first other v source = record {
+  given = given;
+  gave = subst (λ (x : AsSource). Moves old.source x given) (sym source) gave;
+  later = subst (λ (x : AsSource). old.source.faults ≤ x.faults) (sym source) later;
+  once = subst (λ (x : AsSource). EndsOnce before after old.source x given) (sym source) once;
+  by = step-or shelf p q g h (before.held ++ given) line after old new end first other
+      (subst (λ (x : AsSink). ServedOrNot shelf p q g h line x new.sink end) same v);
+}
+
+-- no line was served
+pub silent-step : (shelf : Shelf) (p : RealmPass) (g : GatesView) (before after : Reader) (old new : LinkView) (given : Text) (end : Option Ended)
+    → Moves old.source new.source given → old.source.faults ≤ new.source.faults → EndsOnce before after old.source new.source given → new.sink ≡ old.sink
+    → (IsSilent p p g g old.sink new.sink → StepBy shelf p p g g (before.held ++ given) after old new end) → Stepped shelf p p g g before after old new end
+silent-step shelf p g before after old new given end gave later once same by = record {
+  given = given;
+  gave = gave;
+  later = later;
+  once = once;
+  by = by (record { pass = refl; gates = refl; sink = same });
+}
+
+-- the line that ends the session was taken
+pub quit-step : (shelf : Shelf) (p : RealmPass) (g : GatesView) (before after : Reader) (old new : LinkView) (line given : Text)
+    → Moves old.source new.source given → old.source.faults ≤ new.source.faults → EndsOnce before after old.source new.source given → new.sink ≡ old.sink
+    → IsFirstLine (before.held ++ given) after line → line ≡ quit → Stepped shelf p p g g before after old new (Some ended.Quit)
+quit-step shelf p g before after old new line given gave later once same first is =
+    silent-step shelf p g before after old new given (Some ended.Quit) gave later once same (λ silent. (subst (λ (t : Text). IsFirstLine (before.held ++ given) after t) is first, silent))
+
+-- a line that is too long isn't the one that ends the session
+long-is-no-quit : (line : Text) → 65536 < length line → line ≡ quit → ⊥
+long-is-no-quit line long is = absurd (omega (arith, long, ap length is))
+
+-- a line that is too long was served
+pub served-long : (shelf : Shelf) (p : RealmPass) (g : GatesView) (line : Text) (old new : AsSink) (end : Option Ended) → 65536 < length line
+    → LineWrote end old new (reply_line too_long) (false ≡ false) → ServedLine shelf p p g g line old new end
+served-long shelf p g line old new end long wrote = record {
+  told = too_long;
+  reads = long;
+  keeps = kept_same shelf p g;
+  does = refl;
+  wrote = wrote-as (false ≡ false) (IsNoWant too_long) end old new (reply_line too_long) (λ is. tt) wrote;
+}
+
+pub long-step : (shelf : Shelf) (p : RealmPass) (g : GatesView) (before after : Reader) (old mid new : LinkView) (line given : Text) (end : Option Ended)
+    → Moves old.source mid.source given → old.source.faults ≤ mid.source.faults → EndsOnce before after old.source mid.source given → mid.sink ≡ old.sink
+    → IsFirstLine (before.held ++ given) after line → 65536 < length line → LineWrote end mid.sink new.sink (reply_line too_long) (false ≡ false) → new.source ≡ mid.source
+    → Stepped shelf p p g g before after old new end
+long-step shelf p g before after old mid new line given end gave later once same first long wrote source =
+    line-step shelf p p g g before after old mid new line given end gave later once same first (long-is-no-quit line long) (inl (served-long shelf p g line mid.sink new.sink end long wrote)) source

@@ -1,0 +1,4 @@
+pub mod Going
+pub mod Making
+pub mod Working
+pub mod Places

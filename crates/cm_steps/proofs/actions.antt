@@ -1,0 +1,6 @@
+pub mod Begun
+pub mod Ends
+pub mod Joined
+pub mod Numbered
+pub mod Waits
+pub mod Picks

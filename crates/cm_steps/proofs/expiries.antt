@@ -1,0 +1,4 @@
+pub mod Dooming
+pub mod Goers
+pub mod Gathered
+pub mod Removing

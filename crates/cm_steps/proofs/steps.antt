@@ -1,0 +1,4 @@
+pub mod Counts
+pub mod Going
+pub mod Starting
+pub mod Stepping

@@ -1,0 +1,121 @@
+-- How many items pass a test behind a change of one, and how long lists are then.
+use Rattle.std.proofs.Common.{◌≡◌, ℕ, ◌+◌, ◌≤◌, List, [], ◌∷◌, ◌++◌, Bool, true, false, cond, ◌||◌, ◌&&◌, ◌==◌, true≢false, Option, Some, None, is_none, length, find, refl, sym, ◌∙◌, ap, subst, arith, IsTrue}
+use Rattle.std.proofs.lemmas.List.Sums.{sum_by_push}
+use Rattle.std.specs.Option.{option_map_or}
+use Rattle.std.specs.List.{count_by, list_any}
+use Rattle.cm_decl.specs.declared.decl.Decl.{Decl}
+use Rattle.cm_world.specs.declared.action.Act.{Act}
+use Rattle.cm_world.specs.declared.action.ActKind.{ActKind}
+use Rattle.cm_world.specs.declared.action.ActKind.TheVariants.{Resolve, Start, Stop}
+use Rattle.cm_world.specs.declared.action.Join.{Join}
+use Rattle.cm_world.specs.declared.action.Outcome.{Outcome}
+use Rattle.cm_world.specs.declared.action.Finish.{Finish}
+use Rattle.cm_world.specs.declared.action.Finish.TheVariants as finish
+use Rattle.cm_world.specs.Edits.{edit_first, drop_first}
+use Rattle.cm_world.specs.World.{is_open}
+use Rattle.cm_world.specs.Begin.{same_act}
+use Rattle.cm_world.specs.End.{fits_kind, put_outcome, ended}
+use Rattle.cm_world.specs.Step.{MayEnd, is_join}
+use Rattle.cm_world.specs.After.{unjoined}
+use Rattle.cm_world.proofs.trees.Finding.{none_some, some_same}
+use Rattle.cm_laws.proofs.sound.Changes.{count-cons}
+use Rattle.cm_steps.specs.Tasks.{is_open_resolve}
+
+swap_one : (t s : Bool) (n : ℕ) → t ≡ false → s ≡ true → (cond t 1 0 + n) + 1 ≡ cond s 1 0 + n
+swap_one false true n differ hits = omega arith
+swap_one false false n differ hits = absurd (true≢false (sym hits))
+swap_one true s n differ hits = absurd (true≢false differ)
+
+same_front : (t : Bool) (n m : ℕ) → n + 1 ≡ m → (cond t 1 0 + n) + 1 ≡ cond t 1 0 + m
+same_front true n m e = omega arith
+same_front false n m e = omega arith
+
+less_by : {A : Type 0} (b : Bool) (p q : A → Bool) (f : A → A) (y x : A) (ys : List A) → (find p ys ≡ Some x → count_by q (edit_first p f ys) + 1 ≡ count_by q ys) → cond b (Some y) (find p ys) ≡ Some x → q x ≡ true → q (f x) ≡ false → count_by q (cond b (f y ∷ ys) (y ∷ edit_first p f ys)) + 1 ≡ count_by q (y ∷ ys)
+less_by true p q f y x ys more found was is =
+    let one : y ≡ x = some_same y x found in
+    ap (λ n. n + 1) (count-cons q (f y) ys) ∙ swap_one (q (f y)) (q y) (count_by q ys) (ap (λ z. q (f z)) one ∙ is) (ap q one ∙ was) ∙ sym (count-cons q y ys)
+less_by false p q f y x ys more found was is =
+    ap (λ n. n + 1) (count-cons q y (edit_first p f ys)) ∙ same_front (q y) (count_by q (edit_first p f ys)) (count_by q ys) (more found) ∙ sym (count-cons q y ys)
+
+-- the first that passes p leaves those that pass q
+pub count_less : {A : Type 0} (p q : A → Bool) (f : A → A) (xs : List A) (x : A) → find p xs ≡ Some x → q x ≡ true → q (f x) ≡ false → count_by q (edit_first p f xs) + 1 ≡ count_by q xs
+count_less p q f [] x found was is = absurd (none_some x found)
+count_less p q f (y ∷ ys) x found was is = less_by (p y) p q f y x ys (λ e. count_less p q f ys x e was is) found was is
+
+drops_one : (t s : Bool) (n : ℕ) → t ≡ false → cond t 1 0 + n ≤ cond s 1 0 + n
+drops_one false true n differ = omega arith
+drops_one false false n differ = omega arith
+drops_one true s n differ = absurd (true≢false differ)
+
+front_le : (t : Bool) (n m : ℕ) → n ≤ m → cond t 1 0 + n ≤ cond t 1 0 + m
+front_le true n m e = omega arith
+front_le false n m e = omega arith
+
+le_by : {A : Type 0} (b : Bool) (p q : A → Bool) (f : A → A) (y : A) (ys : List A) → ((x : A) → q (f x) ≡ false) → count_by q (edit_first p f ys) ≤ count_by q ys → count_by q (cond b (f y ∷ ys) (y ∷ edit_first p f ys)) ≤ count_by q (y ∷ ys)
+le_by true p q f y ys differ more =
+    subst (λ n. n ≤ count_by q (y ∷ ys)) (sym (count-cons q (f y) ys)) (subst (λ n. cond (q (f y)) 1 0 + count_by q ys ≤ n) (sym (count-cons q y ys)) (drops_one (q (f y)) (q y) (count_by q ys) (differ y)))
+le_by false p q f y ys differ more =
+    subst (λ n. n ≤ count_by q (y ∷ ys)) (sym (count-cons q y (edit_first p f ys))) (subst (λ n. cond (q y) 1 0 + count_by q (edit_first p f ys) ≤ n) (sym (count-cons q y ys)) (front_le (q y) (count_by q (edit_first p f ys)) (count_by q ys) more))
+
+pub count_le : {A : Type 0} (p q : A → Bool) (f : A → A) (xs : List A) → ((x : A) → q (f x) ≡ false) → count_by q (edit_first p f xs) ≤ count_by q xs
+count_le p q f [] differ = omega arith
+count_le p q f (y ∷ ys) differ = le_by (p y) p q f y ys differ (count_le p q f ys differ)
+
+one_by : {A : Type 0} (o : Option A) (p q : A → Bool) (f : A → A) (xs : List A) → find p xs ≡ o → ((x : A) → q (f x) ≡ false) → option_map_or q o false ≡ true → count_by q (edit_first p f xs) + 1 ≡ count_by q xs
+one_by None p q f xs found differ hit = absurd (true≢false (sym hit))
+one_by (Some x) p q f xs found differ hit = count_less p q f xs x found hit (differ x)
+
+-- the first that passes p passes q too, and then no more
+pub count_one : {A : Type 0} (p q : A → Bool) (f : A → A) (xs : List A) → ((x : A) → q (f x) ≡ false) → option_map_or q (find p xs) false ≡ true → count_by q (edit_first p f xs) + 1 ≡ count_by q xs
+count_one p q f xs differ hit = one_by (find p xs) p q f xs refl differ hit
+
+same_by : {A : Type 0} (b : Bool) (p q : A → Bool) (f : A → A) (y : A) (ys : List A) → ((x : A) → q (f x) ≡ false) → (option_map_or q (find p ys) false ≡ false → count_by q (edit_first p f ys) ≡ count_by q ys) → option_map_or q (cond b (Some y) (find p ys)) false ≡ false → count_by q (cond b (f y ∷ ys) (y ∷ edit_first p f ys)) ≡ count_by q (y ∷ ys)
+same_by true p q f y ys differ more miss =
+    count-cons q (f y) ys ∙ ap (λ t. cond t 1 0 + count_by q ys) (differ y ∙ sym miss) ∙ sym (count-cons q y ys)
+same_by false p q f y ys differ more miss =
+    count-cons q y (edit_first p f ys) ∙ ap (λ n. cond (q y) 1 0 + n) (more miss) ∙ sym (count-cons q y ys)
+
+-- the first that passes p, if there is one, doesn't pass q
+pub count_same : {A : Type 0} (p q : A → Bool) (f : A → A) (xs : List A) → ((x : A) → q (f x) ≡ false) → option_map_or q (find p xs) false ≡ false → count_by q (edit_first p f xs) ≡ count_by q xs
+count_same p q f [] differ miss = refl
+count_same p q f (y ∷ ys) differ miss = same_by (p y) p q f y ys differ (λ e. count_same p q f ys differ e) miss
+
+pub count_more : {A : Type 0} (q : A → Bool) (xs : List A) (x : A) → count_by q (xs ++ x ∷ []) ≡ count_by q xs + cond (q x) 1 0
+count_more q xs x = sum_by_push (λ z. cond (q z) 1 0) xs x
+
+-- ---- actions
+
+pub open_less : (acts : List Act) (caller a : ℕ) (f : Finish) (o : Outcome) → MayEnd acts caller a f → count_by is_open (ended a o acts) + 1 ≡ count_by is_open acts
+open_less acts caller a f o may = count_less (λ x. x.action == a) is_open (put_outcome o) acts may.act may.there (ap is_none may.pending) refl
+
+resolves : (k : ActKind) (url : List ℕ) (d : Decl) → fits_kind k (finish.Resolved url d) ≡ true → same_act k Resolve ≡ true
+resolves Resolve url d e = refl
+resolves Start url d e = absurd (true≢false (sym e))
+resolves Stop url d e = absurd (true≢false (sym e))
+
+both : (a b : Bool) → a ≡ true → b ≡ true → (a && b) ≡ true
+both true true x y = refl
+both true false x y = y
+both false b x y = absurd (true≢false (sym x))
+
+pub resolve_less : (acts : List Act) (caller a : ℕ) (url : List ℕ) (d : Decl) (o : Outcome) → MayEnd acts caller a (finish.Resolved url d) → count_by is_open_resolve (ended a o acts) + 1 ≡ count_by is_open_resolve acts
+resolve_less acts caller a url d o may =
+    count_less (λ x. x.action == a) is_open_resolve (put_outcome o) acts may.act may.there
+    (both (same_act may.act.kind Resolve) (is_open may.act) (resolves may.act.kind url d may.fitting) (ap is_none may.pending))
+    (closed_by (same_act may.act.kind Resolve)) where
+      closed_by : (b : Bool) → (b && false) ≡ false
+      closed_by true = refl
+      closed_by false = refl
+
+-- ---- joins
+
+long_by : (b : Bool) (p : Join → Bool) (y : Join) (ys : List Join) → (IsTrue (list_any p ys) → length (drop_first p ys) + 1 ≡ length ys) → IsTrue (b || list_any p ys) → length (cond b ys (y ∷ drop_first p ys)) + 1 ≡ length (y ∷ ys)
+long_by true p y ys more found = omega arith
+long_by false p y ys more found = let rest : length (drop_first p ys) + 1 ≡ length ys = more found in omega arith
+
+length-drop : (p : Join → Bool) (xs : List Join) → IsTrue (list_any p xs) → length (drop_first p xs) + 1 ≡ length xs
+length-drop p [] found = absurd (true≢false (sym found))
+length-drop p (y ∷ ys) found = long_by (p y) p y ys (length-drop p ys) found
+
+pub length-unjoined : (caller a : ℕ) (joins : List Join) → IsTrue (list_any (is_join caller a) joins) → length (unjoined caller a joins) + 1 ≡ length joins
+length-unjoined caller a joins found = length-drop (is_join caller a) joins found

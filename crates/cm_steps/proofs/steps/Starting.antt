@@ -1,0 +1,50 @@
+-- A new realm.
+use Rattle.std.proofs.Common.{◌≡◌, ◌+◌, ◌≤◌, List, [], length, sym, ◌∙◌, ap, subst, arith}
+use Rattle.std.specs.List.{count_by}
+use Rattle.cm_world.specs.declared.reply.Entry.{Entry}
+use Rattle.cm_world.specs.declared.action.Act.{Act}
+use Rattle.cm_world.specs.declared.action.Join.{Join}
+use Rattle.cm_world.specs.World.{World, start, owed}
+use Rattle.cm_world.specs.Legal.{Legal, replay}
+use Rattle.cm_book.specs.History.{History}
+use Rattle.cm_table.specs.Tree.{Tree, first_tree}
+use Rattle.cm_laws.specs.Story.{world_of, IsLegal}
+use Rattle.cm_laws.specs.Tasks.{IsNumbered, IsTasked}
+use Rattle.cm_steps.specs.Tasks.{is_open_resolve}
+use Rattle.cm_order.specs.Plans.{KnowsNone}
+use Rattle.cm_steps.specs.Inside.{story_of, world_in, Stands, IsKept}
+use Rattle.cm_steps.proofs.Planning.{planned_none}
+use Rattle.cm_steps.specs.declared.realm.Realm.TheInside.{Inside}
+use Rattle.cm_laws.proofs.actions.Tasks.{tasked_new}
+use Rattle.cm_cache.specs.Beside.{nothing_held}
+use Rattle.cm_steps.proofs.asked.Keepers.{beside_new}
+
+stands_new : (a : Inside) → a.table ≡ first_tree a.frame.root a.frame.builtins a.frame.limits.rows → a.acts.items ≡ [] → a.joins.items ≡ [] → a.book.entries ≡ [] → Stands (story_of a) (world_in a)
+unfolding world_of IsLegal
+stands_new a table acts joins entries =
+    let made : Tree → List Act → List Join → List Entry → World = λ t xs js es. record { frame = a.frame; rows = t.rows; next_inc = t.next_inc; next_action = length xs + 1; acts = xs; joins = js; entries = length es } in
+    record {
+      legal = subst (Legal (start a.frame)) (sym entries) tt;
+      world =
+          ap (replay (start a.frame)) entries
+          ∙ ap (λ t. made t [] [] []) (sym table)
+          ∙ ap (λ xs. made a.table xs [] []) (sym acts)
+          ∙ ap (λ js. made a.table a.acts.items js []) (sym joins)
+          ∙ ap (made a.table a.acts.items a.joins.items) (sym entries);
+    }
+
+-- the fields of a new realm are the tree that no entry leaves
+pub kept_new : (a : Inside) → a.table ≡ first_tree a.frame.root a.frame.builtins a.frame.limits.rows → a.acts.items ≡ [] → a.resolves ≡ 0 → a.joins.items ≡ [] → a.book ≡ record { entries = []; reserved = 0; limit = a.frame.limits.entries } → a.keeper ≡ nothing_held → KnowsNone a.plan → IsKept a
+kept_new a table acts resolves joins book held unknown = record {
+  stands = stands_new a table acts joins (ap (λ (h : History). h.entries) book);
+  owes = ap (λ (h : History). h.reserved) book ∙ sym (ap (λ xs. owed xs a.joins.items) acts ∙ ap (owed []) joins);
+  counted = resolves ∙ ap (count_by is_open_resolve) (sym acts);
+  spare = subst (λ xs. count_by is_open_resolve xs ≤ a.table.spare) (sym acts) (omega arith);
+  rows = ap (λ (t : Tree). t.limit) table;
+  entries = ap (λ (h : History). h.limit) book;
+  builtins = ap (λ (t : Tree). t.builtins) table;
+  numbers = subst (IsNumbered 1) (sym acts) tt;
+  tasks = subst (λ xs. IsTasked a.table.rows xs) (sym acts) (subst (λ (t : Tree). IsTasked t.rows []) (sym table) (tasked_new a.frame.root));
+  beside = beside_new a.frame a.book.entries a.keeper (ap (λ (h : History). h.entries) book) held;
+  planned = planned_none a.table.rows a.plan unknown;
+}

@@ -1,0 +1,5 @@
+pub mod Children
+pub mod Indexing
+pub mod Naming
+pub mod Preparing
+pub mod Told

@@ -1,0 +1,332 @@
+-- The children of a row, and the child of a name, behind each change of the rows.
+use Rattle.std.proofs.Common.{◌≡◌, ℕ, ◌<◌, ◌≤◌, List, [], ◌∷◌, ◌++◌, map, Bool, true, false, cond, ◌==◌, ◌&&◌, not, nat_eq, true≢false, Option, Some, None, IsSome, is_some, IsTrue, find, filter, refl, sym, ap, ◌∙◌, subst, arith}
+use Rattle.std.specs.Prelude.{option_map}
+use Rattle.std.specs.Option.{option_eq}
+use Rattle.std.specs.Cmp.{unsigned_Decides}
+use Rattle.cm_names.specs.declared.child.ChildName.{ChildName}
+use Rattle.cm_decl.specs.Same.{same_child}
+use Rattle.cm_decl.proofs.Sameness.{and_first, and_second, same_child_exact}
+use Rattle.cm_world.specs.declared.row.Row.{Row}
+use Rattle.cm_world.specs.Edits.{drop_first}
+use Rattle.cm_world.specs.Rows.{row_of, has_parent, has_name, is_behind, child_of, child_behind}
+use Rattle.cm_world.specs.End.{changed, set_doomed}
+use Rattle.cm_world.specs.Sound.{IsRising, IsOrderly}
+use Rattle.cm_world.proofs.trees.Finding.{some_same, none_some, find-passes}
+use Rattle.cm_world.proofs.trees.Walks.{find-lives}
+use Rattle.cm_table.specs.Keys.{Each}
+use Rattle.cm_table.specs.Links.{unless}
+use Rattle.cm_table.specs.Reading.{is_there}
+use Rattle.cm_table.proofs.tree.Rows.{some_is, is_some_by, lives_below}
+use Rattle.cm_table.proofs.tree.Leaves.{without, was_there, not_taken, rising_without}
+use Rattle.cm_table.proofs.lists.Halves.{no_some, not_same, lower_differs}
+
+abbrev pub incs : List Row → List ℕ
+incs rows = map (λ r. r.inc) rows
+
+abbrev pub kids : List Row → ℕ → List ℕ
+kids rows j = incs (filter (has_parent j) rows)
+
+-- ---- a change that keeps parents, names and who is doomed
+
+incs_same : (c : Bool) (x y : Row) (l m : List Row) → x.inc ≡ y.inc → incs l ≡ incs m → incs (cond c (x ∷ l) l) ≡ incs (cond c (y ∷ m) m)
+incs_same true x y l m n h = ap (λ z. z ∷ incs l) n ∙ ap (λ z. y.inc ∷ z) h
+incs_same false x y l m n h = h
+
+incs_by : (b c : Bool) (x y : Row) (l m : List Row) → b ≡ c → x.inc ≡ y.inc → incs l ≡ incs m → incs (cond b (x ∷ l) l) ≡ incs (cond c (y ∷ m) m)
+incs_by b c x y l m e n h = ap (λ t. incs (cond t (x ∷ l) l)) e ∙ incs_same c x y l m n h
+
+kids_changed_by : (t : Bool) (i j : ℕ) (f : Row → Row) (x : Row) (xs : List Row) → (f x).inc ≡ x.inc → (f x).parent ≡ x.parent → kids (changed i f xs) j ≡ kids xs j → kids (cond t (f x ∷ xs) (x ∷ changed i f xs)) j ≡ kids (x ∷ xs) j
+kids_changed_by true i j f x xs n p later =
+    incs_by (has_parent j (f x)) (has_parent j x) (f x) x (filter (has_parent j) xs) (filter (has_parent j) xs) (ap (λ o. option_eq nat_eq o (Some j)) p) n refl
+kids_changed_by false i j f x xs n p later =
+    incs_by (has_parent j x) (has_parent j x) x x (filter (has_parent j) (changed i f xs)) (filter (has_parent j) xs) refl refl later
+
+pub kids_changed : (i j : ℕ) (f : Row → Row) → ((r : Row) → (f r).inc ≡ r.inc) → ((r : Row) → (f r).parent ≡ r.parent) → (rows : List Row) → kids (changed i f rows) j ≡ kids rows j
+kids_changed i j f n p [] = refl
+kids_changed i j f n p (x ∷ xs) = kids_changed_by (x.inc == i) i j f x xs (n x) (p x) (kids_changed i j f n p xs)
+
+there_by : ℕ → ChildName → Option ℕ → Option ChildName → Bool → Bool
+there_by p c parent name doomed = option_eq nat_eq parent (Some p) && option_eq same_child name (Some c) && not doomed
+
+same_test : (j : ℕ) (c : ChildName) (x y : Row) → y.parent ≡ x.parent → y.name ≡ x.name → y.doomed ≡ x.doomed → is_there j c y ≡ is_there j c x
+unfolding there_by
+same_test j c x y p n d =
+    ap (λ o. there_by j c o y.name y.doomed) p ∙ ap (λ o. there_by j c x.parent o y.doomed) n ∙ ap (λ b. there_by j c x.parent x.name b) d
+
+found : Option Row → Option ℕ
+found o = option_map (λ r. r.inc) o
+
+found_same : (c : Bool) (x y : Row) (o p : Option Row) → x.inc ≡ y.inc → option_map (λ r. r.inc) o ≡ option_map (λ r. r.inc) p → option_map (λ r. r.inc) (cond c (Some x) o) ≡ option_map (λ r. r.inc) (cond c (Some y) p)
+found_same true x y o p n e = ap Some n
+found_same false x y o p n e = e
+
+found_by : (b c : Bool) (x y : Row) (o p : Option Row) → b ≡ c → x.inc ≡ y.inc → option_map (λ r. r.inc) o ≡ option_map (λ r. r.inc) p → option_map (λ r. r.inc) (cond b (Some x) o) ≡ option_map (λ r. r.inc) (cond c (Some y) p)
+found_by b c x y o p e n h = ap (λ t. option_map (λ r. r.inc) (cond t (Some x) o)) e ∙ found_same c x y o p n h
+
+child_changed_by : (t : Bool) (i j : ℕ) (c : ChildName) (f : Row → Row) (x : Row) (xs : List Row) → (f x).inc ≡ x.inc → is_there j c (f x) ≡ is_there j c x → child_of (changed i f xs) j c ≡ child_of xs j c → child_of (cond t (f x ∷ xs) (x ∷ changed i f xs)) j c ≡ child_of (x ∷ xs) j c
+child_changed_by true i j c f x xs n test later = found_by (is_there j c (f x)) (is_there j c x) (f x) x (find (is_there j c) xs) (find (is_there j c) xs) test n refl
+child_changed_by false i j c f x xs n test later = found_by (is_there j c x) (is_there j c x) x x (find (is_there j c) (changed i f xs)) (find (is_there j c) xs) refl refl later
+
+pub child_changed : (i j : ℕ) (c : ChildName) (f : Row → Row) → ((r : Row) → (f r).inc ≡ r.inc) → ((r : Row) → (f r).parent ≡ r.parent) → ((r : Row) → (f r).name ≡ r.name) → ((r : Row) → (f r).doomed ≡ r.doomed) → (rows : List Row) → child_of (changed i f rows) j c ≡ child_of rows j c
+child_changed i j c f n p m d [] = refl
+child_changed i j c f n p m d (x ∷ xs) =
+    child_changed_by (x.inc == i) i j c f x xs (n x) (same_test j c x (f x) (p x) (m x) (d x)) (child_changed i j c f n p m d xs)
+
+-- ---- without a row
+
+-- the children are those that were, but for it
+drop_high_by : (u : Bool) (i : ℕ) (x : Row) (l : List Row) → (x.inc == i) ≡ false → drop_first (λ k. k == i) (incs l) ≡ incs l → drop_first (λ k. k == i) (incs (cond u (x ∷ l) l)) ≡ incs (cond u (x ∷ l) l)
+drop_high_by true i x l miss later = ap (λ t. cond t (incs l) (x.inc ∷ drop_first (λ k. k == i) (incs l))) miss ∙ ap (λ z. x.inc ∷ z) later
+drop_high_by false i x l miss later = later
+
+drop_high : (q : Row → Bool) (i : ℕ) (xs : List Row) → ((j : ℕ) → IsSome (row_of xs j) → i < j) → drop_first (λ k. k == i) (incs (filter q xs)) ≡ incs (filter q xs)
+drop_high q i [] high = refl
+drop_high q i (x ∷ xs) high =
+    drop_high_by (q x) i x (filter q xs) (not_same x.inc i (λ e. lower_differs i x.inc (high x.inc (ap is_some (own_row x xs))) (sym e)))
+    (drop_high q i xs (λ j h. high j (later_some (x.inc == j) x (row_of xs j) h))) where
+      own_row : (x : Row) (xs : List Row) → row_of (x ∷ xs) x.inc ≡ Some x
+      own_row x xs = rw ((unsigned_Decides x.inc x.inc).1 refl) refl
+
+      later_some : (t : Bool) (x : Row) (o : Option Row) → IsSome o → IsSome (cond t (Some x) o)
+      later_some true x o h = refl
+      later_some false x o h = h
+
+dropped_own : (u : Bool) (i : ℕ) (x : Row) (l : List Row) → (x.inc == i) ≡ true → drop_first (λ k. k == i) (incs l) ≡ incs l → incs l ≡ drop_first (λ k. k == i) (incs (cond u (x ∷ l) l))
+dropped_own true i x l own none = sym (ap (λ t. cond t (incs l) (x.inc ∷ drop_first (λ k. k == i) (incs l))) own)
+dropped_own false i x l own none = sym none
+
+dropped_other : (u : Bool) (i : ℕ) (x : Row) (l m : List Row) → (x.inc == i) ≡ false → incs m ≡ drop_first (λ k. k == i) (incs l) → incs (cond u (x ∷ m) m) ≡ drop_first (λ k. k == i) (incs (cond u (x ∷ l) l))
+dropped_other true i x l m miss later = ap (λ z. x.inc ∷ z) later ∙ sym (ap (λ t. cond t (incs l) (x.inc ∷ drop_first (λ k. k == i) (incs l))) miss)
+dropped_other false i x l m miss later = later
+
+without_by : (t : Bool) (q : Row → Bool) (i : ℕ) (x : Row) (xs : List Row) → (x.inc == i) ≡ t → ((j : ℕ) → IsSome (row_of xs j) → x.inc < j) → incs (filter q (without i xs)) ≡ drop_first (λ k. k == i) (incs (filter q xs)) → incs (filter q (cond t xs (x ∷ without i xs))) ≡ drop_first (λ k. k == i) (incs (filter q (x ∷ xs)))
+without_by true q i x xs own high later =
+    let at : x.inc ≡ i = (unsigned_Decides x.inc i).0 own in
+    dropped_own (q x) i x (filter q xs) own (drop_high q i xs (λ j h. subst (λ n. n < j) at (high j h)))
+without_by false q i x xs own high later = dropped_other (q x) i x (filter q xs) (filter q (without i xs)) own later
+
+pub filter_without : (q : Row → Bool) (i next : ℕ) (rows : List Row) → IsRising next rows → incs (filter q (without i rows)) ≡ drop_first (λ k. k == i) (incs (filter q rows))
+filter_without q i next [] rising = refl
+filter_without q i next (x ∷ xs) rising = without_by (x.inc == i) q i x xs refl rising.0.1 (filter_without q i next xs rising.1)
+
+-- where it fails a test, those that pass are the same
+fails_by : (t : Bool) (q : Row → Bool) (i : ℕ) (x : Row) (xs : List Row) → (x.inc == i) ≡ t → ((r : Row) → cond t (Some x) (row_of xs i) ≡ Some r → q r ≡ false) → (((r : Row) → row_of xs i ≡ Some r → q r ≡ false) → filter q (without i xs) ≡ filter q xs) → filter q (cond t xs (x ∷ without i xs)) ≡ filter q (x ∷ xs)
+fails_by true q i x xs own fails later = sym (ap (λ b. cond b (x ∷ filter q xs) (filter q xs)) (fails x refl))
+fails_by false q i x xs own fails later = ap (λ l. cond (q x) (x ∷ l) l) (later fails)
+
+pub filter_fails : (q : Row → Bool) (i : ℕ) (rows : List Row) → ((r : Row) → row_of rows i ≡ Some r → q r ≡ false) → filter q (without i rows) ≡ filter q rows
+filter_fails q i [] fails = refl
+filter_fails q i (x ∷ xs) fails = fails_by (x.inc == i) q i x xs refl fails (filter_fails q i xs)
+
+-- what is found and isn't it, is found still
+kept_by : (u v : Bool) (t : Row → Bool) (i : ℕ) (x : Row) (xs : List Row) → t x ≡ u → (x.inc == i) ≡ v → ((r : Row) → cond u (Some x) (find t xs) ≡ Some r → r.inc ≡ i → ⊥) → (((r : Row) → find t xs ≡ Some r → r.inc ≡ i → ⊥) → find t (without i xs) ≡ find t xs) → find t (cond v xs (x ∷ without i xs)) ≡ cond u (Some x) (find t xs)
+kept_by true true t i x xs hit own other later = absurd (other x refl ((unsigned_Decides x.inc i).0 own))
+kept_by true false t i x xs hit own other later = ap (λ b. cond b (Some x) (find t (without i xs))) hit
+kept_by false true t i x xs hit own other later = refl
+kept_by false false t i x xs hit own other later = ap (λ b. cond b (Some x) (find t (without i xs))) hit ∙ later other
+
+pub find_kept : (t : Row → Bool) (i : ℕ) (rows : List Row) → ((r : Row) → find t rows ≡ Some r → r.inc ≡ i → ⊥) → find t (without i rows) ≡ find t rows
+find_kept t i [] other = refl
+find_kept t i (x ∷ xs) other = kept_by (t x) (x.inc == i) t i x xs refl refl other (find_kept t i xs)
+
+-- ---- the child of a name
+
+parent_by : (p : ℕ) (o : Option ℕ) → IsTrue (option_eq nat_eq o (Some p)) → o ≡ Some p
+parent_by p None h = absurd (true≢false (sym h))
+parent_by p (Some q) h = ap Some ((unsigned_Decides q p).0 h)
+
+name_by : (c : ChildName) (o : Option ChildName) → IsTrue (option_eq same_child o (Some c)) → o ≡ Some c
+name_by c None h = absurd (true≢false (sym h))
+name_by c (Some d) h = ap Some (same_child_exact d c h)
+
+not_true : (b : Bool) → IsTrue (not b) → b ≡ false
+not_true true h = absurd (true≢false (sym h))
+not_true false h = refl
+
+-- what is told of a row that is found by its name
+pub record IsNamed (rows : List Row) (p : ℕ) (c : ChildName) (r : Row) : Type 0 where
+  pub lives : row_of rows r.inc ≡ Some r
+  pub under : r.parent ≡ Some p
+  pub named : r.name ≡ Some c
+  pub alive : r.doomed ≡ false
+
+pub named_row : (rows : List Row) (next p : ℕ) (c : ChildName) (r : Row) → IsRising next rows → find (is_there p c) rows ≡ Some r → IsNamed rows p c r
+named_row rows next p c r rising e =
+    let passes : IsTrue (is_there p c r) = find-passes (is_there p c) rows r e in
+    let both : IsTrue (has_parent p r && has_name c r) = and_first (has_parent p r && has_name c r) (not r.doomed) passes in
+    record {
+      lives = find-lives (is_there p c) rows next r rising e;
+      under = parent_by p r.parent (and_first (has_parent p r) (has_name c r) both);
+      named = name_by c r.name (and_second (has_parent p r) (has_name c r) both);
+      alive = not_true r.doomed (and_second (has_parent p r && has_name c r) (not r.doomed) passes);
+    }
+
+-- no second one has the name
+none_left : (rows : List Row) (next i p : ℕ) (c : ChildName) (r : Row) → IsOrderly rows next → find (is_there p c) rows ≡ Some r → r.inc ≡ i → find (is_there p c) (without i rows) ≡ None
+none_left rows next i p c r o e at =
+    no_some (find (is_there p c) (without i rows)) (λ h.
+    let q : (s : Row) × (find (is_there p c) (without i rows) ≡ Some s) = some_is (find (is_there p c) (without i rows)) h in
+    let first : IsNamed rows p c r = named_row rows next p c r o.rising e in
+    let second : IsNamed (without i rows) p c q.0 = named_row (without i rows) next p c q.0 (rising_without i next rows o.rising) q.1 in
+    let there : row_of rows q.0.inc ≡ Some q.0 = was_there i next q.0.inc rows q.0 o.rising second.lives in
+    let same : q.0.inc ≡ r.inc = o.one_name q.0.inc r.inc q.0 r there first.lives second.alive first.alive (second.under ∙ sym first.under) (second.named ∙ sym first.named) in
+    not_taken i next q.0.inc rows q.0 o.rising second.lives (same ∙ at))
+
+child_by : (v : Bool) (rows : List Row) (next i p : ℕ) (c : ChildName) (r : Row) → IsOrderly rows next → find (is_there p c) rows ≡ Some r → (r.inc == i) ≡ v → option_map (λ s. s.inc) (find (is_there p c) (without i rows)) ≡ cond v None (Some r.inc)
+child_by true rows next i p c r o e own = ap (option_map (λ s. s.inc)) (none_left rows next i p c r o e ((unsigned_Decides r.inc i).0 own))
+child_by false rows next i p c r o e own =
+    ap (option_map (λ s. s.inc)) (find_kept (is_there p c) i rows (λ s found at. true≢false (sym ((unsigned_Decides r.inc i).1 (ap (λ (z : Row). z.inc) (some_same r s (sym e ∙ found)) ∙ at)) ∙ own)) ∙ e)
+
+child_at : (o : Option Row) (rows : List Row) (next i p : ℕ) (c : ChildName) → IsOrderly rows next → find (is_there p c) rows ≡ o → option_map (λ s. s.inc) (find (is_there p c) (without i rows)) ≡ unless i (option_map (λ s. s.inc) o)
+child_at None rows next i p c orderly e = ap (option_map (λ s. s.inc)) (find_kept (is_there p c) i rows (λ s found at. none_some s (sym e ∙ found)) ∙ e)
+child_at (Some r) rows next i p c orderly e = child_by (r.inc == i) rows next i p c r orderly e refl
+
+-- the child of a name is the one that was, unless it is taken away
+pub child_without : (rows : List Row) (next i p : ℕ) (c : ChildName) → IsOrderly rows next → child_of (without i rows) p c ≡ unless i (child_of rows p c)
+child_without rows next i p c o = child_at (find (is_there p c) rows) rows next i p c o refl
+
+and_never : (a b : Bool) → (a && b && false) ≡ false
+and_never true true = refl
+and_never true false = refl
+and_never false b = refl
+
+doomed_by : (t : Bool) (i p : ℕ) (c : ChildName) (x : Row) (xs : List Row) → find (is_there p c) (changed i set_doomed xs) ≡ find (is_there p c) (without i xs) → find (is_there p c) (cond t (set_doomed x ∷ xs) (x ∷ changed i set_doomed xs)) ≡ find (is_there p c) (cond t xs (x ∷ without i xs))
+doomed_by true i p c x xs later = ap (λ b. cond b (Some (set_doomed x)) (find (is_there p c) xs)) (and_never (has_parent p x) (has_name c x))
+doomed_by false i p c x xs later = ap (cond (is_there p c x) (Some x)) later
+
+find_doomed : (i p : ℕ) (c : ChildName) (rows : List Row) → find (is_there p c) (changed i set_doomed rows) ≡ find (is_there p c) (without i rows)
+find_doomed i p c [] = refl
+find_doomed i p c (x ∷ xs) = doomed_by (x.inc == i) i p c x xs (find_doomed i p c xs)
+
+-- a doomed row isn't found by its name
+pub child_doomed : (rows : List Row) (next i p : ℕ) (c : ChildName) → IsOrderly rows next → child_of (changed i set_doomed rows) p c ≡ unless i (child_of rows p c)
+child_doomed rows next i p c o = ap (option_map (λ s. s.inc)) (find_doomed i p c rows) ∙ child_without rows next i p c o
+
+-- ---- more rows behind
+
+abbrev pub NoneHas : ℕ → List Row → Type 0
+NoneHas j rows = Each (λ r. has_parent j r ≡ false) rows
+
+pub filter_none : (j : ℕ) (rows : List Row) → NoneHas j rows → filter (has_parent j) rows ≡ []
+filter_none j [] none = refl
+filter_none j (r ∷ rs) none = ap (λ b. cond b (r ∷ filter (has_parent j) rs) (filter (has_parent j) rs)) none.0 ∙ filter_none j rs none.1
+
+and_none : (a b d : Bool) → a ≡ false → (a && b && d) ≡ false
+and_none true b d e = absurd (true≢false e)
+and_none false b d e = refl
+
+pub find_none : (j : ℕ) (c : ChildName) (rows : List Row) → NoneHas j rows → find (is_there j c) rows ≡ None
+find_none j c [] none = refl
+find_none j c (r ∷ rs) none =
+    ap (λ b. cond b (Some r) (find (is_there j c) rs)) (and_none (has_parent j r) (has_name c r) (not r.doomed) none.0) ∙ find_none j c rs none.1
+
+pub filter_append : (q : Row → Bool) (xs ys : List Row) → filter q (xs ++ ys) ≡ filter q xs ++ filter q ys
+filter_append q [] ys = refl
+filter_append q (x ∷ xs) ys = by (q x) x (filter q (xs ++ ys)) (filter q xs) (filter q ys) (filter_append q xs ys) where
+  by : (t : Bool) (x : Row) (l a b : List Row) → l ≡ a ++ b → cond t (x ∷ l) l ≡ cond t (x ∷ a) a ++ b
+  by true x l a b e = ap (λ z. x ∷ z) e
+  by false x l a b e = e
+
+pub incs_append : (xs ys : List Row) → incs (xs ++ ys) ≡ incs xs ++ incs ys
+incs_append [] ys = refl
+incs_append (x ∷ xs) ys = ap (λ l. x.inc ∷ l) (incs_append xs ys)
+
+pub kids_left : (j : ℕ) (xs ys : List Row) → NoneHas j ys → kids (xs ++ ys) j ≡ kids xs j
+kids_left j xs ys none =
+    ap incs (filter_append (has_parent j) xs ys ∙ ap (λ l. filter (has_parent j) xs ++ l) (filter_none j ys none)) ∙ incs_append (filter (has_parent j) xs) [] ∙ nil (kids xs j) where
+      nil : (l : List ℕ) → l ++ [] ≡ l
+      nil [] = refl
+      nil (n ∷ ns) = ap (λ m. n ∷ m) (nil ns)
+
+pub kids_right : (j : ℕ) (xs ys : List Row) → NoneHas j xs → kids (xs ++ ys) j ≡ kids ys j
+kids_right j [] ys none = refl
+kids_right j (x ∷ xs) ys none = ap (λ b. incs (cond b (x ∷ filter (has_parent j) (xs ++ ys)) (filter (has_parent j) (xs ++ ys)))) none.0 ∙ kids_right j xs ys none.1
+
+pub child_left : (j : ℕ) (c : ChildName) (xs ys : List Row) → NoneHas j ys → find (is_there j c) (xs ++ ys) ≡ find (is_there j c) xs
+child_left j c [] ys none = find_none j c ys none
+child_left j c (x ∷ xs) ys none = ap (cond (is_there j c x) (Some x)) (child_left j c xs ys none)
+
+pub child_right : (j : ℕ) (c : ChildName) (xs ys : List Row) → NoneHas j xs → find (is_there j c) (xs ++ ys) ≡ find (is_there j c) ys
+child_right j c [] ys none = refl
+child_right j c (x ∷ xs) ys none =
+    ap (λ b. cond b (Some x) (find (is_there j c) (xs ++ ys))) (and_none (has_parent j x) (has_name c x) (not x.doomed) none.0) ∙ child_right j c xs ys none.1
+
+-- no row has a parent from the next incarnation on, nor one that doesn't live
+pub has_by : (j : ℕ) (r : Row) (o : Option ℕ) → r.parent ≡ o → (r.parent ≡ Some j → ⊥) → has_parent j r ≡ false
+has_by j r None e other = ap (λ p. option_eq nat_eq p (Some j)) e
+has_by j r (Some q) e other = ap (λ p. option_eq nat_eq p (Some j)) e ∙ not_same q j (λ same. other (e ∙ ap Some same))
+
+pub own_row : (x : Row) (xs : List Row) → row_of (x ∷ xs) x.inc ≡ Some x
+own_row x xs = ap (λ t. cond t (Some x) (row_of xs x.inc)) ((unsigned_Decides x.inc x.inc).1 refl)
+
+behind : (x r : Row) (xs : List Row) → ((j : ℕ) → IsSome (row_of xs j) → x.inc < j) → row_of xs r.inc ≡ Some r → row_of (x ∷ xs) r.inc ≡ Some r
+behind x r xs up here =
+    ap (λ t. cond t (Some x) (row_of xs r.inc)) (not_same x.inc r.inc (lower_differs x.inc r.inc (up r.inc (is_some_by (row_of xs r.inc) r here)))) ∙ here
+
+pub each_row : (P : Row → Type 0) (next : ℕ) (xs : List Row) → IsRising next xs → ((r : Row) → row_of xs r.inc ≡ Some r → P r) → Each P xs
+each_row P next [] rising all = tt
+each_row P next (x ∷ xs) rising all = (all x (own_row x xs), each_row P next xs rising.1 (λ r here. all r (behind x r xs rising.0.1 here)))
+
+pub none_high : (rows : List Row) (next j : ℕ) → IsOrderly rows next → next ≤ j → NoneHas j rows
+none_high rows next j o high = each_row (λ r. has_parent j r ≡ false) next rows o.rising (λ r here. has_by j r r.parent refl (λ up.
+    let q = (o.parents r.inc j r here up).0 in
+    let low : j < next = lives_below rows next j q.row o.rising q.lives in
+    absurd (omega arith)))
+
+pub no_child : (rows : List Row) (next p : ℕ) → IsOrderly rows next → row_of rows p ≡ None → NoneHas p rows
+no_child rows next p o none = each_row (λ r. has_parent p r ≡ false) next rows o.rising (λ r here. has_by p r r.parent refl (λ up.
+    let q = (o.parents r.inc p r here up).0 in none_some q.row (sym none ∙ q.lives)))
+
+-- a child that is found lives
+found_below : (rows : List Row) (next n : ℕ) (p : ℕ) (c : ChildName) (o : Option Row) → IsRising next rows → find (is_there p c) rows ≡ o → option_map (λ r. r.inc) o ≡ Some n → n < next
+found_below rows next n p c None rising e is = absurd (none_some n is)
+found_below rows next n p c (Some r) rising e is =
+    subst (λ k. k < next) (some_same r.inc n is) (lives_below rows next r.inc r rising (find-lives (is_there p c) rows next r rising e))
+
+pub child_below : (rows : List Row) (next p n : ℕ) (c : ChildName) → IsOrderly rows next → child_of rows p c ≡ Some n → n < next
+child_below rows next p n c o e = found_below rows next n p c (find (is_there p c) rows) o.rising refl e
+
+filtered : (P : Row → Type 0) (q : Row → Bool) (xs : List Row) → Each P xs → Each (λ n. (r : Row) × (r.inc ≡ n) × (q r ≡ true) × P r) (incs (filter q xs))
+filtered P q [] all = tt
+filtered P q (x ∷ xs) all = by (q x) refl (filtered P q xs all.1) where
+  by : (t : Bool) → q x ≡ t → Each (λ n. (r : Row) × (r.inc ≡ n) × (q r ≡ true) × P r) (incs (filter q xs)) → Each (λ n. (r : Row) × (r.inc ≡ n) × (q r ≡ true) × P r) (incs (cond t (x ∷ filter q xs) (filter q xs)))
+  by true e rest = ((x, refl, e, all.0), rest)
+  by false e rest = rest
+
+-- each of the children lives, and is below the next incarnation
+pub record IsKid (rows : List Row) (next p n : ℕ) : Type 0 where
+  pub row : Row
+  pub lives : row_of rows n ≡ Some row
+  pub under : row.parent ≡ Some p
+  pub below : n < next
+
+pub kids_live : (rows : List Row) (next p : ℕ) → IsRising next rows → Each (IsKid rows next p) (kids rows p)
+kids_live rows next p rising =
+    mapped (kids rows p) (filtered (λ r. row_of rows r.inc ≡ Some r) (has_parent p) rows (each_row (λ r. row_of rows r.inc ≡ Some r) next rows rising (λ r here. here))) where
+      one : (n : ℕ) → (r : Row) × (r.inc ≡ n) × (has_parent p r ≡ true) × (row_of rows r.inc ≡ Some r) → IsKid rows next p n
+      one n h = record {
+        row = h.0;
+        lives = subst (λ k. row_of rows k ≡ Some h.0) h.1 h.3;
+        under = parent_by p h.0.parent h.2;
+        below = subst (λ k. k < next) h.1 (lives_below rows next h.0.inc h.0 rising h.3);
+      }
+
+      mapped : (l : List ℕ) → Each (λ n. (r : Row) × (r.inc ≡ n) × (has_parent p r ≡ true) × (row_of rows r.inc ≡ Some r)) l → Each (IsKid rows next p) l
+      mapped [] all = tt
+      mapped (n ∷ ns) all = (one n all.0, mapped ns all.1)
+
+-- the next child is the first of them that is behind
+next_by : (u v : Bool) (after : Option ℕ) (p : ℕ) (x : Row) (o : Option Row) (l : List ℕ) → is_behind after x.inc ≡ v → option_map (λ r. r.inc) o ≡ find (is_behind after) l → option_map (λ r. r.inc) (cond (u && v) (Some x) o) ≡ find (is_behind after) (cond u (x.inc ∷ l) l)
+next_by true true after p x o l e later = sym (ap (λ b. cond b (Some x.inc) (find (is_behind after) l)) e)
+next_by true false after p x o l e later = later ∙ sym (ap (λ b. cond b (Some x.inc) (find (is_behind after) l)) e)
+next_by false v after p x o l e later = later
+
+incs_cond : (u : Bool) (x : Row) (l : List Row) → incs (cond u (x ∷ l) l) ≡ cond u (x.inc ∷ incs l) (incs l)
+incs_cond true x l = refl
+incs_cond false x l = refl
+
+pub next_kid : (rows : List Row) (p : ℕ) (after : Option ℕ) → child_behind rows p after ≡ find (is_behind after) (kids rows p)
+next_kid [] p after = refl
+next_kid (x ∷ xs) p after =
+    next_by (has_parent p x) (is_behind after x.inc) after p x (find (λ r. has_parent p r && is_behind after r.inc) xs) (kids xs p) refl (next_kid xs p after)
+    ∙ ap (find (is_behind after)) (sym (incs_cond (has_parent p x) x (filter (has_parent p) xs)))

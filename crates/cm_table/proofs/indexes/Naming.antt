@@ -1,0 +1,126 @@
+-- Maps of children's names.
+use Rattle.std.proofs.Common.{◌≡◌, ℕ, zero, suc, ◌<◌, ◌≤◌, ◌+◌, ◌-◌, List, [], ◌∷◌, map, Bool, true, false, cond, ◌==◌, ◌&&◌, true≢false, Option, Some, None, find, refl, sym, ap, ap₂, ◌∙◌, arith, bytes_eq, Ordering, Less, Equal, Greater, is_eq}
+use Rattle.std.specs.Prelude.{option_map, nat_lt}
+use Rattle.std.specs.Option.{option_eq, option_cmp}
+use Rattle.std.specs.Ordering.{nat_cmp, ordering_then}
+use Rattle.std.specs.BTreeMap.{BTreeMap, get}
+use Rattle.std.specs.Cmp.{unsigned_Decides}
+use Rattle.std.specs.Cmp.Lexicographic.{slice_cmp}
+use Rattle.std.proofs.lemmas.Bool.{lt-ltb, le-ltb, ltb-true, ltb-false}
+use Rattle.std.proofs.lemmas.Map.Text.{is_eq-slice_cmp}
+use Rattle.cm_names.specs.declared.child.ChildName.{ChildName}
+use Rattle.cm_decl.specs.Same.{same_child}
+use Rattle.cm_decl.proofs.Sameness.{same_child_exact}
+use Rattle.cm_world.specs.Edits.{drop_first}
+use Rattle.cm_world.specs.Rows.{is_behind}
+use Rattle.cm_table.specs.declared.slot.Index.{Index}
+use Rattle.cm_table.specs.Slots.{kids_at, named_at}
+use Rattle.cm_table.specs.Names.{child_cmp}
+use Rattle.cm_table.specs.Keys.{nth}
+use Rattle.cm_table.specs.Links.{unless}
+use Rattle.cm_table.proofs.lists.Halves.{not_same}
+use Rattle.cm_table.proofs.indexes.Indexing.{unless_other}
+
+-- ---- names
+
+tied_then : (a b : Ordering) → (is_eq a && is_eq b) ≡ is_eq (ordering_then a b)
+tied_then Less b = refl
+tied_then Equal b = refl
+tied_then Greater b = refl
+
+options_tie : (p q : Option (List ℕ)) → is_eq (option_cmp (slice_cmp nat_cmp) p q) ≡ option_eq bytes_eq p q
+options_tie None None = refl
+options_tie None (Some y) = refl
+options_tie (Some x) None = refl
+options_tie (Some x) (Some y) = is_eq-slice_cmp x y
+
+-- two names are equal in their order where they are the same
+pub names_tie : (a b : ChildName) → is_eq (child_cmp a b) ≡ same_child a b
+names_tie a b =
+    sym (tied_then (option_cmp (slice_cmp nat_cmp) a.coll b.coll) (slice_cmp nat_cmp a.name b.name))
+    ∙ ap₂ (λ s t. s && t) (options_tie a.coll b.coll) (is_eq-slice_cmp a.name b.name)
+
+pub put_name : (m n : BTreeMap ChildName ℕ) (name : ChildName) (a : ℕ) → ((q : ChildName) → get child_cmp n q ≡ cond (is_eq (child_cmp name q)) (Some a) (get child_cmp m q)) → (q : ChildName) → get child_cmp n q ≡ cond (same_child name q) (Some a) (get child_cmp m q)
+put_name m n name a puts q = puts q ∙ ap (λ b. cond b (Some a) (get child_cmp m q)) (names_tie name q)
+
+forget_by : (b : Bool) (m n : BTreeMap ChildName ℕ) (name : ChildName) (a : ℕ) (q : ChildName) → same_child name q ≡ b → get child_cmp n q ≡ cond (is_eq (child_cmp name q)) None (get child_cmp m q) → get child_cmp m name ≡ Some a → (get child_cmp m q ≡ Some a → same_child name q ≡ true) → get child_cmp n q ≡ unless a (get child_cmp m q)
+forget_by true m n name a q same takes had only =
+    let is : get child_cmp m q ≡ Some a = ap (get child_cmp m) (sym (same_child_exact name q same)) ∙ had in
+    takes ∙ ap (λ b. cond b None (get child_cmp m q)) (names_tie name q ∙ same)
+    ∙ sym (ap (unless a) is ∙ ap (λ b. cond b None (Some a)) ((unsigned_Decides a a).1 refl))
+forget_by false m n name a q same takes had only =
+    takes ∙ ap (λ b. cond b None (get child_cmp m q)) (names_tie name q ∙ same)
+    ∙ sym (unless_other a (get child_cmp m q) (λ e. true≢false (sym (only e) ∙ same)))
+
+-- the name is taken out
+pub forgotten : (m n : BTreeMap ChildName ℕ) (name : ChildName) (a : ℕ) → ((q : ChildName) → get child_cmp n q ≡ cond (is_eq (child_cmp name q)) None (get child_cmp m q)) → get child_cmp m name ≡ Some a → ((q : ChildName) → get child_cmp m q ≡ Some a → same_child name q ≡ true) → (q : ChildName) → get child_cmp n q ≡ unless a (get child_cmp m q)
+forgotten m n name a takes had only q = forget_by (same_child name q) m n name a q refl (takes q) had (only q)
+
+-- ---- numbers above a base
+
+pub nth-map : (f : ℕ → ℕ) (ks : List ℕ) (n : ℕ) → nth (map f ks) n ≡ option_map f (nth ks n)
+nth-map f [] n = refl
+nth-map f (k ∷ ks) zero = refl
+nth-map f (k ∷ ks) (suc n) = nth-map f ks n
+
+-- a number above the base that is told of a longer one
+pub same_above : (b k a : ℕ) → (k == a) ≡ (b + k == b + a)
+same_above b k a = by (k == a) (b + k == b + a) refl refl where
+  by : (t u : Bool) → (k == a) ≡ t → (b + k == b + a) ≡ u → t ≡ u
+  by true true x y = refl
+  by false false x y = refl
+  by true false x y = let e : k ≡ a = (unsigned_Decides k a).0 x in absurd (true≢false (sym ((unsigned_Decides (b + k) (b + a)).1 (ap (λ n. b + n) e)) ∙ y))
+  by false true x y = let e : b + k ≡ b + a = (unsigned_Decides (b + k) (b + a)).0 y in let f : k ≡ a = omega (arith, e) in absurd (true≢false (sym ((unsigned_Decides k a).1 f) ∙ x))
+
+drop_by : (t : Bool) (b k a : ℕ) (ks : List ℕ) → (b + k == b + a) ≡ t → map (λ n. b + n) (drop_first (λ n. n == a) ks) ≡ drop_first (λ n. n == b + a) (map (λ n. b + n) ks) → map (λ n. b + n) (cond t ks (k ∷ drop_first (λ n. n == a) ks)) ≡ cond t (map (λ n. b + n) ks) ((b + k) ∷ drop_first (λ n. n == b + a) (map (λ n. b + n) ks))
+drop_by true b k a ks e later = refl
+drop_by false b k a ks e later = ap (λ l. (b + k) ∷ l) later
+
+pub drop_above : (b a : ℕ) (ks : List ℕ) → map (λ n. b + n) (drop_first (λ n. n == a) ks) ≡ drop_first (λ n. n == b + a) (map (λ n. b + n) ks)
+drop_above b a [] = refl
+drop_above b a (k ∷ ks) =
+    ap (λ t. map (λ n. b + n) (cond t ks (k ∷ drop_first (λ n. n == a) ks))) (same_above b k a) ∙ drop_by (b + k == b + a) b k a ks refl (drop_above b a ks)
+
+-- none of them is below the base
+drop_low : (b i : ℕ) (ks : List ℕ) → i < b → drop_first (λ n. n == i) (map (λ n. b + n) ks) ≡ map (λ n. b + n) ks
+drop_low b i [] low = refl
+drop_low b i (k ∷ ks) low =
+    ap (λ t. cond t (map (λ n. b + n) ks) ((b + k) ∷ drop_first (λ n. n == i) (map (λ n. b + n) ks))) (not_same (b + k) i (λ e. absurd (omega arith))) ∙ ap (λ l. (b + k) ∷ l) (drop_low b i ks low)
+
+pub kept_low : (b i : ℕ) (ks : List ℕ) → i < b → map (λ n. b + n) ks ≡ drop_first (λ n. n == i) (map (λ n. b + n) ks)
+kept_low b i ks low = sym (drop_low b i ks low)
+
+-- the first of them that is above a number
+pub all_behind : (b i : ℕ) (ks : List ℕ) → i < b → find (is_behind (Some i)) (map (λ n. b + n) ks) ≡ nth (map (λ n. b + n) ks) 0
+all_behind b i [] low = refl
+all_behind b i (k ∷ ks) low = ap (λ t. cond t (Some (b + k)) (find (is_behind (Some i)) (map (λ n. b + n) ks))) (lt-ltb i (b + k) (omega arith))
+
+shifted : (b i k : ℕ) → b ≤ i → nat_lt i (b + k) ≡ nat_lt (i - b) k
+shifted b i k le = by (nat_lt (i - b) k) refl where
+  by : (t : Bool) → nat_lt (i - b) k ≡ t → nat_lt i (b + k) ≡ t
+  by true e = let h : i - b < k = ltb-true (i - b) k e in lt-ltb i (b + k) (omega arith)
+  by false e = let h : k ≤ i - b = ltb-false (i - b) k e in le-ltb i (b + k) (omega arith)
+
+pub behind_above : (b i : ℕ) (ks : List ℕ) → b ≤ i → find (is_behind (Some i)) (map (λ n. b + n) ks) ≡ option_map (λ n. b + n) (find (λ k. nat_lt (i - b) k) ks)
+behind_above b i [] le = refl
+behind_above b i (k ∷ ks) le =
+    ap (λ t. cond t (Some (b + k)) (find (is_behind (Some i)) (map (λ n. b + n) ks))) (shifted b i k le) ∙ by (nat_lt (i - b) k) (behind_above b i ks le) where
+      by : (t : Bool) → find (is_behind (Some i)) (map (λ n. b + n) ks) ≡ option_map (λ n. b + n) (find (λ k. nat_lt (i - b) k) ks) → cond t (Some (b + k)) (find (is_behind (Some i)) (map (λ n. b + n) ks)) ≡ option_map (λ n. b + n) (cond t (Some k) (find (λ k. nat_lt (i - b) k) ks))
+      by true later = refl
+      by false later = later
+
+pub first_behind : (l : List ℕ) → find (is_behind None) l ≡ nth l 0
+first_behind [] = refl
+first_behind (n ∷ ns) = refl
+
+-- a number that is taken away is told of longer ones too
+pub remove_kids : (x y : Index) → y.base ≡ x.base → (above inc : ℕ) → x.base + above ≡ inc → y.kids.items ≡ drop_first (λ k. k == above) x.kids.items → kids_at y ≡ drop_first (λ k. k == inc) (kids_at x)
+remove_kids x y same above inc sum e =
+    ap₂ (λ b l. map (λ k. b + k) l) same e ∙ drop_above x.base above x.kids.items ∙ ap (λ n. drop_first (λ k. k == n) (kids_at x)) sum
+
+pub sum_above : (i b : ℕ) → b ≤ i → b + (i - b) ≡ i
+sum_above i b le = omega arith
+
+-- what leads to an incarnation leads as far above the base
+pub leads_above : (x : Index) (i above : ℕ) (c : ChildName) → x.base + above ≡ i → get child_cmp x.names c ≡ Some above → named_at x c ≡ Some i
+leads_above x i above c sum e = ap (option_map (λ k. x.base + k)) e ∙ ap Some sum

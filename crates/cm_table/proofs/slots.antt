@@ -1,0 +1,4 @@
+pub mod Joining
+pub mod Linking
+pub mod Numbers
+pub mod Rowed

@@ -1,0 +1,11 @@
+pub mod Adding
+pub mod Changes
+pub mod First
+pub mod Growth
+pub mod Leaves
+pub mod Orderly
+pub mod Removing
+pub mod Resolving
+pub mod Rows
+pub mod Siblings
+pub mod Taking

@@ -1,0 +1,76 @@
+-- A row without children is taken away, and removal goes on at its parent.
+use Rattle.std.proofs.Common.{◌≡◌, ℕ, ◌<◌, ◌-◌, ◌==◌, ◌||◌, List, Bool, true, false, true≢false, Option, Some, None, length, refl, sym, ◌∙◌, ap, subst, arith}
+use Rattle.std.specs.Prelude.{option_map, option_and_then}
+use Rattle.cm_world.specs.declared.row.Row.{Row}
+use Rattle.cm_world.specs.Rows.{row_of, is_below, at_or_above}
+use Rattle.cm_world.specs.Sound.{IsOrderly, IsParent}
+use Rattle.cm_world.proofs.trees.Finding.{row_of-inc}
+use Rattle.cm_world.proofs.trees.Climbing.{some_above-step, above_root}
+use Rattle.cm_table.specs.declared.slot.Slot.{Slot}
+use Rattle.cm_table.specs.Leaf.{IsWithin, IsLeaf, IsChildOf}
+use Rattle.cm_table.proofs.tree.Rows.{some_is, is_some_by, lives_below}
+use Rattle.cm_table.proofs.tree.Leaves.{without, stays, not_taken, above_same, below_itself}
+use Rattle.cm_table.proofs.lists.Halves.{no_some, not_same}
+
+-- what is left to remove, over rows
+abbrev pub Goes : List Row → ℕ → Option ℕ → Type 0
+Goes rows top None = row_of rows top ≡ None
+Goes rows top (Some i) = IsWithin rows top i
+
+-- a row that lives is at or below itself
+pub start : (rows : List Row) (next top : ℕ) (r : Row) → IsOrderly rows next → row_of rows top ≡ Some r → IsWithin rows top top
+start rows next top r o here = record { lives = is_some_by (row_of rows top) r here; below = below_itself rows next top r o here }
+
+-- a child of a row at or below another is so too
+pub within_child : (rows : List Row) (next top i k : ℕ) → IsOrderly rows next → IsWithin rows top i → IsChildOf rows i k → IsWithin rows top k
+within_child rows next top i k o w child = record {
+  lives = is_some_by (row_of rows k) child.row child.lives;
+  below = some_above-step (λ s. s.inc == top) rows next k child.row o child.lives
+      ∙ ap (λ u. (child.row.inc == top) || at_or_above (length rows) (λ s. s.inc == top) rows u) child.under
+      ∙ or_true (child.row.inc == top) (is_below rows top i) w.below;
+} where
+  or_true : (a b : Bool) → b ≡ true → (a || b) ≡ true
+  or_true true b h = refl
+  or_true false b h = h
+
+falls : (n i k : ℕ) → i < k → k < n → n - k < n - i
+falls n i k up low = omega arith
+
+pub child_nearer : (rows : List Row) (next i k : ℕ) → IsOrderly rows next → IsChildOf rows i k → next - k < next - i
+child_nearer rows next i k o child =
+    falls next i k (o.parents k i child.row child.lives child.under).0.lower (lives_below rows next k child.row o.rising child.lives)
+
+-- the row that was removed is gone
+pub gone : (rows : List Row) (next i : ℕ) → IsOrderly rows next → row_of (without i rows) i ≡ None
+gone rows next i o = no_some (row_of (without i rows) i) (λ h.
+    let q : (s : Row) × (row_of (without i rows) i ≡ Some s) = some_is (row_of (without i rows) i) h in
+    not_taken i next i rows q.0 o.rising q.1 refl)
+
+left_by : (a b : Bool) → a ≡ false → (a || b) ≡ true → b ≡ true
+left_by true b e h = absurd (true≢false e)
+left_by false b e h = h
+
+goes_by : (rows : List Row) (next top leaf : ℕ) (r : Row) (u : Option ℕ) → IsOrderly rows next → IsLeaf rows top leaf → row_of rows leaf ≡ Some r → r.parent ≡ u → at_or_above (length rows) (λ s. s.inc == top) rows u ≡ true → Goes (without leaf rows) top u
+goes_by rows next top leaf r None o l here up above = absurd (true≢false (sym above ∙ above_root (length rows) (λ s. s.inc == top) rows))
+goes_by rows next top leaf r (Some p) o l here up above =
+    let q : IsParent rows p leaf = (o.parents leaf p r here up).0 in
+    let low : p < leaf = q.lower in
+    let kept : row_of (without leaf rows) p ≡ Some q.row = stays leaf p rows q.row (λ e. absurd (omega arith)) q.lives in
+    record {
+      lives = is_some_by (row_of (without leaf rows) p) q.row kept;
+      below = above_same (λ s. s.inc == top) rows next leaf p q.row o l.childless kept ∙ above;
+    }
+
+-- where it wasn't the top, removal goes on at its parent
+pub goes_on : (rows : List Row) (next top leaf : ℕ) → IsOrderly rows next → IsLeaf rows top leaf → (leaf ≡ top → ⊥) → Goes (without leaf rows) top (option_and_then (λ r. r.parent) (row_of rows leaf))
+goes_on rows next top leaf o l differ =
+    let q : (r : Row) × (row_of rows leaf ≡ Some r) = some_is (row_of rows leaf) l.lives in
+    let other : (q.0.inc == top) ≡ false = not_same q.0.inc top (λ e. differ (sym (row_of-inc rows leaf q.0 q.1) ∙ e)) in
+    subst (λ z. Goes (without leaf rows) top (option_and_then (λ r. r.parent) z)) (sym q.1)
+    (goes_by rows next top leaf q.0 q.0.parent o l q.1 refl
+    (left_by (q.0.inc == top) (at_or_above (length rows) (λ s. s.inc == top) rows q.0.parent) other (sym (some_above-step (λ s. s.inc == top) rows next leaf q.0 o q.1) ∙ l.below)))
+
+-- the parent, by slots
+pub parent_by_slots : (o : Option Slot) → option_and_then (λ s. s.row.parent) o ≡ option_and_then (λ r. r.parent) (option_map (λ s. s.row) o)
+parent_by_slots None = refl
+parent_by_slots (Some s) = refl

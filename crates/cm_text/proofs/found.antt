@@ -1,0 +1,5 @@
+pub mod LoopLemmas
+pub mod OutlineLemmas
+pub mod ScanLemmas
+pub mod CharLemmas
+pub mod StringLemmas

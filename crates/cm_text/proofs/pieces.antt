@@ -1,0 +1,5 @@
+pub mod CoverLemmas
+pub mod CutLemmas
+pub mod FaultLemmas
+pub mod PieceLemmas
+pub mod SoundLemmas

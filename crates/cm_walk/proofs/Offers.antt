@@ -1,0 +1,61 @@
+-- The offer that an index tells.
+use Rattle.std.proofs.Common.{◌≡◌, ℕ, ◌<◌, ◌-◌, ◌^◌, List, length, Bool, true, false, cond, Option, Some, None, find, refl, sym, ap, ◌∙◌, arith}
+use Rattle.std.specs.Prelude.{position, slice_get, option_map, option_and_then, nat_lt}
+use Rattle.std.specs.List.{position_or_len}
+use Rattle.std.proofs.lemmas.Bool.{ltb-false}
+use Rattle.std.proofs.lemmas.List.Folds.{find_at}
+use Rattle.std.proofs.lemmas.Option.{slice_get_past}
+use Rattle.cm_names.specs.declared.child.ChildName.{ChildName}
+use Rattle.cm_decl.specs.declared.decl.Decl.{Decl}
+use Rattle.cm_decl.specs.declared.kind.Kind.{Kind}
+use Rattle.cm_world.specs.declared.row.Row.{Row}
+use Rattle.cm_world.specs.Rows.{row_of, decl_of}
+use Rattle.cm_world.specs.Next.{is_offer_to, offer_of}
+use Rattle.cm_world.specs.Offering.{offer_index, index_for, told_index, offer_for, offer_at}
+use Rattle.cm_world.proofs.trees.Finding.{some_same, none_some}
+
+-- ---- the first that passes, and its place
+
+at_by : {X : Type 0} (p : X → Bool) (xs : List X) (k : ℕ) (t : Bool) → nat_lt (position_or_len p xs) (length xs) ≡ t → cond t (Some (position_or_len p xs)) None ≡ Some k → find p xs ≡ slice_get xs k
+at_by p xs k true less is = find_at p xs ∙ ap (slice_get xs) (some_same (position_or_len p xs) k is)
+at_by p xs k false less is = absurd (none_some k is)
+
+pub first_at : {X : Type 0} (p : X → Bool) (xs : List X) (k : ℕ) → position p xs ≡ Some k → find p xs ≡ slice_get xs k
+first_at p xs k is = at_by p xs k (nat_lt (position_or_len p xs) (length xs)) refl is
+
+none_by : {X : Type 0} (p : X → Bool) (xs : List X) (t : Bool) → nat_lt (position_or_len p xs) (length xs) ≡ t → cond t (Some (position_or_len p xs)) None ≡ None → find p xs ≡ None
+none_by p xs true less is = absurd (none_some (position_or_len p xs) (sym is))
+none_by p xs false less is = find_at p xs ∙ slice_get_past xs (position_or_len p xs) (ltb-false (position_or_len p xs) (length xs) less)
+
+pub none_at : {X : Type 0} (p : X → Bool) (xs : List X) → position p xs ≡ None → find p xs ≡ None
+none_at p xs is = none_by p xs (nat_lt (position_or_len p xs) (length xs)) refl is
+
+-- ---- told indexes
+
+below : (k index : ℕ) → told_index k ≡ index → index < 2 ^ 32 - 1 → k ≡ index
+below k index told less = omega arith
+
+pub told_exactly : (o : Option ℕ) (index : ℕ) → option_map told_index o ≡ Some index → index < 2 ^ 32 - 1 → o ≡ Some index
+told_exactly None index told less = absurd (none_some index told)
+told_exactly (Some k) index told less = ap Some (below k index (some_same (told_index k) index told) less)
+
+pub told_none : (o : Option ℕ) → option_map told_index o ≡ None → o ≡ None
+told_none None told = refl
+told_none (Some k) told = absurd (none_some (told_index k) (sym told))
+
+-- ---- an offer by its index
+
+pub offer_by_index : (d : Decl) (c : ChildName) (kind : Kind) (name : List ℕ) (index : ℕ) → option_map told_index (offer_index d kind name c) ≡ Some index → index < 2 ^ 32 - 1 → slice_get d.offers index ≡ offer_of d c kind name
+offer_by_index d c kind name index told less =
+    sym (first_at (is_offer_to c kind name) d.offers index (told_exactly (offer_index d kind name c) index told less))
+
+pub no_offer_by_index : (d : Decl) (c : ChildName) (kind : Kind) (name : List ℕ) → option_map told_index (offer_index d kind name c) ≡ None → None ≡ offer_of d c kind name
+no_offer_by_index d c kind name told =
+    sym (none_at (is_offer_to c kind name) d.offers (told_none (offer_index d kind name c) told))
+
+-- the index for a row whose parent has this declaration
+pub index_is : (rows : List Row) (i : ℕ) (kind : Kind) (name : List ℕ) (d : Decl) (c : ChildName) (r : Row) → row_of rows i ≡ Some r → r.name ≡ Some c → option_and_then (decl_of rows) r.parent ≡ Some d → offer_at rows i kind name ≡ option_map told_index (offer_index d kind name c)
+index_is rows i kind name d c r lives named declared =
+    ap (λ o. option_map told_index (option_and_then (offer_for rows kind name) o)) lives
+    ∙ ap (λ o. option_map told_index (option_and_then (index_for r kind name) o)) declared
+    ∙ ap (λ n. option_map told_index (option_and_then (offer_index d kind name) n)) named

@@ -1,0 +1,7 @@
+pub mod Actions
+pub mod Declarations
+pub mod Expiries
+pub mod Fresh
+pub mod Picks
+pub mod Routes
+pub mod Shutdowns
