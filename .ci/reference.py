@@ -85,7 +85,7 @@ def literals(*texts):
 
 def words_and_options():
     """The words behind the program's name, and its options."""
-    text = specs("cm_program", "Calls")
+    text = specs("cm_call", "Calls")
     names = re.findall(r'long = Some \(codes "([^"]+)"\)', text)
     # Rules that are made of a name which is their option too.
     for rule in re.findall(r"^(\w+) name\b[^=]*=\s+record [^}]*long = Some name", text, re.M):

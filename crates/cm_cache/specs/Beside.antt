@@ -1,5 +1,6 @@
 -- Answers that are kept beside a history, and what becomes of them with an entry more.
-use Rattle.std.specs.Prelude.{◌≡◌, ℕ, ◌+◌, List, [], Bool, not, ◌&&◌, ◌||◌, is_some, if◌then◌else◌}
+use Rattle.std.specs.Prelude.{◌≡◌, ℕ, ◌+◌, List, [], Bool, true, false, not, ◌&&◌, ◌||◌, is_some}
+use Rattle.std.specs.Prelude.{if◌then◌else◌}
 use Rattle.std.specs.List.{list_any}
 use Rattle.cm_world.specs.declared.row.Row.{Row}
 use Rattle.cm_world.specs.declared.action.Outcome.{Outcome}
@@ -43,6 +44,11 @@ abbrev pub found_by : Found → Held → Held
 found_by Again h = record h { number = h.number + 1 }
 found_by (New a) h = record h { answers = put_in h.answers a.inc a.path a.walked }
 found_by Passing h = h
+
+-- whether an answer is kept from now on
+abbrev pub is_new : Found → Bool
+is_new (New a) = true
+is_new found = false
 
 -- whether an entry that asks for none empties it, where it is told whether the entry dooms an instance
 abbrev pub is_emptied : Event → Reply → Bool → Bool

@@ -1,9 +1,9 @@
 //! Answers kept beside a history.
 
-ghost use Rattle.std.specs.Prelude.{◌≡◌, ◌+◌, ◌<◌, ◌^◌, ℕ, IfOk, OnOk, OnErr};
+ghost use Rattle.std.specs.Prelude.{◌≡◌, ◌+◌, ◌<◌, ◌^◌, ℕ, IfOk, OnOk, OnErr, IsTrue};
 ghost use Rattle.cm_world.specs.declared.action.Finish.{Finish};
 ghost use Rattle.cm_cache.specs.Answers.{kept_at};
-ghost use Rattle.cm_cache.specs.Beside.{nothing_held, found_by, is_emptied, followed, finding};
+ghost use Rattle.cm_cache.specs.Beside.{nothing_held, found_by, is_new, is_emptied, followed, finding};
 ghost use Rattle.cm_cache.specs.Keeping as keeping;
 
 use crate::answer::Answer;
@@ -94,10 +94,11 @@ impl Keeper {
     /// Goes on over an entry that asks for a use: counts an answer that was there, or keeps a new
     /// one.
     ///
-    /// `Err` where memory runs out, and then all is as before.
+    /// `Err` where memory runs out for a new one, and then all is as before.
     pub fn ask(&mut self, found: Found) -> Result<(), Memory>
         requires { self.old.number + 1 < 2 ^ 64 }
         ensures ok { OnOk result (self.new ≡ found_by found self.old) }
+        ensures fresh { OnErr result (IsTrue (is_new found)) }
         ensures err { OnErr result (self.new ≡ self.old) }
     {
         match found {

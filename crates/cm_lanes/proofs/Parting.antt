@@ -1,5 +1,5 @@
 -- The parts of a caller's lines, and lines that are lost.
-use Rattle.std.proofs.Common.{◌≡◌, ℕ, ◌==◌, List, [], ◌∷◌, ◌++◌, All, map, flat_map, cond, Bool, true, false, Option, Some, None, Result, Ok, Err, IsTrue, refl, sym, ap, ◌∙◌, subst, inl, inr, append-nil, append_assoc, suc, arith}
+use Rattle.std.proofs.Common.{◌≡◌, ℕ, ◌==◌, List, [], ◌∷◌, ◌++◌, All, map, flat_map, cond, Bool, true, false, Option, Some, None, Result, Ok, Err, IsTrue, refl, sym, ap, ◌∙◌, subst, append-nil, append_assoc, suc, arith}
 use Rattle.std.proofs.lemmas.List.Elements.{filter-append}
 use Rattle.cm_turn.specs.History.{StartsWith}
 use Rattle.cm_world.specs.declared.action.ActKind.{ActKind}
@@ -23,17 +23,15 @@ use Rattle.cm_command.specs.declared.command.Command.TheVariants as command
 use Rattle.cm_command.specs.declared.script.Line.{Line}
 use Rattle.cm_manager.specs.declared.acted.Acted.{Acted}
 use Rattle.cm_manager.specs.Turns.{own_entries, Later}
-use Rattle.cm_manager.specs.Runs.{Acts, Tries, Onces, decided, needs, failed, cut_try, lost_try}
+use Rattle.cm_manager.specs.Runs.{Acts, Tries, Onces, decided, needs, failed, cut_try}
 use Rattle.cm_manager.specs.Calls.{Way, Finding, Behind, OnRow, Tried, Nothing, Then, TriedThen, OnceCreated, SweptLeft}
-use Rattle.cm_manager.specs.Calls.{ActedOn, Reaches, Calls, Goes}
+use Rattle.cm_manager.specs.Calls.{ActedOn, Reaches, Calls}
 use Rattle.cm_manager.specs.Shutdowns.{Shuts, Destroys}
 use Rattle.cm_manager.specs.Doctor.{Checks, Each, OfPath, OfRow, Doctors}
 use Rattle.cm_manager.proofs.calling.Joining.{starts-trans}
 use Rattle.cm_manager.proofs.left.Closing.{makes-own, cut-later, acts-close, sweeps_close}
 use Rattle.cm_manager.proofs.shutdowns.ShuttingDown.{shuts_close, destroys_close}
-use Rattle.cm_manager.specs.Done.{Done, rests, performs}
-use Rattle.cm_manager.specs.Done as done
-use Rattle.cm_lanes.specs.Script.{Answered, answers_of, Follows, IsPhase, ArePhases}
+use Rattle.cm_lanes.specs.Script.{Answered, answers_of, Follows, rests, performs, IsPhase, ArePhases}
 use Rattle.cm_lanes.specs.Laws.{FallsIntoRuns, no_answer}
 use Rattle.cm_manager.proofs.calling.Keeping.{starts_same}
 
@@ -44,7 +42,6 @@ tries_grow f c e (decided asks is) = (makes-own c _ _ _ _ asks.made).0
 tries_grow f c e (needs asks is act fine again) = starts-trans _ _ _ (makes-own c _ _ _ _ asks.made).0 (starts-trans _ _ _ (acts-close f c act).grows (tries_grow f c e again))
 tries_grow f c e (failed asks is act fails) = starts-trans _ _ _ (makes-own c _ _ _ _ asks.made).0 (acts-close f c act).grows
 tries_grow f c e (cut_try {h₀ = a} {h₁ = b} {x = x} is) = (cut-later f c a b e x is).grows
-tries_grow f c e (lost_try way) = tries_grow f c e way
 
 abbrev Growing : (ℕ → Way (Result Answer Refusal)) → Type 0
 Growing call = (i : ℕ) (a b : List Entry) (r : Result Answer Refusal) → call i a b r → StartsWith b a
@@ -123,13 +120,9 @@ calls_grow f c (command.Show t) a b r is = on_row_grows f c t _ a b r (tried_gro
 calls_grow f c (command.Survey t) a b r is = on_row_grows f c t _ a b r (tried_grows f c _) is
 calls_grow f c (command.Exited t) a b r is = on_row_grows f c t _ a b r (tried_then_grows f c _ _ (left_grows f c)) is
 
-goes_grows : (f : Frame) (c : ℕ) (cmd : Command) (a b : List Entry) (r : Result Answer Refusal) → Goes f c cmd a b r → StartsWith b a
-goes_grows f c cmd a b r (inl is) = calls_grow f c cmd a b r is
-goes_grows f c cmd a b r (inr is) = calls_grow f c cmd a b is.1.0 is.1.1
-
-follows_grows : (f : Frame) (c : ℕ) (xs : List Done) (a b : List Entry) → done.Follows f c xs a b → StartsWith b a
+follows_grows : (f : Frame) (c : ℕ) (xs : List Answered) (a b : List Entry) → Follows f c xs a b → StartsWith b a
 follows_grows f c xs a b (rests later) = later.grows
-follows_grows f c xs a b (performs {d = x} {h₁ = h} goes rest) = starts-trans a h b (goes_grows f c x.command a h x.result goes) (follows_grows f c _ h b rest)
+follows_grows f c xs a b (performs {a = x} {h₁ = h} calls rest) = starts-trans a h b (calls_grow f c x.line.command a h x.result calls) (follows_grows f c _ h b rest)
 
 -- ---- its parts
 
@@ -138,8 +131,8 @@ own_part c a b grows = ap (own_entries c) grows.1 ∙ filter-append (λ (y : Ent
 
 pub falls_into_runs : (f : Frame) (c : ℕ) (xs : List Answered) (a b history : List Entry) → Follows f c xs a b → Legal (start f) history → StartsWith history b → FallsIntoRuns f history c xs a b
 falls_into_runs f c [] a b history (rests later) legal within = record { parts = []; whole = later.own ∙ sym (append-nil (own_entries c a)); runs = tt }
-falls_into_runs f c (x ∷ others) a b history (performs {h₁ = h} goes rest) legal within =
-    let grows = goes_grows f c x.line.command a h x.result goes in
+falls_into_runs f c (x ∷ others) a b history (performs {h₁ = h} calls rest) legal within =
+    let grows = calls_grow f c x.line.command a h x.result calls in
     let part = own_entries c grows.0 in
     let others_are = falls_into_runs f c others h b history rest legal within in
     record {
@@ -151,7 +144,7 @@ falls_into_runs f c (x ∷ others) a b history (performs {h₁ = h} goes rest) l
           before = a;
           after = h;
           within = starts-trans h b history (follows_grows f c _ h b rest) within;
-          goes = goes;
+          goes = calls;
           part_is = own_part c a h grows;
         },
         others_are.runs,
@@ -208,10 +201,10 @@ calls_lost f c (command.Survey t) h = on_row_lost f c t _ h (tried_lost f c _ h)
 calls_lost f c (command.Exited t) h = on_row_lost f c t _ h (tried_then_lost f c _ _ h)
 
 follows_lost : (f : Frame) (c : ℕ) (lines : List Line) (h : List Entry) → Follows f c (answers_of c (map no_answer lines)) h h
-follows_lost f c [] h = done.Follows.rests (no_later c h)
+follows_lost f c [] h = Follows.rests (no_later c h)
 follows_lost f c (l ∷ ls) h = first (l.lane == c) (follows_lost f c ls h) where
   first : (b : Bool) → Follows f c (answers_of c (map no_answer ls)) h h → Follows f c (cond b (no_answer l ∷ answers_of c (map no_answer ls)) (answers_of c (map no_answer ls))) h h
-  first true rest = done.Follows.performs (inl (calls_lost f c l.command h)) rest
+  first true rest = Follows.performs (calls_lost f c l.command h) rest
   first false rest = rest
 
 phase_lost : (frames : ℕ → Frame) (lines : List Line) (h : List Entry) → IsPhase frames (map no_answer lines) h h

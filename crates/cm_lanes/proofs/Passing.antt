@@ -13,8 +13,8 @@ use Rattle.cm_lanes.specs.declared.lane.Lane.{Lane}
 use Rattle.cm_manager.specs.Kept.{IsOwnPass, Keeps, gates_view}
 use Rattle.cm_lanes.specs.Lane.{Met, MetAll, Worked}
 use Rattle.cm_lanes.specs.Phases.{Passed, PassedAll}
-use Rattle.cm_manager.proofs.calling.Keeping.{follows_later, keeps_met, met_later}
-use Rattle.cm_lanes.specs.Script.{done_of}
+use Rattle.cm_manager.proofs.calling.Keeping.{keeps_met, met_later}
+use Rattle.cm_lanes.proofs.Performing.{follows_later}
 
 -- ---- one lane in a phase
 
@@ -39,7 +39,7 @@ module _ {G : Type 0} (log_of : G → Option (List Asked)) (faults_of : G → �
             keeps = keeps;
             answers = is.answers;
             own_lines = is.own_lines;
-            follows = follows_later (frame_of w.p) w.p.caller (map done_of is.answers) w.p.seen w.q.seen last is.follows later;
+            follows = follows_later (frame_of w.p) w.p.caller is.answers w.p.seen w.q.seen last is.follows later;
             said = λ kept. ap (λ (q : _). q.items) m.said ∙ is.said (sym m.lost ∙ kept);
           };
           lost = λ kept. w.lost (sym m.lost ∙ kept);

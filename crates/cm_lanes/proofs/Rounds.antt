@@ -1,5 +1,5 @@
 -- One lane meets others, one after another.
-use Rattle.std.proofs.Common.{◌≡◌, ◌≢◌, ◌⊎◌, ℕ, zero, suc, ◌+◌, ◌<◌, ◌≤◌, List, [], ◌∷◌, ◌++◌, All, Some, length, set, get_or, refl, sym, ap, ◌∙◌, subst, inl, inr, append-nil, append_assoc, arith, get_or-set_other, get_or-set_same, below_more}
+use Rattle.std.proofs.Common.{◌≡◌, ◌≢◌, ◌⊎◌, ℕ, zero, suc, ◌+◌, ◌<◌, ◌≤◌, List, [], ◌∷◌, ◌++◌, All, Any, Some, length, set, get_or, refl, sym, ap, ◌∙◌, subst, inl, inr, append-nil, append_assoc, arith, get_or-set_other, get_or-set_same, below_more}
 use Rattle.std.proofs.lemmas.List.{get_or_default}
 use Rattle.cm_turn.specs.History.{StartsWith}
 use Rattle.cm_turn.specs.Passes.{LockView, seen_up_to}
@@ -9,7 +9,7 @@ use Rattle.cm_manager.specs.Contract.{RealmPass}
 use Rattle.cm_manager.proofs.calling.Joining.{starts-trans}
 use Rattle.cm_lanes.specs.declared.lane.Lane.{Lane}
 use Rattle.cm_manager.specs.Kept.{IsOwnPass}
-use Rattle.cm_lanes.specs.Lane.{HasPass, Met, MetBoth, MetAll}
+use Rattle.cm_lanes.specs.Lane.{HasPass, HasSeen, Met, MetBoth, MetAll}
 use Rattle.cm_lanes.specs.Meeting.{MetWithin, HasSeenWithin, MeetsEach}
 use Rattle.cm_manager.proofs.calling.Keeping.{starts_same}
 
@@ -56,6 +56,7 @@ meets_none turn f xs has = record {
   lost = refl;
   met = λ k d lt. absurd (omega arith);
   rest = λ k d le. refl;
+  among = inl refl;
   still = λ all. (refl, λ k d lt. absurd (omega arith));
 }
 
@@ -76,6 +77,12 @@ still_longest s seen f' f'' x x' both is had grows within =
           let back : StartsWith seen s = subst (λ (l : List Entry). StartsWith seen l) (ap (λ (p : RealmPass). p.seen) pass_is ∙ e ∙ is) within.within in
           starts_both s seen grows back)
     ]
+
+-- the first one had seen it or one of those that were met, or the one that is met now
+among_more : {G : Type 0} (n : ℕ) (seen s own : List Entry) (xs : List (Lane G)) → (s ≡ seen) ⊎ ((d : Lane G) → HasSeen s (get_or xs n d)) → (own ≡ seen) ⊎ ((k : ℕ) × (k < n) × ((d : Lane G) → HasSeen seen (get_or xs k d))) → (own ≡ s) ⊎ ((k : ℕ) × (k < n + 1) × ((d : Lane G) → HasSeen s (get_or xs k d)))
+among_more n seen s own xs (inl e) (inl it) = inl (it ∙ sym e)
+among_more n seen s own xs (inl e) (inr it) = inr (it.0, omega (arith, it.1), λ d. subst (λ (l : List Entry). HasSeen l (get_or xs it.0 d)) (sym e) (it.2 d))
+among_more n seen s own xs (inr here) it = inr (n, omega arith, here)
 
 -- one more is met
 pub meets_more : {G : Type 0} (n : ℕ) (f f' f'' : Lane G) (xs ys : List (Lane G)) (x x' : Lane G) → n < length ys → length ys ≡ length xs → x ≡ get_or ys n x → MeetsEach n f f' xs ys → MetBoth f' x f'' x' → MeetsEach (n + 1) f f'' xs (set ys n x')
@@ -101,6 +108,12 @@ meets_more {G} n f f' f'' xs ys x x' lt long is_x is both =
           (λ less. subst (λ (y : Lane G). MetWithin s (get_or xs k d) y) (sym (there k d (differs k n less))) (met_further is.seen s _ _ grows (is.met k d less)))
           (record { then_seen = s; met = met_here d; within = starts_same s });
       rest = λ k d le. there k d (above k n le) ∙ is.rest k d (omega arith);
+      among = among_more n is.seen s is.pass.seen xs
+          (elim both.longer [
+            | inl e ↦ inl (sym e ∙ ap (λ (p : RealmPass). p.seen) p_is)
+            | inr e ↦ inr (λ d. record { pass = both.other.pass; there = ap (λ (y : Lane G). y.pass) (sym (x_old d)) ∙ both.other.was; is = e })
+          ])
+          is.among;
       still = λ all.
           let old = is.still all in
           let x_in : HasSeenWithin is.pass.seen x = subst (λ (y : Lane G). HasSeenWithin is.pass.seen y) (sym (x_old x)) (all n x (omega arith)) in
@@ -153,6 +166,7 @@ meets_twice {G} n f f' f'' xs ys zs some is_n long long₂ a b =
       seen = b.seen;
       long = ap suc (long₂ ∙ long);
       each = λ k d lt. each k d lt (still.1);
+      among = among (still.0 ∙ seen_is) a.among;
     } where
       pass_is : b.pass ≡ seen_up_to a.seen a.pass
       pass_is = some_same _ _ (sym b.was ∙ a.now)
@@ -162,6 +176,13 @@ meets_twice {G} n f f' f'' xs ys zs some is_n long long₂ a b =
 
       seen_within : (x y : Lane G) → MetWithin b.pass.seen x y → HasSeenWithin b.pass.seen y
       seen_within x y m = record { pass = seen_up_to m.then_seen m.met.pass; there = m.met.now; within = m.within }
+
+      -- what the first round came to is what all have seen
+      among : b.seen ≡ a.seen → (a.pass.seen ≡ a.seen) ⊎ ((k : ℕ) × (k < n) × ((d : Lane G) → HasSeen a.seen (get_or xs k d))) → Any (HasSeen b.seen) (f ∷ xs)
+      among e (inl own) = (0, f, omega arith, refl, record { pass = a.pass; there = a.was; is = own ∙ sym e })
+      among e (inr it) =
+          let lt : it.0 < length xs = omega (arith, it.1, is_n) in
+          (suc it.0, get_or xs it.0 f, omega (arith, lt), sym (get_or_default xs it.0 f (get_or xs it.0 f) lt), subst (λ (l : List Entry). HasSeen l (get_or xs it.0 f)) (sym e) (it.2 f))
 
       each : (k : ℕ) (d : Lane G) → k < length (f ∷ xs) → ((k : ℕ) (d : Lane G) → k < length ys → Met b.seen (get_or ys k d) (get_or zs k d)) → Met b.seen (get_or (f ∷ xs) k d) (get_or (f'' ∷ zs) k d)
       each zero d lt rest = met_trans a.seen b.seen f f' f'' (first_met n f f' xs ys some a) (first_met (length ys) f' f'' ys zs (omega (arith, is_n, long)) b)

@@ -1,6 +1,6 @@
 -- What one lane has in hand, from step to step.
 use Rattle.std.specs.Prelude.{◌≡◌, ◌⊎◌, ℕ, ◌<◌, List, [], ◌∷◌, ◌++◌, map, Bool, false, Option, Some, length}
-use Rattle.std.specs.Prelude.{slice_index_or}
+use Rattle.std.specs.Prelude.{slice_index_or, Any}
 use Rattle.cm_turn.specs.History.{StartsWith}
 use Rattle.cm_turn.specs.Passes.{LockView, seen_up_to}
 use Rattle.cm_world.specs.declared.reply.Entry.{Entry}
@@ -64,12 +64,19 @@ module _ {G : Type 0} where
     pub other : Met seen b b'
     pub longer : (one.pass.seen ≡ seen) ⊎ (other.pass.seen ≡ seen)
 
-  -- all lanes have met, and have seen the same
+  -- a lane's pass has seen just this
+  pub record HasSeen (seen : List Entry) (lane : Lane G) : Type 0 where
+    pub pass : RealmPass
+    pub there : lane.pass ≡ Some pass
+    pub is : pass.seen ≡ seen
+
+  -- all lanes have met, and have seen the same, which one of them had
   pub record MetAll (old new : List (Lane G)) : Type 0 where
     pub seen : List Entry
     pub long : length new ≡ length old
     pub each : (k : ℕ) (d : Lane G) → k < length old
         → Met seen (slice_index_or old k d) (slice_index_or new k d)
+    pub among : Any (HasSeen seen) old
 
 module _ {G : Type 0} (log_of : G → Option (List Asked)) (faults_of : G → ℕ) where
   -- a lane has performed its own lines among these

@@ -1,12 +1,12 @@
 -- One lane meets others, one after another.
-use Rattle.std.specs.Prelude.{◌≡◌, ℕ, ◌<◌, ◌≤◌, List, Some, length, slice_index_or}
+use Rattle.std.specs.Prelude.{◌≡◌, ◌⊎◌, ℕ, ◌<◌, ◌≤◌, List, Some, length, slice_index_or}
 use Rattle.cm_turn.specs.History.{StartsWith}
 use Rattle.cm_turn.specs.Passes.{seen_up_to}
 use Rattle.cm_world.specs.declared.reply.Entry.{Entry}
 use Rattle.cm_manager.specs.Contract.{RealmPass}
 use Rattle.cm_lanes.specs.declared.lane.Lane.{Lane}
 use Rattle.cm_manager.specs.Kept.{IsOwnPass}
-use Rattle.cm_lanes.specs.Lane.{Met}
+use Rattle.cm_lanes.specs.Lane.{Met, HasSeen}
 
 module _ {G : Type 0} where
   -- a lane has met others, and what it has seen then is the front of this
@@ -34,6 +34,9 @@ module _ {G : Type 0} where
     pub lost : f'.lost ≡ f.lost
     pub met : (k : ℕ) (d : Lane G) → k < n → MetWithin seen (slice_index_or xs k d) (slice_index_or ys k d)
     pub rest : (k : ℕ) (d : Lane G) → n ≤ k → slice_index_or ys k d ≡ slice_index_or xs k d
+    -- what it has seen then it had seen itself, or one of those
+    pub among : (pass.seen ≡ seen)
+        ⊎ ((k : ℕ) × (k < n) × ((d : Lane G) → HasSeen seen (slice_index_or xs k d)))
     -- where it had seen all that they had
     pub still : ((k : ℕ) (d : Lane G) → k < length xs → HasSeenWithin pass.seen (slice_index_or xs k d))
         → (seen ≡ pass.seen)

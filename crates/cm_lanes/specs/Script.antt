@@ -6,8 +6,8 @@ use Rattle.cm_world.specs.declared.answer.Refusal.{Refusal}
 use Rattle.cm_world.specs.declared.frame.Frame.{Frame}
 use Rattle.cm_world.specs.declared.reply.Entry.{Entry}
 use Rattle.cm_command.specs.declared.script.Line.{Line}
-use Rattle.cm_manager.specs.Done.{Done}
-use Rattle.cm_manager.specs.Done as done
+use Rattle.cm_manager.specs.Turns.{Later}
+use Rattle.cm_manager.specs.Calls.{Calls}
 use Rattle.cm_lanes.specs.declared.said.Said.{Said}
 
 -- a line with its answer
@@ -35,13 +35,13 @@ answers_of c answered = filter (λ a. a.line.lane == c) answered
 pub record IsFit (l : Line) : Type 0 where
   pub lane : l.lane < 16
 
--- the command of a line, with its answer
-abbrev pub done_of : Answered → Done
-done_of a = record { command = a.line.command; result = a.result }
-
--- a caller performs these lines in order, each by one call, and makes no entry besides
-abbrev pub Follows : Frame → ℕ → List Answered → List Entry → List Entry → Type 0
-Follows f c answered h₀ h₁ = done.Follows f c (map done_of answered) h₀ h₁
+-- a caller performs these lines in order, each by one call with this answer, and makes no entry besides
+pub data Follows (f : Frame) (c : ℕ) : List Answered → List Entry → List Entry → Type 0 where
+  rests : {h₀ h₁ : List Entry} → Later c h₀ h₁ → Follows f c [] h₀ h₁
+  performs : {a : Answered} {others : List Answered} {h₀ h₁ h₂ : List Entry}
+      → Calls f c a.line.command h₀ h₁ a.result
+      → Follows f c others h₁ h₂
+      → Follows f c (a ∷ others) h₀ h₂
 
 -- between two places of the history each lane performs its lines of this phase; each lane's caller has a
 -- frame

@@ -16,6 +16,7 @@ use Rattle.cm_world.specs.Step.{may_close, may_purge}
 use Rattle.cm_world.specs.Legal.{Legal}
 use Rattle.cm_laws.specs.Story.{Story, Tells, entry_of}
 use Rattle.cm_laws.specs.Shutdowns.{IsLeaving, IsMarked, IsOver}
+use Rattle.cm_laws.specs.Tasks.{IsPendingAt}
 use Rattle.cm_steps.specs.Steps.{HasRoom, LacksRoom}
 use Rattle.cm_steps.specs.declared.nostep.NoStep.{NoStep}
 use Rattle.cm_steps.specs.declared.nostep.NoStep.TheVariants as nostep
@@ -90,6 +91,11 @@ DueIsOpen = (w : World) (e : Event) → IsDue w e → IsOpen w e
 abbrev pub RefusesRoom : Story → ℕ → NoStep → Type 0
 RefusesRoom s more nostep.HistoryFull = LacksRoom s more
 RefusesRoom s more _ = Unit {0}
+
+-- an event only has to wait for an action that is pending
+abbrev pub IsBusy : World → NoStep → Type 0
+IsBusy w (nostep.Busy a) = (i : ℕ) × IsPendingAt w.acts i a
+IsBusy w _ = Unit {0}
 
 -- the event is told, for which there was room; or the realm is as before, and the refusal is a true one
 abbrev pub StepsBy : Story → Story → ℕ → Event → Result Reply NoStep → Type 0

@@ -124,5 +124,5 @@ pub record Runs (f : Frame) (history : List Entry) (cmd : Command) (c : ℕ) (pa
   pub before : List Entry
   pub after : List Entry
   pub within : StartsWith history after
-  pub goes : Goes f c cmd before after a
+  pub goes : Calls f c cmd before after a
   pub part_is : own_entries c after ≡ own_entries c before ++ part

@@ -11,7 +11,7 @@ use Rattle.cm_world.specs.Legal.{Legal}
 use Rattle.cm_command.specs.declared.command.Command.{Command}
 use Rattle.cm_gate.specs.declared.asked.Asked.{Asked}
 use Rattle.cm_manager.specs.Turns.{own_entries}
-use Rattle.cm_manager.specs.Calls.{Goes}
+use Rattle.cm_manager.specs.Calls.{Calls}
 use Rattle.cm_manager.specs.Work.{Shelf, WorksWith}
 use Rattle.cm_manager.specs.Closed.{IsClosed}
 
@@ -43,8 +43,9 @@ pub record Helps (shelf : Shelf) (f : Frame) (Way : List Entry → List Entry �
   pub closed : IsClosed part
   pub work : WorksWith shelf part gates₀.log gates₁.log gates₀.faults gates₁.faults
 
--- one call of the manager, with its answer
+-- one call of the manager, with its answer; one that has made all its entries isn't answered with want of
+-- memory, but for a doctor, which may want for it behind its last line
 abbrev pub Performs : Shelf → Frame → Command → RealmPass → RealmPass → GatesView → GatesView
     → Result Answer Refusal → Type 0
 Performs shelf f command old new gates₀ gates₁ a =
-    Helps shelf f (λ h₀ h₁. Goes f old.caller command h₀ h₁ a) old new gates₀ gates₁
+    Helps shelf f (λ h₀ h₁. Calls f old.caller command h₀ h₁ a) old new gates₀ gates₁

@@ -1,11 +1,14 @@
 -- A manager as contracts see it.
 use Rattle.std.specs.Prelude.{◌≡◌, List, All}
 use Rattle.cm_turn.specs.Passes.{LockView, IsKnown, HasCaller}
+use Rattle.cm_world.specs.declared.frame.Frame.{Frame}
 use Rattle.cm_world.specs.declared.reply.Entry.{Entry}
 use Rattle.cm_world.specs.World.{start}
-use Rattle.cm_world.specs.Legal.{Legal}
+use Rattle.cm_world.specs.Legal.{Legal, owed_by}
+use Rattle.cm_book.specs.History.{History}
 use Rattle.cm_laws.specs.Story.{Story}
 use Rattle.cm_laws.specs.Histories.{KeepsLaws}
+use Rattle.cm_manager.specs.Turns.{world_after}
 use Rattle.cm_manager.specs.Contract.{RealmPass}
 use Rattle.cm_manager.specs.Work.{Shelf}
 
@@ -24,3 +27,9 @@ pub record Closes (history : List Entry) (passes : List RealmPass) : Type 0 wher
   pub known : All (IsKnown (λ (s : Story). s.entries) (λ s. s.frame) (λ (e : Entry). e.caller) story) passes
   pub callers : All (λ (e : Entry). HasCaller passes e.caller) history
   pub laws : KeepsLaws story.frame history
+
+-- the book of a realm with this frame: it takes as many entries as the frame says, and keeps room for those
+-- that are owed
+pub record IsBookOf (f : Frame) (book : History) : Type 0 where
+  pub limit : book.limit ≡ f.limits.entries
+  pub reserved : book.reserved ≡ owed_by (world_after f book.entries)

@@ -130,10 +130,6 @@ mutual
     cut : {k : ActKind} {i : ℕ} {h₀ h₁ : List Entry} {x : Refusal}
         → IsCut f c h₀ (event.Begin k i) h₁ x
         → Acts f c k i h₀ h₁ (Err x)
-    -- memory is wanting behind it
-    lost : {k : ActKind} {i : ℕ} {h₀ h₁ : List Entry} {a : Acted}
-        → Acts f c k i h₀ h₁ (Ok a)
-        → Acts f c k i h₀ h₁ (Err refusal.Memory)
 
   -- these rows are started in order, and what ended the call there, if anything did
   pub data Eagers (f : Frame) (c : ℕ) : List ℕ → List Entry → List Entry → Option Refusal → Type 0 where
@@ -171,9 +167,6 @@ pub data Tries (f : Frame) (c : ℕ) : Event → List Entry → List Entry → R
       → ends_call went ≡ Some x
       → Tries f c e h₀ h₂ (Err x)
   cut_try : {e : Event} {h₀ h₁ : List Entry} {x : Refusal} → IsCut f c h₀ e h₁ x → Tries f c e h₀ h₁ (Err x)
-  lost_try : {e : Event} {h₀ h₁ : List Entry} {r : Reply}
-      → Tries f c e h₀ h₁ (Ok r)
-      → Tries f c e h₀ h₁ (Err refusal.Memory)
 
 -- a child that was created is started where it runs once, in the tree of the moment in which the caller
 -- looks; whether the start fails doesn't matter

@@ -36,7 +36,8 @@ impl Manager {
             Err(refusal) => return (pass, Err(refusal)),
         };
         match reply {
-            Reply::Begun(work) => {
+            Reply::Begun(boxed) => {
+                let work = boxed.into_value();
                 let action = work.action;
                 let (ending, eager) = self.do_work(rt, alloc, gates, &pass, kind, work);
                 let (pass, outcome) = self.end_turn(rt, pass, action, ending);

@@ -4,8 +4,9 @@ ghost use Rattle.std.specs.Prelude.{◌≡◌, ◌<◌, ◌≤◌, ◌⊎◌, []
 ghost use Rattle.cm_turn.specs.Passes.{new_passes, seen_up_to, AreAll, IsOwn};
 ghost use Rattle.cm_turn.specs.History.{StartsWith};
 ghost use Rattle.cm_laws.specs.Story.{IsLegal};
-ghost use Rattle.cm_manager.specs.Managers.{Closes};
+ghost use Rattle.cm_manager.specs.Managers.{Closes, IsBookOf};
 ghost use Rattle.cm_manager.specs.Closed.{HasEnds};
+ghost use Rattle.cm_manager.specs.Asking.{frame_of};
 
 use cm_book::Book;
 use cm_names::{List, Text};
@@ -94,12 +95,14 @@ impl Manager {
     ///
     /// The history bears each pass out, has no entry of anybody else, and keeps the laws of
     /// [`histories_keep_laws`](cm_laws::histories_keep_laws). Each action that was ever begun
-    /// has its end in it.
+    /// has its end in it. The book takes as many entries as the realm did, and keeps room for those
+    /// that are owed.
     pub fn close(self, passes: List<Pass<Entry, Frame>>) -> Book
         requires passes { AreAll self.turn passes }
         requires ended { All (λ p. HasEnds p.mine) passes }
         ensures closes { Closes result.entries passes }
         ensures ended { HasEnds result.entries }
+        ensures book { All (λ p. IsBookOf (frame_of p) result) passes }
     {
         self.close_realm(passes).into_book()
     }

@@ -64,7 +64,8 @@ impl Manager {
         match reply {
             Reply::Done => (pass, Picked::Done),
             Reply::ShutDown(_) => (pass, Picked::Further),
-            Reply::Stopping(work) => {
+            Reply::Stopping(boxed) => {
+                let work = boxed.into_value();
                 let kind = ActKind::Stop;
                 let action = work.action;
                 let (ending, _eager) = self.do_work(rt, alloc, gates, &pass, kind, work);

@@ -1,6 +1,6 @@
 //! Starts, each with its eager children.
 
-ghost use Rattle.std.specs.Prelude.{◌≡◌, ◌++◌, ℕ, List as Seq, IfOk};
+ghost use Rattle.std.specs.Prelude.{◌≡◌, ◌≢◌, ◌++◌, ℕ, List as Seq, [], IfOk, OnErr};
 ghost use Rattle.cm_world.specs.declared.frame.Frame.{Frame as TheFrame};
 ghost use Rattle.cm_world.specs.declared.reply.Entry.{Entry as TheEntry};
 ghost use Rattle.cm_manager.specs.Asking.{frame_of};
@@ -84,9 +84,10 @@ fn launch_of(began: Result<Began, Refusal>) -> Result<Launch, u64>
     }
 }
 
-/// These rows in front of the others. `Err` where memory runs out.
+/// These rows in front of the others. `Err` where memory runs out, which no rows take.
 fn in_front(rows: List<u64>, others: VecDeque<u64>) -> Result<VecDeque<u64>, AllocError>
-    ensures { IfOk result (λ all. all.items ≡ rows ++ others.items) }
+    ensures all { IfOk result (λ all. all.items ≡ rows ++ others.items) }
+    ensures wanting { OnErr result (rows ≢ []) }
 {
     let mut rows = rows.into_vec();
     let mut all = others;

@@ -1,17 +1,19 @@
 //! Turns at the realm: one event each.
 
-ghost use Rattle.std.specs.Prelude.{◌≡◌, IsTrue};
+ghost use Rattle.std.specs.Prelude.{◌≡◌, IsTrue, None, IfNone, IfErr};
 ghost use Rattle.cm_world.specs.declared.event.Event.TheVariants as event;
 ghost use Rattle.cm_world.specs.declared.reply.Reply.TheVariants as reply;
+ghost use Rattle.cm_world.specs.World.{outcome_of};
 ghost use Rattle.cm_world.specs.Step.{MayEnd};
 ghost use Rattle.cm_laws.specs.Story.{IsLegal, world_of, Tells};
 ghost use Rattle.cm_laws.specs.Laws.{IsJoined};
 ghost use Rattle.cm_steps.specs.Ends.{finish_of};
+ghost use Rattle.cm_steps.specs.Steps.{RefusesQuiet};
 ghost use Rattle.cm_manager.specs.Turns.{world_after};
 ghost use Rattle.cm_manager.specs.Contract.{IsSamePass};
 ghost use Rattle.cm_manager.specs.Asking as asking;
 ghost use Rattle.cm_manager.specs.Asking.{StepsBy, AwaitsBy, Turned, Awaited, Told, frame_of, is_asked};
-ghost use Rattle.cm_manager.specs.Asking.{DueStays, DueIsOpen, IsDue, IsOpen};
+ghost use Rattle.cm_manager.specs.Asking.{DueStays, DueIsOpen, IsDue, IsOpen, IsBusy};
 
 use crate::Manager;
 use crate::manager::check_history;
@@ -46,8 +48,9 @@ fn tell_of_child(
     url: &Text,
     gives: &List<Give>,
 ) -> Result<Reply, NoStep>
-    ensures { let event = event.Create parent coll.now name.now url.now gives.now in
+    ensures steps { let event = event.Create parent coll.now name.now url.now gives.now in
         StepsBy realm.old realm.new caller event result }
+    ensures unhindered { IfErr result (RefusesQuiet realm.old) }
 {
     let (coll, name, url, gives) = four(coll, name, url, gives)?;
     realm.create(alloc, caller, parent, coll, name, url, gives)
@@ -59,6 +62,7 @@ fn tell(realm: &mut Realm, alloc: Global, caller: u32, event: &Event) -> Result<
     requires ready { IsLegal realm.old → IsOpen (world_of realm.old) event.now }
     ensures legal { IsLegal realm.old }
     ensures steps { StepsBy realm.old realm.new caller event.now result }
+    ensures busy { IfErr result (IsBusy (world_of realm.old)) }
 {
     check_history(realm);
     match event {
@@ -117,6 +121,7 @@ fn outcome_at(realm: &mut Realm, caller: u32, action: u64) -> Option<Outcome>
     requires { IsLegal realm.old → IsJoined (world_of realm.old) caller action }
     ensures legal { IsLegal realm.old }
     ensures awaits { AwaitsBy realm.old realm.new caller action result }
+    ensures none { IfNone result (outcome_of (world_of realm.old).acts action ≡ None) }
 {
     check_history(realm);
     let reply = match realm.await_end(caller, action) {
@@ -143,6 +148,8 @@ impl Manager {
         requires due { IsDue (world_after (frame_of pass) pass.seen) event.now }
         ensures same { IsSamePass (frame_of pass) pass result.0 }
         ensures turned { Turned event.now pass result.0 result.1 }
+        ensures busy { let world = world_after (frame_of pass) result.0.seen in
+            IfErr result.1 (IsBusy world) }
     {
         due_events_stay();
         let caller = pass.caller();
@@ -232,6 +239,8 @@ impl Manager {
             IsJoined world pass.caller action }
         ensures same { IsSamePass (frame_of pass) pass result.0 }
         ensures awaited { Awaited action pass result.0 result.1 }
+        ensures none { let world = world_after (frame_of pass) result.0.seen in
+            IfNone result.1 (outcome_of world.acts action ≡ None) }
     {
         let caller = pass.caller();
         let mut held = self.turn.enter(rt, pass);

@@ -8,3 +8,4 @@ pub mod MonikerGrammar
 pub mod MonikerParts
 pub mod RightsLemmas
 pub mod WordLemmas
+mod ShortLemmas

@@ -10,3 +10,4 @@ pub mod Rights
 pub mod Urls
 pub mod Steps
 pub mod Text
+pub mod Short

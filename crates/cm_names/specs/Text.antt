@@ -1,9 +1,11 @@
 -- What a text is seen as, wherever its bytes stand.
 use Rattle.std.specs.Prelude.{ℕ, List, string_bytes}
 use Rattle.cm_names.specs.declared.text.Stored.{Stored}
-use Rattle.cm_names.specs.declared.text.Stored.TheVariants.{Inline, Heap}
+use Rattle.std.specs.Arc.{arc_value}
+use Rattle.cm_names.specs.declared.text.Stored.TheVariants.{Inline, Small, Large}
 
 -- its bytes
 abbrev pub stored_bytes : Stored → List ℕ
 stored_bytes (Inline short) = short.bytes
-stored_bytes (Heap long) = string_bytes long
+stored_bytes (Small shared) = (arc_value shared).bytes
+stored_bytes (Large shared) = string_bytes (arc_value shared)

@@ -8,6 +8,7 @@
 #![tactic(auto)]
 
 pub mod availability;
+pub mod boxed;
 pub mod child;
 pub mod dependency;
 pub mod grammar;
@@ -20,10 +21,12 @@ pub mod path;
 pub mod plain;
 pub mod rights;
 pub mod shared;
+mod short;
 pub mod text;
 pub mod url;
 
 pub use availability::Availability;
+pub use boxed::Boxed;
 pub use child::ChildName;
 pub use dependency::Dependency;
 pub use grammar::MonikerPlace;

@@ -43,6 +43,15 @@ impl<T> List<T> {
         }
     }
 
+    /// The empty list, with room for so many items and no more. `Err(Memory)` comes where memory
+    /// runs out.
+    pub fn with_capacity(alloc: Global, capacity: usize) -> Result<List<T>, Memory>
+        ensures { IfOk result (λ list. list ≡ []) }
+    {
+        let items = Vec::with_capacity(alloc, capacity)?;
+        Ok(List { items })
+    }
+
     /// The items of a vector.
     pub fn from_vec(items: Vec<T>) -> List<T>
         ensures { result ≡ items.items }

@@ -10,7 +10,7 @@ ghost use Rattle.cm_names.specs.Moniker.{BeginsWith};
 ghost use Rattle.cm_names.specs.Path.{parts_of};
 
 use crate::grammar::bad_place;
-use crate::{ChildName, List, MAX_PATH_BYTES, Memory, Name, NameFault, Plain, Text};
+use crate::{ChildName, List, MAX_PATH_BYTES, Memory, Name, NameFault, Plain, Shared, Text};
 use std::alloc::Global;
 use thiserror::Error;
 
@@ -21,8 +21,8 @@ use thiserror::Error;
 /// 4,096 bytes where it is read is this project's own, and so is that a slash may stand in front.
 #[derive(Debug, Drop, Clone, PartialEq, Eq)]
 pub struct Moniker {
-    /// The children's names, that of the root's child first.
-    pub parts: List<ChildName>,
+    /// The children's names, that of the root's child first. A copy of a moniker shares them.
+    pub parts: List<Shared<ChildName>>,
 }
 
 impl Plain for Moniker {
@@ -111,6 +111,7 @@ impl Moniker {
     pub fn child(&self, alloc: Global, name: ChildName) -> Result<Moniker, Memory>
         ensures { IfOk result (λ child. child.parts ≡ self.now.parts ++ name ∷ []) }
     {
+        let name = Shared::new(alloc, name)?;
         let mut parts = List::from_vec(self.parts.as_slice().to_vec(alloc)?);
         parts.push(name)?;
         Ok(Moniker { parts })
@@ -156,7 +157,7 @@ fn cut_at_colon(part: &str) -> Option<(&str, &str)>
 }
 
 /// The child's name that has this text.
-fn read_child(alloc: Global, part: &str) -> Result<ChildName, Memory>
+fn read_child(alloc: Global, part: &str) -> Result<Shared<ChildName>, Memory>
     requires { IsChildText part.now }
     ensures is_child { IfOk result (λ child. IsChild child) }
     ensures text { IfOk result (λ child. child_text child ≡ part.now) }
@@ -164,21 +165,19 @@ fn read_child(alloc: Global, part: &str) -> Result<ChildName, Memory>
     match cut_at_colon(part) {
         None => {
             let name = read_name(alloc, part)?;
-            Ok(ChildName { coll: None, name })
+            Shared::new(alloc, ChildName { coll: None, name })
         }
         Some((coll, name)) => {
             let coll = read_name(alloc, coll)?;
             let name = read_name(alloc, name)?;
-            Ok(ChildName {
-                coll: Some(coll),
-                name,
-            })
+            let coll = Some(coll);
+            Shared::new(alloc, ChildName { coll, name })
         }
     }
 }
 
 /// The children's names whose texts stand between the slashes.
-fn read_parts(alloc: Global, text: &str) -> Result<List<ChildName>, Memory>
+fn read_parts(alloc: Global, text: &str) -> Result<List<Shared<ChildName>>, Memory>
     requires { All IsChildText (parts_of text.now) }
     ensures names { IfOk result (λ parts. All IsChild parts) }
     ensures texts { IfOk result (λ parts. map child_text parts ≡ parts_of text.now) }
@@ -213,10 +212,11 @@ fn read_whole(alloc: Global, text: &str) -> Result<Moniker, Memory>
 }
 
 /// Puts the text of a child's name at the end.
-fn push_child(text: &mut Text, child: &ChildName) -> Result<(), Memory>
+fn push_child(text: &mut Text, child: &Shared<ChildName>) -> Result<(), Memory>
     ensures text { OnOk result (text.new ≡ text.old ++ child_text child.now) }
     ensures is_child { OnOk result (IsChild child.now) }
 {
+    let child = child.get();
     if let Some(coll) = &child.coll {
         text.push_str(coll.as_str())?;
         text.push_str(":")?;

@@ -4,6 +4,7 @@ ghost use Rattle.std.specs.Prelude.{◌≡◌, IfOk};
 
 use crate::{Memory, Plain};
 use std::alloc::{AllocError, Global};
+use std::fmt;
 use std::marker::Model;
 use std::sync::Arc;
 
@@ -61,4 +62,28 @@ impl<T: Drop> Clone for Shared<T> {
 
 impl<T: Drop> Plain for Shared<T> {
     ghost exact = { λ a b same. same };
+}
+
+/// Two shared values are equal where the values are.
+impl<T: PartialEq> PartialEq for Shared<T> {
+    ghost eq = { T.eq };
+
+    ghost laws = { T.laws };
+
+    fn eq(&self, other: &Shared<T>) -> bool {
+        self.value == other.value
+    }
+}
+
+impl<T: Eq> Eq for Shared<T> {
+    ghost laws = { T.Eq.laws };
+}
+
+/// It is written as the value.
+impl<T: fmt::Debug> fmt::Debug for Shared<T> {
+    ghost debug_output = { T.debug_output };
+
+    fn fmt<W: fmt::Write>(&self, f: &mut fmt::Formatter<W>) -> fmt::Result {
+        self.value.fmt(f)
+    }
 }

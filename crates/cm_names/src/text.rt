@@ -4,6 +4,7 @@ ghost use Rattle.std.specs.Prelude.{◌≡◌, ◌++◌, ◌↔◌, [], length, 
 ghost use Rattle.std.specs.Fmt.{AppendsText};
 ghost use Rattle.cm_names.specs.Text.{stored_bytes};
 
+use crate::short::{MAX_SHORT_BYTES, Short};
 use crate::{Memory, Plain};
 use arrayvec::ArrayString;
 use std::alloc::{AllocError, Global};
@@ -12,14 +13,16 @@ use std::convert::AsStr;
 use std::fmt;
 use std::hash::{Hash, Hasher};
 use std::marker::Model;
+use std::sync::Arc;
 
-/// The greatest number of bytes that a text keeps in itself, without an allocation.
-const MAX_INLINE_BYTES: usize = 24;
+/// The greatest number of bytes of a text that takes no more than one allocation.
+const MAX_SMALL_BYTES: usize = 40;
 
 /// A text, which contracts see as the list of its bytes.
 ///
-/// Two texts are equal where their bytes are, and are ordered by their bytes. A text of up to 24
-/// bytes takes no memory beside itself, unless it was made of a string, or is a copy of such a one.
+/// Two texts are equal where their bytes are, and are ordered by their bytes. A text takes 16 bytes.
+/// One of up to 14 bytes takes no memory beside itself. A longer one stands in an allocation, and one
+/// of more than 40 bytes in two, which its copies share: a copy takes no memory.
 pub struct Text {
     alloc: Global,
     stored: Stored,
@@ -29,9 +32,11 @@ pub struct Text {
 #[derive(Drop)]
 pub(crate) enum Stored {
     /// In the text itself.
-    Inline(ArrayString<MAX_INLINE_BYTES>),
-    /// In an allocation.
-    Heap(String),
+    Inline(Short),
+    /// In an allocation of a fixed size.
+    Small(Arc<ArrayString<MAX_SMALL_BYTES>>),
+    /// In a string.
+    Large(Arc<String>),
 }
 
 impl Model for Text {
@@ -59,28 +64,42 @@ impl Stored {
     {
         match self {
             Stored::Inline(short) => short.as_str(),
-            Stored::Heap(long) => long.as_str(),
+            Stored::Small(shared) => shared.as_ref().as_str(),
+            Stored::Large(shared) => shared.as_ref().as_str(),
         }
     }
 
-    /// A place for the bytes of `text`, which takes memory where they are more than 24.
-    fn from_str(alloc: Global, text: &str) -> Result<Stored, Memory>
-        ensures { IfOk result (λ made. stored_bytes made ≡ text.now) }
+    /// A place for the bytes of `front` and those of `back` behind them, which takes memory where
+    /// they are more than 14. `Err(Memory)` comes where memory runs out.
+    fn join(alloc: Global, front: &str, back: &str) -> Result<Stored, Memory>
+        ensures { IfOk result (λ made. stored_bytes made ≡ front.now ++ back.now) }
     {
-        match ArrayString::from(text) {
-            Ok(short) => Ok(Stored::Inline(short)),
-            Err(_) => Ok(Stored::Heap(String::from_str(alloc, text)?)),
+        let count = front.len() + back.len();
+        if count <= MAX_SHORT_BYTES {
+            return Ok(Stored::Inline(Short::join(front, back)));
         }
+        if count <= MAX_SMALL_BYTES {
+            let mut small = ArrayString::new();
+            small.push_str(front);
+            small.push_str(back);
+            return Ok(Stored::Small(Arc::new(alloc, small)?));
+        }
+        let mut large = String::with_capacity(alloc, count)?;
+        large.push_str(front)?;
+        large.push_str(back)?;
+        Ok(Stored::Large(Arc::new(alloc, large)?))
     }
-}
 
-/// The bytes of both, one behind the other, in an allocation.
-fn joined(alloc: Global, front: &str, back: &str) -> Result<String, Memory>
-    ensures { IfOk result (λ text. string_bytes text ≡ front.now ++ back.now) }
-{
-    let mut text = String::from_str(alloc, front)?;
-    text.push_str(back)?;
-    Ok(text)
+    /// A place for the bytes of a string, which is kept where they are more than 40.
+    /// `Err(Memory)` comes where memory runs out.
+    fn from_string(text: String) -> Result<Stored, Memory>
+        ensures { IfOk result (λ made. stored_bytes made ≡ string_bytes text) }
+    {
+        if text.len() <= MAX_SMALL_BYTES {
+            return Stored::join(*text.allocator(), text.as_str(), "");
+        }
+        Ok(Stored::Large(Arc::new(*text.allocator(), text)?))
+    }
 }
 
 impl Text {
@@ -90,7 +109,7 @@ impl Text {
     {
         Text {
             alloc,
-            stored: Stored::Inline(ArrayString::new()),
+            stored: Stored::Inline(Short::join("", "")),
         }
     }
 
@@ -98,29 +117,30 @@ impl Text {
     pub fn from_str(alloc: Global, text: &str) -> Result<Text, Memory>
         ensures { IfOk result (λ made. made ≡ text.now) }
     {
-        let stored = Stored::from_str(alloc, text)?;
+        let stored = Stored::join(alloc, text, "")?;
         Ok(Text { alloc, stored })
     }
 
-    /// The text of a string.
-    pub fn from_string(text: String) -> Text
-        ensures { result ≡ string_bytes text }
+    /// The text of a string, which is kept where it has more than 40 bytes. `Err(Memory)` comes
+    /// where memory runs out, and the string is gone then.
+    pub fn from_string(text: String) -> Result<Text, Memory>
+        ensures { IfOk result (λ made. made ≡ string_bytes text) }
     {
-        Text {
-            alloc: *text.allocator(),
-            stored: Stored::Heap(text),
-        }
+        let alloc = *text.allocator();
+        let stored = Stored::from_string(text)?;
+        Ok(Text { alloc, stored })
     }
 
     /// The string of the text. `Err(Memory)` comes where memory runs out, and the text is gone
-    /// then; one that stands in an allocation is handed over.
+    /// then; the string of one that has more than 40 bytes and no copy is handed over.
     pub fn into_string(self) -> Result<String, Memory>
         ensures { IfOk result (λ text. string_bytes text ≡ self) }
     {
         let Text { alloc, stored } = self;
         match stored {
             Stored::Inline(short) => Ok(String::from_str(alloc, short.as_str())?),
-            Stored::Heap(long) => Ok(long),
+            Stored::Small(shared) => Ok(String::from_str(alloc, shared.as_ref().as_str())?),
+            Stored::Large(shared) => Ok(Arc::unwrap_or_clone(shared)?),
         }
     }
 
@@ -152,19 +172,24 @@ impl Text {
         ensures err { OnErr result (self.new ≡ self.old) }
     {
         match &mut self.stored {
-            Stored::Heap(long) => {
-                long.push_str(text)?;
-                return Ok(());
+            Stored::Inline(_) => {}
+            Stored::Small(shared) => {
+                if let Some(small) = Arc::get_mut(shared) {
+                    if text.len() <= small.remaining_capacity() {
+                        small.push_str(text);
+                        return Ok(());
+                    }
+                }
             }
-            Stored::Inline(short) => {
-                if text.len() <= short.remaining_capacity() {
-                    short.push_str(text);
+            Stored::Large(shared) => {
+                if let Some(large) = Arc::get_mut(shared) {
+                    large.push_str(text)?;
                     return Ok(());
                 }
             }
         }
-        let long = joined(self.alloc, self.stored.as_str(), text)?;
-        self.stored = Stored::Heap(long);
+        let joined = Stored::join(self.alloc, self.stored.as_str(), text)?;
+        self.stored = joined;
         Ok(())
     }
 
@@ -180,22 +205,23 @@ impl Text {
     }
 }
 
+/// `Err`, which callers take for want of memory, comes where a text has more copies than can be
+/// counted; no contract says so.
 impl Clone for Text {
     ghost use Rattle.std.specs.Prelude.{◌≡◌};
 
     ghost is_clone = { λ a b. b ≡ a };
 
     fn clone(&self) -> Result<Text, AllocError> {
-        match &self.stored {
-            Stored::Inline(short) => Ok(Text {
-                alloc: self.alloc,
-                stored: Stored::Inline(*short),
-            }),
-            Stored::Heap(long) => Ok(Text {
-                alloc: self.alloc,
-                stored: Stored::Heap(long.clone()?),
-            }),
-        }
+        let stored = match &self.stored {
+            Stored::Inline(short) => Stored::Inline(*short),
+            Stored::Small(shared) => Stored::Small(Arc::try_clone(shared)?),
+            Stored::Large(shared) => Stored::Large(Arc::try_clone(shared)?),
+        };
+        Ok(Text {
+            alloc: self.alloc,
+            stored,
+        })
     }
 }
 

@@ -3,3 +3,4 @@ pub mod Searching
 pub mod Turns
 pub mod Weights
 pub mod Going
+pub mod Reaching

@@ -1,21 +1,35 @@
 //! What the facts of an instance say, and of those above it.
 
-ghost use Rattle.std.specs.Prelude.{◌≡◌, not, false, Some, if◌then◌else◌};
+ghost use Rattle.std.specs.Prelude.{◌≡◌, not, false, Some, if◌then◌else◌, option_and_then};
 ghost use Rattle.std.specs.Option.{option_map_or};
 ghost use Rattle.cm_world.specs.Rows.{row_of, has_closing};
 ghost use Rattle.cm_world.specs.Sound.{IsOrderly};
 ghost use Rattle.cm_world.specs.Stopping as spec;
 
-use cm_walk::hop::parent;
 use cm_world::View;
 
-/// The instance, if it itself is being shut down, else the other one.
-fn closing_or<V: View>(view: &V, inc: u64, other: Option<u64>) -> Option<u64>
-    ensures { result ≡ (if has_closing (V.rows view.now) inc then Some inc else other) }
+/// A place on a way up.
+#[derive(Debug, Clone, Copy)]
+struct Upward {
+    /// The instance that is looked at next; `None` above the root.
+    at: Option<u64>,
+    /// The last one so far that is being shut down itself.
+    found: Option<u64>,
+}
+
+/// One further up from the instance: to its parent, if it has one. The instance is found, if it itself
+/// is being shut down, else the one that was found before.
+fn climb<V: View>(view: &V, inc: u64, found: Option<u64>) -> Upward
+    ensures parent { result.at ≡ option_and_then (λ r. r.parent) (row_of (V.rows view.now) inc) }
+    ensures closing { result.found ≡ (if has_closing (V.rows view.now) inc then Some inc else found) }
+    ensures orderly { IsOrderly (V.rows view.now) (V.next_inc view.now) }
 {
     match view.facts(inc) {
-        Some(facts) if facts.closing => Some(inc),
-        _ => other,
+        None => Upward { at: None, found },
+        Some(facts) => Upward {
+            at: facts.parent,
+            found: if facts.closing { Some(inc) } else { found },
+        },
     }
 }
 
@@ -27,8 +41,9 @@ pub(crate) fn outermost<V: View>(view: &V, inc: u64) -> Option<u64>
     let mut found = None;
     let mut at = Some(inc);
     'up: while let Some(here) = at {
-        found = closing_or(view, here, found);
-        at = parent(view, here);
+        let further = climb(view, here, found);
+        found = further.found;
+        at = further.at;
     }
     found
 }

@@ -2,157 +2,150 @@
 //!
 //! A child on which nothing depends that isn't all shut is free, and so is the instance itself
 //! where all below it is shut. The first is tested by going through the level once, and what that
-//! tells is kept in the plan, so that it isn't gone through again for the next child. Where neither
-//! finds a node, nothing is said.
+//! tells is put down with the level, so that it isn't gone through again for the next child. Where
+//! neither finds a node, nothing is said.
 
-ghost use Rattle.std.specs.Prelude.{◌≡◌, ◌&&◌, not, false, is_none, IsTrue, IfOk};
+ghost use Rattle.std.specs.Prelude.{◌≡◌, ◌&&◌, not, false, None, is_none, IsTrue, IfOk};
 ghost use Rattle.std.specs.Option.{option_map_or};
 ghost use Rattle.std.specs.List.{list_any};
 ghost use Rattle.cm_decl.specs.Graph.{is_strong, is_from_child};
-ghost use Rattle.cm_world.specs.Rows.{row_of, decl_of, is_subtree_shut};
+ghost use Rattle.cm_world.specs.Rows.{row_of, decl_of, child_behind, is_subtree_shut};
 ghost use Rattle.cm_world.specs.Sound.{IsSound};
 ghost use Rattle.cm_order.specs.Glances.{is_in_set, HasBound, IsChosen, AreKidsShut, IsGlance};
-ghost use Rattle.cm_order.specs.Plans.{IsPlan};
+ghost use Rattle.cm_order.specs.Plans.{IsKnown, AreShutSoFar};
 ghost use Rattle.cm_order.specs.Search.{IsHere};
 ghost use Rattle.cm_order.specs.declared.search.Wanted.TheVariants as wanted;
 
 use crate::above::unshut;
 use crate::below::all_shut;
 use crate::named::{Look, is_from_child as of_child, is_strong as of_strong, named_at};
-use crate::plan::Plan;
 use crate::search::Visit;
+use crate::stand::Stand;
 use cm_decl::Usage;
 use cm_names::Memory;
 use cm_world::View;
 use std::alloc::Global;
 use std::collections::BTreeSet;
 
-/// The first child that isn't all shut and on which nothing depends that isn't, from the one on that
-/// was found last; or the instance itself, where all its children are all shut, it isn't shut and
-/// has no pending action. `Below(None)` says nothing.
+/// The first child that isn't all shut and on which nothing depends that isn't, from behind the given
+/// one on; or the instance itself, where all its children are all shut, it isn't shut and has no
+/// pending action. `Below(None)` says nothing.
 ///
 /// A level of which nothing is known is looked at, and once more, closely, where nothing is found.
 pub(crate) fn glance<V: View>(
     alloc: Global,
     view: &V,
-    plan: &mut Plan,
-    inc: u64,
+    stand: &mut Stand,
+    behind: Option<u64>,
 ) -> Result<Visit, Memory>
     requires sound { IsSound (V.rows view.now) (V.next_inc view.now) }
-    requires plan { IsPlan (V.rows view.now) plan.old }
-    ensures glance { IfOk result (IsGlance (V.rows view.now) inc) }
-    ensures plan { IsPlan (V.rows view.now) plan.new }
+    requires known { IsKnown (V.rows view.now) stand.old }
+    ensures glance { IfOk result (IsGlance (V.rows view.now) stand.old.inc) }
+    ensures known { IsKnown (V.rows view.now) stand.new }
+    ensures same { stand.new.inc ≡ stand.old.inc }
 {
-    let first = free_child(alloc, view, plan, inc)?;
+    if stand.named.is_none() && view.next_child(stand.inc, None).is_none() {
+        return Ok(leaf(view, stand));
+    }
+    let first = free_child(alloc, view, stand, behind)?;
     if first.is_some() {
         return Ok(Visit::Below(first));
     }
-    if is_last(alloc, view, inc)? {
+    if is_last(alloc, view, stand)? {
         return Ok(Visit::Here);
     }
-    let child = newly_free(alloc, view, plan, inc)?;
+    let child = newly_free(alloc, view, stand)?;
     Ok(Visit::Below(child))
 }
 
+/// The same of an instance without children.
+fn leaf<V: View>(view: &V, stand: &mut Stand) -> Visit
+    requires sound { IsSound (V.rows view.now) (V.next_inc view.now) }
+    requires known { IsKnown (V.rows view.now) stand.old }
+    requires none { child_behind (V.rows view.now) stand.old.inc None ≡ None }
+    ensures glance { IsGlance (V.rows view.now) stand.old.inc result }
+    ensures known { IsKnown (V.rows view.now) stand.new }
+    ensures same { stand.new.inc ≡ stand.old.inc }
+{
+    stand.below_shut = true;
+    if is_idle(view, stand.inc) {
+        return Visit::Here;
+    }
+    Visit::Below(None)
+}
+
 /// The first child that isn't all shut, and on which nothing depends that isn't, as far as what is
-/// known of the level tells, or else a quick look. Nothing is said where the instance itself is
-/// shut: then what it uses isn't bound any more, and would be named still.
+/// known of the level tells, or else a quick look. The level of an instance that is shut isn't looked
+/// at: what the instance uses isn't bound any more, and would be named still.
 fn free_child<V: View>(
     alloc: Global,
     view: &V,
-    plan: &mut Plan,
-    parent: u64,
+    stand: &mut Stand,
+    behind: Option<u64>,
 ) -> Result<Option<u64>, Memory>
     requires sound { IsSound (V.rows view.now) (V.next_inc view.now) }
-    requires plan { IsPlan (V.rows view.now) plan.old }
-    ensures chosen { IfOk result (IsChosen (V.rows view.now) parent) }
-    ensures plan { IsPlan (V.rows view.now) plan.new }
+    requires known { IsKnown (V.rows view.now) stand.old }
+    ensures chosen { IfOk result (IsChosen (V.rows view.now) stand.old.inc) }
+    ensures known { IsKnown (V.rows view.now) stand.new }
+    ensures same { stand.new.inc ≡ stand.old.inc }
 {
-    if !unshut(view, parent) || view.next_child(parent, None).is_none() {
-        return Ok(None);
+    if stand.named.is_none() {
+        learn(alloc, view, stand, Look::Quick)?;
     }
-    if plan.named(parent).is_none() {
-        learn(alloc, view, plan, parent, Look::Quick)?;
-    }
-    next_free(alloc, view, plan, parent)
+    next_free(alloc, view, stand, behind)
 }
 
 /// The same by a close look, which takes the place of what is known of the level.
-fn newly_free<V: View>(
-    alloc: Global,
-    view: &V,
-    plan: &mut Plan,
-    parent: u64,
-) -> Result<Option<u64>, Memory>
+fn newly_free<V: View>(alloc: Global, view: &V, stand: &mut Stand) -> Result<Option<u64>, Memory>
     requires sound { IsSound (V.rows view.now) (V.next_inc view.now) }
-    requires plan { IsPlan (V.rows view.now) plan.old }
-    ensures chosen { IfOk result (IsChosen (V.rows view.now) parent) }
-    ensures plan { IsPlan (V.rows view.now) plan.new }
+    requires known { IsKnown (V.rows view.now) stand.old }
+    ensures chosen { IfOk result (IsChosen (V.rows view.now) stand.old.inc) }
+    ensures known { IsKnown (V.rows view.now) stand.new }
+    ensures same { stand.new.inc ≡ stand.old.inc }
 {
-    if !unshut(view, parent) {
-        return Ok(None);
-    }
-    learn(alloc, view, plan, parent, Look::Close)?;
-    next_free(alloc, view, plan, parent)
+    learn(alloc, view, stand, Look::Close)?;
+    next_free(alloc, view, stand, None)
 }
 
-/// Looks at a level, and puts into the plan what that tells, if it tells anything.
-fn learn<V: View>(
-    alloc: Global,
-    view: &V,
-    plan: &mut Plan,
-    parent: u64,
-    look: Look,
-) -> Result<(), Memory>
+/// Looks at a level whose instance isn't shut, and puts down what that tells, if it tells anything.
+fn learn<V: View>(alloc: Global, view: &V, stand: &mut Stand, look: Look) -> Result<(), Memory>
     requires sound { IsSound (V.rows view.now) (V.next_inc view.now) }
-    requires plan { IsPlan (V.rows view.now) plan.old }
-    ensures { IsPlan (V.rows view.now) plan.new }
+    requires known { IsKnown (V.rows view.now) stand.old }
+    ensures known { IsKnown (V.rows view.now) stand.new }
+    ensures same { stand.new.inc ≡ stand.old.inc }
 {
-    match named_at(alloc, view, parent, look)? {
-        None => Ok(()),
-        Some(named) => plan.know(parent, named),
+    if !unshut(view, stand.inc) {
+        return Ok(());
     }
+    let found = named_at(alloc, view, stand.inc, look)?;
+    if found.is_some() {
+        stand.named = found;
+    }
+    Ok(())
 }
 
-/// The first child that isn't all shut and isn't named, from the one on that was found last, or of
-/// all.
+/// The first child that isn't all shut and isn't named, from behind the given one on, or of all that
+/// aren't known to be shut.
 fn next_free<V: View>(
     alloc: Global,
     view: &V,
-    plan: &mut Plan,
-    parent: u64,
+    stand: &Stand,
+    behind: Option<u64>,
 ) -> Result<Option<u64>, Memory>
     requires sound { IsSound (V.rows view.now) (V.next_inc view.now) }
-    requires plan { IsPlan (V.rows view.now) plan.old }
-    ensures chosen { IfOk result (IsChosen (V.rows view.now) parent) }
-    ensures plan { IsPlan (V.rows view.now) plan.new }
+    requires known { IsKnown (V.rows view.now) stand.now }
+    ensures { IfOk result (IsChosen (V.rows view.now) stand.now.inc) }
 {
-    let found = free_in(alloc, view, plan, parent)?;
-    if let Some(child) = found {
-        plan.found(parent, child)?;
-    }
-    Ok(found)
-}
-
-/// The same, where nothing is put down.
-fn free_in<V: View>(
-    alloc: Global,
-    view: &V,
-    plan: &Plan,
-    parent: u64,
-) -> Result<Option<u64>, Memory>
-    requires sound { IsSound (V.rows view.now) (V.next_inc view.now) }
-    requires plan { IsPlan (V.rows view.now) plan.now }
-    ensures { IfOk result (IsChosen (V.rows view.now) parent) }
-{
-    let Some(named) = plan.named(parent) else {
+    let Some(named) = &stand.named else {
         return Ok(None);
     };
-    let later = free_behind(alloc, view, parent, named, plan.place(parent))?;
-    if later.is_some() {
-        return Ok(later);
+    if behind.is_some() {
+        let later = free_behind(alloc, view, stand.inc, named, behind)?;
+        if later.is_some() {
+            return Ok(later);
+        }
     }
-    free_behind(alloc, view, parent, named, None)
+    free_behind(alloc, view, stand.inc, named, stand.done)
 }
 
 /// The first child behind this one, or of all, that isn't all shut and isn't named.
@@ -234,16 +227,23 @@ fn is_of_child(usage: &Usage) -> bool
     of_strong(usage.dependency) && of_child(&usage.from)
 }
 
-/// Whether an instance isn't shut and has no pending action, and all below it is shut.
-fn is_last<V: View>(alloc: Global, view: &V, inc: u64) -> Result<bool, Memory>
-    requires { IsSound (V.rows view.now) (V.next_inc view.now) }
-    ensures { IfOk result (λ last. IsTrue last →
-        IsHere (V.rows view.now) wanted.Idle (record { inc = inc; behind = None })) }
+/// Whether an instance isn't shut and has no pending action, and all below it is shut. What that looks
+/// at below it isn't looked at again.
+fn is_last<V: View>(alloc: Global, view: &V, stand: &mut Stand) -> Result<bool, Memory>
+    requires sound { IsSound (V.rows view.now) (V.next_inc view.now) }
+    requires known { IsKnown (V.rows view.now) stand.old }
+    ensures last { IfOk result (λ last. IsTrue last →
+        IsHere (V.rows view.now) wanted.Idle (record { inc = stand.old.inc; behind = None })) }
+    ensures known { IsKnown (V.rows view.now) stand.new }
+    ensures same { stand.new.inc ≡ stand.old.inc }
 {
-    if !is_idle(view, inc) {
+    if !is_idle(view, stand.inc) {
         return Ok(false);
     }
-    kids_shut(alloc, view, inc)
+    let kids = shut_kids(alloc, view, stand.inc, stand.done)?;
+    stand.done = kids.done;
+    stand.below_shut = kids.all;
+    Ok(kids.all)
 }
 
 /// Whether an instance lives, isn't shut and has no pending action.
@@ -257,17 +257,39 @@ fn is_idle<V: View>(view: &V, inc: u64) -> bool
     }
 }
 
-/// Whether all at and below each child is shut.
-fn kids_shut<V: View>(alloc: Global, view: &V, inc: u64) -> Result<bool, Memory>
-    requires { IsSound (V.rows view.now) (V.next_inc view.now) }
-    ensures { IfOk result (λ shut. IsTrue shut → AreKidsShut (V.rows view.now) inc) }
+/// Which children of an instance are shut, with all below them.
+#[derive(Debug, Clone, Copy)]
+struct ShutKids {
+    /// Those up to this one are; `None` says nothing.
+    done: Option<u64>,
+    /// Whether all are.
+    all: bool,
+}
+
+/// Which children are shut with all below them, where those up to this one are.
+fn shut_kids<V: View>(
+    alloc: Global,
+    view: &V,
+    inc: u64,
+    done: Option<u64>,
+) -> Result<ShutKids, Memory>
+    requires sound { IsSound (V.rows view.now) (V.next_inc view.now) }
+    requires done { AreShutSoFar (V.rows view.now) inc done }
+    ensures done { IfOk result (λ kids. AreShutSoFar (V.rows view.now) inc kids.done) }
+    ensures all { IfOk result (λ kids. IsTrue kids.all → AreKidsShut (V.rows view.now) inc) }
 {
-    let mut behind = None;
+    let mut behind = done;
     while let Some(child) = view.next_child(inc, behind) {
         if !all_shut(alloc, view, child)? {
-            return Ok(false);
+            return Ok(ShutKids {
+                done: behind,
+                all: false,
+            });
         }
         behind = Some(child);
     }
-    Ok(true)
+    Ok(ShutKids {
+        done: behind,
+        all: true,
+    })
 }

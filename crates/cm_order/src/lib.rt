@@ -13,7 +13,8 @@
 //! | `search` | an instance that may stop, below another |
 //! | `named` | the children that something at their level strongly comes from |
 //! | `glance` | a node of a level that nothing binds, by tests that cost little |
-//! | `plan` | what is known of levels, from one pick to the next |
+//! | `stand` | a level on a way down, and what is known of it |
+//! | `plan` | the ways down that picks took, from one pick to the next |
 //! | `quick` | the way down to an instance that may be picked, by such tests alone |
 //! | `picking` | what a pick comes to |
 //! | `laws` | that a shutdown never comes to a dead end |
@@ -33,6 +34,7 @@ pub mod picking;
 pub mod plan;
 pub(crate) mod quick;
 pub(crate) mod search;
+pub(crate) mod stand;
 
 pub use picking::{Picked, pick, pick_with};
 pub use plan::Plan;

@@ -76,9 +76,10 @@ pub fn pick<V: View>(alloc: Global, view: &V, target: u64) -> Result<Picked, Mem
 /// [`pick`], with what is known of levels from the picks before.
 ///
 /// The plan is that of the picks before, or one that knows of no level; it has to hold in this tree,
-/// and holds still at an `Err`. Where it knows of a level, that isn't looked at anew: the children
-/// are, from the one on that was found last. It takes memory for each child of a level on which
-/// another strongly depends.
+/// and holds still at an `Err`. The way down goes on from the last instance on that of the pick before
+/// with the same outermost one that isn't shut, behind the child that was left last. What is known of
+/// its levels isn't looked at anew. It takes memory for each level of the way, and for each child of
+/// it on which another strongly depends.
 pub fn pick_with<V: View>(
     alloc: Global,
     view: &V,
@@ -95,6 +96,7 @@ pub fn pick_with<V: View>(
         return Ok(Picked::Done);
     };
     if all_shut(alloc, view, target)? {
+        plan.finish(target);
         return Ok(Picked::Done);
     }
     if let Some(inc) = quick(alloc, view, plan, top)? {

@@ -1,29 +1,30 @@
-//! What is known of levels, between one pick and the next.
+//! What is known of ways down, between one pick and the next.
 
-ghost use Rattle.std.specs.Prelude.{◌≡◌, ℕ, List as Seq};
-ghost use Rattle.std.specs.Option.{option_copied};
-ghost use Rattle.std.specs.BTreeSet.{BTreeSet as Set};
+ghost use Rattle.std.specs.Prelude.{◌≡◌, List as Seq, OnOk};
 ghost use Rattle.cm_world.specs.declared.row.Row.{Row};
-ghost use Rattle.cm_order.specs.Glances.{HasBound};
-ghost use Rattle.cm_order.specs.Plans.{known_at, IsPlan, KnowsNone};
+ghost use Rattle.cm_order.specs.Plans.{IsPlan, KnowsNone};
 
+use crate::stand::Stand;
 use cm_names::Memory;
 use std::alloc::Global;
-use std::collections::{BTreeMap, BTreeSet};
+use std::collections::BTreeMap;
+use std::mem;
 
-/// What is known of the levels of a tree: of each level that was looked at, on which of its
-/// children something there depends that isn't all shut.
+/// The ways down that picks took, with what is known of the levels on them: on which children of
+/// each something there depends that isn't all shut.
 ///
-/// It is handed from one pick to the next, so that a level isn't looked at once more for each of
-/// its children. It holds for a tree that it was made in, and goes on to hold while no instance is
-/// resolved, created, doomed or removed.
+/// It is handed from one pick to the next, so that a pick goes on where the last one stood, and a
+/// level isn't looked at once more for each of its children. It holds for a tree that it was made
+/// in, and goes on to hold while no instance is resolved, created, doomed or removed.
 #[derive(Drop)]
 pub struct Plan {
-    /// Of a level, by its instance: the children on which something there depends that isn't all
-    /// shut, and maybe others.
-    named: BTreeMap<u64, BTreeSet<u64>>,
-    /// Of a level, by its instance: the child that was found last. Nothing is concluded from it.
-    places: BTreeMap<u64, u64>,
+    /// The outermost instance that is being shut down of the last pick. Its way begins there.
+    pub(crate) top: u64,
+    /// The way of the last pick, from the top down: at the level of each child on it nothing depends
+    /// on that child that isn't all shut. Empty where there was no pick.
+    pub(crate) way: Vec<Stand>,
+    /// The ways of picks before that began at other tops, by those.
+    pub(crate) others: BTreeMap<u64, Vec<Stand>>,
 }
 
 impl Plan {
@@ -32,8 +33,9 @@ impl Plan {
         ensures { KnowsNone result }
     {
         Plan {
-            named: BTreeMap::new(alloc),
-            places: BTreeMap::new(alloc),
+            top: 0,
+            way: Vec::new(alloc),
+            others: BTreeMap::new(alloc),
         }
     }
 
@@ -41,40 +43,35 @@ impl Plan {
     pub fn forget(&mut self)
         ensures { KnowsNone self.new }
     {
-        self.named.clear();
-        self.places.clear();
+        self.way.clear();
+        self.others.clear();
     }
 
-    /// The children of a level on which something depends, if the level is known.
-    pub(crate) fn named(&self, parent: u64) -> Option<&BTreeSet<u64>>
-        ensures { option_copied result ≡ known_at self.now parent }
+    /// Takes up the way from this top, or an empty one, and keeps the one that it had. `Err` where
+    /// memory runs out; then that is lost.
+    pub(crate) fn begin(&mut self, alloc: Global, top: u64) -> Result<(), Memory>
+        ensures top { OnOk result (self.new.top ≡ top) }
+        ensures plan { (rows : Seq Row) → IsPlan rows self.old → IsPlan rows self.new }
     {
-        self.named.get(&parent)
-    }
-
-    /// Puts down the children of a level on which something depends. `Err` where memory runs out,
-    /// and then all is as before.
-    pub(crate) fn know(&mut self, parent: u64, named: BTreeSet<u64>) -> Result<(), Memory>
-        ensures { (rows : Seq Row) → IsPlan rows self.old → HasBound rows parent named →
-            IsPlan rows self.new }
-    {
-        self.named.insert(parent, named)?;
-        Ok(())
-    }
-
-    /// Where the search for a child of a level begins: right before the one that was found last.
-    pub(crate) fn place(&self, parent: u64) -> Option<u64> {
-        match self.places.get(&parent) {
-            None => None,
-            Some(child) => child.checked_sub(1),
+        if self.top == top {
+            return Ok(());
         }
+        let other = self.others.remove(&top).unwrap_or(Vec::new(alloc));
+        let way = mem::replace(&mut self.way, other);
+        let left = mem::replace(&mut self.top, top);
+        if !way.is_empty() {
+            self.others.insert(left, way)?;
+        }
+        Ok(())
     }
 
-    /// Puts down which child of a level was found. `Err` where memory runs out.
-    pub(crate) fn found(&mut self, parent: u64, child: u64) -> Result<(), Memory>
-        ensures { (p : ℕ) → known_at self.new p ≡ known_at self.old p }
+    /// Forgets the way from this top, if it is that of the last pick.
+    pub(crate) fn finish(&mut self, top: u64)
+        ensures { (rows : Seq Row) → IsPlan rows self.old → IsPlan rows self.new }
     {
-        self.places.insert(parent, child)?;
-        Ok(())
+        if self.top != top {
+            return;
+        }
+        self.way.clear();
     }
 }

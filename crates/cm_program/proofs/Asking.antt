@@ -1,13 +1,13 @@
 -- What words ask for is one thing.
 use Rattle.std.proofs.Common.{◌≡◌, Bool, true, false, Ok, Err, true≢false, sym, ap, subst, ◌∙◌}
-use Rattle.cm_program.specs.Calls.{Gives, Read}
-use Rattle.cm_program.specs.declared.call.Call.{Call}
-use Rattle.cm_program.specs.declared.call.Call.TheVariants as call
-use Rattle.cm_program.specs.declared.call.RunOptions.{RunOptions}
-use Rattle.cm_program.specs.declared.call.ServeOptions.{ServeOptions}
-use Rattle.cm_program.specs.declared.call.Workload.{Workload}
-use Rattle.cm_program.specs.declared.call.WordsFault.{WordsFault}
-use Rattle.cm_program.specs.declared.call.WordsFault.TheVariants.{Usage}
+use Rattle.cm_call.specs.Calls.{Gives, Read}
+use Rattle.cm_call.specs.declared.call.Call.{Call}
+use Rattle.cm_call.specs.declared.call.Call.TheVariants as call
+use Rattle.cm_call.specs.declared.call.RunOptions.{RunOptions}
+use Rattle.cm_call.specs.declared.call.ServeOptions.{ServeOptions}
+use Rattle.cm_call.specs.declared.call.Workload.{Workload}
+use Rattle.cm_call.specs.declared.call.WordsFault.{WordsFault}
+use Rattle.cm_call.specs.declared.call.WordsFault.TheVariants.{Usage}
 
 -- which word a call is
 abbrev pub is_run : Call → Bool

@@ -1,4 +1,2 @@
 pub mod ScriptLaws
 pub mod StockLemmas
-pub mod WordLemmas
-pub mod GeneratorLemmas

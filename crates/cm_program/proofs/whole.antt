@@ -1,5 +1,6 @@
 pub mod CheckLemmas
 pub mod FrontLemmas
 pub mod Nothing
+pub mod Printing
 pub mod RunLemmas
 pub mod Saying

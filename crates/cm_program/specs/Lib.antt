@@ -1,9 +1,6 @@
 pub mod Reading
 pub mod Stock
 pub mod Texts
-pub mod Calls
-pub mod Generated
-pub mod GeneratedExamples
 pub mod Written
 pub mod Checks
 pub mod Printed

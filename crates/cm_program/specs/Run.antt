@@ -1,14 +1,14 @@
 -- What a run promises.
 use Rattle.std.specs.Prelude.{◌≡◌, ◌⊎◌, ℕ, List, Option, Ok}
 use Rattle.cm_command.specs.declared.script.Script.{Script}
-use Rattle.cm_program.specs.Calls.{words_of}
+use Rattle.cm_call.specs.Calls.{words_of}
 use Rattle.cm_program.specs.Stock.{IsFault, Serves, served_script}
 use Rattle.cm_program.specs.Texts.{fault_line}
 use Rattle.cm_program.specs.Written.{IsSaid, OfSome}
-use Rattle.cm_program.specs.declared.call.Call.TheVariants.{Run, Check, Generate, Serve}
-use Rattle.cm_program.specs.declared.call.RunOptions.{RunOptions}
-use Rattle.cm_program.specs.declared.call.ServeOptions.{ServeOptions}
-use Rattle.cm_program.specs.declared.call.Workload.{Workload}
+use Rattle.cm_call.specs.declared.call.Call.TheVariants.{Run, Check, Generate, Serve}
+use Rattle.cm_call.specs.declared.call.RunOptions.{RunOptions}
+use Rattle.cm_call.specs.declared.call.ServeOptions.{ServeOptions}
+use Rattle.cm_call.specs.declared.call.Workload.{Workload}
 use Rattle.cm_program.specs.declared.fault.Fault.{Fault}
 use Rattle.cm_program.specs.declared.fault.Fault.TheVariants as fault
 use Rattle.cm_program.specs.declared.scripts.Stop.{Stop}

@@ -23,7 +23,7 @@ use Rattle.cm_session.specs.Session.{AreEnded, WroteFront, most_lines, quit}
 use Rattle.cm_session.specs.Told.{Told, Reads, replies, done_of, IsNoWant}
 use Rattle.cm_program.specs.Headline.{EndsWell, WorksEach}
 use Rattle.cm_program.specs.Stock.{limits}
-use Rattle.cm_program.specs.declared.call.ServeOptions.{ServeOptions}
+use Rattle.cm_call.specs.declared.call.ServeOptions.{ServeOptions}
 
 -- ---- what sessions are served over
 

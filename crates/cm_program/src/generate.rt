@@ -3,20 +3,19 @@
 ghost use Rattle.std.specs.Prelude.{◌≡◌, ◌≢◌, All, IfOk, None, Ok, length};
 ghost use Rattle.cm_io.specs.Outside.{Rose};
 ghost use Rattle.cm_lanes.specs.Script.{IsFit};
-ghost use Rattle.cm_program.specs.Calls.{IsWorkload};
-ghost use Rattle.cm_program.specs.Generated.{script_of};
+ghost use Rattle.cm_call.specs.Calls.{IsWorkload};
+ghost use Rattle.cm_call.specs.Generated.{script_of};
 ghost use Rattle.cm_program.specs.Headline.{IsHistory, RunsNothing, RunsScript};
 ghost use Rattle.cm_program.specs.Run.{IsScriptRun, RunsOwn};
 ghost use Rattle.cm_program.specs.Stock.{served_script};
 ghost use Rattle.cm_program.specs.Written.{Says};
 ghost use Rattle.cm_program.specs.declared.stock.Served.{Served as TheServed};
 
-use crate::call::Workload;
 use crate::ran::{Finished, ended, want_of_memory};
 use crate::running::run_served;
 use crate::stock::{Served, serve_script};
 use crate::wanted::Wanted;
-use crate::workload::generated;
+use cm_call::{Workload, generated};
 use cm_gate::Gates;
 use cm_io::Sink;
 use cm_names::{List, Memory};

@@ -6,23 +6,19 @@
 //!
 //! | file of `specs/` | says |
 //! |---|---|
-//! | `Calls` | what the words ask for |
 //! | `Headline`, `Run` | what is promised of the run of a script, and of each status |
 //! | `Stock`, `Reading` | what a script asks for, and why it is refused |
 //! | `Sessions` | what is promised of sessions |
 //! | `Printed`, `Texts`, `Written` | what is printed, and what is known of bytes written |
 //! | `Checks` | what `check` says of a manifest |
-//! | `Generated` | the script that a workload is; `GeneratedExamples` has small ones |
 //! | `Performing` | what the lanes made of a script |
 //! | `Laws` | what follows for scripts that are served |
 #![tactic(auto)]
 
 mod answers;
-mod call;
 mod check;
 mod fault;
 mod generate;
-mod generator;
 pub mod laws;
 mod performing;
 pub mod ran;
@@ -33,6 +29,5 @@ mod serving;
 mod sessions;
 mod stock;
 mod wanted;
-mod workload;
 
 pub use ran::{Ran, want_of_memory};

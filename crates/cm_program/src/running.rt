@@ -80,7 +80,7 @@ fn answers_text(
         text.push_str(sheet.head.as_str())?;
         push_entries(alloc, &mut text, sheet.entries)?;
     }
-    Ok(Text::from_string(text))
+    Text::from_string(text)
 }
 
 /// All that is printed.

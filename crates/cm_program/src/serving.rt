@@ -2,7 +2,7 @@
 
 ghost use Rattle.std.specs.Prelude.{◌≡◌, ◌⊎◌, ◌+◌, ◌≤◌, [], IfOk, length, map};
 ghost use Rattle.cm_io.specs.Outside.{Rose};
-ghost use Rattle.cm_program.specs.Calls.{IsServing};
+ghost use Rattle.cm_call.specs.Calls.{IsServing};
 ghost use Rattle.cm_program.specs.Headline.{IsHistory};
 ghost use Rattle.cm_program.specs.Run.{IsServeStatus};
 ghost use Rattle.cm_program.specs.Sessions.{RunsSessions, served_frame, served_shelf};
@@ -10,10 +10,10 @@ ghost use Rattle.cm_program.specs.Written.{Says};
 ghost use Rattle.cm_session.specs.Links.{link_view};
 ghost use Rattle.cm_session.specs.Serving.{back_view};
 
-use crate::call::ServeOptions;
 use crate::ran::{Ran, door_fault, stopped, want_of_memory};
 use crate::sessions::{Service, attend};
 use crate::stock::LIMITS;
+use cm_call::ServeOptions;
 use cm_gate::Gates;
 use cm_io::{Door, Listen, Sink};
 use cm_names::{List, Memory, Text};

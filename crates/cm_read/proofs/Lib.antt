@@ -5,3 +5,6 @@ pub mod TextLemmas
 pub mod back
 pub mod Inside
 pub mod ByTwos
+pub mod ValueLemmas
+pub mod PlainLemmas
+pub mod PieceLemmas

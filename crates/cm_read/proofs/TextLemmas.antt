@@ -1,7 +1,10 @@
--- The test for UTF-8.
-use Rattle.std.proofs.Common.{◌≡◌, ℕ, Bool, true, false, List, refl}
+-- The test for UTF-8, and texts that read as their JSON.
+use Rattle.std.proofs.Common.{◌≡◌, ℕ, Bool, true, false, List, refl, ap, ◌∙◌}
 use Rattle.std.specs.Str.{IsUtf8, is_utf8}
 use Rattle.std.proofs.lemmas.Str.{IsUtf8-from_is_utf8, is_utf8-from_IsUtf8}
+use Rattle.cm_names.specs.Steps.{◌>>=◌}
+use Rattle.cm_read.specs.Manifest.{decl_of_json, decl_of_text, json_text, of_data}
+use Rattle.cm_read.specs.Plain.{ReadsAsJson}
 
 pub utf8_test : (bs : List ℕ) → IsUtf8 bs → is_utf8 bs ≡ true
 utf8_test bs h = is_utf8-from_IsUtf8 bs h
@@ -12,3 +15,6 @@ utf8_test_false bs h = by (is_utf8 bs) refl
     by : (b : Bool) → is_utf8 bs ≡ b → b ≡ false
     by true e = absurd (h (IsUtf8-from_is_utf8 bs e))
     by false e = refl
+
+pub plain_decl : (text : List ℕ) → ReadsAsJson text → decl_of_text text ≡ decl_of_json text
+plain_decl text h = ap (λ r. json_text r >>= decl_of_json) h.is_json ∙ ap of_data h.same

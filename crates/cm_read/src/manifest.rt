@@ -15,6 +15,7 @@ use crate::fault::{ReadFault, start, whole};
 use crate::fields::{name_of, object_of};
 use crate::known::{Object, check_keys};
 use crate::number::{NOT_JSON, NOT_OBJECT, NOT_UTF8, TOO_LARGE};
+use crate::plain::{is_plain_text, read_plain};
 use crate::rows::SectionRows;
 use crate::sections::{Item, section_of};
 use cm_decl::{Child, Decl, Section};
@@ -215,6 +216,9 @@ pub fn read_decl_text(alloc: Global, text: &str) -> Result<Decl, ReadFault>
     ensures readable { IfOk result IsReadable }
     ensures formed { IfOk result (λ d. IsTrue (is_well_formed d)) }
 {
+    if let Some(value) = read_plain(alloc, text) {
+        return decl_of(alloc, &value);
+    }
     match Value::from_str(alloc, text) {
         Ok(value) => decl_of(alloc, &value),
         Err(error) => {
@@ -251,6 +255,21 @@ fn json_text(alloc: Global, text: &str) -> Result<Text, ReadFault>
         Err(TextFault::Memory) => Err(ReadFault::Memory),
         Err(_) => Err(whole(alloc, NOT_JSON)),
     }
+}
+
+/// The declaration of a text in the relaxed spelling. That of a plain text is read from the text
+/// itself, and its JSON isn't written.
+fn decl_of_text(alloc: Global, text: &str) -> Result<Decl, ReadFault>
+    requires { length text.now < 2 ^ 32 }
+    ensures decl { Gives result (spec.decl_of_text text.now) }
+    ensures readable { IfOk result IsReadable }
+    ensures formed { IfOk result (λ d. IsTrue (is_well_formed d)) }
+{
+    if is_plain_text(text.as_bytes()) {
+        return read_decl_text(alloc, text);
+    }
+    let json = json_text(alloc, text)?;
+    read_decl_text(alloc, json.as_str())
 }
 
 /// The declaration of a manifest in the relaxed spelling of JSON, or its first fault.
@@ -316,6 +335,5 @@ pub fn read_decl(alloc: Global, bytes: &[u8]) -> Result<Decl, ReadFault>
     ensures formed { IfOk result (λ d. IsTrue (is_well_formed d)) }
 {
     let text = text_of(alloc, bytes)?;
-    let json = json_text(alloc, text)?;
-    read_decl_text(alloc, json.as_str())
+    decl_of_text(alloc, text)
 }

@@ -44,7 +44,7 @@ fn rows_of<T: Item>(
 ) -> Result<List<T>, ReadFault>
     ensures { Gives result (rows_at (T.reads children.now) start (items_view items.now)) }
 {
-    let mut rows = List::new(alloc);
+    let mut rows = List::with_capacity(alloc, items.len().min(MAX_ROWS))?;
     let mut at = start;
     for item in items {
         rows.append(T::read(alloc, at, children, item)?)?;

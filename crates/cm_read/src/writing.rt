@@ -299,5 +299,6 @@ pub fn write_decl(alloc: Global, decl: &Decl) -> Result<Text, Memory>
         (λ text. IsReadable decl.now → decl_of_json text ≡ Ok decl.now) }
 {
     let value = value_of(alloc, decl)?;
-    Ok(Text::from_string(value.to_string(alloc)?))
+    let text = Text::from_string(value.to_string(alloc)?)?;
+    Ok(text)
 }

@@ -76,11 +76,11 @@ pub fn reply_text(
 {
     let mut text = roomy(alloc)?;
     push_reply(&mut text, command, reply)?;
-    Ok(Text::from_string(text))
+    Text::from_string(text)
 }
 
 /// Puts the answer to the command, or why it was refused, at the end, as [`reply_text`] writes it.
-/// `Err` where memory runs out; a front of it may stand there then.
+/// `Err` where memory runs out; how much of it stands there then isn't told.
 pub fn push_reply(
     text: &mut String,
     command: &Command,

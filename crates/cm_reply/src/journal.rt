@@ -28,7 +28,7 @@ pub fn header_text(alloc: Global, frame: &Frame) -> Result<Text, Memory>
     push(&mut text, "journal\n")?;
     push_builtins(&mut text, frame.builtins.as_slice())?;
     push_value(&mut text, format_args!("root {root}\n"))?;
-    Ok(Text::from_string(text))
+    Text::from_string(text)
 }
 
 /// An entry of a history as a journal has it, without a line feed:
@@ -78,7 +78,7 @@ pub fn entry_text(alloc: Global, number: u64, entry: &Entry) -> Result<Text, Mem
 {
     let mut text = roomy(alloc)?;
     push_entry(&mut text, number, entry)?;
-    Ok(Text::from_string(text))
+    Text::from_string(text)
 }
 
 /// Puts an entry of a history at the end, as [`entry_text`] writes it. `Err` where memory runs out;

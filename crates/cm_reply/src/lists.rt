@@ -5,7 +5,7 @@ ghost use Rattle.cm_names.specs.Moniker.{moniker_text};
 ghost use Rattle.cm_reply.specs.Lists as spec;
 ghost use Rattle.cm_reply.specs.Lists.{Gains};
 
-use cm_names::{ChildName, Memory, Moniker};
+use cm_names::{ChildName, Memory, Moniker, Shared};
 use std::alloc::Global;
 use std::fmt;
 
@@ -66,8 +66,17 @@ impl Item for ChildName {
     }
 }
 
+/// It is written as the value.
+impl<T: Item + Drop> Item for Shared<T> {
+    ghost written = { T.written };
+
+    fn push_to(&self, text: &mut String) -> Result<(), Memory> {
+        self.get().push_to(text)
+    }
+}
+
 /// Puts names of children at the end, with slashes between them; a dot for none.
-fn push_parts(text: &mut String, parts: &[ChildName]) -> Result<(), Memory>
+fn push_parts(text: &mut String, parts: &[Shared<ChildName>]) -> Result<(), Memory>
     ensures { OnOk result (Gains text.old text.new (spec.parts_text parts.now)) }
 {
     let [first, others @ ..] = parts else {

@@ -25,7 +25,7 @@ pub fn push_replied(text: &mut String, reply: &Reply) -> Result<(), Memory>
             push(text, "not-found ")?;
             push_moniker(text, moniker)
         }
-        Reply::Begun(work) => push_number(text, "begun", work.action),
+        Reply::Begun(work) => push_number(text, "begun", work.get().action),
         Reply::Joined(action) => push_number(text, "joined", *action),
         Reply::Already => push(text, "already"),
         Reply::Ended(outcome) => {
@@ -45,7 +45,10 @@ pub fn push_replied(text: &mut String, reply: &Reply) -> Result<(), Memory>
         Reply::Marked => push(text, "marked"),
         Reply::NotDynamic => push(text, "not-dynamic"),
         Reply::Done => push(text, "done"),
-        Reply::Stopping(work) => push_numbers(text, "stopping", work.inc, work.action),
+        Reply::Stopping(work) => {
+            let work = work.get();
+            push_numbers(text, "stopping", work.inc, work.action)
+        }
         Reply::ShutDown(inc) => push_number(text, "shutdown", *inc),
         Reply::Purged(lost) => push_number(text, "purged", lost.len() as u64),
         Reply::PurgedBefore => push(text, "purged-before"),

@@ -97,10 +97,16 @@ pub record IsLater (p q : DoorPass) : Type 0 where
   pub frame : q.frame ≡ p.frame
   pub caller : q.caller ≡ p.caller
 
--- a turn at the door, which counts a link among the pass's own entries where one was given, and tells where
--- no accept is due
+-- the entries that a turn of this worker leaves
+abbrev pub accepted_by : {L : Type 0} → ℕ → Option (Accept L) → List Accepted
+accepted_by w (Some a) = record { worker = w; came = came_of a } ∷ []
+accepted_by w None = []
+
+-- a turn at the door, which leaves an entry of the pass's own for its accept, counts a link there where one
+-- was given, and tells where no accept is due
 pub record TakesTurn {L : Type 0} (p q : DoorPass) (turned : Option (Accept L)) : Type 0 where
   pub same : IsLater p q
+  pub made : q.mine ≡ p.mine ++ accepted_by p.caller turned
   pub links : links_of q.mine ≡ links_of p.mine + given_by turned
   pub few : links_of q.mine ≤ sessions_of q
   pub over : turned ≡ None → IsOver (sessions_of q) q.seen

@@ -1,6 +1,6 @@
 //! Serving the lines of one link.
 
-ghost use Rattle.std.specs.Prelude.{◌≡◌, ◌≢◌, ◌≤◌, ◌++◌, [], codes, decimal, false, length, Err, IfOk};
+ghost use Rattle.std.specs.Prelude.{◌≡◌, ◌≢◌, ◌≤◌, ◌++◌, [], codes, decimal, false, true, length, Err, IfOk};
 ghost use Rattle.cm_reply.specs.Journal.{line as line_of};
 ghost use Rattle.cm_reply.specs.Answers as answers;
 ghost use Rattle.cm_manager.specs.Gated.{gates_view};
@@ -35,7 +35,8 @@ const WANTING: &[u8] = b"refused want-of-memory\n";
 
 /// Whether a command was answered so because memory ran out.
 fn is_wanting(answer: &Result<Answer, Refusal>) -> bool
-    ensures { result ≡ false → answer.now ≢ Err Refusal.Memory }
+    ensures told { result ≡ false → answer.now ≢ Err Refusal.Memory }
+    ensures wanting { result ≡ true → answer.now ≡ Err Refusal.Memory }
 {
     matches!(answer, Err(Refusal::Memory))
 }

@@ -2,7 +2,9 @@
 use Rattle.std.proofs.Common.{◌≡◌, ℕ, zero, suc, List, [], ◌∷◌, Bool, true, false, cond, ◌&&◌, ◌||◌, ◌==◌, Option, Some, None, IsTrue, length, map, is_some, option_map, refl, sym, ◌∙◌, ap, subst, inl, inr}
 use Rattle.std.specs.List.{list_any}
 use Rattle.std.specs.Option.{option_eq, option_map_or}
-use Rattle.std.specs.Prelude.{nat_eq}
+use Rattle.std.specs.Prelude.{nat_eq, IfSome}
+use Rattle.std.specs.Ordering.{nat_cmp}
+use Rattle.std.specs.BTreeMap.{get}
 use Rattle.std.specs.BTreeSet.{BTreeSet}
 use Rattle.std.proofs.lemmas.List.{length-map}
 use Rattle.cm_decl.specs.declared.decl.Decl.{Decl}
@@ -15,15 +17,18 @@ use Rattle.cm_world.specs.declared.reply.Entry.{Entry}
 use Rattle.cm_world.specs.Rows.{row_of, is_live, decl_of, has_parent, at_or_above, is_below, is_shut, is_subtree_shut}
 use Rattle.cm_world.specs.Level.{is_child_row, is_level_node, row_sources, child_row_sources, level_sources, is_from_row, level_edge, LevelStrong, LevelOn}
 use Rattle.cm_world.specs.Sound.{IsOrderly}
-use Rattle.cm_world.specs.Stopping.{is_wholly_shut}
+use Rattle.cm_world.specs.Stopping.{is_wholly_shut, IsFree}
 use Rattle.cm_world.specs.World.{World}
 use Rattle.cm_world.specs.After.{after}
 use Rattle.cm_world.specs.Legal.{IsStep}
-use Rattle.cm_world.proofs.trees.Finding.{none_some}
+use Rattle.cm_world.proofs.trees.Finding.{none_some, some_same}
 use Rattle.cm_decl.proofs.Sameness.{never}
 use Rattle.cm_order.specs.declared.plan.Plan.{Plan}
+use Rattle.cm_order.specs.declared.stand.Stand.{Stand}
+use Rattle.cm_order.specs.Kids.{IsKid}
 use Rattle.cm_order.specs.Glances.{HasBound}
-use Rattle.cm_order.specs.Plans.{IsPlan, KnowsNone}
+use Rattle.cm_order.specs.Plans.{IsReached, IsKnown, AreShutSoFar, IsWay, IsPlan, KnowsNone}
+use Rattle.cm_order.proofs.searches.Reaching.{plan_none}
 use Rattle.cm_order.proofs.trees.Trees.{below_lives, shut_each, shut_all, not_true, true_not_false}
 use Rattle.cm_order.proofs.names.Listing.{any_same}
 use Rattle.cm_cache.specs.Right.{bare}
@@ -159,6 +164,22 @@ wholly_by : (t : Bool) (a b c d : Bool) → (IsTrue a → IsTrue c) → (IsTrue 
 wholly_by true a b c d own below shut = own shut
 wholly_by false a b c d own below shut = below shut
 
+-- a child row was one before
+kid_by : (p c : ℕ) (rows : List Row) (r : Row) (o : Option Row) → row_of rows c ≡ o → r.parent ≡ Some p → option_map bare o ≡ Some (bare r) → IsKid rows p c
+kid_by p c rows r None lives parent same = absurd (none_some (bare r) same)
+kid_by p c rows r (Some s) lives parent same = record {
+  row = s;
+  lives = lives;
+  parent = ap (λ b. b.parent) (some_same (bare s) (bare r) same) ∙ parent;
+}
+
+kid_was : (old new : List Row) (p c : ℕ) (kid : IsKid new p c) → option_map bare (row_of old c) ≡ option_map bare (row_of new c) → IsKid old p c
+kid_was old new p c kid same = kid_by p c old kid.row (row_of old c) refl kid.parent (same ∙ ap (option_map bare) kid.lives)
+
+if_some : {A : Type 0} (P Q : A → Type 0) (o : Option A) → ((a : A) → P a → Q a) → IfSome o P → IfSome o Q
+if_some P Q None more it = it
+if_some P Q (Some a) more it = more a it
+
 module _ (old new : List Row) (next n m : ℕ) (was : IsOrderly old next) (is : IsOrderly new n) (bares : map bare old ≡ map bare new) (follows : Follows old new m) where
   long : length old ≡ length new
   long = sym (length-map old bare) ∙ ap length bares ∙ length-map new bare
@@ -184,14 +205,59 @@ module _ (old new : List Row) (next n m : ℕ) (was : IsOrderly old next) (is : 
       (not_true (is_wholly_shut old p z) (λ shut. true_not_false (is_wholly_shut new p z) (wholly_stays p z shut) unshut))
       (reaches_on (LevelOn new p) (LevelOn old p) (direct_on new old (reads_same new old (sym bares)) p) z x way)
 
+  -- and what is free stays free
+  free_stays : (p c : ℕ) → IsFree old p c → IsFree new p c
+  free_stays p c free z way =
+      wholly_stays p z (free z (reaches_on (LevelOn new p) (LevelOn old p) (direct_on new old (reads_same new old (sym bares)) p) z c way))
+
+  below_was : (top i : ℕ) → IsTrue (is_below new top i) → IsTrue (is_below old top i)
+  below_was top i below = below_same old new (reads_same old new bares) top long i ∙ below
+
+  -- so a way down goes on to be one
+  reached_stays : (top i : ℕ) → IsReached old top i → IsReached new top i
+  reached_stays top i it = record {
+    below = sym (below_same old new (reads_same old new bares) top long i) ∙ it.below;
+    free = λ p c kid upper lower. free_stays p c (it.free p c (kid_was old new p c kid ((reads_same old new bares).rows c)) (below_was top p upper) (below_was c i lower));
+  }
+
+  named_stays : (p : ℕ) (o : Option (BTreeSet ℕ)) → IfSome o (HasBound old p) → IfSome o (HasBound new p)
+  named_stays p None has = has
+  named_stays p (Some named) has = bound_stays p named has
+
+  kid_before : (p c : ℕ) → IsKid new p c → IsKid old p c
+  kid_before p c kid = kid_was old new p c kid ((reads_same old new bares).rows c)
+
+  done_stays : (p : ℕ) (last : Option ℕ) → AreShutSoFar old p last → AreShutSoFar new p last
+  done_stays p last it c kid = elim (it c (kid_before p c kid)) [
+    | inl later ↦ inl later
+    | inr shut ↦ inr (below_stays c shut)
+  ]
+
+  known_stays : (s : Stand) → IsKnown old s → IsKnown new s
+  known_stays s it = record {
+    named = named_stays s.inc s.named it.named;
+    done = done_stays s.inc s.done it.done;
+    below = λ yes c kid. below_stays c (it.below yes c (kid_before s.inc c kid));
+  }
+
+  way_stays : (top : ℕ) (stands : List Stand) → IsWay old top stands → IsWay new top stands
+  way_stays top [] all = tt
+  way_stays top (s ∷ ss) all = (
+    record { reached = reached_stays top s.inc all.0.reached; known = known_stays s all.0.known },
+    way_stays top ss all.1,
+  )
+
   plan_stays : (plan : Plan) → IsPlan old plan → IsPlan new plan
-  plan_stays plan it p named known = bound_stays p named (it p named known)
+  plan_stays plan it = record {
+    way = way_stays plan.top plan.way.items it.way;
+    others = λ top. if_some (λ way. IsWay old top way.items) (λ way. IsWay new top way.items) (get nat_cmp plan.others top) (λ way. way_stays top way.items) (it.others top);
+  }
 
 -- ---- entries
 
 -- a plan that knows of no level holds anywhere
 pub planned_none : (rows : List Row) (plan : Plan) → KnowsNone plan → IsPlan rows plan
-planned_none rows plan none p named known = absurd (none_some named (sym (none p) ∙ known))
+planned_none rows plan none = plan_none rows plan none
 
 -- behind an entry that leaves the rows as they are
 pub planned_same : (rows : List Row) (emptied : Bool) (old new : Plan) → IsPlan rows old → IsPlannedBy emptied old new → IsPlan rows new

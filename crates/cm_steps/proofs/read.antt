@@ -2,3 +2,4 @@ pub mod Reading
 pub mod Reporting
 pub mod Creations
 pub mod Kids
+pub mod Leading

@@ -2,3 +2,4 @@ pub mod Counts
 pub mod Going
 pub mod Starting
 pub mod Stepping
+pub mod Rooted

@@ -31,7 +31,7 @@ pub record Stands (s : Story) (w : World) : Type 0 where
 
 -- the fields are the tree that the book leaves; open resolves are counted, and room is kept for each of them
 -- and for the entries that are owed; the keeper's answers are those of the book's history; what is known of
--- levels holds in this tree
+-- ways down holds in this tree
 pub record IsKept (a : Inside) : Type 0 where
   pub stands : Stands (story_of a) (world_in a)
   pub owes : a.book.reserved ≡ owed a.acts.items a.joins.items

@@ -1,4 +1,4 @@
--- What becomes of what is known of levels with an entry more.
+-- What becomes of what is known of ways down with an entry more.
 use Rattle.std.specs.Prelude.{◌≡◌, Bool, true, false}
 use Rattle.cm_order.specs.declared.plan.Plan.{Plan}
 use Rattle.cm_order.specs.Plans.{KnowsNone}

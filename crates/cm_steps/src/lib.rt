@@ -4,7 +4,7 @@
 //! happened to it. Each call makes one event: it finds out the reply, changes the tree, and puts
 //! the event with its reply at the end of the history, all three or none of them. That the
 //! history is legal, that the tree is the one that the history leaves, that the answers of walks
-//! which are kept are those of this tree, and that what is known of its levels for the next pick
+//! which are kept are those of this tree, and that what is known of ways down for the next pick
 //! holds there, is part of the type.
 //!
 //! The definitions of events, replies and histories are those of `cm_world`; what holds of every

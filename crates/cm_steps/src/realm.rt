@@ -1,10 +1,10 @@
 //! The realm.
 
-ghost use Rattle.std.specs.Prelude.{◌≡◌, ◌↔◌, [], false, Some, None, IsTrue, IfOk, IfErr, OnOk, OnErr};
+ghost use Rattle.std.specs.Prelude.{◌≡◌, ◌↔◌, [], false, Some, None, Err, IsTrue, IfOk, IfErr, OnOk, OnErr};
 ghost use Rattle.cm_world.specs.World.{start};
 ghost use Rattle.cm_world.specs.Begin.{begin_reply};
 ghost use Rattle.cm_world.specs.Reports.{exit_reply};
-ghost use Rattle.cm_world.specs.Legal.{Legal, IsStep};
+ghost use Rattle.cm_world.specs.Legal.{Legal, IsStep, owed_by};
 ghost use Rattle.cm_world.specs.After.{moves, moved, with_action};
 ghost use Rattle.cm_cache.specs.Keeping.{IsKeptNumber, asked_by};
 ghost use Rattle.cm_cache.specs.Steps.{may_doom};
@@ -13,7 +13,8 @@ ghost use Rattle.cm_laws.specs.Story.{world_of, Tells, entry_of};
 ghost use Rattle.cm_steps.specs.Asking.{may_ask, event_of as event_by};
 ghost use Rattle.cm_steps.specs.Tasks.{IsIdleAt};
 ghost use Rattle.cm_steps.specs.Answers.{BeginsBy, ExitsBy};
-ghost use Rattle.cm_steps.specs.Steps.{HasRoom, Refuses, RefusesQuiet, WaitsToBegin, WaitsToExit};
+ghost use Rattle.cm_steps.specs.Steps.{HasRoom, LacksRoom, Refuses, RefusesQuiet};
+ghost use Rattle.cm_steps.specs.Steps.{WaitsToBegin, WaitsToExit};
 
 mod creating;
 mod ends;
@@ -33,6 +34,7 @@ use crate::replies::surveying::surveyed;
 use crate::rooms::{add_join, copy_in_room, make_room, next_action, put_down};
 use cm_book::Book;
 use cm_cache::Keeper;
+use cm_laws::trees_stay_sound;
 use cm_names::{CapPath, List, Memory, Moniker, Name, Text};
 use cm_order::Plan;
 use cm_table::Table;
@@ -120,9 +122,12 @@ impl Realm {
         self.book.entries()
     }
 
-    /// The history as a book.
+    /// The history as a book, which takes as many entries as the realm does and keeps room for those
+    /// that are owed.
     pub fn into_book(self) -> Book
-        ensures { result.entries ≡ self.entries }
+        ensures entries { result.entries ≡ self.entries }
+        ensures limit { result.limit ≡ self.frame.limits.entries }
+        ensures reserved { result.reserved ≡ owed_by (world_of self) }
     {
         let Realm {
             frame: _,
@@ -236,7 +241,8 @@ impl Realm {
         ensures refused { IfErr result (RefusesQuiet self.old) }
         ensures err { OnErr result (self.new ≡ self.old) }
     {
-        let reply = found(alloc, &self.table, moniker.parts.as_slice())?;
+        trees_stay_sound();
+        let reply = found(alloc, &self.table, &moniker)?;
         self.tell(caller, Event::Find(moniker), reply)
     }
 
@@ -407,6 +413,7 @@ impl Realm {
         ensures step { IfOk result (λ reply.
             Tells self.old self.new caller (Event.Begin kind inc) reply) }
         ensures room { OnOk result (HasRoom self.old 2) }
+        ensures full { LacksRoom self.old 2 → result ≡ Err NoStep.HistoryFull }
         ensures refused { let waits = WaitsToBegin (world_of self.old) kind inc in
             IfErr result (Refuses self.old 2 waits) }
         ensures err { OnErr result (self.new ≡ self.old) }
@@ -555,6 +562,7 @@ impl Realm {
         ensures step { IfOk result (λ reply.
             Tells self.old self.new caller (Event.Exited inc) reply) }
         ensures room { OnOk result (HasRoom self.old 1) }
+        ensures full { LacksRoom self.old 1 → result ≡ Err NoStep.HistoryFull }
         ensures refused { let waits = WaitsToExit (world_of self.old) inc in
             IfErr result (Refuses self.old 1 waits) }
         ensures err { OnErr result (self.new ≡ self.old) }

@@ -58,7 +58,7 @@ pub fn copy_in_room<T: Plain>(book: &mut Book, value: &T) -> Result<T, NoStep>
 }
 
 /// Puts down an entry that asks for no use, in room that is reserved, and forgets the answers that
-/// are kept, and what is known of levels, where it changes what walks read; whether it dooms an
+/// are kept, and what is known of ways down, where it changes what walks read; whether it dooms an
 /// instance is told.
 pub fn put_down(book: &mut Book, keeper: &mut Keeper, plan: &mut Plan, entry: Entry, doomed: bool)
     requires { 0 < book.old.reserved }

@@ -8,4 +8,5 @@ pub mod Removing
 pub mod Resolving
 pub mod Rows
 pub mod Siblings
+pub mod Standing
 pub mod Taking

@@ -1,6 +1,6 @@
 -- Items that have rising keys, in a list or in a list of parts.
 use Rattle.std.specs.Prelude.{◌≡◌, ℕ, zero, suc, ◌<◌, ◌≤◌, ◌==◌, List, [], ◌∷◌, Option, Some, None}
-use Rattle.std.specs.Prelude.{IsSome, find, length, get_or}
+use Rattle.std.specs.Prelude.{IsSome, find, length, get_or, Bool, false, nat_le}
 
 -- all items have a property
 abbrev pub Each : {A : Type 0} → (A → Type 0) → List A → Type 0
@@ -49,6 +49,11 @@ module _ {Y : Type 0} (key : Y → ℕ) where
   abbrev pub Rising : List Y → Type 0
   Rising [] = Unit {0}
   Rising (y ∷ ys) = ((j : ℕ) → IsSome (item_of ys j) → key y < j) × Rising ys
+
+-- whether a part begins at i or below, where there is one
+abbrev pub reaches : {X Y : Type 0} → (Y → ℕ) → (X → List Y) → ℕ → Option X → Bool
+reaches key f i None = false
+reaches key f i (Some x) = nat_le (first_key key (f x)) i
 
 -- the parts before place k begin at i or below, the others above
 pub record IsPlace {X Y : Type 0} (key : Y → ℕ) (f : X → List Y) (xs : List X) (i k : ℕ) : Type 0 where

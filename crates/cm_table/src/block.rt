@@ -1,11 +1,12 @@
 //! Slots that came together.
 
 ghost use Rattle.std.specs.Prelude.{◌≡◌, ◌≤◌, ◌<◌, ◌+◌, ◌==◌, ◌++◌, suc, length, None, Some, MatchOption};
+ghost use Rattle.std.specs.Prelude.{IfSome, slice_get};
 ghost use Rattle.std.specs.Option.{option_copied};
 ghost use Rattle.std.specs.Vec.{vec_capacity};
 ghost use Rattle.cm_world.specs.Edits.{edit_first, drop_first};
 ghost use Rattle.cm_table.specs.Change.{change_row};
-ghost use Rattle.cm_table.specs.Keys.{IsAt, IsPlace, Filled, Rising, alone, first_key, AreFilledBut};
+ghost use Rattle.cm_table.specs.Keys.{IsAt, IsPlace, Filled, Rising, alone, first_key, reaches, AreFilledBut};
 ghost use Rattle.cm_table.specs.Slots.{inc_of, slot_of, flat, slots_in, indexed_by, with_row_by};
 ghost use Rattle.cm_table.specs.declared.slot.Slot.{Slot as OneSlot};
 
@@ -23,13 +24,72 @@ pub struct Block {
 // ---- places
 
 /// The incarnation of the first slot, or 0.
-fn first_of(block: &Block) -> u64
-    ensures { result ≡ first_key inc_of block.now.slots.items }
+fn first_in(slots: &[Slot]) -> u64
+    ensures { result ≡ first_key inc_of slots.now }
 {
-    match block.slots.as_slice() {
+    match slots {
         [] => 0,
         [slot, ..] => slot.inc(),
     }
+}
+
+/// The incarnation of the first slot of the block, or 0.
+fn first_of(block: &Block) -> u64
+    ensures { result ≡ first_key inc_of block.now.slots.items }
+{
+    first_in(block.slots.as_slice())
+}
+
+/// Whether a block stands at the place, and begins at that incarnation or below.
+fn begins_upto(blocks: &[Block], place: usize, inc: u64) -> bool
+    ensures { result ≡ reaches inc_of slots_in inc (slice_get blocks.now place) }
+{
+    match blocks.get(place) {
+        None => false,
+        Some(block) => first_of(block) <= inc,
+    }
+}
+
+/// About where the block of that incarnation stands: exactly there where all blocks have as many
+/// slots and none was removed.
+fn guess(blocks: &[Block], inc: u64) -> usize
+    ensures { result ≤ length blocks.now }
+{
+    let count = blocks.len();
+    if count == 0 {
+        return 0;
+    }
+    let last = count - 1;
+    let top = first_of(&blocks[last]);
+    if inc >= top {
+        return last;
+    }
+    let share = inc.saturating_mul(last as u64) / top;
+    last.min(share as usize)
+}
+
+/// The place of the block that the slot of that incarnation stands in, where that is this place or
+/// the next one.
+fn near(blocks: &[Block], place: usize, inc: u64) -> Option<usize>
+    requires filled { Filled slots_in blocks.now }
+    requires rising { Rising inc_of (flat blocks.now) }
+    requires place { place ≤ length blocks.now }
+    ensures { IfSome result (λ found. IsPlace inc_of slots_in blocks.now inc (suc found)) }
+{
+    let here = begins_upto(blocks, place, inc);
+    if !here {
+        return None;
+    }
+    let next = place + 1;
+    let there = begins_upto(blocks, next, inc);
+    if !there {
+        return Some(place);
+    }
+    let behind = begins_upto(blocks, next + 1, inc);
+    if behind {
+        return None;
+    }
+    Some(next)
 }
 
 /// How many blocks begin at that incarnation or below.
@@ -49,12 +109,35 @@ fn slots_upto(slots: &[Slot], inc: u64) -> usize
     slots.partition_point(|slot| slot.inc() <= inc)
 }
 
+/// The place of the slot of that incarnation, among slots by rising ones, where each incarnation
+/// from the first slot's up to that one has a slot.
+fn dense_at(slots: &[Slot], inc: u64) -> Option<usize>
+    requires { Rising inc_of slots.now }
+    ensures { IfSome result (λ place. IsAt inc_of slots.now inc place) }
+{
+    let first = first_in(slots);
+    if inc < first {
+        return None;
+    }
+    let place = (inc - first) as usize;
+    if place >= slots.len() {
+        return None;
+    }
+    if slots[place].inc() == inc {
+        return Some(place);
+    }
+    None
+}
+
 /// The place of the slot of that incarnation, among slots by rising ones.
 fn place_at(slots: &[Slot], inc: u64) -> Option<usize>
     requires { Rising inc_of slots.now }
     ensures { MatchOption result (slot_of slots.now inc ≡ None)
         (λ place. IsAt inc_of slots.now inc place) }
 {
+    if let Some(place) = dense_at(slots, inc) {
+        return Some(place);
+    }
     let count = slots_upto(slots, inc);
     if count == 0 {
         return None;
@@ -73,6 +156,9 @@ fn place_in(blocks: &[Block], inc: u64) -> Option<usize>
     ensures { MatchOption result (slot_of (flat blocks.now) inc ≡ None)
         (λ place. IsPlace inc_of slots_in blocks.now inc (suc place)) }
 {
+    if let Some(place) = near(blocks, guess(blocks, inc), inc) {
+        return Some(place);
+    }
     let count = blocks_upto(blocks, inc);
     if count == 0 {
         return None;
@@ -146,25 +232,27 @@ pub fn change_in(blocks: &mut Vec<Block>, inc: u64, new: Change)
 
 // ---- changes of indexes
 
-/// Swaps the index of the slot of that incarnation, among slots by rising ones.
+/// Swaps the index of the slot of that incarnation, if there is one, among slots by rising ones.
 fn swap_at(block: &mut Block, inc: u64, index: &mut Option<Index>)
     requires { Rising inc_of block.old.slots.items }
     ensures slots { block.new.slots.items
         ≡ edit_first (λ (s : OneSlot). s.row.inc == inc) (indexed_by index.old) block.old.slots.items }
     ensures index { (s : OneSlot) → slot_of block.old.slots.items inc ≡ Some s → index.new ≡ s.index }
+    ensures none { slot_of block.old.slots.items inc ≡ None → index.new ≡ index.old }
 {
     if let Some(place) = place_at(block.slots.as_slice(), inc) {
         swap(&mut block.slots[place].index, index);
     }
 }
 
-/// Swaps the index of the slot of that incarnation.
+/// Swaps the index of the slot of that incarnation, if there is one.
 pub fn swap_in(blocks: &mut Vec<Block>, inc: u64, index: &mut Option<Index>)
     requires filled { Filled slots_in blocks.old.items }
     requires rising { Rising inc_of (flat blocks.old.items) }
     ensures slots { flat blocks.new.items
         ≡ edit_first (λ (s : OneSlot). s.row.inc == inc) (indexed_by index.old) (flat blocks.old.items) }
     ensures index { (s : OneSlot) → slot_of (flat blocks.old.items) inc ≡ Some s → index.new ≡ s.index }
+    ensures none { slot_of (flat blocks.old.items) inc ≡ None → index.new ≡ index.old }
     ensures filled { Filled slots_in blocks.new.items }
     ensures len { length blocks.new.items ≡ length blocks.old.items }
     ensures capacity { vec_capacity blocks.new ≡ vec_capacity blocks.old }

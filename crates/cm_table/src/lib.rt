@@ -1,8 +1,8 @@
 //! The instances of a realm tree, kept so that deciders can read them and steps can change them.
 //!
 //! A [`Table`] is the list of rows of a tree. It has a call for each change that an event of the
-//! tree may make, and it is a `View` of `cm_world`. Its type says that the rows are those of an
-//! orderly world, so each call keeps them so.
+//! tree may make, and it is a `View` and a `Store` of `cm_world`. Its type says that the rows are
+//! those of an orderly world, so each call keeps them so.
 //!
 //! The life of an instance is that of Fuchsia's component framework (fuchsia.dev: "Component
 //! lifecycle"; `fuchsia.component.Realm`, `fuchsia.sys2.LifecycleController`). Incarnations, the
@@ -11,7 +11,8 @@
 //!
 //! A row is found by its incarnation in a logarithm of the number of rows, and so are a child by
 //! its name and the next child: rows stand in blocks by rising incarnations, which are searched by
-//! halves, and each row has an index of its children beside it. An offer is found by its target, its
+//! halves where a row isn't at the place that is tried first, and each row has an index of its
+//! children beside it. An offer is found by its target, its
 //! name there and its kind in a logarithm of the number of offers, since an order of them is made
 //! with each declaration before it is taken over. A resolve takes no memory and goes
 //! through the children that it brings; a removal goes down by last children, and takes a
@@ -27,6 +28,7 @@ mod ordered;
 pub mod prepared;
 mod reading;
 mod slot;
+mod store;
 pub mod table;
 mod view;
 

@@ -15,6 +15,7 @@ ghost use Rattle.cm_table.specs.Links.{unless, Rises, IsSame, IsLinked, IsUnlink
 use crate::block::{Block, slot_in, swap_in};
 use crate::change::put;
 use crate::slot::Index;
+use crate::view::name_of;
 use cm_names::{ChildName, Memory};
 use std::alloc::Global;
 
@@ -131,7 +132,7 @@ fn name_in(blocks: &[Block], inc: u64) -> Option<&ChildName>
 {
     match slot_in(blocks, inc) {
         None => None,
-        Some(slot) => slot.row.get().name.as_ref(),
+        Some(slot) => name_of(slot.row.get()),
     }
 }
 

@@ -192,12 +192,12 @@ fn made_for(alloc: Global, absolute: &Text, decl: &OrderedDecl) -> Result<Made, 
 fn row_for(alloc: Global, child: &Child) -> Result<Row, Memory>
     ensures { IfOk result (λ row. row ≡ child_row 0 0 child.now) }
 {
-    let name = child.name.clone()?;
+    let name = Shared::new(alloc, name_of(child)?)?;
     let url = child.url.clone()?;
     Ok(Row {
         inc: 0,
         parent: Some(0),
-        name: Some(ChildName { coll: None, name }),
+        name: Some(name),
         url,
         absolute: None,
         decl: None,

@@ -29,7 +29,7 @@ use crate::ordered::OrderedRow;
 use crate::prepared::{Parts, Prepared};
 use crate::slot::{Slot, last_in};
 use cm_decl::Give;
-use cm_names::{ChildName, List, Memory, Text};
+use cm_names::{ChildName, List, Memory, Shared, Text};
 use cm_world::{ActKind, Builtin, Finish, Outcome, Row};
 use std::alloc::Global;
 use std::marker::Model;
@@ -338,6 +338,10 @@ impl Table {
             Ok(key) => key,
             Err(_) => return Err(TableFault::Memory),
         };
+        let name = match Shared::new(alloc, name) {
+            Ok(name) => name,
+            Err(_) => return Err(TableFault::Memory),
+        };
         let row = child_row(inc, parent, name, url, gives);
         let slots = match room_for(alloc, &mut self.blocks, self.spare, row) {
             Ok(slots) => slots,
@@ -470,7 +474,7 @@ fn room_for(
 }
 
 /// The row of a new child, which isn't resolved.
-fn child_row(inc: u64, parent: u64, name: ChildName, url: Text, gives: List<Give>) -> Row
+fn child_row(inc: u64, parent: u64, name: Shared<ChildName>, url: Text, gives: List<Give>) -> Row
     ensures { result ≡ new_row inc (Some parent) (Some name) url gives }
 {
     Row {

@@ -1,6 +1,7 @@
 //! What deciders read of a table.
 
-ghost use Rattle.std.specs.Prelude.{◌≡◌};
+ghost use Rattle.std.specs.Prelude.{◌≡◌, is_some, option_map};
+ghost use Rattle.std.specs.Option.{option_copied};
 ghost use Rattle.cm_table.specs.Tree.{Tree};
 ghost use Rattle.cm_world.specs.Rows as told;
 ghost use Rattle.cm_world.specs.Offering.{offer_for};
@@ -10,7 +11,7 @@ use crate::slot::{child_in, next_in};
 use crate::table::Table;
 use cm_decl::{Decl, Give, Kind};
 use cm_names::{ChildName, List, Name};
-use cm_world::{Builtin, Facts, Row, View};
+use cm_world::{Builtin, Facts, Place, Row, View};
 
 impl View for Table {
     ghost rows = { λ (t : Tree). t.rows };
@@ -29,7 +30,18 @@ impl View for Table {
     fn name(&self, inc: u64) -> Option<&ChildName> {
         match self.slot(inc) {
             None => None,
-            Some(slot) => slot.row.get().name.as_ref(),
+            Some(slot) => name_of(slot.row.get()),
+        }
+    }
+
+    fn place(&self, inc: u64) -> Option<Place<'_>> {
+        let _builtins = &self.builtins;
+        if inc == 0 {
+            return None;
+        }
+        match self.slot(inc) {
+            None => None,
+            Some(slot) => place_of(slot.row.get()),
         }
     }
 
@@ -91,10 +103,32 @@ impl Table {
         let Some(parent) = row.parent else {
             return None;
         };
-        match (self.slot(parent), &row.name) {
+        match (self.slot(parent), name_of(row)) {
             (Some(slot), Some(child)) => slot.row.offer(child, kind, name),
             _ => None,
         }
+    }
+}
+
+/// Where a row stands that isn't the root.
+fn place_of(row: &Row) -> Option<Place<'_>>
+    requires { is_some row.now.parent ≡ is_some row.now.name }
+    ensures parent { option_map (λ p. p.parent) result ≡ row.now.parent }
+    ensures name { option_map (λ p. p.name.now) result ≡ row.now.name }
+{
+    match (row.parent, &row.name) {
+        (Some(parent), Some(name)) => Some(Place { parent, name }),
+        _ => None,
+    }
+}
+
+/// The name of a row among its siblings.
+pub(crate) fn name_of(row: &Row) -> Option<&ChildName>
+    ensures { option_copied result ≡ row.now.name }
+{
+    match &row.name {
+        None => None,
+        Some(name) => Some(name.get()),
     }
 }
 

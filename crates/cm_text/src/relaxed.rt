@@ -39,5 +39,6 @@ pub fn to_json(alloc: Global, text: &str) -> Result<Text, TextFault>
         at += piece.len;
     }
     let json = writer.finish()?;
-    Ok(Text::from_string(json))
+    let written = Text::from_string(json)?;
+    Ok(written)
 }

@@ -3,4 +3,5 @@ pub mod NameLemmas
 pub mod ClashLemmas
 pub mod RowLemmas
 pub mod PassLemmas
+pub mod CycleLemmas
 pub mod Judging

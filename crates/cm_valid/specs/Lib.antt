@@ -4,4 +4,5 @@ pub mod Keys
 pub mod Parts
 pub mod Reports
 pub mod Texts
+pub mod Cycles
 pub mod Laws

@@ -2,7 +2,7 @@
 //!
 //! [`validate`] says whether a declaration is valid by the rules of component manifests, and else
 //! which fault is its first. It makes one pass over the rows, with sets of the declared names, and
-//! then looks for a cycle of the realm graph.
+//! then, where something strongly depends on a child, looks for a cycle of the realm graph.
 #![tactic(auto)]
 
 pub(crate) mod clash;

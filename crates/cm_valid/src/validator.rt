@@ -1,17 +1,19 @@
 //! The validator.
 
 ghost use Rattle.std.specs.Prelude.{◌≡◌, not, IsTrue, IfOk, IfErr};
-ghost use Rattle.std.specs.List.{list_all};
+ghost use Rattle.std.specs.List.{list_all, list_any};
 ghost use Rattle.cm_decl.specs.Valid as valid;
 ghost use Rattle.cm_decl.specs.Valid.{IsValid};
+ghost use Rattle.cm_valid.specs.Cycles as spec;
 ghost use Rattle.cm_valid.specs.Reports.{Reports};
 
 use crate::ValidFault;
 use crate::pass::first_fault;
 use cm_decl::{
-    Decl, Environment, Give, Origin, Registration, Section, Storage, StorageOffer, Usage,
+    Decl, Environment, Give, Offer, Origin, Registration, Section, Storage, StorageOffer, Usage,
 };
 use cm_deps::{Order, order_of};
+use cm_names::Dependency;
 use std::alloc::Global;
 use std::marker::Model;
 
@@ -156,6 +158,39 @@ fn is_parent(from: &Origin) -> bool
     matches!(from, Origin::Parent)
 }
 
+/// Whether a row strongly depends on a child.
+fn binds_child(dependency: Dependency, from: &Origin) -> bool
+    ensures { result ≡ spec.binds_child dependency from.now }
+{
+    match from {
+        Origin::Child(_) => dependency == Dependency::Strong,
+        _ => false,
+    }
+}
+
+/// Whether something of these is strongly used of a child.
+fn uses_child(uses: &[Usage]) -> bool
+    ensures { result ≡ list_any (λ u. spec.binds_child u.dependency u.from) uses.now }
+{
+    uses.iter()
+        .any(|usage| binds_child(usage.dependency, &usage.from))
+}
+
+/// Whether something of these is strongly offered of a child.
+fn offers_child(offers: &[Offer]) -> bool
+    ensures { result ≡ list_any (λ o. spec.binds_child o.give.dependency o.give.from) offers.now }
+{
+    offers.iter().any(|offer| binds_child(offer.give.dependency, &offer.give.from))
+}
+
+/// Whether the component itself or one of its children strongly depends on a child. Where none does,
+/// nothing depends on itself.
+fn needs_child(decl: &Decl) -> bool
+    ensures { result ≡ spec.needs_child decl.now }
+{
+    uses_child(decl.uses.as_slice()) || offers_child(decl.offers.as_slice())
+}
+
 /// Whether a declaration is valid: its first fault, if it has one.
 fn check(alloc: Global, decl: &Decl) -> Result<(), ValidFault>
     requires well_formed { IsTrue (valid.is_well_formed decl.now) }
@@ -164,6 +199,9 @@ fn check(alloc: Global, decl: &Decl) -> Result<(), ValidFault>
 {
     if let Some(found) = first_fault(alloc, decl)? {
         return Err(found.report(alloc));
+    }
+    if !needs_child(decl) {
+        return Ok(());
     }
     match order_of(alloc, decl, &[])? {
         Order::Ordered(_) => Ok(()),

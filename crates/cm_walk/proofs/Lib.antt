@@ -9,3 +9,4 @@ pub mod Sources
 pub mod Offers
 pub mod Steps
 pub mod Trails
+pub mod Leading

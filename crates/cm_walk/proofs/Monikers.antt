@@ -1,9 +1,10 @@
 -- The names from the root down to an instance, gathered on the way up.
-use Rattle.std.proofs.Common.{◌≡◌, ℕ, zero, suc, ◌+◌, ◌<◌, List, [], ◌++◌, Option, Some, None, length, reverse, option_to_list, option_and_then, refl, sym, ◌∙◌, ap, arith, append_assoc}
+use Rattle.std.proofs.Common.{◌≡◌, ℕ, zero, suc, ◌+◌, ◌<◌, List, [], ◌++◌, Option, Some, None, length, reverse, option_to_list, option_and_then, refl, sym, ◌∙◌, ap, ap₂, arith, append_assoc}
 use Rattle.std.proofs.lemmas.List.{reverse-append}
 use Rattle.cm_names.specs.declared.child.ChildName.{ChildName}
+use Rattle.cm_names.specs.declared.moniker.Moniker.{Moniker}
 use Rattle.cm_world.specs.declared.row.Row.{Row}
-use Rattle.cm_world.specs.Rows.{row_of, names_to}
+use Rattle.cm_world.specs.Rows.{row_of, names_to, moniker_of}
 use Rattle.cm_world.specs.Sound.{IsOrderly}
 use Rattle.cm_world.proofs.trees.Climbing.{names_to-step, names_root}
 
@@ -61,3 +62,22 @@ pub loop-more : (all seen more : List ChildName) (name : Option ChildName) (rows
 loop-more all seen more name rows next i at above orderly here up so_far named pushed =
     names-more all seen more rows next i orderly (so_far ∙ ap (λ o. names_to (length rows) rows o ++ reverse seen) here) (pushed ∙ ap (λ o. seen ++ option_to_list o) named)
     ∙ sym (ap (λ o. names_to (length rows) rows o ++ reverse more) up)
+
+-- the parent that a place tells is lower
+pub place-lower : (rows : List Row) (next at p : ℕ) → IsOrderly rows next → Some p ≡ option_and_then (λ r. r.parent) (row_of rows at) → p < at
+place-lower rows next at p orderly up =
+    let lower : p + 1 < at + 1 = loop-lower rows next at (Some at) (Some p) orderly refl up in omega arith
+
+-- where no place is told, all names have been seen
+pub place-none : (all seen : List ChildName) (rows : List Row) (next at : ℕ) → IsOrderly rows next → None ≡ option_and_then (λ r. r.parent) (row_of rows at) → None ≡ option_and_then (λ r. r.name) (row_of rows at) → all ≡ names_to (length rows) rows (Some at) ++ reverse seen → all ≡ reverse seen
+place-none all seen rows next at orderly top bare so_far =
+    so_far
+    ∙ ap (λ names. names ++ reverse seen) (names-up rows next at orderly ∙ sym (ap₂ (λ o c. names_to (length rows) rows o ++ option_to_list c) top bare) ∙ ap (λ names. names ++ []) (names_root (length rows) rows))
+
+abbrev pub moniker_with : List ChildName → Moniker
+moniker_with names = record { parts = names }
+
+-- the names that have been seen, the other way round, are then the moniker
+pub moniker-made : (parts seen : List ChildName) (rows : List Row) (next inc at : ℕ) → IsOrderly rows next → None ≡ option_and_then (λ r. r.parent) (row_of rows at) → None ≡ option_and_then (λ r. r.name) (row_of rows at) → names_to (length rows) rows (Some inc) ≡ names_to (length rows) rows (Some at) ++ reverse seen → parts ≡ reverse seen → moniker_with parts ≡ moniker_of rows inc
+moniker-made parts seen rows next inc at orderly top bare so_far made =
+    ap moniker_with (made ∙ sym (place-none (names_to (length rows) rows (Some inc)) seen rows next at orderly top bare so_far))

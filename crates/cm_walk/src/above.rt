@@ -1,14 +1,11 @@
 //! What an instance takes from those above it, and how it is itself.
 
-ghost use Rattle.std.specs.Prelude.{◌≡◌, false};
-ghost use Rattle.std.specs.Option.{option_map_or};
-ghost use Rattle.cm_world.specs.Rows.{row_of, some_above, is_below, is_gone, is_closed, is_resolved, is_shut};
+ghost use Rattle.std.specs.Prelude.{◌≡◌, length};
+ghost use Rattle.cm_world.specs.Rows.{at_or_above, is_below, is_gone, is_closed, is_resolved, is_shut};
 ghost use Rattle.cm_world.specs.Rows.{is_on};
-ghost use Rattle.cm_world.specs.Sound.{IsOrderly};
-ghost use Rattle.cm_walk.specs.Marks.{has_mark};
+ghost use Rattle.cm_walk.specs.Marks.{has_mark, is_told};
 
-use crate::hop::parent;
-use cm_world::View;
+use cm_world::{Facts, View};
 
 /// What counts for all instances below the one that has it.
 #[derive(Debug, Clone, Copy, PartialEq, Eq)]
@@ -21,32 +18,32 @@ pub enum Mark {
     Number(u64),
 }
 
-/// Whether an instance itself has the mark.
-fn has<V: View>(view: &V, mark: Mark, inc: u64) -> bool
-    ensures has { result ≡ option_map_or (has_mark mark) (row_of (V.rows view.now) inc) false }
-    ensures orderly { IsOrderly (V.rows view.now) (V.next_inc view.now) }
+/// Whether the instance of these facts itself has the mark.
+fn has(mark: Mark, inc: u64, facts: Facts) -> bool
+    ensures { result ≡ is_told mark inc facts }
 {
-    match view.facts(inc) {
-        None => false,
-        Some(facts) => match mark {
-            Mark::Doomed => facts.doomed,
-            Mark::Closing => facts.closing,
-            Mark::Number(top) => inc == top,
-        },
+    match mark {
+        Mark::Doomed => facts.doomed,
+        Mark::Closing => facts.closing,
+        Mark::Number(top) => inc == top,
     }
 }
 
-/// Whether an instance or one above it has the mark.
-#[tactic(auto, using(crate::proofs::Up::mark_found, crate::proofs::Up::no_mark))]
-fn has_above<V: View>(view: &V, mark: Mark, inc: u64) -> bool
-    ensures { result ≡ some_above (has_mark mark) (V.rows view.now) inc }
+/// Whether the instance, if there is one, or one above it has the mark.
+#[tactic(auto, using(crate::proofs::Up::no_mark))]
+fn has_above<V: View>(view: &V, mark: Mark, from: Option<u64>) -> bool
+    ensures { let rows = V.rows view.now in
+        result ≡ at_or_above (length rows) (has_mark mark) rows from }
 {
-    let mut at = Some(inc);
+    let mut at = from;
     'up: while let Some(here) = at {
-        if has(view, mark, here) {
+        let Some(facts) = view.facts(here) else {
+            return false;
+        };
+        if has(mark, here, facts) {
             return true;
         }
-        at = parent(view, here);
+        at = facts.parent;
     }
     false
 }
@@ -55,21 +52,36 @@ fn has_above<V: View>(view: &V, mark: Mark, inc: u64) -> bool
 pub fn below<V: View>(view: &V, top: u64, inc: u64) -> bool
     ensures { result ≡ is_below (V.rows view.now) top inc }
 {
-    has_above(view, Mark::Number(top), inc)
+    has_above(view, Mark::Number(top), Some(inc))
 }
 
 /// Whether an instance doesn't live, or it or one above it is being destroyed.
 pub fn gone<V: View>(view: &V, inc: u64) -> bool
     ensures { result ≡ is_gone (V.rows view.now) inc }
 {
-    view.facts(inc).is_none() || has_above(view, Mark::Doomed, inc)
+    let Some(facts) = view.facts(inc) else {
+        return true;
+    };
+    if facts.doomed {
+        return true;
+    }
+    has_above(view, Mark::Doomed, facts.parent)
 }
 
 /// Whether an instance is shut, or it or one above it is being shut down.
 pub fn closed<V: View>(view: &V, inc: u64) -> bool
     ensures { result ≡ is_closed (V.rows view.now) inc }
 {
-    has_above(view, Mark::Closing, inc) || shut(view, inc)
+    let Some(facts) = view.facts(inc) else {
+        return false;
+    };
+    if facts.closing {
+        return true;
+    }
+    if facts.shut {
+        return true;
+    }
+    has_above(view, Mark::Closing, facts.parent)
 }
 
 /// Whether an instance is shut.

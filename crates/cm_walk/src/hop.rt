@@ -1,13 +1,12 @@
 //! Hops, and where the instances that they name stand.
 
-ghost use Rattle.std.specs.Prelude.{◌≡◌, ◌++◌, IfOk, OnOk, option_and_then, option_to_list};
-ghost use Rattle.std.specs.Option.{option_copied};
+ghost use Rattle.std.specs.Prelude.{◌≡◌, IfOk, option_and_then};
 ghost use Rattle.cm_world.specs.Rows.{row_of, moniker_of};
 ghost use Rattle.cm_world.specs.Sound.{IsOrderly};
 ghost use Rattle.cm_world.specs.Stations as spec;
 
 use cm_decl::Kind;
-use cm_names::{ChildName, List, Memory, Moniker, Name};
+use cm_names::{List, Memory, Moniker, Name};
 use cm_world::{Hop, StepKind, View};
 use std::alloc::Global;
 
@@ -17,26 +16,15 @@ pub fn moniker<V: View>(alloc: Global, view: &V, inc: u64) -> Result<Moniker, Me
     ensures { IfOk result (λ made. made ≡ moniker_of (V.rows view.now) inc) }
 {
     let mut names = Vec::new(alloc);
-    let mut at = Some(inc);
-    'up: while let Some(here) = at {
-        push_name(&mut names, view.name(here))?;
-        at = parent(view, here);
+    let mut at = inc;
+    'up: while let Some(place) = view.place(at) {
+        names.push(place.name.clone()?)?;
+        at = place.parent;
     }
     names.reverse();
     Ok(Moniker {
         parts: List::from_vec(names),
     })
-}
-
-/// Puts a copy of the name at the end, if there is one.
-fn push_name(names: &mut Vec<ChildName>, name: Option<&ChildName>) -> Result<(), Memory>
-    ensures { OnOk result (names.new.items
-        ≡ names.old.items ++ option_to_list (option_copied name.entry)) }
-{
-    if let Some(name) = name {
-        names.push(name.clone()?)?;
-    }
-    Ok(())
 }
 
 /// The parent of the instance, or `None` where it is the root or doesn't live.

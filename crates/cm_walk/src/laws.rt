@@ -9,3 +9,9 @@ ghost use Rattle.cm_walk.specs.Laws as laws;
 pub fn says_no_use()
     ensures { laws.SaysNoUse }
 {}
+
+/// A find replies as its moniker leads: with the instance that stands there, with the one on the
+/// way that isn't resolved, or with the names that are found, where they are fewer than 2^32 - 1.
+pub fn finds_as_located()
+    ensures { laws.FindsAsLocated }
+{}

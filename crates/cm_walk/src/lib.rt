@@ -1,4 +1,5 @@
-//! Walks along the routes of a realm tree.
+//! Walks along the routes of a realm tree, the way that a moniker leads, and the way down to all
+//! below an instance.
 //!
 //! A walk begins at a use, an expose or an offer of an instance and goes from hop to hop to the
 //! provider: up over the offers of parents, then down over the exposes of children. It judges
@@ -14,11 +15,13 @@ pub mod above;
 pub(crate) mod find;
 pub mod hop;
 pub mod laws;
+pub mod locating;
 pub(crate) mod next;
 pub(crate) mod station;
 pub mod subtree;
 pub(crate) mod trail;
 pub mod walking;
 
+pub use locating::locate;
 pub use subtree::rows_below;
 pub use walking::walk;

@@ -4,6 +4,7 @@ pub mod World
 pub mod Stations
 pub mod Next
 pub mod Offering
+pub mod Located
 pub mod Route
 pub mod Level
 pub mod Stopping

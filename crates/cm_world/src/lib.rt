@@ -10,6 +10,7 @@
 //! | `World`, `Rows` | what the tree is, and what is read of its rows |
 //! | `Next`, `Route` | where a capability comes from, and what a walk along its route comes to |
 //! | `Offering` | where the offer stands by which a row gets what it wants from its parent |
+//! | `Located` | where a moniker leads |
 //! | `Level`, `Stopping`, `Clients` | which instance depends on which, and which may stop now |
 //! | `Work`, `Begin`, `End` | the replies to actions, and what they change |
 //! | `Find`, `Create`, `Marks`, `Openings`, `Reports` | the other replies, kind by kind |
@@ -34,6 +35,8 @@ pub mod reply;
 pub mod report;
 pub mod route;
 pub mod row;
+pub mod steps;
+pub mod store;
 pub mod view;
 
 pub use action::{Act, ActKind, FaultNote, Finish, Join, Outcome, Work};
@@ -44,4 +47,6 @@ pub use reply::{Entry, Reply};
 pub use report::{Kid, Look, Lost, SurveyRow};
 pub use route::{Hop, Provider, Route, Start, StepKind, Walked, Why};
 pub use row::Row;
-pub use view::{Facts, View};
+pub use steps::Steps;
+pub use store::{Located, Store};
+pub use view::{Facts, Place, View};

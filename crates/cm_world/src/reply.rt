@@ -2,7 +2,7 @@
 
 use crate::{Event, Hop, Kid, Look, Lost, Outcome, Route, SurveyRow, Why, Work};
 use cm_decl::Node;
-use cm_names::{List, Moniker, Plain, Shared};
+use cm_names::{Boxed, List, Moniker, Plain, Shared};
 
 /// The reply to an event. A number is the incarnation of an instance, unless the variant says
 /// otherwise.
@@ -19,7 +19,7 @@ pub enum Reply {
     /// Nothing stands there; this is the part of the moniker that was found.
     NotFound(Moniker),
     /// The action has begun, and this is to be done.
-    Begun(Work),
+    Begun(Boxed<Work>),
     /// The action of this number was begun before and hasn't ended; the caller joins it.
     Joined(u64),
     /// The instance is already as the event would make it.
@@ -49,7 +49,7 @@ pub enum Reply {
     /// Everything is shut down.
     Done,
     /// This instance is to be stopped now.
-    Stopping(Work),
+    Stopping(Boxed<Work>),
     /// This instance was off, and is shut down now.
     ShutDown(u64),
     /// These instances have been removed, by their incarnations.

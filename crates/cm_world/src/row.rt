@@ -16,7 +16,7 @@ pub struct Row {
     /// The incarnation of its parent; `None` for the root.
     pub parent: Option<u64>,
     /// Its name among the children of its parent; `None` for the root.
-    pub name: Option<ChildName>,
+    pub name: Option<Shared<ChildName>>,
     /// Its URL as the parent declared it, or as it was created with.
     pub url: Text,
     /// Its absolute URL, once it is resolved.

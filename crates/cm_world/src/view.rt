@@ -2,7 +2,7 @@
 
 use crate::{ActKind, Builtin};
 use cm_decl::{Decl, Give, Kind};
-use cm_names::{ChildName, List, Name};
+use cm_names::{ChildName, List, Name, Shared};
 
 /// What an instance is, but for its name, its declaration and what it was given.
 #[derive(Clone, Copy)]
@@ -21,9 +21,18 @@ pub struct Facts {
     pub shut: bool,
 }
 
+/// Where an instance stands that isn't the root.
+#[derive(Clone, Copy)]
+pub struct Place<'a> {
+    /// The incarnation of its parent.
+    pub parent: u64,
+    /// Its name among the children of its parent.
+    pub name: &'a Shared<ChildName>,
+}
+
 /// A realm tree that can be read: the rows and the builtins of an orderly world.
 pub trait View: Drop {
-    ghost use Rattle.std.specs.Prelude.{◌≡◌, ℕ, List as Seq, option_map};
+    ghost use Rattle.std.specs.Prelude.{◌≡◌, ℕ, List as Seq, option_map, option_and_then};
     ghost use Rattle.std.specs.Option.{option_copied};
     ghost use Rattle.cm_world.specs.declared.frame.Builtin.{Builtin as Given};
     ghost use Rattle.cm_world.specs.declared.row.Row.{Row};
@@ -50,6 +59,14 @@ pub trait View: Drop {
     /// live or is the root.
     fn name(&self, inc: u64) -> Option<&ChildName>
         ensures { option_copied result ≡ name_of (rows self.now) inc };
+
+    /// The parent of the instance, and its name there, or `None` where it doesn't live or is the
+    /// root.
+    fn place(&self, inc: u64) -> Option<Place<'_>>
+        ensures parent { option_map (λ p. p.parent) result
+            ≡ option_and_then (λ r. r.parent) (row_of (rows self.now) inc) }
+        ensures name { option_map (λ p. p.name.now) result ≡ name_of (rows self.now) inc }
+        ensures orderly { IsOrderly (rows self.now) (next_inc self.now) };
 
     /// The declaration of the instance, or `None` where it doesn't live or isn't resolved.
     fn decl(&self, inc: u64) -> Option<&Decl>

@@ -15,7 +15,7 @@ use cm_io::{Door, Reading, SocketDoor, Writing};
 use cm_names::{List, Memory, Text};
 use cm_program::run::perform;
 use cm_program::{Ran, want_of_memory};
-use std::alloc::Global;
+use std::alloc::{AllocError, Global};
 use std::io::ErrorKind;
 use std::process::ExitCode;
 use std::rt::Files;
@@ -35,7 +35,10 @@ fn words<R: env::Env + Alloc<A = Global>>(rt: &R) -> Result<List<Text>, Memory> 
 fn read_words<R: env::Env + Alloc<A = Global>>(rt: &R) -> io::Result<List<Text>> {
     let mut words = Vec::new(rt.alloc());
     for word in env::args(rt)?.skip(1) {
-        words.push(Text::from_string(word))?;
+        match Text::from_string(word) {
+            Ok(word) => words.push(word)?,
+            Err(Memory) => return Err(AllocError.into()),
+        }
     }
     Ok(List::from_vec(words))
 }

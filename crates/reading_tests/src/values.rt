@@ -31,7 +31,7 @@ pub fn child_of(alloc: Global, input: &str) -> Option<Text> {
 /// The name of a child, which may stand in a collection.
 fn child_name(alloc: Global, name: &str) -> Option<ChildName> {
     match Moniker::read(alloc, name) {
-        Ok(moniker) => copy_of(moniker.parts.as_slice().last()?),
+        Ok(moniker) => copy_of(moniker.parts.as_slice().last()?.get()),
         Err(_) => None,
     }
 }
@@ -76,7 +76,7 @@ fn compares_availabilities(rt: HostRuntime) {
 
 /// A text that is made in three parts.
 fn in_parts(alloc: Global) -> Option<Text> {
-    let mut text = Text::from_string(String::from_str(alloc, "ab").ok()?);
+    let mut text = Text::from_string(String::from_str(alloc, "ab").ok()?).ok()?;
     text.push_str("c").ok()?;
     text.push(7).ok()?;
     Some(text)

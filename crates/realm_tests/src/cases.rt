@@ -452,3 +452,38 @@ pub const WALKS: &str = "\
     from:'#b',to:'#a'}]}\n\
     =>\n\
     need 2\n";
+
+/// Where monikers lead: in a tree of a root alone, in one whose root has one child, and in one whose
+/// instances 0, 1 and 3 are resolved. Each look is counted.
+pub const LOCATED: &str = "\
+    == locate .\n\
+    =>\n\
+    found 0 in 0\n\
+    == locate a\n\
+    =>\n\
+    unresolved 0 in 1\n\
+    == locate a/b\n\
+    0 {children:[{name:'a',url:'#a'}]}\n\
+    =>\n\
+    unresolved 1 in 3\n\
+    == locate core/session\n\
+    0 {children:[{name:'core',url:'#core'}],offer:[{protocol:['fuchsia.boot.Items',\
+    'fuchsia.kernel.RootJob'],from:'parent',to:'#core'}]}\n\
+    1 {children:[{name:'archivist',url:'#archivist'},{name:'session',url:'#session',\
+    startup:'lazy'}],offer:[{protocol:['fuchsia.logger.LogSink',\
+    'fuchsia.diagnostics.ArchiveAccessor'],from:'#archivist',to:['#session']},{\
+    protocol:'fuchsia.boot.Items',from:'parent',to:'#archivist'}]}\n\
+    3 {program:{runner:'elf'},children:[{name:'shell',url:'#shell',startup:'eager'}],\
+    collections:[{name:'elements',durability:'transient',allowed_offers:'static_and_dynamic'}],\
+    offer:[{protocol:'fuchsia.logger.LogSink',from:'parent',to:['#shell','#elements']}]}\n\
+    =>\n\
+    found 3 in 4\n\
+    == locate core/none\n\
+    0 {children:[{name:'core',url:'#core'}],offer:[{protocol:['fuchsia.boot.Items',\
+    'fuchsia.kernel.RootJob'],from:'parent',to:'#core'}]}\n\
+    1 {children:[{name:'archivist',url:'#archivist'},{name:'session',url:'#session',\
+    startup:'lazy'}],offer:[{protocol:['fuchsia.logger.LogSink',\
+    'fuchsia.diagnostics.ArchiveAccessor'],from:'#archivist',to:['#session']},{\
+    protocol:'fuchsia.boot.Items',from:'parent',to:'#archivist'}]}\n\
+    =>\n\
+    missing 1 in 4\n";

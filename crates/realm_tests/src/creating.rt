@@ -153,5 +153,5 @@ fn child_of(alloc: Global, word: &str) -> Option<ChildName> {
 }
 
 fn last_of(moniker: &Moniker) -> Option<ChildName> {
-    moniker.parts.as_slice().last()?.clone().ok()
+    moniker.parts.as_slice().last()?.get().clone().ok()
 }

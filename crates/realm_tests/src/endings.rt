@@ -22,7 +22,7 @@ pub fn begun(
 {
     match realm.begin(alloc, 0, kind, inc) {
         Ok(Reply::Begun(work)) => {
-            let action = work.action;
+            let action = work.get().action;
             drop(work);
             Ok(action)
         }

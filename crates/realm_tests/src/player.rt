@@ -4,8 +4,8 @@
 //! A case begins with `== `, the word of what is played and a space. Then comes what is played, and
 //! behind a line `=>` what has to be told of it, line by line.
 
-use crate::cases::{CALLERS, EXPIRIES, KEPT, LIMITS, SHUTDOWNS, WALKS};
-use crate::{realms, walks};
+use crate::cases::{CALLERS, EXPIRIES, KEPT, LIMITS, LOCATED, SHUTDOWNS, WALKS};
+use crate::{locating, realms, walks};
 use cm_names::{Memory, Text};
 use std::alloc::Global;
 use std::test::Fail;
@@ -50,6 +50,7 @@ fn told_of(alloc: Global, case: &str) -> Option<Text> {
         "offer" => walks::told_of_offer(alloc, input),
         "use" => walks::told_of_use(alloc, input),
         "expose" => walks::told_of_expose(alloc, input),
+        "locate" => locating::told(alloc, input),
         _ => None,
     }
 }
@@ -62,13 +63,14 @@ fn table_of(number: u8) -> &'static str {
         3 => EXPIRIES,
         4 => WALKS,
         5 => KEPT,
+        6 => LOCATED,
         _ => "",
     }
 }
 
 #[test]
 fn cases_tell_what_they_should(rt: HostRuntime) -> Result<(), Fail> {
-    for number in 0..6 {
+    for number in 0..7 {
         let odd = odd_cases(rt.alloc(), table_of(number))?;
         assert!(rt; odd.is_empty(), "table {number}: {odd}");
     }

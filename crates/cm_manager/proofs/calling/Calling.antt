@@ -1,5 +1,5 @@
 -- How a call is put together of its parts.
-use Rattle.std.proofs.Common.{◌≡◌, ℕ, List, Option, None, Result, Ok, Err, IfOk, IsTrue, refl, sym, ap, subst, inl, ◌∙◌}
+use Rattle.std.proofs.Common.{◌≡◌, ℕ, List, Option, None, Result, Ok, Err, IfOk, IsTrue, refl, sym, ap, subst, ◌∙◌}
 use Rattle.cm_world.specs.declared.frame.Frame.{Frame}
 use Rattle.cm_world.specs.declared.action.ActKind.{ActKind}
 use Rattle.cm_world.specs.declared.action.ActKind.TheVariants as kind
@@ -154,11 +154,11 @@ on_same shelf call p q r g h k n i a pass gates row help =
 pub performs_on : (shelf : Shelf) (cmd : Command) (t : Target) (call : OnRows) (p q r : RealmPass) (g h k : GatesView) (row : Result ℕ Refusal) (i : ℕ) (a : Result Answer Refusal) → ((x y : List Entry) → OnRow (frame_of p) p.caller t (call (frame_of p) p.caller) x y a → Calls (frame_of p) p.caller cmd x y a) → row ≡ Ok i → Finds shelf (frame_of p) t p q g h row → Helps shelf (frame_of q) (λ x y. call (frame_of q) q.caller i x y a) q r h k → Performs shelf (frame_of p) cmd p r g k a
 performs_on shelf cmd (target.Inc n) call p q r g h k row i a name is finds help =
     helps_as shelf (frame_of p) (λ x y. call (frame_of p) p.caller n x y a) _ p r g k
-    (λ way. inl (name _ _ (record { row = Ok n; h₁ = p.seen; finding = (refl, refl); behind = way })))
+    (λ way. name _ _ (record { row = Ok n; h₁ = p.seen; finding = (refl, refl); behind = way }))
     (on_same shelf call p q r g h k n i a finds.0 finds.1 (same_ok row i n is finds.2) help)
 performs_on shelf cmd (target.Named m) call p q r g h k row i a name is finds help =
     helps_then shelf (frame_of p) (λ x y. Finding (frame_of p) p.caller (target.Named m) x y row) (λ x y. call (frame_of p) p.caller i x y a) _ p q r g h k
-    (λ first second. inl (name _ _ (record { row = row; h₁ = q.seen; finding = first; behind = subst (λ (o : Result ℕ Refusal). Behind o (call (frame_of p) p.caller) q.seen r.seen a) (sym is) second })))
+    (λ first second. name _ _ (record { row = row; h₁ = q.seen; finding = first; behind = subst (λ (o : Result ℕ Refusal). Behind o (call (frame_of p) p.caller) q.seen r.seen a) (sym is) second }))
     finds (on_first shelf call p q r h k i a finds.same.frame finds.same.caller help)
 
 -- the row wasn't found
@@ -166,7 +166,7 @@ pub performs_missed : (shelf : Shelf) (cmd : Command) (t : Target) (call : OnRow
 performs_missed shelf cmd (target.Inc n) call p q g h row x name is finds = absurd (not_both row n x is finds.2)
 performs_missed shelf cmd (target.Named m) call p q g h row x name is finds =
     helps_as shelf (frame_of p) (λ a b. Finding (frame_of p) p.caller (target.Named m) a b row) _ p q g h
-    (λ way. inl (name _ _ (record { row = row; h₁ = q.seen; finding = way; behind = subst (λ (o : Result ℕ Refusal). Behind o (call (frame_of p) p.caller) q.seen q.seen (Err x)) (sym is) (refl, refl) })))
+    (λ way. name _ _ (record { row = row; h₁ = q.seen; finding = way; behind = subst (λ (o : Result ℕ Refusal). Behind o (call (frame_of p) p.caller) q.seen q.seen (Err x)) (sym is) (refl, refl) }))
     finds
 
 -- a call with an action

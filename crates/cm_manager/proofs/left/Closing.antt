@@ -14,7 +14,7 @@ use Rattle.cm_world.specs.declared.answer.Refusal.TheVariants as refusal
 use Rattle.cm_turn.specs.History.{StartsWith}
 use Rattle.cm_manager.specs.Turns.{Later, Makes, IsCut, own_entries}
 use Rattle.cm_manager.specs.Sweeps.{Stops, Removes, Clears, Sweeps}
-use Rattle.cm_manager.specs.Runs.{Acts, ended, started, started_cut, stopped, stopped_cut, joined, quiet, resolved_first, not_resolved, cut, lost, Eagers, all_done, next_one, cut_at, is_quiet}
+use Rattle.cm_manager.specs.Runs.{Acts, ended, started, started_cut, stopped, stopped_cut, joined, quiet, resolved_first, not_resolved, cut, Eagers, all_done, next_one, cut_at, is_quiet}
 use Rattle.cm_manager.specs.Work.{begins}
 use Rattle.cm_manager.specs.Closed.{joins, IsClosed, empty, plain, acted, awaited, Grows}
 use Rattle.cm_manager.proofs.calling.Joining.{starts-trans}
@@ -108,7 +108,6 @@ mutual
   acts-close f c (resolved_first asks first fine again) = grows-trans c _ _ _ (plain-grows c _ _ _ _ refl refl asks.made) (grows-trans c _ _ _ (acts-close f c first) (acts-close f c again))
   acts-close f c (not_resolved asks first fails) = grows-trans c _ _ _ (plain-grows c _ _ _ _ refl refl asks.made) (acts-close f c first)
   acts-close f c (cut {k = k} {i = i} {h₀ = a} {h₁ = b} {x = x} is) = later-grows c a b (cut-later f c a b (event.Begin k i) x is)
-  acts-close f c (lost way) = acts-close f c way
 
   pub eagers-close : (f : Frame) (c : ℕ) {es : List ℕ} {a b : List Entry} {end : Option Refusal} → Eagers f c es a b end → Grows c a b
   eagers-close f c (all_done {h = h}) = later-grows c h h (later-self c h)

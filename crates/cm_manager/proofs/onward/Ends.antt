@@ -5,7 +5,7 @@ use Rattle.cm_world.specs.declared.reply.Entry.{Entry}
 use Rattle.cm_world.specs.declared.event.Event.{Event}
 use Rattle.cm_world.specs.declared.reply.Reply.{Reply}
 use Rattle.cm_world.specs.declared.answer.Refusal.{Refusal}
-use Rattle.cm_manager.specs.Runs.{Tries, decided, needs, failed, cut_try, lost_try}
+use Rattle.cm_manager.specs.Runs.{Tries, decided, needs, failed, cut_try}
 use Rattle.cm_manager.specs.Work.{begins}
 use Rattle.cm_manager.specs.Closed.{joins, Grows}
 use Rattle.cm_manager.proofs.left.Closing.{grows-trans, later-grows, plain-grows, cut-later, acts-close}
@@ -19,4 +19,3 @@ tries-close f c e apart (decided {r = r} asks is) = plain-grows c _ _ _ _ (apart
 tries-close f c e apart (needs {r = r} asks is act fine again) = grows-trans c _ _ _ (plain-grows c _ _ _ _ (apart r).0 (apart r).1 asks.made) (grows-trans c _ _ _ (acts-close f c act) (tries-close f c e apart again))
 tries-close f c e apart (failed {r = r} asks is act fails) = grows-trans c _ _ _ (plain-grows c _ _ _ _ (apart r).0 (apart r).1 asks.made) (acts-close f c act)
 tries-close f c e apart (cut_try {h₀ = a} {h₁ = b} {x = x} is) = later-grows c a b (cut-later f c a b e x is)
-tries-close f c e apart (lost_try way) = tries-close f c e apart way

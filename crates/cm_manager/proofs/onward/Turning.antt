@@ -1,5 +1,5 @@
 -- What a turn comes to, from what its step is.
-use Rattle.std.proofs.Common.{◌≡◌, ℕ, ◌<◌, ◌≤◌, List, [], ◌∷◌, ◌++◌, All, Bool, Option, Some, None, Result, Ok, Err, IfOk, IfErr, OnOk, OnErr, refl, sym, ap, subst, ◌∙◌, append-nil}
+use Rattle.std.proofs.Common.{◌≡◌, ℕ, ◌<◌, ◌≤◌, List, [], ◌∷◌, ◌++◌, All, Bool, Option, Some, None, Result, Ok, Err, IfOk, IfErr, IfNone, OnOk, OnErr, refl, sym, ap, subst, ◌∙◌, append-nil}
 use Rattle.std.proofs.lemmas.List.Elements.{All-cons, All-nil}
 use Rattle.cm_turn.specs.History.{StartsWith}
 use Rattle.cm_turn.specs.Passes.{HeldView, Enters, Leaves, seen_up_to, with_state}
@@ -13,7 +13,7 @@ use Rattle.cm_world.specs.declared.answer.Refusal.TheVariants as refusal
 use Rattle.cm_world.specs.declared.reply.Entry.{Entry}
 use Rattle.cm_world.specs.declared.reply.Reply.{Reply}
 use Rattle.cm_world.specs.declared.reply.Reply.TheVariants as reply
-use Rattle.cm_world.specs.World.{start}
+use Rattle.cm_world.specs.World.{World, start, outcome_of}
 use Rattle.cm_world.specs.Expiring.{runs_once}
 use Rattle.cm_world.specs.Step.{MayEnd}
 use Rattle.cm_world.specs.Legal.{Legal}
@@ -25,7 +25,7 @@ use Rattle.cm_steps.specs.declared.nostep.NoStep.{NoStep}
 use Rattle.cm_steps.specs.declared.nostep.NoStep.TheVariants as nostep
 use Rattle.cm_manager.specs.Turns.{world_after, own_entries, wanted, need, Later, Makes, Asks, IsCut}
 use Rattle.cm_manager.specs.Contract.{RealmPass, IsSamePass}
-use Rattle.cm_manager.specs.Asking.{frame_in, frame_of, RefusesRoom, StepsBy, AwaitsBy, Turned, Asked, Awaited, Told}
+use Rattle.cm_manager.specs.Asking.{frame_in, frame_of, RefusesRoom, StepsBy, AwaitsBy, IsBusy, Turned, Asked, Awaited, Told}
 use Rattle.cm_manager.proofs.calling.Joining.{starts-trans, later-trans, makes-later, asks-later}
 use Rattle.cm_manager.proofs.left.Standing.{ends_later, joins_later}
 
@@ -124,12 +124,16 @@ nothing_by p q s t is = (
   grown p q s t [] is ∙ append-nil p.mine,
 )
 
--- what such a turn reads of the tree is so in what the pass has seen then
-pub looked_by : (p q : RealmPass) (s t : Story) (i : ℕ) (once : Bool) → Took p q s t [] → once ≡ runs_once (world_of s).rows i → once ≡ runs_once (world_after (frame_of p) q.seen).rows i
+-- what holds of the tree that such a turn finds holds of what the pass has seen then
+pub found_by : (p q : RealmPass) (s t : Story) (P : World → Type 0) → Took p q s t [] → P (world_of s) → P (world_after (frame_of p) q.seen)
 unfolding world_of
-looked_by p q s t i once is read =
-    subst (λ (f : Frame). once ≡ runs_once (world_after f q.seen).rows i) (sym (ap frame_in is.entered.frame))
-    (subst (λ (l : List Entry). once ≡ runs_once (world_after s.frame l).rows i) (sym (is.left.seen ∙ is.goes.entries ∙ append-nil s.entries)) read)
+found_by p q s t P is holds =
+    subst (λ (f : Frame). P (world_after f q.seen)) (sym (ap frame_in is.entered.frame))
+    (subst (λ (l : List Entry). P (world_after s.frame l)) (sym (is.left.seen ∙ is.goes.entries ∙ append-nil s.entries)) holds)
+
+-- so what it reads there
+pub looked_by : (p q : RealmPass) (s t : Story) (i : ℕ) (once : Bool) → Took p q s t [] → once ≡ runs_once (world_of s).rows i → once ≡ runs_once (world_after (frame_of p) q.seen).rows i
+looked_by p q s t i once is read = found_by p q s t (λ (w : World). once ≡ runs_once w.rows i) is read
 
 -- ---- a turn
 
@@ -163,6 +167,11 @@ turned_by p q s t e (Err nostep.HistoryFull) is step =
     ((n.0, lacks), n.1)
 turned_by p q s t e (Err nostep.Memory) is step = nothing_by p q s t is
 
+-- an action that the event has to wait for is pending
+pub busy_by : (p q : RealmPass) (s t : Story) (c : ℕ) (e : Event) (r : Result Reply NoStep) → Took p q s t (entries_of c e r) → IfErr r (IsBusy (world_of s)) → IfErr r (IsBusy (world_after (frame_of p) q.seen))
+busy_by p q s t c e (Ok r) is busy = tt
+busy_by p q s t c e (Err x) is busy = found_by p q s t (λ (w : World). IsBusy w x) is busy
+
 pub told_by : (p q : RealmPass) (s t : Story) (e : Event) (o : Outcome) → Took p q s t (entry_of p.caller e (reply.Ended o) ∷ []) → Told p q e o
 told_by p q s t e o is = record {
   makes = makes_by p q s t e (reply.Ended o) is;
@@ -180,6 +189,11 @@ awaits_on c a old new None legal is = same_on c old new legal is
 pub awaited_by : (p q : RealmPass) (s t : Story) (a : ℕ) (o : Option Outcome) → Took p q s t (awaited_entries p.caller a o) → Awaited a p q o
 awaited_by p q s t a (Some o) is = told_by p q s t (event.Await a) o is
 awaited_by p q s t a None is = nothing_by p q s t is
+
+-- an action that is waited for on hasn't ended
+pub unended_by : (p q : RealmPass) (s t : Story) (c a : ℕ) (o : Option Outcome) → Took p q s t (awaited_entries c a o) → IfNone o (outcome_of (world_of s).acts a ≡ None) → IfNone o (outcome_of (world_after (frame_of p) q.seen).acts a ≡ None)
+unended_by p q s t c a (Some o) is none = tt
+unended_by p q s t c a None is none = found_by p q s t (λ (w : World). outcome_of w.acts a ≡ None) is none
 
 -- ---- what was open in what a pass has seen is open in what it finds
 

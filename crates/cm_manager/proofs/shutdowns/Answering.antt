@@ -152,5 +152,5 @@ destructions_remove marks stays done f c t h₀ h₁ a legal goes =
 
 -- what a call of the manager leaves so, where it is answered well
 pub leaves_if : (command_on : Target → Command) (Holds : World → ℕ → Type 0) → LeavesSo command_on Holds → (shelf : Shelf) (t : Target) (p q : RealmPass) (g h : GatesView) (a : Result Answer Refusal) → Performs shelf (frame_of p) (command_on t) p q g h a → IfOk a (λ _. Leaves (frame_of p) p.caller t Holds p.seen q.seen)
-leaves_if command_on Holds law shelf t p q g h (Ok a) is = law (frame_of p) p.caller t p.seen q.seen a is.same.legal is.way
+leaves_if command_on Holds law shelf t p q g h (Ok a) is = law (frame_of p) p.caller t p.seen q.seen a is.same.legal (inl is.way)
 leaves_if command_on Holds law shelf t p q g h (Err x) is = tt

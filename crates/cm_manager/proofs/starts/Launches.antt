@@ -83,9 +83,9 @@ later_self : (c : ℕ) (a : List Entry) → Later c a a
 later_self c a = record { grows = ([], sym (append-nil a)); own = refl }
 
 -- memory is wanting for the list of the eager children
-pub wanting_start : (f : Frame) (c i n : ℕ) (eager : List ℕ) (a b : List Entry) → StartsBy f c i (launch.Children n eager) a b → Acts f c kind.Start i a b (Err refusal.Memory)
-wanting_start f c i n [] a b starts = Acts.lost (starts b None Eagers.all_done)
-wanting_start f c i n (e ∷ es) a b starts = starts b (Some refusal.Memory) (Eagers.cut_at (Acts.cut {k = kind.Start} {i = e} (later_self c b)) refl)
+pub wanting_start : (f : Frame) (c i n : ℕ) (eager : List ℕ) (a b : List Entry) → eager ≢ [] → StartsBy f c i (launch.Children n eager) a b → Acts f c kind.Start i a b (Err refusal.Memory)
+wanting_start f c i n [] a b some starts = absurd (some refl)
+wanting_start f c i n (e ∷ es) a b some starts = starts b (Some refusal.Memory) (Eagers.cut_at (Acts.cut {k = kind.Start} {i = e} (later_self c b)) refl)
 
 -- ---- rows that are left
 
@@ -98,8 +98,8 @@ children_row f c e n eager es a b d end starts all =
     ]
 
 -- memory is wanting for them
-pub wanting_row : (f : Frame) (c e n : ℕ) (eager es : List ℕ) (a b : List Entry) → StartsBy f c e (launch.Children n eager) a b → Eagers f c (e ∷ es) a b (Some refusal.Memory)
-wanting_row f c e n eager es a b starts = Eagers.cut_at (wanting_start f c e n eager a b starts) refl
+pub wanting_row : (f : Frame) (c e n : ℕ) (eager es : List ℕ) (a b : List Entry) → eager ≢ [] → StartsBy f c e (launch.Children n eager) a b → Eagers f c (e ∷ es) a b (Some refusal.Memory)
+wanting_row f c e n eager es a b some starts = Eagers.cut_at (wanting_start f c e n eager a b some starts) refl
 
 -- ---- failures
 

@@ -1,5 +1,5 @@
 -- What the turns of a start come to, and those of eager children.
-use Rattle.std.proofs.Common.{◌≡◌, ℕ, List, [], ◌∷◌, ◌++◌, drop, length, Option, Some, None, Result, Err, refl, sym, ap, subst, ◌∙◌, append-nil, arith}
+use Rattle.std.proofs.Common.{◌≡◌, ◌≢◌, ℕ, List, [], ◌∷◌, ◌++◌, drop, length, Option, Some, None, Result, Err, refl, sym, ap, subst, ◌∙◌, append-nil, arith}
 use Rattle.cm_world.specs.declared.action.ActKind.TheVariants as kind
 use Rattle.cm_world.specs.declared.answer.Refusal.{Refusal}
 use Rattle.cm_world.specs.declared.answer.Refusal.TheVariants as refusal
@@ -79,14 +79,14 @@ cut_rows shelf e rows rest start went x p q g h whole is ends help =
     help
 
 -- memory is wanting for the list of rows that are left
-pub wanting_rows : (shelf : Shelf) (e n : ℕ) (rows rest eager : List ℕ) (start : Launch) (p q : RealmPass) (g h : GatesView) → rows ≡ e ∷ rest → start ≡ launch.Children n eager → Helps shelf (frame_of p) (λ a b. Starting e (frame_of p) p.caller start a b) p q g h → Helps shelf (frame_of p) (λ a b. Rows rows (frame_of p) p.caller (Some refusal.Memory) a b) p q g h
-wanting_rows shelf e n rows rest eager start p q g h whole is help =
+pub wanting_rows : (shelf : Shelf) (e n : ℕ) (rows rest eager : List ℕ) (start : Launch) (p q : RealmPass) (g h : GatesView) → rows ≡ e ∷ rest → start ≡ launch.Children n eager → eager ≢ [] → Helps shelf (frame_of p) (λ a b. Starting e (frame_of p) p.caller start a b) p q g h → Helps shelf (frame_of p) (λ a b. Rows rows (frame_of p) p.caller (Some refusal.Memory) a b) p q g h
+wanting_rows shelf e n rows rest eager start p q g h whole is some help =
     let f = frame_of p in
     let c = p.caller in
     helps_as shelf f (λ a b. Starting e f c start a b) (λ a b. Rows rows f c (Some refusal.Memory) a b) p q g h
     (λ s.
     subst (λ (l : List ℕ). Eagers f c l p.seen q.seen (Some refusal.Memory)) (sym whole)
-    (wanting_row f c e n eager rest p.seen q.seen (subst (λ (s : Launch). StartsBy f c e s p.seen q.seen) is s)))
+    (wanting_row f c e n eager rest p.seen q.seen some (subst (λ (s : Launch). StartsBy f c e s p.seen q.seen) is s)))
     help
 
 -- a row's start is over, and the rest goes on
@@ -113,12 +113,12 @@ children_next shelf e n all rows rest eager next start first p q g₀ g h o whol
 -- ---- a start with its eager children
 
 -- memory is wanting for the list of the eager children
-pub wanting_whole : (shelf : Shelf) (i n : ℕ) (eager : List ℕ) (start : Launch) (p q : RealmPass) (g h : GatesView) → start ≡ launch.Children n eager → Helps shelf (frame_of p) (λ a b. Starting i (frame_of p) p.caller start a b) p q g h → Helps shelf (frame_of p) (λ a b. Acts (frame_of p) p.caller kind.Start i a b (Err refusal.Memory)) p q g h
-wanting_whole shelf i n eager start p q g h is help =
+pub wanting_whole : (shelf : Shelf) (i n : ℕ) (eager : List ℕ) (start : Launch) (p q : RealmPass) (g h : GatesView) → start ≡ launch.Children n eager → eager ≢ [] → Helps shelf (frame_of p) (λ a b. Starting i (frame_of p) p.caller start a b) p q g h → Helps shelf (frame_of p) (λ a b. Acts (frame_of p) p.caller kind.Start i a b (Err refusal.Memory)) p q g h
+wanting_whole shelf i n eager start p q g h is some help =
     let f = frame_of p in
     let c = p.caller in
     helps_as shelf f (λ a b. Starting i f c start a b) (λ a b. Acts f c kind.Start i a b (Err refusal.Memory)) p q g h
-    (λ s. wanting_start f c i n eager p.seen q.seen (subst (λ (s : Launch). StartsBy f c i s p.seen q.seen) is s)) help
+    (λ s. wanting_start f c i n eager p.seen q.seen some (subst (λ (s : Launch). StartsBy f c i s p.seen q.seen) is s)) help
 
 pub whole_start : (shelf : Shelf) (i n : ℕ) (eager rows none : List ℕ) (start : Launch) (end : Option Refusal) (p q r : RealmPass) (g h l : GatesView) → start ≡ launch.Children n eager → rows ≡ eager ++ none → none ≡ [] → Helps shelf (frame_of p) (λ a b. Starting i (frame_of p) p.caller start a b) p q g h → Helps shelf (frame_of q) (λ a b. Rows rows (frame_of q) q.caller end a b) q r h l → Helps shelf (frame_of p) (λ a b. Acts (frame_of p) p.caller kind.Start i a b (behind_eager n end)) p r g l
 whole_start shelf i n eager rows none start end p q r g h l is joined empty first all =

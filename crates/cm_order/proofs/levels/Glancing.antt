@@ -1,5 +1,5 @@
 -- What a quick look at a level finds.
-use Rattle.std.proofs.Common.{◌≡◌, ◌≢◌, ℕ, ◌<◌, List, Bool, true, false, not, ◌&&◌, Option, Some, None, Result, Ok, Err, IfOk, IsTrue, is_none, refl, sym, ◌∙◌, ap, subst, inl, inr, ◌⊎◌, arith}
+use Rattle.std.proofs.Common.{◌≡◌, ◌≢◌, ℕ, ◌<◌, List, Bool, true, false, not, ◌&&◌, Option, Some, None, IsTrue, is_none, true≢false, refl, sym, ◌∙◌, ap, subst, inl, inr, ◌⊎◌, arith}
 use Rattle.std.specs.List.{list_any}
 use Rattle.std.specs.Option.{option_map_or}
 use Rattle.std.specs.BTreeSet.{BTreeSet}
@@ -11,13 +11,14 @@ use Rattle.cm_decl.proofs.Sameness.{and_first, and_second, never}
 use Rattle.cm_world.specs.declared.row.Row.{Row}
 use Rattle.cm_world.specs.Rows.{row_of, decl_of, child_behind, is_behind, is_subtree_shut}
 use Rattle.cm_world.specs.Level.{level}
-use Rattle.cm_world.specs.Sound.{IsSound}
+use Rattle.cm_world.specs.Sound.{IsOrderly, IsSound}
 use Rattle.cm_world.specs.Stopping.{is_wholly_shut}
 use Rattle.cm_order.specs.declared.search.Wanted.TheVariants.{Idle}
 use Rattle.cm_order.specs.Kids.{IsKid}
 use Rattle.cm_order.specs.Search.{IsHere}
 use Rattle.cm_order.specs.Glances.{is_in_set, HasBound, IsFreeKid, AreKidsShut}
-use Rattle.cm_order.proofs.trees.Trees.{kid_higher, flip_not, true_not_false}
+use Rattle.cm_order.specs.Plans.{AreShutSoFar}
+use Rattle.cm_order.proofs.trees.Trees.{kid_higher, below_kid, shut_each, shut_all, flip_not, true_not_false}
 use Rattle.cm_order.proofs.levels.Kids.{next_kid, other_kids, no_kids}
 use Rattle.cm_order.proofs.levels.Gathering.{own_shut, kid_shut}
 use Rattle.cm_order.proofs.searches.Turns.{under}
@@ -28,10 +29,6 @@ use Rattle.cm_order.proofs.names.Graphs.{direct_acyclic}
 pub uses_by : (rows : List Row) (i : ℕ) (d : Decl) (uses : List Usage) (b : Bool) → Some d ≡ decl_of rows i → uses ≡ d.uses → b ≡ list_any (λ u. is_strong u.dependency && is_from_child u.from) uses → b ≡ option_map_or (λ d. list_any (λ u. is_strong u.dependency && is_from_child u.from) d.uses) (decl_of rows i) false
 uses_by rows i d uses b found same is =
     is ∙ ap (list_any (λ u. is_strong u.dependency && is_from_child u.from)) same ∙ ap (λ o. option_map_or (λ (d : Decl). list_any (λ u. is_strong u.dependency && is_from_child u.from) d.uses) o false) found
-
--- the children that were asked are all shut
-abbrev pub AreShutSoFar : List Row → ℕ → Option ℕ → Type 0
-AreShutSoFar rows p behind = (c : ℕ) → IsKid rows p c → IsTrue (is_behind behind c) ⊎ IsTrue (is_subtree_shut rows c)
 
 module _ (rows : List Row) (next : ℕ) (sound : IsSound rows next) (p : ℕ) where
   apart : (c : ℕ) → IsKid rows p c → c ≢ p
@@ -72,10 +69,6 @@ module _ (rows : List Row) (next : ℕ) (sound : IsSound rows next) (p : ℕ) wh
   pub here_last : IsTrue (option_map_or (λ r. not r.shut && is_none r.pending) (row_of rows p) false) → AreKidsShut rows p → IsHere rows Idle (under p)
   here_last idle kids = here_by (row_of rows p) refl idle kids
 
-  pub last_if : {E : Type 0} (r : Result Bool E) → IsTrue (option_map_or (λ r. not r.shut && is_none r.pending) (row_of rows p) false) → IfOk r (λ shut. IsTrue shut → AreKidsShut rows p) → IfOk r (λ last. IsTrue last → IsHere rows Idle (under p))
-  last_if (Ok b) idle it = λ last. here_last idle (it last)
-  last_if (Err e) idle it = it
-
   -- ---- child after child
 
   pub shut_more : (c : ℕ) (behind : Option ℕ) → AreShutSoFar rows p behind → Some c ≡ child_behind rows p behind → IsTrue (is_subtree_shut rows c) → AreShutSoFar rows p (Some c)
@@ -86,6 +79,20 @@ module _ (rows : List Row) (next : ℕ) (sound : IsSound rows next) (p : ℕ) wh
     ])
     | inr done ↦ inr done
   ]
+
+-- a row that is shut, as are all its children with all below them
+own_shut_by : (r : Row) (o : Option Row) → o ≡ Some r → option_map_or (λ r. not r.shut) o false ≡ false → IsTrue r.shut
+own_shut_by r o lives own = by r.shut (sym (ap (λ o. option_map_or (λ r. not r.shut) o false) lives) ∙ own) where
+  by : (b : Bool) → not b ≡ false → IsTrue b
+  by true e = refl
+  by false e = absurd (true≢false e)
+
+pub shut_below : (rows : List Row) (next : ℕ) → IsOrderly rows next → (p : ℕ) → option_map_or (λ r. not r.shut) (row_of rows p) false ≡ false → AreKidsShut rows p → IsTrue (is_subtree_shut rows p)
+shut_below rows next orderly p own kids =
+    shut_all rows next orderly p (λ i r lives below. elim (below_kid rows next orderly p i below) [
+      | inl same ↦ own_shut_by r (row_of rows p) (subst (λ z. row_of rows z ≡ Some r) same lives) own
+      | inr kid ↦ shut_each rows next orderly kid.0 i r (kids kid.0 kid.1) lives kid.2
+    ])
 
 pub shut_ends : (rows : List Row) (p : ℕ) (behind : Option ℕ) → AreShutSoFar rows p behind → None ≡ child_behind rows p behind → AreKidsShut rows p
 shut_ends rows p behind so_far none c kid = elim (so_far c kid) [

@@ -4,7 +4,7 @@ use Rattle.std.specs.List.{range_with_len}
 use Rattle.std.proofs.lemmas.List.Elements.{All-nil, All-cons}
 use Rattle.cm_command.specs.declared.command.Command.{Command}
 use Rattle.cm_lanes.specs.Script.{IsFit}
-use Rattle.cm_program.specs.Generated.{ask_of, drawn, in_turns, script_of, start_of}
+use Rattle.cm_call.specs.Generated.{ask_of, drawn, in_turns, script_of, start_of}
 use Rattle.cm_program.specs.Stock.{served_script}
 use Rattle.cm_program.specs.declared.stock.Served.{Served}
 use Rattle.cm_program.proofs.texts.StockLemmas.{phases_of_script}

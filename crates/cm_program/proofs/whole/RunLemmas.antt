@@ -26,13 +26,13 @@ use Rattle.cm_lanes.specs.Lanes.{RanOrNot}
 use Rattle.cm_program.specs.Headline.{IsHistory, RunsScript, shelf_of}
 use Rattle.cm_program.specs.Performing.{Performs}
 use Rattle.cm_program.specs.Printed.{IsPrinted, journal_of, printed_text, summary_text, texts_of, wanted_text}
-use Rattle.cm_program.specs.Calls.{words_of}
+use Rattle.cm_call.specs.Calls.{words_of}
 use Rattle.cm_program.specs.Run.{AsksScript, IsFaulty, IsScriptRun, RunsAsServed, RunsOwn, RunsSome}
 use Rattle.cm_program.specs.Stock.{IsFault, Serves, served_script}
 use Rattle.cm_program.specs.Written.{AppendsFront, OfKnown, OfSome}
-use Rattle.cm_program.specs.declared.call.Call.TheVariants as call
-use Rattle.cm_program.specs.declared.call.RunOptions.{RunOptions}
-use Rattle.cm_program.specs.declared.call.Workload.{Workload}
+use Rattle.cm_call.specs.declared.call.Call.TheVariants as call
+use Rattle.cm_call.specs.declared.call.RunOptions.{RunOptions}
+use Rattle.cm_call.specs.declared.call.Workload.{Workload}
 use Rattle.cm_program.specs.declared.fault.Fault.{Fault}
 use Rattle.cm_program.specs.declared.performing.Performed.{Performed}
 use Rattle.cm_program.specs.declared.stock.Served.{Served}

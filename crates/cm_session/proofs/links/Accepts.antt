@@ -13,7 +13,7 @@ use Rattle.cm_session.specs.declared.doorway.Accepted.{Accepted}
 use Rattle.cm_session.specs.declared.doorway.Came.{Came}
 use Rattle.cm_session.specs.declared.doorway.Came.TheVariants as came
 use Rattle.cm_session.specs.declared.doorway.Opening.{Opening}
-use Rattle.cm_session.specs.Doorway.{came_of, closings_of, failures_of, given_by, is_closing, is_failure, is_link, links_of, sessions_in, sessions_of, DoorPass, DoorwayView, IsCounted, IsLater, IsOver, TakesTurn, TurnedBy}
+use Rattle.cm_session.specs.Doorway.{accepted_by, came_of, closings_of, failures_of, given_by, is_closing, is_failure, is_link, links_of, sessions_in, sessions_of, DoorPass, DoorwayView, IsCounted, IsLater, IsOver, TakesTurn, TurnedBy}
 
 -- how many of a list's entries pass, with more behind them
 pub count_more : {A : Type 0} (p : A → Bool) (xs ys : List A) → length (filter p (xs ++ ys)) ≡ length (filter p xs) + length (filter p ys)
@@ -119,6 +119,11 @@ counts_given w sessions found left mine mine' (Some accept.Closed) is grows = ap
 counts_given w sessions found left mine mine' (Some accept.Failed) is grows = ap links_of (grows (entry_of w came.Failed ∷ []) is) ∙ (with_failure mine w).links_are
 counts_given w sessions found left mine mine' None is grows = ap links_of (grows [] (is.0 ∙ sym (append-nil found))) ∙ ap links_of (append-nil mine) ∙ grind arith
 
+-- what a turn leaves among the pass's own entries
+made_by : {L : Type 0} (w sessions : ℕ) (found left mine mine' : List Accepted) (a : Option (Accept L)) → TurnedBy w sessions found left a → ((es : List Accepted) → left ≡ found ++ es → mine' ≡ mine ++ es) → mine' ≡ mine ++ accepted_by w a
+made_by w sessions found left mine mine' (Some a) is grows = grows (entry_of w (came_of a) ∷ []) is
+made_by w sessions found left mine mine' None is grows = grows [] (is.0 ∙ sym (append-nil found))
+
 -- where no accept is due, what was found is over
 pub over_found : {L : Type 0} (w sessions : ℕ) (found left : List Accepted) (a : Option (Accept L)) → TurnedBy w sessions found left a → a ≡ None → IsOver sessions left
 over_found w sessions found left (Some a) is none = absurd (cc none)
@@ -132,6 +137,7 @@ turn_taken p q o found left a framed turned few same seen own grows =
     let seen_few : links_of q.seen ≤ o.sessions = subst (λ (l : List Accepted). links_of l ≤ o.sessions) (sym seen) few in
     record {
       same = same;
+      made = made_by p.caller o.sessions found left p.mine q.mine a turned grows;
       links = counts_given p.caller o.sessions found left p.mine q.mine a turned grows;
       few = grind (arith, sessions, within, seen_few);
       over = λ none. subst (λ (n : ℕ). IsOver n q.seen) (sym sessions) (subst (IsOver o.sessions) (sym seen) (over_found p.caller o.sessions found left a turned none));

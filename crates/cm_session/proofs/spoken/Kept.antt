@@ -1,13 +1,8 @@
 -- What a session keeps of its pass and gates, and what its caller performs.
-use Rattle.std.proofs.Common.{◌≡◌, inl, inr, ℕ, List, [], ◌∷◌, ◌++◌, refl, sym, ap, subst, append_assoc, append-nil, Result, Err}
-use Rattle.cm_world.specs.declared.answer.Answer.{Answer}
-use Rattle.cm_world.specs.declared.answer.Refusal.{Refusal}
-use Rattle.cm_world.specs.declared.answer.Refusal.TheVariants as refusal
+use Rattle.std.proofs.Common.{◌≡◌, inl, inr, ℕ, List, [], ◌∷◌, ◌++◌, refl, sym, ap, subst, append_assoc, append-nil}
 use Rattle.cm_world.specs.declared.frame.Frame.{Frame}
 use Rattle.cm_world.specs.declared.reply.Entry.{Entry}
-use Rattle.cm_command.specs.declared.command.Command.{Command}
 use Rattle.cm_manager.specs.Asking.{frame_in, frame_of}
-use Rattle.cm_manager.specs.Calls.{Goes}
 use Rattle.cm_manager.specs.Contract.{RealmPass, GatesView}
 use Rattle.cm_manager.specs.Done.{Done, Follows}
 use Rattle.cm_manager.specs.Kept.{IsOwnPass, Keeps}
@@ -85,8 +80,3 @@ pub does_as : (shelf : Shelf) (p q r : RealmPass) (g h : GatesView) (t : Told) �
 does_as shelf p q r g h t kept does =
     subst (λ (f : Frame). Does f p.caller t q.seen r.seen) (frame_kept shelf p q g h kept)
     (subst (λ (c : ℕ). Does (frame_of q) c t q.seen r.seen) (caller_kept shelf p q g h kept) does)
-
--- an answer may be lost
-pub goes_lost : (f : Frame) (c : ℕ) (command : Command) (a b : List Entry) (r : Result Answer Refusal) → Goes f c command a b r → Goes f c command a b (Err refusal.Memory)
-goes_lost f c command a b r (inl is) = inr (refl, (r, is))
-goes_lost f c command a b r (inr is) = inr (refl, is.1)

@@ -22,7 +22,7 @@ use Rattle.cm_reply.specs.Answers.{reply_text}
 use Rattle.cm_reply.specs.Refusals.{refusal_text}
 use Rattle.cm_reply.specs.Journal.{line}
 use Rattle.cm_manager.specs.Asking.{frame_of}
-use Rattle.cm_manager.specs.Calls.{Goes}
+use Rattle.cm_manager.specs.Calls.{Calls}
 use Rattle.cm_manager.specs.Contract.{RealmPass, GatesView, Performs}
 use Rattle.cm_manager.specs.Done.{Follows}
 use Rattle.cm_manager.specs.Work.{Shelf}
@@ -34,7 +34,7 @@ use Rattle.cm_session.specs.Told.{Told, performed, bad, too_long, Reads, reply_l
 use Rattle.cm_session.specs.Session.{AreEnded, BreaksOff, KeepsOrNot, Served, Session, Wrote, most_lines, quit}
 use Rattle.cm_session.specs.Steps.{IsSilent, LineDone, LineWrote, ServedCommand, ServedLine, ServedOrNot, StepBy, Stepped}
 use Rattle.cm_session.proofs.spoken.Cutting.{Cut, cut-begins, cut-end, cut-ended, cut-ended-so-far, cut-fault, cut-more, cut-next, cut-none}
-use Rattle.cm_session.proofs.spoken.Kept.{GoesOn, does_as, goes_all, goes_lost, goes_more, goes_none, kept_same, kept_then}
+use Rattle.cm_session.proofs.spoken.Kept.{GoesOn, does_as, goes_all, goes_more, goes_none, kept_same, kept_then}
 
 bool_or : (b : Bool) → (b ≡ true) ⊎ (b ≡ false)
 bool_or true = inl refl
@@ -337,8 +337,8 @@ pub command-put : (shelf : Shelf) (p q : RealmPass) (g h : GatesView) (command :
     → LineWrote end old new text (wanting ≡ false) → ServedCommand shelf p q g h command old new end
 command-put shelf p q g h command answer old new end text wanting way want is wrote = record {
   answer = answer;
-  keeps = keeps_helps shelf (frame_of p) (λ a b. Goes (frame_of p) p.caller command a b answer) p q g h way;
-  goes = way.way;
+  keeps = keeps_helps shelf (frame_of p) (λ a b. Calls (frame_of p) p.caller command a b answer) p q g h way;
+  goes = inl way.way;
   wrote = wrote-as (wanting ≡ false) (answer ≢ Err refusal.Memory) end old new (line (reply_text command answer)) want
       (subst (λ (t : Text). LineWrote end old new t (wanting ≡ false)) is wrote);
 }
@@ -349,8 +349,8 @@ pub command-lost : (shelf : Shelf) (p q : RealmPass) (g h : GatesView) (command 
     → LineWrote end old new (line (refusal_text refusal.Memory)) (true ≡ false) → ServedCommand shelf p q g h command old new end
 command-lost shelf p q g h command answer old new end way wrote = record {
   answer = Err refusal.Memory;
-  keeps = keeps_helps shelf (frame_of p) (λ a b. Goes (frame_of p) p.caller command a b answer) p q g h way;
-  goes = goes_lost (frame_of p) p.caller command p.seen q.seen answer way.way;
+  keeps = keeps_helps shelf (frame_of p) (λ a b. Calls (frame_of p) p.caller command a b answer) p q g h way;
+  goes = inr (refl, (answer, way.way));
   wrote = wrote-as (true ≡ false) (Err refusal.Memory ≢ Err refusal.Memory) end old new (line (refusal_text refusal.Memory)) (λ is. absurd (true≢false is)) wrote;
 }
 

@@ -3,10 +3,10 @@
 //! That an instance stops before what it depends on, and after what depends on it, is the
 //! shutdown order of Fuchsia's component lifecycle documentation (fuchsia.dev).
 
-ghost use Rattle.std.specs.Prelude.{◌≡◌, IsTrue, IfOk, IfErr, OnOk, OnErr};
+ghost use Rattle.std.specs.Prelude.{◌≡◌, Err, IsTrue, IfOk, IfErr, OnOk, OnErr};
 ghost use Rattle.cm_world.specs.Step.{PicksOff, may_close};
 ghost use Rattle.cm_laws.specs.Story.{world_of, Tells};
-ghost use Rattle.cm_steps.specs.Steps.{HasRoom, Refuses, RefusesQuiet, WaitsToPick};
+ghost use Rattle.cm_steps.specs.Steps.{HasRoom, LacksRoom, Refuses, RefusesQuiet, WaitsToPick};
 ghost use Rattle.cm_steps.specs.Answers.{PicksBy};
 
 use super::Realm;
@@ -36,6 +36,7 @@ impl Realm {
         ensures step { IfOk result (λ reply.
             Tells self.old self.new caller (Event.Pick target) reply) }
         ensures room { OnOk result (HasRoom self.old 2) }
+        ensures full { LacksRoom self.old 2 → result ≡ Err NoStep.HistoryFull }
         ensures refused { let waits = WaitsToPick (world_of self.old) target in
             IfErr result (Refuses self.old 2 waits) }
         ensures err { OnErr result (self.new ≡ self.old) }
@@ -65,7 +66,7 @@ impl Realm {
             PickAnswer::Done => self.tell(caller, Event::Pick(target), Reply::Done),
             PickAnswer::Shuts(inc) => self.shut(caller, target, inc),
             PickAnswer::Stops(work) => {
-                let inc = work.inc;
+                let inc = work.get().inc;
                 let event = Event::Pick(target);
                 self.begin_action(caller, ActKind::Stop, inc, event, Reply::Stopping(work))
             }

@@ -13,7 +13,7 @@ ghost use Rattle.cm_steps.specs.Answers.{AnswersBegin, AnswersIdle};
 ghost use Rattle.cm_steps.specs.Eager.{eager_by, eager_child, eager_kids, above_url};
 
 use cm_decl::Child;
-use cm_names::{ChildName, List, Memory, Name, Text};
+use cm_names::{Boxed, ChildName, List, Memory, Name, Text};
 use cm_table::Table;
 use cm_walk::above::{closed, gone, resolved};
 use cm_walk::hop::moniker;
@@ -30,7 +30,7 @@ pub enum BeginAnswer {
     /// The caller joins the action of this number.
     Joins(u64),
     /// The action begins, and this is to be done.
-    Begins(Work),
+    Begins(Boxed<Work>),
 }
 
 /// What a begin comes to.
@@ -90,7 +90,8 @@ fn idle_answer(
         return Ok(BeginAnswer::Quiet(Reply::Need(inc)));
     }
     let work = work_at(alloc, table, next_action, kind, inc, facts.parent)?;
-    Ok(BeginAnswer::Begins(work))
+    let boxed = Boxed::new(alloc, work)?;
+    Ok(BeginAnswer::Begins(boxed))
 }
 
 /// Whether an instance is already as the action would make it.

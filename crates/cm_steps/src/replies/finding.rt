@@ -1,17 +1,72 @@
 //! The reply to a find.
 
-ghost use Rattle.std.specs.Prelude.{◌≡◌, [], IfOk, if◌then◌else◌};
-ghost use Rattle.cm_world.specs.Rows.{is_closed};
+ghost use Rattle.std.specs.Prelude.{◌≡◌, [], IfOk, IsTrue, if◌then◌else◌};
+ghost use Rattle.cm_world.specs.Rows.{is_closed, is_live};
+ghost use Rattle.cm_world.specs.Sound.{IsOrderly};
 ghost use Rattle.cm_world.specs.declared.reply.Reply.TheVariants as reply;
 ghost use Rattle.cm_world.specs.Find.{found_from};
+ghost use Rattle.cm_world.specs.Located.{located_from};
 
-use cm_names::{ChildName, List, Memory, Moniker};
+use cm_names::{ChildName, List, Memory, Moniker, Shared};
+use cm_table::Table;
 use cm_walk::above::{closed, resolved};
-use cm_world::{Reply, View};
+use cm_walk::locate;
+use cm_world::{Located, Reply, Steps, View};
 use std::alloc::Global;
+use std::marker::Brand;
+use std::sync::ledger::{Blank, Ledger};
+
+/// Which instance stands where the moniker leads from the root.
+#[tactic(auto, using(crate::proofs::read::Leading::found_reply))]
+pub fn found(alloc: Global, table: &Table, moniker: &Moniker) -> Result<Reply, Memory>
+    requires orderly { IsOrderly table.now.rows table.now.next_inc }
+    requires root { IsTrue (is_live table.now.rows 0) }
+    ensures { IfOk result (λ reply. reply ≡ found_from table.now.rows 0 [] moniker.now.parts) }
+{
+    match located::<Brand>(table, moniker, Blank::new(1)) {
+        Located::Found(inc) => Ok(Reply::Found(inc)),
+        Located::Unresolved(inc) => Ok(unresolved(table, inc)),
+        Located::Missing(count) => missing(alloc, table, moniker.parts.as_slice(), count),
+    }
+}
+
+/// Where the moniker leads, by a counter of its own.
+fn located<L: Ledger>(table: &Table, moniker: &Moniker, blank: Blank) -> Located
+    requires name { blank.name ≡ L.name }
+    requires parts { blank.parts ≡ L.parts }
+    requires some { blank.parts ≡ 1 }
+    requires orderly { IsOrderly table.now.rows table.now.next_inc }
+    requires root { IsTrue (is_live table.now.rows 0) }
+    ensures { result ≡ located_from table.now.rows 0 0 moniker.now.parts }
+{
+    let mut steps = Steps::<L>::new(blank);
+    locate(table, moniker, &mut steps)
+}
+
+/// What is said where so many of these names are found, and the next one isn't. Where the number
+/// is 2^32 - 1, they are looked for once more: there may be more of them.
+#[tactic(auto, using(crate::proofs::read::Leading::missing_reply))]
+fn missing(
+    alloc: Global,
+    table: &Table,
+    parts: &[Shared<ChildName>],
+    count: u32,
+) -> Result<Reply, Memory>
+    requires { located_from table.now.rows 0 0 parts.now ≡ Located.Missing count }
+    ensures { IfOk result (λ reply. reply ≡ found_from table.now.rows 0 [] parts.now) }
+{
+    if count < u32::MAX {
+        return not_found(alloc, &parts[..count as usize]);
+    }
+    looked_for(alloc, table, parts)
+}
 
 /// Which instance stands where these names lead from the root.
-pub fn found<V: View>(alloc: Global, view: &V, parts: &[ChildName]) -> Result<Reply, Memory>
+fn looked_for<V: View>(
+    alloc: Global,
+    view: &V,
+    parts: &[Shared<ChildName>],
+) -> Result<Reply, Memory>
     ensures { IfOk result (λ reply. reply ≡ found_from (V.rows view.now) 0 [] parts.now) }
 {
     let mut at = 0;
@@ -19,7 +74,7 @@ pub fn found<V: View>(alloc: Global, view: &V, parts: &[ChildName]) -> Result<Re
         if !resolved(view, at) {
             return Ok(unresolved(view, at));
         }
-        match view.child(at, name) {
+        match view.child(at, name.get()) {
             None => return not_found(alloc, &parts[..depth]),
             Some(next) => at = next,
         }
@@ -28,7 +83,7 @@ pub fn found<V: View>(alloc: Global, view: &V, parts: &[ChildName]) -> Result<Re
 }
 
 /// What is said where nothing stands behind these names.
-fn not_found(alloc: Global, front: &[ChildName]) -> Result<Reply, Memory>
+fn not_found(alloc: Global, front: &[Shared<ChildName>]) -> Result<Reply, Memory>
     ensures { IfOk result (λ told. told ≡ reply.NotFound (record { parts = front.now })) }
 {
     let parts = List::from_vec(front.to_vec(alloc)?);

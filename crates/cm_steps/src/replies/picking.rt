@@ -7,7 +7,7 @@ ghost use Rattle.cm_order.specs.Plans.{IsPlan};
 ghost use Rattle.cm_steps.specs.Answers.{AnswersPick};
 
 use crate::replies::beginning::program_work;
-use cm_names::{List, Memory};
+use cm_names::{Boxed, List, Memory};
 use cm_order::{Picked, Plan, pick_with};
 use cm_table::Table;
 use cm_world::Work;
@@ -23,10 +23,10 @@ pub enum PickAnswer {
     /// This instance is shut, since its program doesn't run.
     Shuts(u64),
     /// An instance is to be stopped, and this is to be done.
-    Stops(Work),
+    Stops(Boxed<Work>),
 }
 
-/// What a pick comes to, with what is known of the levels of the tree from picks before.
+/// What a pick comes to, with what is known of ways down from picks before.
 pub fn pick_answer(
     alloc: Global,
     table: &Table,
@@ -46,7 +46,8 @@ pub fn pick_answer(
         Picked::ShutNow(inc) => Ok(PickAnswer::Shuts(inc)),
         Picked::StopNow(inc) => {
             let work = program_work(alloc, table, next_action, inc, List::new(alloc))?;
-            Ok(PickAnswer::Stops(work))
+            let boxed = Boxed::new(alloc, work)?;
+            Ok(PickAnswer::Stops(boxed))
         }
     }
 }

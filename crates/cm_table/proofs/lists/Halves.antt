@@ -1,10 +1,12 @@
 -- The item of a key, found by halves.
-use Rattle.std.proofs.Common.{◌≡◌, ℕ, zero, suc, ◌<◌, ◌≤◌, List, [], ◌∷◌, ◌++◌, length, Bool, true, false, cond, ◌==◌, true≢false, Option, Some, None, IsSome, is_some, refl, sym, ap, ◌∙◌, subst, arith, get_or, le_of_suc-le-suc, zero-lt-suc, suc-le-suc, find, ◌-◌, leb, leb-false}
+use Rattle.std.proofs.Common.{◌≡◌, ℕ, zero, suc, ◌+◌, ◌<◌, ◌≤◌, List, [], ◌∷◌, ◌++◌, length, Bool, true, false, cond, ◌==◌, true≢false, Option, Some, None, IsSome, is_some, refl, sym, ap, ◌∙◌, subst, arith, get_or, le_of_suc-le-suc, zero-lt-suc, suc-le-suc, find, ◌-◌, leb, leb-false, leb-true}
+use Rattle.std.specs.Prelude.{slice_get}
 use Rattle.std.specs.List.{flat_map}
 use Rattle.std.specs.List.Sorted.{IsNonDecreasingBy}
 use Rattle.std.specs.Cmp.{unsigned_Decides}
 use Rattle.std.proofs.lemmas.List.{get_or_default}
-use Rattle.cm_table.specs.Keys.{item_of, first_key, alone, nth, Rising, Filled, IsAt, IsPlace}
+use Rattle.std.proofs.lemmas.Option.{slice_get_within, slice_get-get_or}
+use Rattle.cm_table.specs.Keys.{item_of, first_key, alone, nth, reaches, Rising, Filled, IsAt, IsPlace}
 
 -- ---- single facts
 
@@ -157,6 +159,32 @@ module _ {Y : Type 0} (key : Y → ℕ) where
     pub place_zero : (xs : List X) (i k : ℕ) → k ≡ 0 → IsPlace key f xs i k → IsPlace key f xs i 0
     place_zero xs i k e p = subst (IsPlace key f xs i) e p
 
+    -- ---- a place that is guessed
+
+    there : (xs : List X) (i k : ℕ) (o : Option X) → slice_get xs k ≡ o → reaches key f i o ≡ true → k < length xs
+    there xs i k None at here = absurd (true≢false (sym here))
+    there xs i k (Some x) at here = slice_get_within xs k x at
+
+    reaches_at : (xs : List X) (i k : ℕ) (d : X) → k < length xs → reaches key f i (slice_get xs k) ≡ leb (first_key key (f (get_or xs k d))) i
+    reaches_at xs i k d lt = ap (reaches key f i) (slice_get-get_or xs k d lt)
+
+    -- where a part begins at the key or below and the next one doesn't, it is the last that does
+    pub between : (xs : List X) (i k : ℕ) → Filled f xs → Rising key (flat_map f xs) → reaches key f i (slice_get xs k) ≡ true → reaches key f i (slice_get xs (k + 1)) ≡ false → IsPlace key f xs i (suc k)
+    between xs i k filled r here beyond =
+        let within : k < length xs = there xs i k (slice_get xs k) refl here in
+        record {
+          bound = omega (arith, within);
+          low = λ j d less.
+              let up : first_key key (f (get_or xs j d)) ≤ first_key key (f (get_or xs k d)) = begin_higher xs filled r j k d (omega arith) within in
+              let own : first_key key (f (get_or xs k d)) ≤ i = leb-true _ _ (sym (reaches_at xs i k d within) ∙ here) in
+              omega arith;
+          high = λ j d le lt.
+              let next : k + 1 < length xs = omega arith in
+              let up : first_key key (f (get_or xs (k + 1) d)) ≤ first_key key (f (get_or xs j d)) = begin_higher xs filled r (k + 1) j d (omega arith) lt in
+              let own : i < first_key key (f (get_or xs (k + 1) d)) = not_le _ _ (sym (reaches_at xs i (k + 1) d next) ∙ beyond) in
+              omega arith;
+        }
+
   -- ---- items as parts
 
   pub alone_all : (ss : List Y) → flat_map alone ss ≡ ss
@@ -232,3 +260,14 @@ pub nth-some : {Y : Type 0} (ss : List Y) (k : ℕ) (d : Y) → k < length ss �
 nth-some [] k d lt = absurd (omega arith)
 nth-some (s ∷ ss) zero d lt = refl
 nth-some (s ∷ ss) (suc k) d lt = nth-some ss k d (le_of_suc-le-suc lt)
+
+-- an item that stands at a place is the one of its key
+pub at_place : {Y : Type 0} (key : Y → ℕ) (ss : List Y) (i k : ℕ) (s : Y) → Rising key ss → k < length ss → s ≡ get_or ss k s → key s ≡ i → IsAt key ss i k
+at_place key ss i k s r lt is own =
+    let same : (d : _) → s ≡ get_or ss k d = λ d. is ∙ get_or_default ss k s d lt in
+    let here : (d : _) → key (get_or ss k d) ≡ i = λ d. ap key (sym (same d)) ∙ own in
+    record {
+      bound = lt;
+      own = here;
+      found = λ d. find-nth (λ y. key y == i) ss k d (lt_le k (length ss) lt) (others_before key ss k d i r lt (here d)) (λ le. (unsigned_Decides (key (get_or ss k d)) i).1 (here d)) ∙ nth-some ss k d lt;
+    }

@@ -82,7 +82,7 @@ pub fn values_of(alloc: Global, case: &str, word: &str) -> Option<Vec<Text>> {
 }
 
 fn text_of(alloc: Global, text: &str) -> Option<Text> {
-    Some(Text::from_string(String::from_str(alloc, text).ok()?))
+    Text::from_str(alloc, text).ok()
 }
 
 fn push_value(alloc: Global, values: &mut Vec<Text>, value: &str) -> Option<()> {

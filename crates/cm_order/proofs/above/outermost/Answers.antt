@@ -4,8 +4,8 @@ use Rattle.cm_order.proofs.above.outermost.Goals as goal
 
 pub up-smaller : goal.up-smaller
 up-smaller g c =
-    loop-lower (g.V.View.rows c.args.view.now) (g.V.View.next_inc c.args.view.now) c.in-Some.here c.up.at c.parent-at.result c.parent-at.ensures.orderly c.in-Some.is c.parent-at.ensures.parent
+    loop-lower (g.V.View.rows c.args.view.now) (g.V.View.next_inc c.args.view.now) c.in-Some.here c.up.at c.climb-further.result.at c.climb-further.ensures.orderly c.in-Some.is c.climb-further.ensures.parent
 
 pub up-preserved : goal.up-preserved
 up-preserved g c =
-    goes_up (g.V.View.rows c.args.view.now) (g.V.View.next_inc c.args.view.now) c.parent-at.ensures.orderly _ c.in-Some.here c.up.at c.parent-at.result c.up.found c.closing_or-found.result c.in-Some.is c.parent-at.ensures.parent c.closing_or-found.ensures c.up.invariant
+    goes_up (g.V.View.rows c.args.view.now) (g.V.View.next_inc c.args.view.now) c.climb-further.ensures.orderly _ c.in-Some.here c.up.at c.climb-further.result.at c.up.found c.climb-further.result.found c.in-Some.is c.climb-further.ensures.parent c.climb-further.ensures.closing c.up.invariant

@@ -1,4 +1,5 @@
+use Rattle.cm_order.proofs.searches.Reaching.{plan_none}
 use Rattle.cm_order.proofs.picking.pick.Goals as goal
 
 pub pick_with-requires-clause-plan : goal.pick_with-requires-clause-plan
-pick_with-requires-clause-plan g c = λ p named known. absurd (cc (c.new-plan.ensures p, known))
+pick_with-requires-clause-plan g c = plan_none (g.V.View.rows c.args.view.now) c.new-plan.result c.new-plan.ensures

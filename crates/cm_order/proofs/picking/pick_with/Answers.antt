@@ -13,3 +13,6 @@ quick-requires-clause-top g c =
 pub search-requires-clause-top : goal.search-requires-clause-top
 search-requires-clause-top g c =
     own_top (g.V.View.rows c.args.view.now) (g.V.View.next_inc c.args.view.now) c.requires.sound c.args.target c.in-Some.top (sym c.in-Some.ensures)
+
+pub returns-then-branch-clause-plan : goal.returns-then-branch-clause-plan
+returns-then-branch-clause-plan g c = c.finish.ensures (g.V.View.rows c.args.view.now) c.requires.plan

@@ -1,27 +1,19 @@
-use Rattle.std.proofs.Common.{subst}
-use Rattle.cm_order.specs.Glances.{IsGlance}
-use Rattle.cm_order.proofs.trees.Tops.{top_lives}
-use Rattle.cm_order.proofs.searches.Going.{at_first, at_on, at_lower, at_found}
+use Rattle.std.proofs.Common.{refl, subst}
+use Rattle.cm_order.specs.Plans.{IsWay}
+use Rattle.cm_order.proofs.searches.Reaching.{way_changed}
 use Rattle.cm_order.proofs.quick.quick.Goals as goal
 
-pub down-init : goal.down-init
-down-init g c =
-    let row : _ = top_lives (g.V.View.rows c.args.view.now) (g.V.View.next_inc c.args.view.now) c.requires.sound.orderly c.args.top c.args.top c.requires.top in
-    (at_first (g.V.View.rows c.args.view.now) (g.V.View.next_inc c.args.view.now) c.requires.sound.orderly c.args.top c.requires.top row.0 row.1, c.requires.plan)
+pub returns-in_err-begin-clause-plan : goal.returns-in_err-begin-clause-plan
+returns-in_err-begin-clause-plan g c = c.begin.ensures.plan (g.V.View.rows c.args.view.now) c.requires.plan
 
-pub returns-in-Here-clause-quick : goal.returns-in-Here-clause-quick
-returns-in-Here-clause-quick g c =
-    at_found (g.V.View.rows c.args.view.now) (g.V.View.next_inc c.args.view.now) c.requires.sound.orderly c.args.top c.in-Some.here c.down.at c.requires.top c.in-Some.is c.down.invariant.0
-    (subst (IsGlance (g.V.View.rows c.args.view.now) c.in-Some.here) c.in-Here.is c.in_ok-glance.ensures.glance)
+pub descend-requires-clause-way : goal.descend-requires-clause-way
+descend-requires-clause-way g c =
+    subst (λ t. IsWay (g.V.View.rows c.args.view.now) t c.begin.new.self.way.items) c.in_ok-begin.ensures.top (c.begin.ensures.plan (g.V.View.rows c.args.view.now) c.requires.plan).way
 
-pub down-smaller : goal.down-smaller
-down-smaller g c =
-    at_lower (g.V.View.rows c.args.view.now) (g.V.View.next_inc c.args.view.now) c.requires.sound.orderly c.args.top c.in-Some.here c.down.at c.in-Below.child c.in-Some.is c.down.invariant.0
-    (subst (IsGlance (g.V.View.rows c.args.view.now) c.in-Some.here) c.in-Below.is c.in_ok-glance.ensures.glance)
+pub returns-in_err-found-clause-plan : goal.returns-in_err-found-clause-plan
+returns-in_err-found-clause-plan g c =
+    way_changed (g.V.View.rows c.args.view.now) c.begin.new.self (record { top = c.begin.new.self.top; way = c.descend.new.way; others = c.begin.new.self.others }) c.args.top (c.begin.ensures.plan (g.V.View.rows c.args.view.now) c.requires.plan) c.in_ok-begin.ensures.top refl refl c.descend.ensures.way
 
-pub down-preserved : goal.down-preserved
-down-preserved g c = (
-  at_on (g.V.View.rows c.args.view.now) (g.V.View.next_inc c.args.view.now) c.requires.sound.orderly c.args.top c.in-Some.here c.down.at c.in-Below.child c.in-Some.is c.down.invariant.0
-      (subst (IsGlance (g.V.View.rows c.args.view.now) c.in-Some.here) c.in-Below.is c.in_ok-glance.ensures.glance),
-  c.in_ok-glance.ensures.plan,
-)
+pub returns-clause-plan : goal.returns-clause-plan
+returns-clause-plan g c =
+    way_changed (g.V.View.rows c.args.view.now) c.begin.new.self (record { top = c.begin.new.self.top; way = c.descend.new.way; others = c.begin.new.self.others }) c.args.top (c.begin.ensures.plan (g.V.View.rows c.args.view.now) c.requires.plan) c.in_ok-begin.ensures.top refl refl c.descend.ensures.way

@@ -2,16 +2,16 @@ use Rattle.std.proofs.Common.{rules, ◌≡◌, ◌⊎◌, ◌≤◌, ◌∙◌,
 use Rattle.std.proofs.KnownBytes.{Keeps-refl}
 use Rattle.std.specs.Prelude.{None}
 use Rattle.std.specs.Io.KnownBytes.{Keeps}
-use Rattle.cm_program.specs.Generated.{script_of}
+use Rattle.cm_call.specs.Generated.{script_of}
 use Rattle.cm_program.specs.Headline.{RunsNothing, RunsScript}
 use Rattle.cm_program.specs.Run.{IsCheckStatus, IsRefusal, RunsAsServed, RunsOwn, RunsSome}
 use Rattle.cm_program.specs.Stock.{served_script}
 use Rattle.cm_program.specs.Written.{OfKnown, Says}
 use Rattle.cm_io.specs.Outside.{Rose}
 use Rattle.cm_program.specs.Sessions.{RunsSessions}
-use Rattle.cm_program.specs.declared.call.RunOptions.{RunOptions}
-use Rattle.cm_program.specs.declared.call.ServeOptions.{ServeOptions}
-use Rattle.cm_program.specs.declared.call.Workload.{Workload}
+use Rattle.cm_call.specs.declared.call.RunOptions.{RunOptions}
+use Rattle.cm_call.specs.declared.call.ServeOptions.{ServeOptions}
+use Rattle.cm_call.specs.declared.call.Workload.{Workload}
 use Rattle.cm_program.specs.declared.wanted.Wanted.TheVariants.{Answers, Summary}
 use Rattle.cm_program.specs.Sessions.{served_frame, served_shelf}
 use Rattle.cm_session.specs.Links.{link_view}

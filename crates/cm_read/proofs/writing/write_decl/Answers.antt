@@ -5,4 +5,4 @@ use Rattle.cm_read.proofs.writing.write_decl.Goals as goal
 
 pub returns-clause-text : goal.returns-clause-text
 returns-clause-text c =
-    c.from_string.ensures ∙ text_is c.args.decl.now (view c.in_ok-value.value) (string_bytes c.in_ok-to_string.field-0) c.in_ok-value.ensures c.in_ok-to_string.ensures.text
+    c.in_ok-text.ensures ∙ text_is c.args.decl.now (view c.in_ok-value.value) (string_bytes c.in_ok-to_string.field-0) c.in_ok-value.ensures c.in_ok-to_string.ensures.text

@@ -16,6 +16,11 @@ returns-in-Some-clause-index c = λ s at.
     let there = subst (λ l. IsAt inc_of l c.args.inc c.in-Some.place) c.as_slice.ensures.value c.in-Some.ensures in
     c.swap.ensures.y_after ∙ ap (λ (z : Slot). z.index) (c.index_mut.ensures.value ∙ some_same _ s (sym (there.found c.index_mut.result.now) ∙ at))
 
+pub returns-in-Some-clause-none : goal.returns-in-Some-clause-none
+returns-in-Some-clause-none c = λ none.
+    let there = subst (λ l. IsAt inc_of l c.args.inc c.in-Some.place) c.as_slice.ensures.value c.in-Some.ensures in
+    absurd (none_some _ (sym none ∙ there.found c.index_mut.result.now))
+
 pub returns-in_default-clause-slots : goal.returns-in_default-clause-slots
 returns-in_default-clause-slots c =
     sym (edit_none inc_of c.args.inc (indexed_by c.args.index.now) c.args.block.now.slots.items

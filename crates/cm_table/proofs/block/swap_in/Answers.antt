@@ -24,6 +24,12 @@ returns-in-Some-clause-index c = λ s at.
     c.swap_at.ensures.index s (ap (λ b. slot_of (slots_in b) c.args.inc) c.index_mut.ensures.value
     ∙ sym (in_last inc_of slots_in c.args.blocks.now.items c.args.inc c.in-Some.place c.index_mut.result.now c.requires.filled c.requires.rising place) ∙ at)
 
+pub returns-in-Some-clause-none : goal.returns-in-Some-clause-none
+returns-in-Some-clause-none c = λ none.
+    let place = subst (λ l. IsPlace inc_of slots_in l c.args.inc (suc c.in-Some.place)) c.as_slice.ensures.value c.in-Some.ensures in
+    c.swap_at.ensures.none (ap (λ b. slot_of (slots_in b) c.args.inc) c.index_mut.ensures.value
+    ∙ sym (in_last inc_of slots_in c.args.blocks.now.items c.args.inc c.in-Some.place c.index_mut.result.now c.requires.filled c.requires.rising place) ∙ none)
+
 pub returns-in-Some-clause-filled : goal.returns-in-Some-clause-filled
 returns-in-Some-clause-filled c =
     let place = subst (λ l. IsPlace inc_of slots_in l c.args.inc (suc c.in-Some.place)) c.as_slice.ensures.value c.in-Some.ensures in

@@ -50,7 +50,7 @@ loop-at-preserved c = record {
 }
 
 pub returns-clause-computed : goal.returns-clause-computed
-returns-clause-computed c = json_ends c.loop-at.writer c.args.text.now c.from_string.result c.loop-at.at c.loop-at-test.false (c.from_string.ensures ∙ c.in_ok-json.ensures) c.loop-at.invariant.json
+returns-clause-computed c = json_ends c.loop-at.writer c.args.text.now c.in_ok-written.written c.loop-at.at c.loop-at-test.false (c.in_ok-written.ensures ∙ c.in_ok-json.ensures) c.loop-at.invariant.json
 
 pub returns-clause-json : goal.returns-clause-json
-returns-clause-json c = is_json c.args.text.now c.from_string.result (json_ends c.loop-at.writer c.args.text.now c.from_string.result c.loop-at.at c.loop-at-test.false (c.from_string.ensures ∙ c.in_ok-json.ensures) c.loop-at.invariant.json)
+returns-clause-json c = is_json c.args.text.now c.in_ok-written.written (json_ends c.loop-at.writer c.args.text.now c.in_ok-written.written c.loop-at.at c.loop-at-test.false (c.in_ok-written.ensures ∙ c.in_ok-json.ensures) c.loop-at.invariant.json)

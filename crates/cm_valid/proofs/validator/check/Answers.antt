@@ -1,4 +1,4 @@
-use Rattle.std.proofs.Common.{◌≡◌, [], None, Some, Option, refl, subst, inl, inr}
+use Rattle.std.proofs.Common.{◌≡◌, [], None, Some, Option, refl, sym, ◌∙◌, subst, inl, inr}
 use Rattle.cm_decl.specs.Valid.{cycle_fault}
 use Rattle.cm_deps.specs.Outcome.{IsOutcome}
 use Rattle.cm_deps.specs.declared.outcome.Order.{Order}
@@ -6,6 +6,7 @@ use Rattle.cm_deps.specs.declared.outcome.Order.TheVariants.{Ordered, Cycle}
 use Rattle.cm_deps.proofs.given.Outcomes.{ordered_acyclic}
 use Rattle.cm_valid.specs.declared.found.Found.{Found}
 use Rattle.cm_valid.specs.Parts.{Anywhere, Finds, fault_of}
+use Rattle.cm_valid.proofs.CycleLemmas.{acyclic_free}
 use Rattle.cm_valid.proofs.PassLemmas.{is_first, is_faultless}
 use Rattle.cm_valid.proofs.validator.check.Goals as goal
 
@@ -32,3 +33,10 @@ returns-clause-fault c =
     let none : Finds d Anywhere None = subst (λ (o : Option Found). Finds d Anywhere o) missing c.in_ok-found.ensures in
     let outcome : IsOutcome d [] (Cycle cycle) = subst (λ (o : Order). IsOutcome d [] o) c.in-Cycle.is c.in_ok-order_of.ensures in
     λ ran. (cycle_fault cycle, inr (record { faultless = is_faultless d none; picked = outcome; whole = refl }), refl)
+
+pub returns-then-not-needs_child-clause-valid : goal.returns-then-not-needs_child-clause-valid
+returns-then-not-needs_child-clause-valid c =
+    let d = c.args.decl.now in
+    let missing : c.in_ok-found.field-0 ≡ None = cc in
+    let none : Finds d Anywhere None = subst (λ (o : Option Found). Finds d Anywhere o) missing c.in_ok-found.ensures in
+    record { well_formed = c.requires.well_formed; faultless = is_faultless d none; acyclic = acyclic_free d (sym c.needs_child.ensures ∙ c.if-not-needs_child.true) }

@@ -1,5 +1,5 @@
 use Rattle.std.proofs.Common.{◌≡◌, length}
-use Rattle.cm_world.specs.Rows.{some_above, at_or_above}
+use Rattle.cm_world.specs.Rows.{at_or_above}
 use Rattle.cm_walk.specs.Marks.{has_mark}
 use Rattle.cm_walk.proofs.Monikers.{height}
 use Rattle.cm_walk.proofs.above.has_above.Given as goal
@@ -8,7 +8,7 @@ use Rattle.cm_walk.proofs.above.has_above.Given as goal
 abbrev pub invariant-up : goal.invariant-up
 invariant-up g l =
     let rows = g.V.View.rows l.view in
-    some_above (has_mark l.mark) rows l.inc ≡ at_or_above (length rows) (has_mark l.mark) rows l.at
+    at_or_above (length rows) (has_mark l.mark) rows l.fn.from ≡ at_or_above (length rows) (has_mark l.mark) rows l.at
 
 abbrev pub decreases-up : goal.decreases-up
 decreases-up g l = height l.at

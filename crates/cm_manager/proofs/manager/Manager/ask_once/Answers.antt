@@ -1,5 +1,5 @@
 use Rattle.cm_manager.proofs.left.Due.{open_at}
-use Rattle.cm_manager.proofs.onward.Turning.{entered_by, may_leave, took_by, same_pass, turned_as, steps_on}
+use Rattle.cm_manager.proofs.onward.Turning.{entered_by, may_leave, took_by, same_pass, turned_as, busy_by, steps_on}
 use Rattle.cm_manager.proofs.manager.Manager.ask_once.Goals as goal
 
 pub tell-went-requires-clause-ready : goal.tell-went-requires-clause-ready
@@ -14,4 +14,8 @@ pub returns : goal.returns
 returns g c =
     let told = c.tell-went.ensures in
     let took = took_by _ _ _ _ _ _ _ c.enter-held.ensures c.state.ensures.value told.legal c.caller-caller.ensures (steps_on _ _ _ _ _ told.legal told.steps) c.leave.ensures in
-    record { same = same_pass _ _ _ _ _ took; turned = turned_as _ _ _ _ _ _ _ c.caller-caller.ensures took told.steps }
+    record {
+      same = same_pass _ _ _ _ _ took;
+      turned = turned_as _ _ _ _ _ _ _ c.caller-caller.ensures took told.steps;
+      busy = busy_by _ _ _ _ _ _ _ took told.busy;
+    }

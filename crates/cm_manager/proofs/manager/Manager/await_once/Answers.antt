@@ -1,7 +1,7 @@
 use Rattle.std.proofs.Common.{ℕ, subst, sym}
 use Rattle.cm_laws.specs.Story.{world_of}
 use Rattle.cm_laws.specs.Laws.{IsJoined}
-use Rattle.cm_manager.proofs.onward.Turning.{entered_by, may_await, may_leave, took_by, same_pass, awaits_on, awaited_as}
+use Rattle.cm_manager.proofs.onward.Turning.{entered_by, may_await, may_leave, took_by, same_pass, awaits_on, awaited_as, unended_by}
 use Rattle.cm_manager.proofs.manager.Manager.await_once.Goals as goal
 
 pub outcome_at-outcome-requires : goal.outcome_at-outcome-requires
@@ -17,4 +17,8 @@ pub returns : goal.returns
 returns g c =
     let it = c.outcome_at-outcome.ensures in
     let took = took_by _ _ _ _ _ _ _ c.enter-held.ensures c.state.ensures.value it.legal c.caller-caller.ensures (awaits_on _ _ _ _ _ it.legal it.awaits) c.leave.ensures in
-    record { same = same_pass _ _ _ _ _ took; awaited = awaited_as _ _ _ _ _ _ _ c.caller-caller.ensures took }
+    record {
+      same = same_pass _ _ _ _ _ took;
+      awaited = awaited_as _ _ _ _ _ _ _ c.caller-caller.ensures took;
+      none = unended_by _ _ _ _ _ _ _ took it.none;
+    }

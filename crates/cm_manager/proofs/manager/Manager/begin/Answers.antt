@@ -1,14 +1,15 @@
+use Rattle.std.proofs.Common.{sym}
 use Rattle.cm_manager.proofs.onward.Begins.{begun_may, joined_may, begun_help, joined_help, needs_help, quiet_help, cut_help}
 use Rattle.cm_manager.proofs.manager.Manager.begin.Goals as goal
 
 pub end_turn-pass-requires-clause-may : goal.end_turn-pass-requires-clause-may
 end_turn-pass-requires-clause-may g c =
-    begun_may _ _ _ _ _ _ c.ask_for-pass.ensures.same (rw (c.in-Ok.is, c.in-Begun.is) at c.ask_for-pass.ensures.asked) c.do_work-ending.ensures.fits
+    begun_may _ _ _ _ _ _ c.ask_for-pass.ensures.same (rw (c.in-Ok.is, c.in-Begun.is, sym c.into_value-work.ensures) at c.ask_for-pass.ensures.asked) c.do_work-ending.ensures.fits
 
 pub returns-in-Begun : goal.returns-in-Begun
 returns-in-Begun g c = record {
   helps =
-      begun_help _ _ _ _ _ _ _ _ _ _ _ _ c.ask_for-pass.ensures.same (rw (c.in-Ok.is, c.in-Begun.is) at c.ask_for-pass.ensures.asked)
+      begun_help _ _ _ _ _ _ _ _ _ _ _ _ c.ask_for-pass.ensures.same (rw (c.in-Ok.is, c.in-Begun.is, sym c.into_value-work.ensures) at c.ask_for-pass.ensures.asked)
       c.do_work-ending.ensures.did c.do_work-ending.ensures.fits c.do_work-ending.ensures.eager c.end_turn-pass.ensures.same c.end_turn-pass.ensures.told;
 }
 

@@ -1,3 +1,4 @@
+use Rattle.std.proofs.Common.{sym}
 use Rattle.cm_manager.proofs.shutdowns.ShuttingDown.{cut_pick_help, done_help, no_other_pick, off_help, on_help, picked_may}
 use Rattle.cm_manager.proofs.manager.Manager.pick_one.Goals as goal
 
@@ -21,7 +22,7 @@ returns-in-ShutDown g c = record {
 
 pub end_turn-pass-requires-clause-may : goal.end_turn-pass-requires-clause-may
 end_turn-pass-requires-clause-may g c =
-    picked_may c.pickers_end.ensures.picks c.args.target _ _ _ _ c.ask_for-pass.ensures.same (rw (c.in-Ok.is, c.in-Stopping.is) at c.ask_for-pass.ensures.asked) c.do_work-ending.ensures.fits
+    picked_may c.pickers_end.ensures.picks c.args.target _ _ _ _ c.ask_for-pass.ensures.same (rw (c.in-Ok.is, c.in-Stopping.is, sym c.into_value-work.ensures) at c.ask_for-pass.ensures.asked) c.do_work-ending.ensures.fits
 
 pub unreachable-requires : goal.unreachable-requires
 unreachable-requires g c =
@@ -31,6 +32,6 @@ unreachable-requires g c =
 pub returns-in-Stopping : goal.returns-in-Stopping
 returns-in-Stopping g c = record {
   helps =
-      on_help _ c.args.target _ _ _ _ _ _ _ _ c.ask_for-pass.ensures.same (rw (c.in-Ok.is, c.in-Stopping.is) at c.ask_for-pass.ensures.asked)
+      on_help _ c.args.target _ _ _ _ _ _ _ _ c.ask_for-pass.ensures.same (rw (c.in-Ok.is, c.in-Stopping.is, sym c.into_value-work.ensures) at c.ask_for-pass.ensures.asked)
       c.do_work-ending.ensures.did c.end_turn-pass.ensures.same c.end_turn-pass.ensures.told;
 }

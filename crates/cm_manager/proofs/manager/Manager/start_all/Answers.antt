@@ -26,7 +26,7 @@ loop-preserved-in_default-ending_of_eager g c = record {
 pub loop-preserved : goal.loop-preserved
 loop-preserved g c = record {
   onward =
-      children_next _ _ _ _ _ _ _ _ _ _ _ _ _ _ _ c.loop.invariant.onward c.in-Some-pop_front.ensures.items c.in-Children.is c.in-Ok.ensures
+      children_next _ _ _ _ _ _ _ _ _ _ _ _ _ _ _ c.loop.invariant.onward c.in-Some-pop_front.ensures.items c.in-Children.is c.in-Ok.ensures.all
       c.start_one-after.ensures.helps;
   known = known_next _ _ c.start_one-after.ensures.helps.same;
 }
@@ -35,5 +35,5 @@ pub returns-in-Err : goal.returns-in-Err
 returns-in-Err g c = record {
   helps =
       c.loop.invariant.onward.rest _ _ _
-      (wanting_rows _ _ _ _ _ _ _ _ _ _ _ c.in-Some-pop_front.ensures.items c.in-Children.is c.start_one-after.ensures.helps);
+      (wanting_rows _ _ _ _ _ _ _ _ _ _ _ c.in-Some-pop_front.ensures.items c.in-Children.is c.in-Err.ensures.wanting c.start_one-after.ensures.helps);
 }

@@ -1,8 +1,12 @@
-use Rattle.std.proofs.Common.{subst, inl, inr}
+use Rattle.std.proofs.Common.{subst, sym, ap, inl, inr}
+use Rattle.cm_world.specs.declared.action.ActKind.TheVariants.{Stop}
+use Rattle.cm_world.specs.declared.action.Work.{Work}
+use Rattle.cm_world.specs.After.{with_action}
 use Rattle.cm_world.specs.World.{World}
 use Rattle.cm_world.specs.Step.{PicksOn}
 use Rattle.cm_laws.specs.Story.{world_of}
 use Rattle.cm_steps.specs.Answers.{PicksBy}
+use Rattle.cm_steps.specs.Tasks.{IsIdleAt}
 use Rattle.cm_steps.proofs.actions.Begun.{idle_picked}
 use Rattle.cm_steps.proofs.realm.Realm.pick_by.Goals as goal
 
@@ -20,4 +24,9 @@ begin_action-requires-clause-step c =
 pub begin_action-requires-clause-idle : goal.begin_action-requires-clause-idle
 begin_action-requires-clause-idle c =
     let w : World = world_of c.args.self.now in
-    idle_picked w.rows w.next_action c.args.target c.in-Stops.work (subst (PicksBy w c.args.target) c.in-Stops.is c.requires.answer)
+    let idle : IsIdleAt w.rows Stop c.in-Stops.work.inc = idle_picked w.rows w.next_action c.args.target c.in-Stops.work (subst (PicksBy w c.args.target) c.in-Stops.is c.requires.answer) in
+    subst (λ (v : Work). IsIdleAt w.rows Stop v.inc) (sym c.get.ensures) idle
+
+pub begin_action-requires-clause-begins : goal.begin_action-requires-clause-begins
+begin_action-requires-clause-begins c =
+    ap (λ (v : Work). with_action (world_of c.args.self.now) c.args.caller Stop v.inc) (sym c.get.ensures)

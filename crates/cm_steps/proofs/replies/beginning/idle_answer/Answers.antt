@@ -26,4 +26,4 @@ returns c = λ r lives.
     let rows = c.args.table.now.rows in
     let facts = told_of rows c.args.inc c.args.facts r c.requires lives in
     let has = resolved_is rows c.args.inc r c.resolved-resolved.result c.resolved-resolved.ensures lives in
-    idle_begins rows c.args.next_action c.args.kind r c.in_ok-work.work (sym (c.is_so.ensures r (ap (λ z. z.on) facts) has) ∙ c.if-is_so.false) (sym (closed_is rows c.args.inc r c.closed.result c.closed.ensures lives) ∙ c.if-closed.false) (sym (c.needs_decl.ensures r has) ∙ c.if-needs_decl.false) (c.in_ok-work.ensures r lives (ap (λ z. z.parent) facts))
+    idle_begins rows c.args.next_action c.args.kind r c.in_ok-boxed.boxed (sym (c.is_so.ensures r (ap (λ z. z.on) facts) has) ∙ c.if-is_so.false) (sym (closed_is rows c.args.inc r c.closed.result c.closed.ensures lives) ∙ c.if-closed.false) (sym (c.needs_decl.ensures r has) ∙ c.if-needs_decl.false) (c.in_ok-boxed.ensures ∙ c.in_ok-work.ensures r lives (ap (λ z. z.parent) facts))

@@ -68,9 +68,10 @@ invariant_of-self-2 c =
     let next = c.self.inside.next_inc in
     let row : Row = new_row next (Some c.args.parent) (Some c.args.name) c.args.url c.args.gives in
     let key : c.in-Ok.key ≡ c.args.name = search rules in
+    let own : c.child_row-row.result ≡ row = search rules in
     let links : EachOf (IsLinked c.args.parent c.args.name next) ss mid =
     subst (λ n. EachOf (IsLinked c.args.parent n next) ss mid) key (subst (λ l. EachOf (IsLinked c.args.parent c.in-Ok.key next) (flat l) mid) c.room_for.ensures.same c.in-Ok-link.ensures.ok) in
-    let pushed : ts ≡ mid ++ bare_slot row ∷ [] = c.push_block.ensures.slots ∙ ap (λ l. mid ++ l) (c.in-Ok-room_for.ensures.made ∙ ap (λ r. bare_slot r ∷ []) c.child_row-row.ensures) in
+    let pushed : ts ≡ mid ++ bare_slot row ∷ [] = c.push_block.ensures.slots ∙ ap (λ l. mid ++ l) (c.in-Ok-room_for.ensures.made ∙ ap (λ r. bare_slot r ∷ []) own) in
     let rows : rows_in ts ≡ rows_in ss ++ row ∷ [] = rows_joined ss mid ts c.args.parent next c.args.name row links pushed in
     let resolved : IsTrue (is_resolved (rows_in ss) c.args.parent) = subst (λ (s : Tree). IsTrue (is_resolved s.rows c.args.parent)) (sym c.self.view_is) c.requires.resolved in
     let unused : child_of (rows_in ss) c.args.parent c.args.name ≡ None = subst (λ (s : Tree). child_of s.rows c.args.parent c.args.name ≡ None) (sym c.self.view_is) c.requires.unused in
@@ -92,9 +93,10 @@ returns-clause-ok c =
     let next = c.self.inside.next_inc in
     let row : Row = new_row next (Some c.args.parent) (Some c.args.name) c.args.url c.args.gives in
     let key : c.in-Ok.key ≡ c.args.name = search rules in
+    let own : c.child_row-row.result ≡ row = search rules in
     let links : EachOf (IsLinked c.args.parent c.args.name next) ss mid =
     subst (λ n. EachOf (IsLinked c.args.parent n next) ss mid) key (subst (λ l. EachOf (IsLinked c.args.parent c.in-Ok.key next) (flat l) mid) c.room_for.ensures.same c.in-Ok-link.ensures.ok) in
-    let pushed = c.push_block.ensures.slots ∙ ap (λ l. mid ++ l) (c.in-Ok-room_for.ensures.made ∙ ap (λ r. bare_slot r ∷ []) c.child_row-row.ensures) in
+    let pushed = c.push_block.ensures.slots ∙ ap (λ l. mid ++ l) (c.in-Ok-room_for.ensures.made ∙ ap (λ r. bare_slot r ∷ []) own) in
     let rows : rows_in (flat c.push_block.new.blocks.items) ≡ rows_in ss ++ row ∷ [] = rows_joined ss mid (flat c.push_block.new.blocks.items) c.args.parent next c.args.name row links pushed in
     let made : List Row → Tree = λ rs. record { rows = rs; next_inc = next + 1; builtins = c.self.inside.builtins; limit = c.self.inside.limit; spare = c.self.inside.spare } in
     ap made rows ∙ ap (λ (t : Tree). with_row (new_row t.next_inc (Some c.args.parent) (Some c.args.name) c.args.url c.args.gives) t) c.self.view_is

@@ -1,0 +1,215 @@
+-- What the words behind the program's name ask for.
+use Rattle.std.specs.Prelude.{◌≡◌, ◌<◌, ◌≤◌, ◌^◌, ℕ, Bool, true, false, List, [], ◌∷◌, codes}
+use Rattle.std.specs.Prelude.{Option, Some, None, Result, Ok, Err, if◌then◌else◌}
+use Rattle.std.specs.Str.{bytes_eq}
+use Rattle.std.specs.Str.Parse.{digits_value, without_leading_plus}
+use Rattle.clap.specs.Words.{first_of, found_of}
+use Rattle.clap.specs.Walk.{Rule, Row, Text, rows_of}
+use Rattle.clap.specs.Simple.{App, new_app, new_rule, with_rule, on_top, matches_of}
+use Rattle.clap.specs.Faults.{fault_of}
+use Rattle.clap.specs.Kinds.{Kinds}
+use Rattle.clap.specs.ValueTests.{accepts}
+use Rattle.clap.specs.declared.builder.ValueParser.TheVariants as value
+use Rattle.clap.specs.declared.builder.ArgAction.TheVariants.{Set, SetTrue}
+use Rattle.clap.specs.declared.ArgMatches.{ArgMatches}
+use Rattle.cm_names.specs.Steps.{◌>>=◌}
+use Rattle.cm_call.specs.declared.call.Call.{Call}
+use Rattle.cm_call.specs.declared.call.Call.TheVariants.{Run, Check, Generate, Serve}
+use Rattle.cm_call.specs.declared.call.RunOptions.{RunOptions}
+use Rattle.cm_call.specs.declared.call.ServeOptions.{ServeOptions}
+use Rattle.cm_call.specs.declared.call.Workload.{Workload}
+use Rattle.cm_call.specs.declared.call.WordsFault.{WordsFault}
+use Rattle.cm_call.specs.declared.call.WordsFault.TheVariants.{Usage, Memory}
+
+abbrev pub Read : Type 0 → Type 0
+Read A = Result A WordsFault
+
+-- what a function returned is what reading gives, unless memory ran out
+abbrev pub Gives : {X : Type 0} → Read X → Read X → Type 0
+Gives (Ok x) read = read ≡ Ok x
+Gives (Err Memory) read = Unit {0}
+Gives (Err Usage) read = read ≡ Err Usage
+
+-- `--journal`, which has no value
+abbrev pub journal_rule : Rule
+journal_rule = record (new_rule (codes "journal")) { long = Some (codes "journal"); action = Some SetTrue }
+
+-- `--repo DIR`
+abbrev pub repo_rule : Rule
+repo_rule = record (new_rule (codes "repo")) { long = Some (codes "repo"); action = Some Set }
+
+-- the parser of the words behind the name of a command
+abbrev pub app_named : List ℕ → App
+app_named name = on_top (λ s. record s { no_binary_name = true }) (new_app name)
+
+abbrev pub run_app : App
+run_app = with_rule (with_rule (app_named (codes "run")) journal_rule) repo_rule
+
+abbrev pub check_app : App
+check_app = app_named (codes "check")
+
+-- a whole number from low to high, which has to be there
+abbrev pub number_rule : List ℕ → ℕ → ℕ → Rule
+number_rule name low high =
+    record (new_rule name) { required = true; action = Some Set; parser = Some (value.Unsigned low high) }
+
+-- the greatest seed
+abbrev pub last_seed : ℕ
+last_seed = 2147483647
+
+-- the most instances
+abbrev pub most_instances : ℕ
+most_instances = 10000
+
+-- `G N`
+abbrev pub generate_app : App
+generate_app =
+    with_rule (with_rule (app_named (codes "generate")) (number_rule (codes "seed") 0 last_seed))
+    (number_rule (codes "size") 1 most_instances)
+
+-- a text that has to be there, by its place or behind `--` and its name
+abbrev pub text_rule : List ℕ → Rule
+text_rule name = record (new_rule name) { required = true; action = Some Set }
+
+abbrev pub named_rule : List ℕ → Rule
+named_rule name = record (text_rule name) { long = Some name }
+
+-- `--`, a name, and a whole number from low to high
+abbrev pub count_rule : List ℕ → ℕ → ℕ → Rule
+count_rule name low high =
+    record (new_rule name) { long = Some name; action = Some Set; parser = Some (value.Unsigned low high) }
+
+-- the most sessions, and the most workers
+abbrev pub most_sessions : ℕ
+most_sessions = 4096
+
+abbrev pub most_workers : ℕ
+most_workers = 16
+
+-- `SOCKET --root URL`: where links come, and the realm's root
+abbrev pub place_app : App
+place_app =
+    with_rule (with_rule (app_named (codes "serve")) (text_rule (codes "socket"))) (named_rule (codes "root"))
+
+-- `--repo DIR` besides, where its manifests are
+abbrev pub needed_app : App
+needed_app = with_rule place_app (named_rule (codes "repo"))
+
+-- `[--sessions N] [--workers W]` besides
+abbrev pub serve_app : App
+serve_app =
+    with_rule (with_rule needed_app (count_rule (codes "sessions") 1 most_sessions))
+    (count_rule (codes "workers") 1 most_workers)
+
+abbrev pub is_free : Kinds → Bool
+is_free [] = true
+is_free (kind ∷ kinds) = false
+
+-- what a parser makes of words, where it finds no fault in them
+abbrev pub rows_read : App → List Text → Read (List Row)
+rows_read app words = if is_free (fault_of app words) then Ok (matches_of app words) else Err Usage
+
+-- what a parse gives is that, unless memory ran out
+abbrev pub Parses : App → List Text → Result ArgMatches WordsFault → Type 0
+Parses app words (Ok matches) = rows_read app words ≡ Ok (rows_of (found_of matches))
+Parses app words (Err Memory) = Unit {0}
+Parses app words (Err Usage) = rows_read app words ≡ Err Usage
+
+abbrev pub is_yes : Option Text → Bool
+is_yes None = false
+is_yes (Some text) = bytes_eq text (codes "true")
+
+abbrev pub options_in : List Row → RunOptions
+options_in rows =
+    record { journal = is_yes (first_of (codes "journal") rows); repository = first_of (codes "repo") rows }
+
+abbrev pub on_rows : {X : Type 0} → (List Row → X) → Read (List Row) → Read X
+on_rows f (Ok rows) = Ok (f rows)
+on_rows f (Err e) = Err e
+
+abbrev pub run_words : List Text → Read Call
+run_words words = on_rows (λ rows. Run (options_in rows)) (rows_read run_app words)
+
+abbrev pub check_words : List Text → Read Call
+check_words words = on_rows (λ rows. Check) (rows_read check_app words)
+
+-- the number that a text is, if it is one from low to high; a plus may stand before its digits
+abbrev pub number_in : ℕ → ℕ → Option Text → Read ℕ
+number_in low high None = Err Usage
+number_in low high (Some text) =
+    if accepts false (value.Unsigned low high) text then Ok (digits_value 10 (without_leading_plus text))
+    else Err Usage
+
+-- the workload that rows of a parse ask for
+unfoldable pub workload_in : List Row → Read Call
+workload_in rows = do
+  seed ← number_in 0 last_seed (first_of (codes "seed") rows)
+  size ← number_in 1 most_instances (first_of (codes "size") rows)
+  Ok (Generate (record { seed = seed; size = size }))
+
+-- what the words behind `generate` ask for
+unfoldable pub generate_words : List Text → Read Call
+generate_words words = do
+  rows ← rows_read generate_app words
+  workload_in rows
+
+-- the text that was given
+abbrev pub text_in : Option Text → Read Text
+text_in None = Err Usage
+text_in (Some text) = Ok text
+
+-- the number that was given, from low to high, or the other one where none was
+abbrev pub number_or : ℕ → ℕ → ℕ → Option Text → Read ℕ
+number_or other low high None = Ok other
+number_or other low high (Some text) = number_in low high (Some text)
+
+-- what rows of a parse ask to serve
+unfoldable pub serving_in : List Row → Read Call
+serving_in rows = do
+  socket ← text_in (first_of (codes "socket") rows)
+  root ← text_in (first_of (codes "root") rows)
+  repository ← text_in (first_of (codes "repo") rows)
+  sessions ← number_or 1 1 most_sessions (first_of (codes "sessions") rows)
+  workers ← number_or 4 1 most_workers (first_of (codes "workers") rows)
+  Ok (Serve (record {
+    socket = socket;
+    root = root;
+    repository = repository;
+    sessions = sessions;
+    workers = workers;
+  }))
+
+unfoldable pub serve_words : List Text → Read Call
+serve_words words = do
+  rows ← rows_read serve_app words
+  serving_in rows
+
+-- what words can ask to serve
+pub record IsServing (o : ServeOptions) : Type 0 where
+  pub some_sessions : 0 < o.sessions
+  pub sessions : o.sessions ≤ most_sessions
+  pub some_workers : 0 < o.workers
+  pub workers : o.workers ≤ most_workers
+
+-- a workload that words can ask for
+pub record IsWorkload (w : Workload) : Type 0 where
+  pub seed : w.seed < 2 ^ 31
+  pub some : 0 < w.size
+  pub limit : w.size ≤ 10000
+
+-- what is asked for can be done
+abbrev pub IsPossible : Call → Type 0
+IsPossible (Run options) = Unit {0}
+IsPossible Check = Unit {0}
+IsPossible (Generate w) = IsWorkload w
+IsPossible (Serve o) = IsServing o
+
+-- what words ask for: the first is the command, and the others are for its parser
+unfoldable pub words_of : List Text → Read Call
+words_of [] = Err Usage
+words_of (word ∷ words) =
+    if bytes_eq word (codes "run") then run_words words
+    else if bytes_eq word (codes "check") then check_words words
+    else if bytes_eq word (codes "generate") then generate_words words
+    else if bytes_eq word (codes "serve") then serve_words words
+    else Err Usage

@@ -1,0 +1,7 @@
+-- What a contract sees of a short text.
+use Rattle.std.specs.Prelude.{ℕ, List}
+
+-- its bytes, and those of the unused room, of which no clause says anything
+pub record ShortText : Type 0 where
+  pub bytes : List ℕ
+  pub spare : List ℕ

@@ -1,9 +1,0 @@
-use Rattle.cm_order.proofs.levels.Gathering.{room}
-use Rattle.cm_order.proofs.levels.Glancing.{AreShutSoFar}
-use Rattle.cm_order.proofs.glance.kids_shut.Given as goal
-
-abbrev pub invariant-loop-child : goal.invariant-loop-child
-invariant-loop-child g l = AreShutSoFar (g.V.View.rows l.view) l.inc l.behind
-
-abbrev pub decreases-loop-child : goal.decreases-loop-child
-decreases-loop-child g l = room (g.V.View.next_inc l.view) l.behind

@@ -1,9 +1,0 @@
-use Rattle.cm_order.specs.Plans.{IsPlan}
-use Rattle.cm_order.proofs.searches.Going.{IsAt, below_left}
-use Rattle.cm_order.proofs.quick.quick.Given as goal
-
-abbrev pub invariant-down : goal.invariant-down
-invariant-down g l = IsAt (g.V.View.rows l.view) l.top l.at × IsPlan (g.V.View.rows l.view) l.plan
-
-abbrev pub decreases-down : goal.decreases-down
-decreases-down g l = below_left (g.V.View.next_inc l.view) l.at

@@ -1,7 +1,0 @@
-use Rattle.std.proofs.Common.{◌≡◌, map}
-use Rattle.std.specs.List.{range_with_len}
-use Rattle.cm_program.specs.Generated.{moniker_of}
-use Rattle.cm_program.proofs.workload.monikers_of.Given as goal
-
-abbrev pub invariant-loop-instance : goal.invariant-loop-instance
-invariant-loop-instance l = l.monikers ≡ map moniker_of (range_with_len 0 l.instance)

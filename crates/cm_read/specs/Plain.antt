@@ -1,0 +1,108 @@
+-- Reading a JSON text without escapes, numbers or words, lexeme by lexeme.
+use Rattle.std.specs.Prelude.{◌≡◌, ℕ, List, [], ◌∷◌, ◌++◌, length, Bool, true, false, not, ◌||◌, ◌&&◌}
+use Rattle.std.specs.Prelude.{◌==◌, nat_lt, if◌then◌else◌, Option, Some, None, option_and_then, Ok}
+use Rattle.std.specs.List.{list_all}
+use Rattle.json.specs.Token.{Token, string}
+use Rattle.json.specs.Json.{items, members, value}
+use Rattle.json.specs.Lex.{token, colon, lex, between, Place, fresh, after_value, may_begin}
+use Rattle.json.specs.Lex.{begins_colon, punctuate}
+use Rattle.cm_text.specs.Bytes.{is_mark, is_space}
+use Rattle.cm_text.specs.Token.{Char, plain, taken, mark, quoted, word, Piece, space, line_comment}
+use Rattle.cm_text.specs.Token.{block_comment, piece_bytes, bytes_of}
+use Rattle.cm_text.specs.Token.{token as piece}
+use Rattle.cm_text.specs.Json.{json_of, is_comma, is_closing}
+use Rattle.serde_json.specs.Data.{Data, Items, Members, no_members, put}
+use Rattle.serde_json.specs.Read.{of_json, of_items, of_members, converted, read}
+use Rattle.serde_json.specs.View.{view}
+use Rattle.serde_json.specs.declared.value.Value.{Value}
+
+-- a byte that stands for itself in a string
+abbrev pub is_plain : ℕ → Bool
+is_plain b = not ((b == 34) || (b == 92) || nat_lt b 32)
+
+-- whether the byte comes first
+abbrev pub begins : ℕ → List ℕ → Bool
+begins c [] = false
+begins c (b ∷ bs) = b == c
+
+-- the tokens of what is left of a text, at a place
+abbrev pub left : Place → List ℕ → List Token
+left p text = punctuate p (lex between text)
+
+-- no colon is next
+abbrev pub NoColon : List ℕ → Type 0
+NoColon text = begins_colon (lex between text) ≡ false
+
+-- a value stands in front of the rest, unless a colon is next
+abbrev pub HasValue : ℕ → List ℕ → Data → List ℕ → Type 0
+HasValue depth text d rest =
+    (p : Place) → may_begin p ≡ true → NoColon rest
+    → converted of_json (value depth (left p text)) ≡ Some (d, left after_value rest)
+
+-- items stand in front of the rest, up to their closing bracket
+abbrev pub HasItems : ℕ → List ℕ → Items → List ℕ → Type 0
+HasItems depth text ds rest =
+    converted of_items (items (value depth) (length (left fresh text)) (left fresh text))
+    ≡ Some (ds, left after_value rest)
+
+-- members stand in front of the rest, up to their closing brace
+abbrev pub HasMembers : ℕ → List ℕ → Members → List ℕ → Type 0
+HasMembers depth text ms rest =
+    converted (λ found. of_members found no_members)
+    (members (value depth) (length (left fresh text)) (left fresh text))
+    ≡ Some (ms, left after_value rest)
+
+-- a value in front of the rest goes behind those that were found
+pub record AddsItem (depth : ℕ) (text : List ℕ) (old new : List Value) (rest : List ℕ) : Type 0 where
+  pub added : Value
+  pub grows : new ≡ old ++ added ∷ []
+  pub reads : HasValue depth text (view added) rest
+
+-- a key and a value in front of the rest are put into the members that were found
+pub record AddsMember (depth : ℕ) (text : List ℕ) (old new : Members) (rest : List ℕ) : Type 0 where
+  pub key : List ℕ
+  pub behind : List ℕ
+  pub added : Data
+  pub named : lex between text ≡ token (string key) ∷ colon ∷ lex between behind
+  pub grows : new ≡ put key added old
+  pub reads : HasValue depth behind added rest
+
+-- ---- texts whose JSON has the same lexemes
+
+-- a character that stands for itself
+abbrev pub is_plain_char : Char → Bool
+is_plain_char (plain b) = is_plain b
+is_plain_char (taken b) = false
+
+-- whether a comma is the last token behind a piece, by whether one was before it; no piece but marks, plain
+-- strings and spaces, and no closing mark behind a comma
+abbrev pub comma_behind : Bool → Piece → Option Bool
+comma_behind c (piece (mark b)) = if is_mark b && not (c && is_closing b) then Some (is_comma b) else None
+comma_behind c (piece (quoted q cs)) = if (q == 34) && list_all is_plain_char cs then Some false else None
+comma_behind c (piece (word bs)) = None
+comma_behind c (space b) = if is_space b then Some c else None
+comma_behind c (line_comment bs) = None
+comma_behind c (block_comment bs) = None
+
+-- the same behind pieces
+abbrev pub comma_behind_all : Bool → List Piece → Option Bool
+comma_behind_all c [] = Some c
+comma_behind_all c (p ∷ ps) = option_and_then (λ d. comma_behind_all d ps) (comma_behind c p)
+
+-- a piece stands in front of the rest
+pub record PassesPiece (c : Bool) (text : List ℕ) (d : Bool) (rest : List ℕ) : Type 0 where
+  pub passed : Piece
+  pub bytes : piece_bytes passed ++ rest ≡ text
+  pub comma : comma_behind c passed ≡ Some d
+
+-- pieces stand in front of the rest
+pub record PassesPieces (text : List ℕ) (d : Bool) (rest : List ℕ) : Type 0 where
+  pub passed : List Piece
+  pub bytes : bytes_of passed ++ rest ≡ text
+  pub comma : comma_behind_all false passed ≡ Some d
+
+-- the text has a JSON text, which reads as the text does
+pub record ReadsAsJson (text : List ℕ) : Type 0 where
+  pub json : List ℕ
+  pub is_json : json_of text ≡ Ok json
+  pub same : read json ≡ read text

@@ -1,0 +1,24 @@
+//! What finding by names reads of a table.
+
+ghost use Rattle.cm_table.specs.Tree.{Tree};
+
+use crate::table::Table;
+use cm_names::ChildName;
+use cm_world::{Steps, Store, View};
+use std::sync::ledger::Ledger;
+
+impl Store for Table {
+    ghost rows = { λ (t : Tree). t.rows };
+
+    ghost next_inc = { λ (t : Tree). t.next_inc };
+
+    fn resolved<L: Ledger>(&self, inc: u64, steps: &mut Steps<L>) -> bool {
+        steps.tick();
+        self.decl(inc).is_some()
+    }
+
+    fn child<L: Ledger>(&self, parent: u64, name: &ChildName, steps: &mut Steps<L>) -> Option<u64> {
+        steps.tick();
+        View::child(self, parent, name)
+    }
+}
