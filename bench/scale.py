@@ -229,18 +229,23 @@ def shown(found, case, options):
     return f"{found.work:>10.3f} {each:>10.1f} {found.megabytes:>8.0f}"
 
 
-def main():
-    parser = argparse.ArgumentParser(description=__doc__.split("\n", maxsplit=1)[0])
+def options_of(text):
+    """What the words of the command line ask for, and the programs; prints the head of the table."""
+    parser = argparse.ArgumentParser(description=text.split("\n", maxsplit=1)[0])
     parser.add_argument("--instructions", action="store_true", help="count instructions, with valgrind")
     parser.add_argument("--seconds", type=float, default=60, help="the most that one run may take")
     parser.add_argument("--only", default="", help="cases of which the kind has this word")
     parser.add_argument("programs", nargs="*", metavar="PROGRAM")
     options = parser.parse_args()
-    programs = options.programs or [BUILT]
     if options.instructions and not shutil.which("valgrind"):
         sys.exit("scale: valgrind isn't here")
     unit = "million instructions, instructions" if options.instructions else "seconds, microseconds"
     print(f"for each program: {unit} a command, megabytes; load {os.getloadavg()[0]:.1f}")
+    return options, options.programs or [BUILT]
+
+
+def main():
+    options, programs = options_of(__doc__)
     too_long = set()
     for case in cases():
         if options.only not in case.kind:

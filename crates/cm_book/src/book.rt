@@ -19,11 +19,20 @@ pub enum BookFault {
 
 /// A history: its entries in their order, the number of entries that room is reserved for, and
 /// the limit of both together.
-#[derive(Drop)]
 pub struct Book {
     entries: Vec<Entry>,
     reserved: u64,
     limit: u64,
+}
+
+impl Drop for Book {
+    fn drop(self) {
+        let Book {
+            entries: _,
+            reserved: _,
+            limit: _,
+        } = self;
+    }
 }
 
 impl Model for Book {

@@ -1,6 +1,6 @@
 //! Answers kept beside a history.
 
-ghost use Rattle.std.specs.Prelude.{◌≡◌, ◌+◌, ◌<◌, ◌^◌, ℕ, IfOk, OnOk, OnErr, IsTrue};
+ghost use Rattle.std.specs.Prelude.{◌≡◌, ◌+◌, ◌<◌, ◌^◌, ℕ, IsOk, IfOk, OnOk, OnErr, IsTrue};
 ghost use Rattle.cm_world.specs.declared.action.Finish.{Finish};
 ghost use Rattle.cm_cache.specs.Answers.{kept_at};
 ghost use Rattle.cm_cache.specs.Beside.{nothing_held, found_by, is_new, is_emptied, followed, finding};
@@ -63,7 +63,8 @@ impl Model for Keeper {
 impl Keeper {
     /// The keeper without an answer, beside a history without an entry. It takes no memory yet.
     pub fn new(alloc: Global) -> Result<Keeper, Memory>
-        ensures { IfOk result (λ made. made ≡ nothing_held) }
+        ensures ok { IsOk result }
+        ensures empty { IfOk result (λ made. made ≡ nothing_held) }
     {
         Ok(Keeper {
             cache: Cache::new(alloc)?,

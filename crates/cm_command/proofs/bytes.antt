@@ -1,3 +1,5 @@
 pub mod Cuts
 pub mod Pieces
+pub mod Found
 pub mod Runs
+pub mod Parts

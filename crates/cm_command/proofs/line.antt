@@ -4,3 +4,4 @@ pub mod LineWords
 pub mod Machine
 pub mod SpacelessWords
 pub mod StepLemmas
+pub mod QuickWords

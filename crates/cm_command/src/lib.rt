@@ -26,6 +26,7 @@ pub mod command;
 pub mod fault;
 pub mod laws;
 pub mod place;
+pub mod quick;
 pub mod reader;
 pub mod rights;
 pub mod script;

@@ -9,6 +9,7 @@ ghost use Rattle.cm_command.specs.Places.{Ends, IsShort, IsUnended, Steps, line_
 ghost use Rattle.cm_command.specs.Words.{words_of};
 
 use crate::place::{Place, Sentence};
+use crate::quick::quick_command;
 use crate::step::{end, step};
 use crate::tokens::{WordFault, behind};
 use crate::words::cut;
@@ -65,13 +66,8 @@ fn fault_of(fault: WordFault) -> CommandFault
     }
 }
 
-/// The command that the line asks for.
-///
-/// The words of the line stand with one space between them. `Err(BadCommand(n))` comes where the
-/// line is in the grammar of no command: its first n bytes are the longest front of it that some
-/// command begins with. `Err(Memory)` comes where memory runs out. The grammar is this project's
-/// own choice.
-pub fn read_command(alloc: Global, line: &[u8]) -> Result<Command, CommandFault>
+/// The command that the line asks for, or how it asks for none: it is judged word by word.
+fn judge_line(alloc: Global, line: &[u8]) -> Result<Command, CommandFault>
     requires { length line.now < 2 ^ 32 }
     ensures ok { IfOk result (λ command. CommandText line.now command) }
     ensures fault { IfErr result (λ e. e ≢ CommandFault.Memory → IsCommandFault line.now e) }
@@ -83,6 +79,23 @@ pub fn read_command(alloc: Global, line: &[u8]) -> Result<Command, CommandFault>
         },
         Err(fault) => Err(fault_of(fault)),
     }
+}
+
+/// The command that the line asks for.
+///
+/// The words of the line stand with one space between them. `Err(BadCommand(n))` comes where the
+/// line is in the grammar of no command: its first n bytes are the longest front of it that some
+/// command begins with. `Err(Memory)` comes where memory runs out. The grammar is this project's
+/// own choice.
+pub fn read_command(alloc: Global, line: &[u8]) -> Result<Command, CommandFault>
+    requires { length line.now < 2 ^ 32 }
+    ensures ok { IfOk result (λ command. CommandText line.now command) }
+    ensures fault { IfErr result (λ e. e ≢ CommandFault.Memory → IsCommandFault line.now e) }
+{
+    if let Some(command) = quick_command(alloc, line)? {
+        return Ok(command);
+    }
+    judge_line(alloc, line)
 }
 
 /// The builtin capability that stands behind the word `builtin` and a space.

@@ -268,7 +268,7 @@ fn take_builtin_rights(
 }
 
 /// The verb that is the word.
-fn verb_of(word: &[u8]) -> Option<Verb>
+pub fn verb_of(word: &[u8]) -> Option<Verb>
     ensures { MatchOption result (IsVerbWord word.now → ⊥) (λ verb. word.now ≡ verb_word verb) }
 {
     for verb in Verb::all() {

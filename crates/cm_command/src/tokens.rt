@@ -10,12 +10,14 @@
 //! incarnation is written as `@` and its number, and the limits of 4,096 bytes, are this project's
 //! own choice.
 
-ghost use Rattle.std.specs.Prelude.{◌≡◌, ◌≢◌, ◌<◌, ◌≤◌, ◌^◌, ◌+◌, ◌-◌, ◌*◌, ◌∷◌, ◌++◌, ℕ, List, length, take};
-ghost use Rattle.std.specs.Prelude.{get_or, map, false, Contains, IsTrue, MatchOption, MatchResult};
+ghost use Rattle.std.specs.Prelude.{◌≡◌, ◌≢◌, ◌<◌, ◌≤◌, ◌^◌, ◌+◌, ◌-◌, ◌*◌, ◌∷◌, ◌++◌, ℕ, length, take};
+ghost use Rattle.std.specs.Prelude.{List as Seq, get_or, map, false, All, Contains, IsTrue, IfOk, IfSome};
+ghost use Rattle.std.specs.Prelude.{MatchOption, MatchResult};
 ghost use Rattle.std.specs.List.{take_while};
 ghost use Rattle.std.specs.Str.{IsUtf8};
 ghost use Rattle.cm_names.specs.Name.{IsName, continues_name};
-ghost use Rattle.cm_names.specs.Path.{is_path, is_subdir, is_relative};
+ghost use Rattle.cm_names.specs.Path.{is_path, is_subdir, is_relative, parts_of};
+ghost use Rattle.cm_names.specs.Moniker as moniker;
 ghost use Rattle.cm_names.specs.Moniker.{IsChild, IsChildText, IsMonikerText};
 ghost use Rattle.cm_names.specs.Child.{child_text};
 ghost use Rattle.cm_names.specs.Urls.{is_url_byte};
@@ -34,7 +36,8 @@ use cm_names::grammar::bad_place;
 use cm_names::name::{begins, continues};
 use cm_names::url::is_url_byte;
 use cm_names::{
-    CapPath, ChildName, Memory, Moniker, MonikerFault, Name, NameFault, PathFault, SubDir, Text,
+    CapPath, ChildName, List, Memory, Moniker, MonikerFault, Name, NameFault, PathFault, Shared,
+    SubDir, Text,
 };
 use cm_world::Target;
 use std::alloc::Global;
@@ -237,8 +240,8 @@ impl PathPlace {
     /// The place behind one byte more, where some path goes on with it.
     fn next(self, byte: u8) -> Option<PathPlace>
         ensures { MatchOption result
-            ((t : List ℕ) → is_relative (path_front self ++ byte ∷ t) ≡ false)
-            (λ next. (t : List ℕ) → is_relative (path_front self ++ byte ∷ t)
+            ((t : Seq ℕ) → is_relative (path_front self ++ byte ∷ t) ≡ false)
+            (λ next. (t : Seq ℕ) → is_relative (path_front self ++ byte ∷ t)
             ≡ is_relative (path_front next ++ t)) }
     {
         if byte == b'/' {
@@ -402,11 +405,8 @@ fn moniker_fronts(word: &[u8]) -> Option<usize>
     }
 }
 
-/// The moniker that the word is, of at most 4,096 bytes.
-///
-/// `Err(Bad(n))` comes where the word is no such moniker, with the count of its fronts that some
-/// moniker begins with. `Err(Memory)` comes where memory runs out.
-pub fn read_moniker(alloc: Global, word: &[u8]) -> Result<Moniker, WordFault>
+/// The moniker that the word is, or how it is none: it is judged first, byte by byte.
+fn judge_moniker(alloc: Global, word: &[u8]) -> Result<Moniker, WordFault>
     ensures { MatchResult result (λ moniker. IsTargetText word.now (Target.Named moniker))
         (λ e. IsWordFault IsMonikerText word.now e) }
 {
@@ -422,6 +422,68 @@ pub fn read_moniker(alloc: Global, word: &[u8]) -> Result<Moniker, WordFault>
             MonikerFault::Memory => Err(WordFault::Memory),
             _ => unreachable!(),
         },
+    }
+}
+
+/// The word without a slash in front.
+fn behind_slash(word: &[u8]) -> &[u8]
+    ensures { result.now ≡ moniker.behind_slash word.now }
+{
+    match word {
+        [] => word,
+        [first, rest @ ..] => { if *first == b'/' { rest } else { word } }
+    }
+}
+
+/// The name of a child that the word is, most often one without a collection.
+fn read_part(alloc: Global, word: &[u8]) -> Result<ChildName, WordFault>
+    ensures { MatchResult result (λ child. IsChild child × (word.now ≡ child_text child))
+        (λ e. IsWordFault IsChildText word.now e) }
+{
+    match read_name(alloc, word) {
+        Ok(name) => Ok(ChildName { coll: None, name }),
+        Err(WordFault::Bad(_)) => read_child(alloc, word),
+        Err(WordFault::Memory) => Err(WordFault::Memory),
+    }
+}
+
+/// The names of children that stand between the slashes, or `None` where something else does.
+fn children_in(alloc: Global, text: &[u8]) -> Result<Option<List<Shared<ChildName>>>, Memory>
+    ensures { IfOk result (λ found. IfSome found (λ parts.
+        All IsChild parts × (map child_text parts ≡ parts_of text.now))) }
+{
+    let slashes = text.iter().filter(|b| **b == b'/').count();
+    let mut parts = List::with_capacity(alloc, slashes.saturating_add(1))?;
+    let mut rest = text;
+    'parts: loop {
+        let (part, further) = cut(rest, b'/');
+        let child = match read_part(alloc, part) {
+            Ok(child) => child,
+            Err(WordFault::Bad(_)) => return Ok(None),
+            Err(WordFault::Memory) => return Err(Memory),
+        };
+        parts.push(Shared::new(alloc, child)?)?;
+        let Some(more) = further else {
+            return Ok(Some(parts));
+        };
+        rest = more;
+    }
+}
+
+/// The moniker that the word is, of at most 4,096 bytes.
+///
+/// `Err(Bad(n))` comes where the word is no such moniker, with the count of its fronts that some
+/// moniker begins with. `Err(Memory)` comes where memory runs out.
+pub fn read_moniker(alloc: Global, word: &[u8]) -> Result<Moniker, WordFault>
+    ensures { MatchResult result (λ moniker. IsTargetText word.now (Target.Named moniker))
+        (λ e. IsWordFault IsMonikerText word.now e) }
+{
+    if word.len() < 2 || word.len() > LONGEST {
+        return judge_moniker(alloc, word);
+    }
+    match children_in(alloc, behind_slash(word))? {
+        Some(parts) => Ok(Moniker { parts }),
+        None => judge_moniker(alloc, word),
     }
 }
 

@@ -5,6 +5,8 @@ ghost use Rattle.std.specs.Prelude.{codes, min, All, IsTrue, MatchOption, IfSome
 ghost use Rattle.std.specs.Prelude.{None, Bool};
 ghost use Rattle.cm_command.specs.Numbers.{is_digit as is_digit_of, IsDecimal, value_behind};
 
+use memchr::memchr;
+
 /// The bytes before the first `separator`, and those behind it where it is there.
 pub fn cut(bytes: &[u8], separator: u8) -> (&[u8], Option<&[u8]>)
     ensures clean { All (λ b. (b == separator) ≡ false) result.0.now }
@@ -22,7 +24,7 @@ fn position_of(bytes: &[u8], separator: u8) -> Option<usize>
     ensures none { IfNone result (All (λ b. (b == separator) ≡ false) bytes.now) }
     ensures bound { IfSome result (λ i. i < length bytes.now) }
 {
-    bytes.iter().position(|b| *b == separator)
+    memchr(separator, bytes)
 }
 
 /// What stands behind `front`, where the bytes begin with it.

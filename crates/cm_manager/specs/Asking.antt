@@ -16,8 +16,7 @@ use Rattle.cm_world.specs.Step.{may_close, may_purge}
 use Rattle.cm_world.specs.Legal.{Legal}
 use Rattle.cm_laws.specs.Story.{Story, Tells, entry_of}
 use Rattle.cm_laws.specs.Shutdowns.{IsLeaving, IsMarked, IsOver}
-use Rattle.cm_laws.specs.Tasks.{IsPendingAt}
-use Rattle.cm_steps.specs.Steps.{HasRoom, LacksRoom}
+use Rattle.cm_steps.specs.Steps.{HasRoom, LacksRoom, WaitsToBegin, WaitsToExit, WaitsToPick}
 use Rattle.cm_steps.specs.declared.nostep.NoStep.{NoStep}
 use Rattle.cm_steps.specs.declared.nostep.NoStep.TheVariants as nostep
 use Rattle.cm_manager.specs.Turns.{Later, Makes, Asks, IsCut, need, world_after}
@@ -92,10 +91,17 @@ abbrev pub RefusesRoom : Story → ℕ → NoStep → Type 0
 RefusesRoom s more nostep.HistoryFull = LacksRoom s more
 RefusesRoom s more _ = Unit {0}
 
--- an event only has to wait for an action that is pending
-abbrev pub IsBusy : World → NoStep → Type 0
-IsBusy w (nostep.Busy a) = (i : ℕ) × IsPendingAt w.acts i a
-IsBusy w _ = Unit {0}
+-- an event has to wait for this action, which stands in its own way; but for these three, none ever waits
+abbrev pub WaitsFor : World → Event → ℕ → Type 0
+WaitsFor w (event.Begin kind i) a = WaitsToBegin w kind i a
+WaitsFor w (event.Pick t) a = WaitsToPick w t a
+WaitsFor w (event.Exited i) a = WaitsToExit w i a
+WaitsFor w _ a = ⊥
+
+-- an event is only held up by an action that it has to wait for
+abbrev pub IsBusy : World → Event → NoStep → Type 0
+IsBusy w e (nostep.Busy a) = WaitsFor w e a
+IsBusy w e _ = Unit {0}
 
 -- the event is told, for which there was room; or the realm is as before, and the refusal is a true one
 abbrev pub StepsBy : Story → Story → ℕ → Event → Result Reply NoStep → Type 0

@@ -18,6 +18,8 @@ use Rattle.cm_manager.specs.declared.question.Question.{Question}
 use Rattle.cm_manager.specs.declared.question.Question.TheVariants as question
 use Rattle.cm_manager.specs.declared.question.Request.{Request}
 use Rattle.cm_manager.specs.declared.question.Request.TheVariants as request
+use Rattle.cm_manager.specs.declared.question.Wish.{Wish}
+use Rattle.cm_manager.specs.declared.question.Wish.TheVariants as wish
 use Rattle.cm_manager.specs.declared.question.Follow.{Follow}
 use Rattle.cm_manager.specs.declared.question.Follow.TheVariants as follow
 use Rattle.cm_manager.specs.Answers.{acted_answer, created_in, has_left, is_killed}
@@ -56,6 +58,16 @@ event_for (request.Route path) = λ i. event.Route i path.now
 event_for request.Show = event.Show
 event_for request.Survey = event.Survey
 event_for request.Exited = event.Exited
+
+-- the event that one turn makes
+abbrev pub event_of : Wish → Event
+event_of (wish.Find m) = event.Find m.now
+event_of (wish.Ask r i) = event_for r i
+event_of (wish.Begin k i) = event.Begin k i
+event_of (wish.Mark doom i) = event.Mark doom i
+event_of (wish.Pick t) = event.Pick t
+event_of (wish.Purge i) = event.Purge i
+event_of (wish.Reap i) = event.Reap i
 
 -- what comes behind the reply to it
 abbrev pub FollowsBy : Frame → ℕ → Request → ℕ → Reply → Way (Option Refusal)

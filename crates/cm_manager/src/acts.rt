@@ -6,10 +6,11 @@ ghost use Rattle.cm_manager.specs.Runs.{Acts};
 ghost use Rattle.cm_manager.specs.Gated.{HelpsWith};
 
 use crate::began::Began;
+use crate::question::Wish;
 use crate::{Acted, Manager};
 use cm_gate::Gates;
 use cm_turn::Pass;
-use cm_world::{ActKind, Entry, Event, Frame, Refusal, Reply};
+use cm_world::{ActKind, Entry, Frame, Refusal, Reply};
 use std::alloc::Global;
 use std::sync::Wait;
 use std::thread::Threads;
@@ -30,7 +31,7 @@ impl Manager {
             (λ f c a b. BeginsBy f c kind inc result.1 a b)
             pass result.0 gates.old gates.new }
     {
-        let (pass, asked) = self.ask_for(rt, alloc, pass, Event::Begin(kind, inc));
+        let (pass, asked) = self.ask(rt, alloc, pass, Wish::Begin(kind, inc));
         let reply = match asked {
             Ok(reply) => reply,
             Err(refusal) => return (pass, Err(refusal)),

@@ -21,11 +21,20 @@ use std::marker::Model;
 ///
 /// It holds a turn lock round the realm, the manifests that were given with it, and the name of
 /// the repository of which the gates are asked for others. Contracts see the lock and these two.
-#[derive(Drop)]
 pub struct Manager {
     pub(crate) turn: Turn<Realm>,
     pub(crate) repository: Repository,
     pub(crate) repo: Option<Text>,
+}
+
+impl Drop for Manager {
+    fn drop(self) {
+        let Manager {
+            turn: _,
+            repository: _,
+            repo: _,
+        } = self;
+    }
 }
 
 impl Model for Manager {

@@ -1,78 +1,24 @@
 //! The parts of a call: the search for the row of its target, and its one event.
 
-ghost use Rattle.std.specs.Prelude.{◌≡◌, IfOk, IsTrue};
-ghost use Rattle.cm_world.specs.declared.event.Event.{Event as TheEvent};
-ghost use Rattle.cm_world.specs.declared.event.Event.TheVariants as event;
+ghost use Rattle.std.specs.Prelude.{◌≡◌};
 ghost use Rattle.cm_world.specs.declared.event.Target.TheVariants as target;
-ghost use Rattle.cm_manager.specs.Turns.{Later};
-ghost use Rattle.cm_manager.specs.Asking.{frame_of, is_asked, is_plain};
 ghost use Rattle.cm_manager.specs.Calls.{Finding};
-ghost use Rattle.cm_manager.specs.Contract.{IsSamePass};
 ghost use Rattle.cm_manager.specs.Questions.{event_for, Requested};
 ghost use Rattle.cm_manager.specs.Runs.{Tries};
 ghost use Rattle.cm_manager.specs.Gated.{HelpsWith, FindsWith};
 
 use crate::Manager;
 use crate::answers::{behind, decided, found};
-use crate::manager::check_history;
-use crate::question::{Follow, Request, event_at, following};
+use crate::question::{Follow, Request, Wish, following};
 use cm_gate::Gates;
-use cm_names::{Memory, Moniker};
+use cm_names::Moniker;
 use cm_turn::Pass;
-use cm_world::{Answer, Entry, Event, Frame, Refusal, Reply, Target};
+use cm_world::{Answer, Entry, Frame, Refusal, Reply, Target};
 use std::alloc::Global;
 use std::sync::Wait;
 use std::thread::Threads;
 
-/// The event that looks for the instance at a moniker. `Err` where memory runs out.
-fn finding(moniker: &Moniker) -> Result<Event, Memory>
-    ensures { IfOk result (λ made. made ≡ event.Find moniker.now) }
-{
-    Ok(Event::Find(moniker.clone()?))
-}
-
 impl Manager {
-    /// Takes one turn and makes no event in it: the pass has then seen the whole history.
-    fn catch_up<R: Wait>(&self, rt: &R, pass: Pass<Entry, Frame>) -> Pass<Entry, Frame>
-        requires lock { pass.lock ≡ self.now.turn.lock }
-        ensures same { IsSamePass (frame_of pass) pass result }
-        ensures later { Later pass.caller pass.seen result.seen }
-        ensures mine { result.mine ≡ pass.mine }
-    {
-        let mut held = self.turn.enter(rt, pass);
-        check_history(held.state());
-        self.turn.leave(held)
-    }
-
-    /// Makes an event until a reply decides it, if there was memory to make it.
-    ///
-    /// `Err` is what ended the call, as for [`Manager::try_event`], or want of memory before it.
-    fn try_made<R: Threads + Wait + Sync, G: Gates>(
-        &self,
-        rt: &R,
-        alloc: Global,
-        pass: Pass<Entry, Frame>,
-        gates: &mut G,
-        made: Result<Event, Memory>,
-    ) -> (Pass<Entry, Frame>, Result<Reply, Refusal>)
-        requires lock { pass.lock ≡ self.now.turn.lock }
-        requires asked { IfOk made (λ e. IsTrue (is_asked e)) }
-        requires plain { IfOk made (λ e. IsTrue (is_plain e)) }
-        ensures helps { (e : TheEvent) → IfOk made (λ it. it ≡ e)
-            → HelpsWith G.log G.faults self.now.shelf
-            (λ f c a b. Tries f c e a b result.1)
-            pass result.0 gates.old gates.new }
-    {
-        match made {
-            Ok(event) => {
-                let tried = self.try_event(rt, alloc, pass, gates, &event);
-                drop(event);
-                tried
-            }
-            Err(_) => (self.catch_up(rt, pass), Err(Refusal::Memory)),
-        }
-    }
-
     /// Looks for the row at a moniker: its incarnation, or why there is none.
     fn find_named<R: Threads + Wait + Sync, G: Gates>(
         &self,
@@ -87,7 +33,7 @@ impl Manager {
             (λ f c a b. Finding f c (target.Named moniker.now) a b result.1)
             pass result.0 gates.old gates.new }
     {
-        let (pass, went) = self.try_made(rt, alloc, pass, gates, finding(moniker));
+        let (pass, went) = self.try_event(rt, alloc, pass, gates, Wish::Find(moniker));
         (pass, found(went))
     }
 
@@ -126,7 +72,7 @@ impl Manager {
             (λ f c a b. Tries f c (event_for request.entry inc) a b result.1)
             pass result.0 gates.old gates.new }
     {
-        self.try_made(rt, alloc, pass, gates, event_at(request, inc))
+        self.try_event(rt, alloc, pass, gates, Wish::Ask(request, inc))
     }
 
     /// Makes a request of the instance of this incarnation, and does what follows its reply: a

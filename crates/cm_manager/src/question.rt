@@ -1,15 +1,13 @@
 //! What a call asks of the instance that its target names.
 
-ghost use Rattle.std.specs.Prelude.{◌≡◌, IfOk};
-ghost use Rattle.cm_world.specs.declared.event.Event.TheVariants as event;
-ghost use Rattle.cm_manager.specs.Questions.{asked_by, event_for, follow_of};
+ghost use Rattle.std.specs.Prelude.{◌≡◌};
+ghost use Rattle.cm_manager.specs.Questions.{asked_by, follow_of};
 
 use crate::answers::{created_in, has_left};
 use cm_command::Command;
 use cm_decl::Give;
-use cm_decl::copies::four;
-use cm_names::{CapPath, List, Memory, Name, Text};
-use cm_world::{ActKind, Event, Refusal, Reply, Target};
+use cm_names::{CapPath, List, Moniker, Name, Text};
+use cm_world::{ActKind, Refusal, Reply, Target};
 
 /// What a call asks of an instance.
 #[derive(Clone, Copy)]
@@ -45,6 +43,25 @@ pub(crate) enum Request<'a> {
     Survey,
     /// That its program has ended by itself.
     Exited,
+}
+
+/// An event that one turn makes. What it names is lent, and copied for its entry alone.
+#[derive(Clone, Copy)]
+pub(crate) enum Wish<'a> {
+    /// To find the instance at this moniker.
+    Find(&'a Moniker),
+    /// This, of the instance of this incarnation.
+    Ask(Request<'a>, u64),
+    /// To begin an action of this kind at this instance.
+    Begin(ActKind, u64),
+    /// To mark this instance with all below it: to be destroyed (`true`), or to be shut down.
+    Mark(bool, u64),
+    /// To go on with the shutdown of this instance.
+    Pick(u64),
+    /// To remove this instance, which is shut with all below it.
+    Purge(u64),
+    /// To mark what went with this instance.
+    Reap(u64),
 }
 
 /// What follows a reply.
@@ -88,37 +105,6 @@ pub(crate) fn question_of(command: &Command) -> (&Target, Question<'_>)
         Command::Show(target) => (target, Question::Event(Request::Show)),
         Command::Survey(target) => (target, Question::Event(Request::Survey)),
         Command::Exited(target) => (target, Question::Event(Request::Exited)),
-    }
-}
-
-/// The event that creates a child of this parent. `Err` where memory runs out.
-fn creation(
-    parent: u64,
-    coll: &Name,
-    name: &Name,
-    url: &Text,
-    gives: &List<Give>,
-) -> Result<Event, Memory>
-    ensures { IfOk result (λ made.
-        made ≡ event.Create parent coll.now name.now url.now gives.now) }
-{
-    let (coll, name, url, gives) = four(coll, name, url, gives)?;
-    Ok(Event::Create(parent, coll, name, url, gives))
-}
-
-/// The event that asks this of the instance of this incarnation. `Err` where memory runs out.
-pub(crate) fn event_at(request: Request<'_>, inc: u64) -> Result<Event, Memory>
-    ensures { IfOk result (λ made. made ≡ event_for request.entry inc) }
-{
-    match request {
-        Request::Create(coll, name, url, gives) => creation(inc, coll, name, url, gives),
-        Request::List(coll) => Ok(Event::Listing(inc, coll.clone()?)),
-        Request::OpenUse(path) => Ok(Event::OpenUse(inc, path.clone()?)),
-        Request::OpenExposed(name) => Ok(Event::OpenExposed(inc, name.clone()?)),
-        Request::Route(path) => Ok(Event::Route(inc, path.clone()?)),
-        Request::Show => Ok(Event::Show(inc)),
-        Request::Survey => Ok(Event::Survey(inc)),
-        Request::Exited => Ok(Event::Exited(inc)),
     }
 }
 

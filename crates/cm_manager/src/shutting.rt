@@ -19,10 +19,11 @@ ghost use Rattle.cm_manager.specs.Gated.{HelpsWith};
 use crate::Manager;
 use crate::answers::refusing;
 use crate::began::Picked;
+use crate::question::Wish;
 use cm_gate::Gates;
 use cm_laws::{marks_stay, pickers_end, shutdowns_last};
 use cm_turn::Pass;
-use cm_world::{ActKind, Entry, Event, Frame, Refusal, Reply};
+use cm_world::{ActKind, Entry, Frame, Refusal, Reply};
 use std::alloc::Global;
 use std::sync::Wait;
 use std::thread::Threads;
@@ -56,7 +57,7 @@ impl Manager {
             pass result.0 gates.old gates.new }
     {
         pickers_end();
-        let (pass, asked) = self.ask_for(rt, alloc, pass, Event::Pick(target));
+        let (pass, asked) = self.ask(rt, alloc, pass, Wish::Pick(target));
         let reply = match asked {
             Ok(reply) => reply,
             Err(refusal) => return (pass, Picked::Cut(refusal)),
@@ -129,7 +130,7 @@ impl Manager {
             IfNone result.1 (IsOver world inc) }
     {
         marks_stay();
-        let (pass, asked) = self.ask_for(rt, alloc, pass, Event::Mark(doom, inc));
+        let (pass, asked) = self.ask(rt, alloc, pass, Wish::Mark(doom, inc));
         match unmarked(asked) {
             None => self.stop_all(rt, alloc, pass, gates, inc),
             Some(refusal) => (pass, Some(refusal)),
@@ -151,7 +152,7 @@ impl Manager {
         ensures same { IsSamePass (frame_of pass) pass result.0 }
         ensures purged { Purged inc pass result.0 result.1 }
     {
-        let (pass, asked) = self.ask_for(rt, alloc, pass, Event::Purge(inc));
+        let (pass, asked) = self.ask(rt, alloc, pass, Wish::Purge(inc));
         match asked {
             Ok(reply) => {
                 drop(reply);

@@ -18,6 +18,7 @@ ghost use Rattle.cm_manager.specs.Gated.{HelpsWith};
 
 use crate::began::Began;
 use crate::manager::check_history;
+use crate::question::Wish;
 use crate::starting::ending_of_eager;
 use crate::{Acted, Manager};
 use cm_gate::Gates;
@@ -25,7 +26,7 @@ use cm_laws::{marks_stay, reaps_marked};
 use cm_names::List;
 use cm_steps::Realm;
 use cm_turn::Pass;
-use cm_world::{ActKind, Entry, Event, Frame, Refusal, Reply};
+use cm_world::{ActKind, Entry, Frame, Refusal, Reply};
 use std::alloc::Global;
 use std::sync::Wait;
 use std::thread::Threads;
@@ -109,7 +110,7 @@ impl Manager {
             pass result.0 gates.old gates.new }
     {
         reaps_marked();
-        let (pass, asked) = self.ask_for(rt, alloc, pass, Event::Reap(inc));
+        let (pass, asked) = self.ask(rt, alloc, pass, Wish::Reap(inc));
         let reply = match asked {
             Ok(reply) => reply,
             Err(refusal) => return (pass, Some(refusal)),

@@ -3,15 +3,17 @@
 ghost use Rattle.std.specs.Prelude.{◌≡◌, IsTrue};
 ghost use Rattle.cm_manager.specs.Asking.{is_asked, is_plain};
 ghost use Rattle.cm_manager.specs.Acting.{ReadsBy};
+ghost use Rattle.cm_manager.specs.Questions.{event_of};
 ghost use Rattle.cm_manager.specs.Runs.{Tries};
 ghost use Rattle.cm_manager.specs.Gated.{HelpsWith};
 
 use crate::Manager;
 use crate::answers::ending;
 use crate::began::Demand;
+use crate::question::Wish;
 use cm_gate::Gates;
 use cm_turn::Pass;
-use cm_world::{ActKind, Entry, Event, Frame, Refusal, Reply};
+use cm_world::{ActKind, Entry, Frame, Refusal, Reply};
 use std::alloc::Global;
 use std::sync::Wait;
 use std::thread::Threads;
@@ -39,18 +41,18 @@ impl Manager {
         alloc: Global,
         pass: Pass<Entry, Frame>,
         gates: &mut G,
-        event: &Event,
+        wish: Wish<'_>,
     ) -> (Pass<Entry, Frame>, Result<Reply, Refusal>)
         requires lock { pass.lock ≡ self.now.turn.lock }
-        requires asked { IsTrue (is_asked event.now) }
-        requires plain { IsTrue (is_plain event.now) }
+        requires asked { IsTrue (is_asked (event_of wish)) }
+        requires plain { IsTrue (is_plain (event_of wish)) }
         ensures helps { HelpsWith G.log G.faults self.now.shelf
-            (λ f c a b. Tries f c event.now a b result.1)
+            (λ f c a b. Tries f c (event_of wish.entry) a b result.1)
             pass result.0 gates.old gates.new }
     {
         let mut idle = pass;
         for _ in rt.forever() {
-            let (after, asked) = self.ask(rt, alloc, idle, event);
+            let (after, asked) = self.ask(rt, alloc, idle, wish);
             let reply = match asked {
                 Ok(reply) => reply,
                 Err(refusal) => return (after, Err(refusal)),

@@ -1,6 +1,6 @@
 //! Turns at the realm: one event each.
 
-ghost use Rattle.std.specs.Prelude.{◌≡◌, IsTrue, None, IfNone, IfErr};
+ghost use Rattle.std.specs.Prelude.{◌≡◌, None, IfNone, IfErr};
 ghost use Rattle.cm_world.specs.declared.event.Event.TheVariants as event;
 ghost use Rattle.cm_world.specs.declared.reply.Reply.TheVariants as reply;
 ghost use Rattle.cm_world.specs.World.{outcome_of};
@@ -12,18 +12,20 @@ ghost use Rattle.cm_steps.specs.Steps.{RefusesQuiet};
 ghost use Rattle.cm_manager.specs.Turns.{world_after};
 ghost use Rattle.cm_manager.specs.Contract.{IsSamePass};
 ghost use Rattle.cm_manager.specs.Asking as asking;
-ghost use Rattle.cm_manager.specs.Asking.{StepsBy, AwaitsBy, Turned, Awaited, Told, frame_of, is_asked};
+ghost use Rattle.cm_manager.specs.Asking.{StepsBy, AwaitsBy, Turned, Awaited, Told, frame_of};
 ghost use Rattle.cm_manager.specs.Asking.{DueStays, DueIsOpen, IsDue, IsOpen, IsBusy};
+ghost use Rattle.cm_manager.specs.Questions.{event_for, event_of};
 
 use crate::Manager;
 use crate::manager::check_history;
+use crate::question::{Request, Wish};
 use cm_decl::Give;
 use cm_decl::copies::four;
 use cm_laws::{marks_stay, shutdowns_last};
 use cm_names::{List, Name, Text};
 use cm_steps::{Ending, NoStep, Realm};
 use cm_turn::Pass;
-use cm_world::{Entry, Event, Frame, Outcome, Refusal, Reply};
+use cm_world::{Entry, Frame, Outcome, Refusal, Reply};
 use std::alloc::Global;
 use std::sync::Wait;
 
@@ -56,48 +58,62 @@ fn tell_of_child(
     realm.create(alloc, caller, parent, coll, name, url, gives)
 }
 
+/// Makes the event at the realm that asks this of the instance of this incarnation.
+fn tell_request(
+    realm: &mut Realm,
+    alloc: Global,
+    caller: u32,
+    request: Request<'_>,
+    inc: u64,
+) -> Result<Reply, NoStep>
+    ensures steps { StepsBy realm.old realm.new caller (event_for request.entry inc) result }
+    ensures busy { IfErr result (IsBusy (world_of realm.old) (event_for request.entry inc)) }
+{
+    match request {
+        Request::Create(coll, name, url, gives) => {
+            tell_of_child(realm, alloc, caller, inc, coll, name, url, gives)
+        }
+        Request::List(coll) => {
+            let coll = coll.clone()?;
+            realm.list(alloc, caller, inc, coll)
+        }
+        Request::OpenUse(path) => {
+            let path = path.clone()?;
+            realm.open_use(alloc, caller, inc, path)
+        }
+        Request::OpenExposed(name) => {
+            let name = name.clone()?;
+            realm.open_exposed(alloc, caller, inc, name)
+        }
+        Request::Route(path) => {
+            let path = path.clone()?;
+            realm.route(alloc, caller, inc, path)
+        }
+        Request::Show => realm.show(alloc, caller, inc),
+        Request::Survey => realm.survey(alloc, caller, inc),
+        Request::Exited => realm.exited(alloc, caller, inc),
+    }
+}
+
 /// Makes one event at the realm.
-fn tell(realm: &mut Realm, alloc: Global, caller: u32, event: &Event) -> Result<Reply, NoStep>
-    requires asked { IsTrue (is_asked event.now) }
-    requires ready { IsLegal realm.old → IsOpen (world_of realm.old) event.now }
+fn tell(realm: &mut Realm, alloc: Global, caller: u32, wish: Wish<'_>) -> Result<Reply, NoStep>
+    requires ready { IsLegal realm.old → IsOpen (world_of realm.old) (event_of wish) }
     ensures legal { IsLegal realm.old }
-    ensures steps { StepsBy realm.old realm.new caller event.now result }
-    ensures busy { IfErr result (IsBusy (world_of realm.old)) }
+    ensures steps { StepsBy realm.old realm.new caller (event_of wish.entry) result }
+    ensures busy { IfErr result (IsBusy (world_of realm.old) (event_of wish.entry)) }
 {
     check_history(realm);
-    match event {
-        Event::Find(moniker) => {
+    match wish {
+        Wish::Find(moniker) => {
             let moniker = moniker.clone()?;
             realm.find(alloc, caller, moniker)
         }
-        Event::Begin(kind, inc) => realm.begin(alloc, caller, *kind, *inc),
-        Event::Create(parent, coll, name, url, gives) => {
-            tell_of_child(realm, alloc, caller, *parent, coll, name, url, gives)
-        }
-        Event::Mark(doom, inc) => realm.mark(caller, *doom, *inc),
-        Event::Pick(target) => realm.pick(alloc, caller, *target),
-        Event::Purge(inc) => realm.purge(alloc, caller, *inc),
-        Event::Route(inc, path) => {
-            let path = path.clone()?;
-            realm.route(alloc, caller, *inc, path)
-        }
-        Event::OpenUse(inc, path) => {
-            let path = path.clone()?;
-            realm.open_use(alloc, caller, *inc, path)
-        }
-        Event::OpenExposed(inc, name) => {
-            let name = name.clone()?;
-            realm.open_exposed(alloc, caller, *inc, name)
-        }
-        Event::Listing(inc, coll) => {
-            let coll = coll.clone()?;
-            realm.list(alloc, caller, *inc, coll)
-        }
-        Event::Show(inc) => realm.show(alloc, caller, *inc),
-        Event::Survey(inc) => realm.survey(alloc, caller, *inc),
-        Event::Exited(inc) => realm.exited(alloc, caller, *inc),
-        Event::Reap(inc) => realm.reap(alloc, caller, *inc),
-        _ => unreachable!(),
+        Wish::Ask(request, inc) => tell_request(realm, alloc, caller, request, inc),
+        Wish::Begin(kind, inc) => realm.begin(alloc, caller, kind, inc),
+        Wish::Mark(doom, inc) => realm.mark(caller, doom, inc),
+        Wish::Pick(target) => realm.pick(alloc, caller, target),
+        Wish::Purge(inc) => realm.purge(alloc, caller, inc),
+        Wish::Reap(inc) => realm.reap(alloc, caller, inc),
     }
 }
 
@@ -141,20 +157,19 @@ impl Manager {
         rt: &R,
         alloc: Global,
         pass: Pass<Entry, Frame>,
-        event: &Event,
+        wish: Wish<'_>,
     ) -> (Pass<Entry, Frame>, Result<Reply, NoStep>)
         requires lock { pass.lock ≡ self.now.turn.lock }
-        requires asked { IsTrue (is_asked event.now) }
-        requires due { IsDue (world_after (frame_of pass) pass.seen) event.now }
+        requires due { IsDue (world_after (frame_of pass) pass.seen) (event_of wish) }
         ensures same { IsSamePass (frame_of pass) pass result.0 }
-        ensures turned { Turned event.now pass result.0 result.1 }
+        ensures turned { Turned (event_of wish.entry) pass result.0 result.1 }
         ensures busy { let world = world_after (frame_of pass) result.0.seen in
-            IfErr result.1 (IsBusy world) }
+            IfErr result.1 (IsBusy world (event_of wish.entry)) }
     {
         due_events_stay();
         let caller = pass.caller();
         let mut held = self.turn.enter(rt, pass);
-        let went = tell(held.state(), alloc, caller, event);
+        let went = tell(held.state(), alloc, caller, wish);
         (self.turn.leave(held), went)
     }
 
@@ -165,18 +180,17 @@ impl Manager {
         rt: &R,
         alloc: Global,
         pass: Pass<Entry, Frame>,
-        event: &Event,
+        wish: Wish<'_>,
     ) -> (Pass<Entry, Frame>, Result<Reply, Refusal>)
         requires lock { pass.lock ≡ self.now.turn.lock }
-        requires asked { IsTrue (is_asked event.now) }
-        requires due { IsDue (world_after (frame_of pass) pass.seen) event.now }
+        requires due { IsDue (world_after (frame_of pass) pass.seen) (event_of wish) }
         ensures same { IsSamePass (frame_of pass) pass result.0 }
-        ensures asked { asking.Asked event.now pass result.0 result.1 }
+        ensures asked { asking.Asked (event_of wish.entry) pass result.0 result.1 }
     {
         due_events_stay();
         let mut idle = pass;
         for _ in rt.forever() {
-            let (after, went) = self.ask_once(rt, alloc, idle, event);
+            let (after, went) = self.ask_once(rt, alloc, idle, wish);
             match went {
                 Ok(reply) => return (after, Ok(reply)),
                 Err(NoStep::HistoryFull) => return (after, Err(Refusal::HistoryFull)),
@@ -185,25 +199,6 @@ impl Manager {
             }
         }
         unreachable!()
-    }
-
-    /// The same for an event that was made for this alone.
-    pub(crate) fn ask_for<R: Wait>(
-        &self,
-        rt: &R,
-        alloc: Global,
-        pass: Pass<Entry, Frame>,
-        event: Event,
-    ) -> (Pass<Entry, Frame>, Result<Reply, Refusal>)
-        requires lock { pass.lock ≡ self.now.turn.lock }
-        requires asked { IsTrue (is_asked event) }
-        requires due { IsDue (world_after (frame_of pass) pass.seen) event }
-        ensures same { IsSamePass (frame_of pass) pass result.0 }
-        ensures asked { asking.Asked event pass result.0 result.1 }
-    {
-        let asked = self.ask(rt, alloc, pass, &event);
-        drop(event);
-        asked
     }
 
     /// Ends an action that this caller has begun, and answers what became of it.

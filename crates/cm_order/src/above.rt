@@ -59,3 +59,14 @@ pub(crate) fn unshut<V: View>(view: &V, inc: u64) -> bool
         Some(facts) => !facts.shut,
     }
 }
+
+/// Whether the instance lives and is being shut down itself.
+pub(crate) fn closing<V: View>(view: &V, inc: u64) -> bool
+    ensures closing { result ≡ has_closing (V.rows view.now) inc }
+    ensures orderly { IsOrderly (V.rows view.now) (V.next_inc view.now) }
+{
+    match view.facts(inc) {
+        None => false,
+        Some(facts) => facts.closing,
+    }
+}

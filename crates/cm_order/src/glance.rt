@@ -44,6 +44,9 @@ pub(crate) fn glance<V: View>(
     ensures known { IsKnown (V.rows view.now) stand.new }
     ensures same { stand.new.inc ≡ stand.old.inc }
 {
+    if stand.below_shut {
+        return Ok(lowest(view, stand));
+    }
     if stand.named.is_none() && view.next_child(stand.inc, None).is_none() {
         return Ok(leaf(view, stand));
     }
@@ -56,6 +59,19 @@ pub(crate) fn glance<V: View>(
     }
     let child = newly_free(alloc, view, stand)?;
     Ok(Visit::Below(child))
+}
+
+/// The same of an instance below which all is known to be shut.
+fn lowest<V: View>(view: &V, stand: &Stand) -> Visit
+    requires sound { IsSound (V.rows view.now) (V.next_inc view.now) }
+    requires known { IsKnown (V.rows view.now) stand.now }
+    requires below { IsTrue stand.now.below_shut }
+    ensures { IsGlance (V.rows view.now) stand.now.inc result }
+{
+    if is_idle(view, stand.inc) {
+        return Visit::Here;
+    }
+    Visit::Below(None)
 }
 
 /// The same of an instance without children.
@@ -141,7 +157,7 @@ fn next_free<V: View>(
     };
     if behind.is_some() {
         let later = free_behind(alloc, view, stand.inc, named, behind)?;
-        if later.is_some() {
+        if later.is_some() || behind == stand.done {
             return Ok(later);
         }
     }

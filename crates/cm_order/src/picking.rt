@@ -11,7 +11,7 @@ ghost use Rattle.cm_order.specs.Search.{NoneIs};
 ghost use Rattle.cm_order.specs.Picking.{IsPicked, WaitsFor};
 ghost use Rattle.cm_order.specs.Plans.{IsPlan};
 
-use crate::above::outermost;
+use crate::above::{outermost, unshut};
 use crate::below::all_shut;
 use crate::plan::Plan;
 use crate::quick::quick;
@@ -95,7 +95,7 @@ pub fn pick_with<V: View>(
     let Some(top) = outermost(view, target) else {
         return Ok(Picked::Done);
     };
-    if all_shut(alloc, view, target)? {
+    if is_done(alloc, view, plan, target)? {
         plan.finish(target);
         return Ok(Picked::Done);
     }
@@ -106,6 +106,20 @@ pub fn pick_with<V: View>(
         Some(inc) => Ok(stop_or_shut(view, inc)),
         None => Ok(Picked::Waits(action_at(alloc, view, target, top)?)),
     }
+}
+
+/// Whether all instances at and below the target are shut. What is below it isn't looked at where the
+/// way of the last pick tells that.
+fn is_done<V: View>(alloc: Global, view: &V, plan: &Plan, target: u64) -> Result<bool, Memory>
+    requires { IsPlan (V.rows view.now) plan.now }
+    ensures { IfOk result (λ done. done ≡ is_subtree_shut (V.rows view.now) target) }
+{
+    if plan.knows_below(target) {
+        if !unshut(view, target) {
+            return Ok(true);
+        }
+    }
+    all_shut(alloc, view, target)
 }
 
 /// How an instance that may be picked is told.

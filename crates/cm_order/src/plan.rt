@@ -1,11 +1,15 @@
 //! What is known of ways down, between one pick and the next.
 
-ghost use Rattle.std.specs.Prelude.{◌≡◌, List as Seq, OnOk};
+ghost use Rattle.std.specs.Prelude.{◌≡◌, List as Seq, OnOk, IsTrue};
 ghost use Rattle.cm_world.specs.declared.row.Row.{Row};
+ghost use Rattle.cm_world.specs.Rows.{is_closing};
+ghost use Rattle.cm_order.specs.Glances.{AreKidsShut};
 ghost use Rattle.cm_order.specs.Plans.{IsPlan, KnowsNone};
 
+use crate::above::closing;
 use crate::stand::Stand;
 use cm_names::Memory;
+use cm_world::View;
 use std::alloc::Global;
 use std::collections::BTreeMap;
 use std::mem;
@@ -45,6 +49,38 @@ impl Plan {
     {
         self.way.clear();
         self.others.clear();
+    }
+
+    /// Whether the way of the last pick ends at this instance, and its top is being shut down, so that
+    /// the instance is, too. `false` says nothing.
+    pub fn closes<V: View>(&self, view: &V, inc: u64) -> bool
+        requires { IsPlan (V.rows view.now) self.now }
+        ensures { IsTrue result → IsTrue (is_closing (V.rows view.now) inc) }
+    {
+        let count = self.way.len();
+        if count == 0 {
+            return false;
+        }
+        let stand = &self.way[count - 1];
+        if stand.inc == inc {
+            return closing(view, self.top);
+        }
+        false
+    }
+
+    /// Whether the way of the last pick ends at this instance, and all below it is known to be shut.
+    pub(crate) fn knows_below(&self, inc: u64) -> bool
+        ensures { (rows : Seq Row) → IsPlan rows self.now → IsTrue result → AreKidsShut rows inc }
+    {
+        let count = self.way.len();
+        if count == 0 {
+            return false;
+        }
+        let stand = &self.way[count - 1];
+        if stand.inc == inc {
+            return stand.below_shut;
+        }
+        false
     }
 
     /// Takes up the way from this top, or an empty one, and keeps the one that it had. `Err` where

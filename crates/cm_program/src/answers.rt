@@ -9,26 +9,25 @@ ghost use Rattle.cm_program.specs.Printed.{line_text, texts_of};
 use cm_command::Line;
 use cm_lanes::Said;
 use cm_names::{List, Memory};
-use cm_reply::{entry_text, reply_text};
+use cm_reply::{push_entry, push_reply};
 use cm_world::Entry;
-use std::alloc::Global;
 
 /// Puts the answer to a line behind the text: the lane, a space, the answer and a line feed.
 #[tactic(auto, unfolding(crate::specs::Printed::line_text))]
-fn push_answer(alloc: Global, text: &mut String, line: &Line, said: &Said) -> Result<(), Memory>
+fn push_answer(text: &mut String, line: &Line, said: &Said) -> Result<(), Memory>
     ensures { let more = line_text line.now said.now.result in
         OnOk result (string_bytes text.new ≡ string_bytes text.old ++ more) }
 {
     let lane = line.lane;
-    let reply = reply_text(alloc, &line.command, &said.result)?;
-    text.write(format_args!("{lane} {reply}\n"))?;
+    text.write(format_args!("{lane} "))?;
+    push_reply(text, &line.command, &said.result)?;
+    text.push_str("\n")?;
     Ok(())
 }
 
 /// Puts the answers to these lines behind the text. The first of them stands at `from`; the result
 /// is the place behind the last.
 fn push_lines(
-    alloc: Global,
     text: &mut String,
     lines: &[Line],
     said: &[Said],
@@ -43,37 +42,31 @@ fn push_lines(
         if at >= said.len() {
             return Ok(at);
         }
-        push_answer(alloc, text, line, &said[at])?;
+        push_answer(text, line, &said[at])?;
         at += 1;
     }
     Ok(at)
 }
 
 /// Puts the answers to the lines of all phases behind the text.
-pub fn push_answers(
-    alloc: Global,
-    text: &mut String,
-    phases: &[List<Line>],
-    said: &[Said],
-) -> Result<(), Memory>
+pub fn push_answers(text: &mut String, phases: &[List<Line>], said: &[Said]) -> Result<(), Memory>
     ensures { OnOk result (string_bytes text.new
         ≡ string_bytes text.old ++ texts_of (flat_map (λ lines. lines) phases.now) said.now) }
 {
     let mut at = 0;
     for phase in phases {
-        at = push_lines(alloc, text, phase.as_slice(), said, at)?;
+        at = push_lines(text, phase.as_slice(), said, at)?;
     }
     Ok(())
 }
 
 /// Puts a line of the journal behind the text for each entry of the history.
-pub fn push_entries(alloc: Global, text: &mut String, entries: &[Entry]) -> Result<(), Memory>
+pub fn push_entries(text: &mut String, entries: &[Entry]) -> Result<(), Memory>
     ensures { let more = entries_text 1 entries.now in
         OnOk result (string_bytes text.new ≡ string_bytes text.old ++ more) }
 {
     for index in 0..entries.len() {
-        let entry = entry_text(alloc, index as u64 + 1, &entries[index])?;
-        text.push_str(entry.as_str())?;
+        push_entry(text, index as u64 + 1, &entries[index])?;
         text.push_str("\n")?;
     }
     Ok(())

@@ -1,6 +1,7 @@
 //! The run of a script that is served, and what is written of it.
 
-ghost use Rattle.std.specs.Prelude.{◌≡◌, ◌≢◌, [], All, List as Seq, Err, IfOk, None, Some, length, false};
+ghost use Rattle.std.specs.Prelude.{◌≡◌, ◌≢◌, [], All, Any, List as Seq, Err, IfOk, None, Some, length};
+ghost use Rattle.std.specs.Prelude.{false, true};
 ghost use Rattle.cm_io.specs.Outside.{Rose};
 ghost use Rattle.cm_reply.specs.Journal as journal;
 ghost use Rattle.cm_lanes.specs.declared.said.Said.{Said as TheSaid};
@@ -57,7 +58,8 @@ fn new_realm(alloc: Global, frame: Frame) -> Result<(Text, Realm), Memory>
 
 /// Whether memory ran out for one of the answers.
 fn is_wanting(said: &[Said]) -> bool
-    ensures { result ≡ false → All (λ s. s.result ≢ Err Refusal.Memory) said.now }
+    ensures told { result ≡ false → All (λ s. s.result ≢ Err Refusal.Memory) said.now }
+    ensures wanting { result ≡ true → Any (λ s. s.result ≡ Err Refusal.Memory) said.now }
 {
     said.iter()
         .any(|s| matches!(s.result, Err(Refusal::Memory)))
@@ -75,10 +77,10 @@ fn answers_text(
         (Wanted.Answers journal) sheet.now.head.now sheet.now.entries.now sheet.now.kept) }
 {
     let mut text = String::new(alloc);
-    push_answers(alloc, &mut text, phases, said)?;
+    push_answers(&mut text, phases, said)?;
     if journal {
         text.push_str(sheet.head.as_str())?;
-        push_entries(alloc, &mut text, sheet.entries)?;
+        push_entries(&mut text, sheet.entries)?;
     }
     Text::from_string(text)
 }

@@ -5,6 +5,3 @@ pub mod TextLemmas
 pub mod back
 pub mod Inside
 pub mod ByTwos
-pub mod ValueLemmas
-pub mod PlainLemmas
-pub mod PieceLemmas

@@ -4,7 +4,7 @@ use Rattle.std.specs.Str.{IsUtf8, is_utf8}
 use Rattle.std.proofs.lemmas.Str.{IsUtf8-from_is_utf8, is_utf8-from_IsUtf8}
 use Rattle.cm_names.specs.Steps.{◌>>=◌}
 use Rattle.cm_read.specs.Manifest.{decl_of_json, decl_of_text, json_text, of_data}
-use Rattle.cm_read.specs.Plain.{ReadsAsJson}
+use Rattle.cm_plain.specs.Plain.{ReadsAsJson}
 
 pub utf8_test : (bs : List ℕ) → IsUtf8 bs → is_utf8 bs ≡ true
 utf8_test bs h = is_utf8-from_IsUtf8 bs h

@@ -1,6 +1,5 @@
 pub mod Numbers
 pub mod Reading
-pub mod Plain
 pub mod Both
 pub mod Fields
 pub mod Words

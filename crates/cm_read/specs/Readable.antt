@@ -27,7 +27,7 @@ use Rattle.cm_decl.specs.Valid.{is_well_formed}
 use Rattle.cm_read.specs.Numbers.{max_rows}
 use Rattle.cm_names.specs.Urls.{is_url_text}
 use Rattle.cm_read.specs.Manifest.{decl_of_json}
-use Rattle.cm_read.specs.Writing.{decl_text}
+use Rattle.cm_write.specs.Writing.{decl_text}
 
 -- ---- values
 

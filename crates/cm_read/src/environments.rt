@@ -1,11 +1,9 @@
-//! The items of `environments` and the registrations in them, and how they are written.
+//! The items of `environments` and the registrations in them.
 
-ghost use Rattle.std.specs.Prelude.{◌≡◌, [], ◌∷◌, IfOk, OnOk};
+ghost use Rattle.std.specs.Prelude.{◌≡◌};
 ghost use Rattle.serde_json.specs.View.{view, items_view};
 ghost use Rattle.cm_read.specs.Environments as spec;
 ghost use Rattle.cm_read.specs.Reading.{Gives, IsFault};
-ghost use Rattle.cm_read.specs.Writing as writing;
-ghost use Rattle.cm_read.specs.Writing.{Puts};
 
 use crate::both::both;
 use crate::fault::{Place, ReadFault, fault};
@@ -14,13 +12,12 @@ use crate::gives::as_of;
 use crate::items::item_names_of;
 use crate::known::{Object, check_keys};
 use crate::number::WRONG_TYPE;
-use crate::puts::{Row, extends_word, put_from, put_text};
 use crate::rows::{Registry, one_row, registrations_from};
 use crate::sections::Item;
 use crate::words::{extends_of, static_from_of};
 use cm_decl::{Child, Environment, Kind, Registration};
-use cm_names::{List, Memory, Name};
-use serde_json::{Map, Value};
+use cm_names::{List, Name};
+use serde_json::Value;
 use std::alloc::Global;
 
 /// The field of an environment that lists the registrations.
@@ -197,71 +194,5 @@ impl Item for Environment {
         let members = object_of(alloc, at, item)?;
         check_keys(alloc, at, Object::Environment, members)?;
         environment_row(alloc, at, item)
-    }
-}
-
-/// What a registration is written as, with its name at this key.
-fn registration_value(alloc: Global, key: &str, row: &Registration) -> Result<Value, Memory>
-    ensures { IfOk result (λ v. view v ≡ writing.registration_data key.now row.now) }
-{
-    let mut members = Map::new(alloc);
-    put_text(alloc, &mut members, key, row.name.as_str())?;
-    put_from(alloc, &mut members, &row.from)?;
-    put_text(alloc, &mut members, "as", row.target.as_str())?;
-    Ok(Value::from(members))
-}
-
-/// The list of what registrations are written as.
-fn registrations_value(alloc: Global, key: &str, rows: &[Registration]) -> Result<Value, Memory>
-    ensures { IfOk result
-        (λ v. view v ≡ writing.list_of (writing.registration_data key.now) rows.now) }
-{
-    let mut values = Vec::new(alloc);
-    for row in rows {
-        values.push(registration_value(alloc, key, row)?)?;
-    }
-    Ok(Value::from(values))
-}
-
-/// Puts registrations among the members, with their names at this key.
-fn put_registrations(
-    alloc: Global,
-    members: &mut Map<String, Value>,
-    field: &str,
-    key: &str,
-    rows: &[Registration],
-) -> Result<(), Memory>
-    ensures { OnOk result
-        (Puts members.old.entries members.new.entries
-        ((field.now, writing.list_of (writing.registration_data key.now) rows.now) ∷ [])) }
-{
-    let value = registrations_value(alloc, key, rows)?;
-    Ok(serde_json::put(members, alloc, field, value)?)
-}
-
-impl Row for Environment {
-    ghost use Rattle.cm_read.specs.Writing.{environment_data};
-
-    ghost writes = { environment_data };
-
-    fn write(&self, alloc: Global) -> Result<Value, Memory> {
-        let mut members = Map::new(alloc);
-        put_text(alloc, &mut members, "name", self.name.as_str())?;
-        put_text(alloc, &mut members, "extends", extends_word(self.extends))?;
-        put_registrations(
-            alloc,
-            &mut members,
-            "runners",
-            "runner",
-            self.runners.as_slice(),
-        )?;
-        put_registrations(
-            alloc,
-            &mut members,
-            "debug",
-            "protocol",
-            self.debug.as_slice(),
-        )?;
-        Ok(Value::from(members))
     }
 }

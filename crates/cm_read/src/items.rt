@@ -2,7 +2,6 @@
 
 ghost use Rattle.std.specs.Prelude.{◌≡◌};
 ghost use Rattle.serde_json.specs.View.{view};
-ghost use Rattle.cm_decl.specs.Words.{kind_word};
 ghost use Rattle.cm_read.specs.Items as spec;
 ghost use Rattle.cm_read.specs.Reading.{Gives};
 
@@ -22,6 +21,7 @@ use crate::words::{
 };
 use cm_decl::{Capability, Child, Collection, Kind, Usage};
 use cm_names::{CapPath, List, Name};
+use cm_write::word_of;
 use serde_json::Value;
 use std::alloc::Global;
 
@@ -134,16 +134,6 @@ pub fn kind_of(alloc: Global, at: Place, item: &Value) -> Result<Kind, ReadFault
         (Some(_), None) => Ok(Kind::Protocol),
         (None, Some(_)) => Ok(Kind::Directory),
         _ => Err(fault(alloc, at, KIND_COUNT, "")),
-    }
-}
-
-/// The field of a kind.
-pub fn word_of(kind: Kind) -> &'static str
-    ensures { result.now ≡ kind_word kind }
-{
-    match kind {
-        Kind::Protocol => "protocol",
-        Kind::Directory => "directory",
     }
 }
 

@@ -7,8 +7,8 @@
 //! `specs/` defines what a manifest declares, as functions from JSON values: `Fields` for single
 //! fields, `Words` for listed words, `Items` and `Environments` for the items of each section (and
 //! `Parts` for those that are read in steps), `Sections` for the rows of a section and `Manifest` for
-//! the whole. `Plain` speaks of texts that are read in one pass. `Writing` defines the text of a
-//! declaration, and `Readable` which declarations are read back from their text.
+//! the whole. `Writing` defines the text of a declaration, and `Readable` which declarations are read
+//! back from their text.
 #![tactic(auto)]
 
 mod apart;
@@ -22,8 +22,6 @@ mod known;
 pub mod laws;
 mod manifest;
 mod number;
-mod plain;
-mod puts;
 mod rows;
 mod sections;
 mod storage;

@@ -15,11 +15,11 @@ use crate::fault::{ReadFault, start, whole};
 use crate::fields::{name_of, object_of};
 use crate::known::{Object, check_keys};
 use crate::number::{NOT_JSON, NOT_OBJECT, NOT_UTF8, TOO_LARGE};
-use crate::plain::{is_plain_text, read_plain};
 use crate::rows::SectionRows;
 use crate::sections::{Item, section_of};
 use cm_decl::{Child, Decl, Section};
 use cm_names::{List, Memory, Name, Text};
+use cm_plain::{is_plain_text, read_plain};
 use cm_text::TextFault;
 use serde_json::Value;
 use std::alloc::Global;
@@ -162,17 +162,20 @@ fn section_rows_of(alloc: Global, value: &Value) -> Result<SectionRows, ReadFaul
     }
 }
 
-/// The declaration of a runner and these rows.
+/// The declaration of a runner and these rows. A list has room for the rows of its section.
 fn declared_by(alloc: Global, runner: Option<Name>, rows: SectionRows) -> Result<Decl, Memory>
     ensures { IfOk result (λ decl. decl ≡ spec.declared_by runner rows) }
 {
+    let capabilities = List::with_capacity(alloc, rows.capabilities.len())?;
+    let uses = List::with_capacity(alloc, rows.uses.len())?;
+    let offers = List::with_capacity(alloc, rows.offers.len())?;
     let mut decl = Decl {
         runner,
         children: rows.children,
         collections: rows.collections,
-        capabilities: List::new(alloc),
-        uses: List::new(alloc),
-        offers: List::new(alloc),
+        capabilities,
+        uses,
+        offers,
         exposes: rows.exposes,
         environments: rows.environments,
         debug_uses: List::new(alloc),

@@ -1,4 +1,4 @@
-//! Storages in `capabilities`, `use` and `offer`, and how they are written.
+//! Storages in `capabilities`, `use` and `offer`.
 
 ghost use Rattle.serde_json.specs.View.{view};
 ghost use Rattle.cm_read.specs.Items as spec;
@@ -7,12 +7,11 @@ ghost use Rattle.cm_read.specs.Reading.{Gives};
 use crate::both::both;
 use crate::fault::{Place, ReadFault};
 use crate::fields::{name_of, names_of, needed, path_of, subdir_of};
-use crate::puts::{Row, plain_use, put_from, put_subdir, put_text, put_to, storage_id_word};
 use crate::rows::{CapabilityRow, UseRow, one_row};
 use crate::words::{availability_of, static_from_of, storage_id_of, storage_use_from_of};
-use cm_decl::{Storage, StorageOffer, StorageUse};
-use cm_names::{List, Memory, Name};
-use serde_json::{Map, Value};
+use cm_decl::{Storage, StorageUse};
+use cm_names::{List, Name};
+use serde_json::Value;
 use std::alloc::Global;
 
 /// The row of a storage that is provided.
@@ -73,50 +72,4 @@ pub fn storage_names_of(alloc: Global, at: Place, item: &Value) -> Result<List<N
 {
     let value = needed(alloc, at, item, "storage")?;
     names_of(alloc, at, value, "storage")
-}
-
-impl Row for Storage {
-    ghost use Rattle.cm_read.specs.Writing.{storage_data};
-
-    ghost writes = { storage_data };
-
-    fn write(&self, alloc: Global) -> Result<Value, Memory> {
-        let mut members = Map::new(alloc);
-        put_text(alloc, &mut members, "storage", self.name.as_str())?;
-        put_from(alloc, &mut members, &self.from)?;
-        put_text(alloc, &mut members, "backing_dir", self.backing.as_str())?;
-        put_text(
-            alloc,
-            &mut members,
-            "storage_id",
-            storage_id_word(self.by_moniker),
-        )?;
-        put_subdir(alloc, &mut members, &self.subdir)?;
-        Ok(Value::from(members))
-    }
-}
-
-impl Row for StorageUse {
-    ghost use Rattle.cm_read.specs.Writing.{storage_use_data};
-
-    ghost writes = { storage_use_data };
-
-    fn write(&self, alloc: Global) -> Result<Value, Memory> {
-        plain_use(alloc, "storage", &self.name, "parent", &self.path)
-    }
-}
-
-impl Row for StorageOffer {
-    ghost use Rattle.cm_read.specs.Writing.{storage_offer_data};
-
-    ghost writes = { storage_offer_data };
-
-    fn write(&self, alloc: Global) -> Result<Value, Memory> {
-        let mut members = Map::new(alloc);
-        put_text(alloc, &mut members, "storage", self.source_name.as_str())?;
-        put_from(alloc, &mut members, &self.from)?;
-        put_to(alloc, &mut members, &self.to)?;
-        put_text(alloc, &mut members, "as", self.target_name.as_str())?;
-        Ok(Value::from(members))
-    }
 }

@@ -1,6 +1,7 @@
 //! Texts of lists.
 
-ghost use Rattle.std.specs.Prelude.{◌≡◌, [], string_bytes, IfOk, OnOk, IfSome};
+ghost use Rattle.std.specs.Prelude.{◌≡◌, [], codes, string_bytes, IfOk, OnOk, IfSome};
+ghost use Rattle.cm_names.specs.Child.{child_text};
 ghost use Rattle.cm_names.specs.Moniker.{moniker_text};
 ghost use Rattle.cm_reply.specs.Lists as spec;
 ghost use Rattle.cm_reply.specs.Lists.{Gains};
@@ -75,6 +76,18 @@ impl<T: Item + Drop> Item for Shared<T> {
     }
 }
 
+/// Puts names of children at the end, each behind a slash.
+fn push_behind_slashes(text: &mut String, parts: &[Shared<ChildName>]) -> Result<(), Memory>
+    ensures { OnOk result (Gains text.old text.new
+        (spec.each_behind (codes "/") child_text parts.now)) }
+{
+    for part in parts {
+        text.push('/')?;
+        part.push_to(text)?;
+    }
+    Ok(())
+}
+
 /// Puts names of children at the end, with slashes between them; a dot for none.
 fn push_parts(text: &mut String, parts: &[Shared<ChildName>]) -> Result<(), Memory>
     ensures { OnOk result (Gains text.old text.new (spec.parts_text parts.now)) }
@@ -83,7 +96,7 @@ fn push_parts(text: &mut String, parts: &[Shared<ChildName>]) -> Result<(), Memo
         return push(text, ".");
     };
     first.push_to(text)?;
-    push_each(text, "/", others)
+    push_behind_slashes(text, others)
 }
 
 /// Puts where an instance stands at the end. `Err` where memory runs out.

@@ -1,5 +1,5 @@
 -- What workers have in hand, from step to step.
-use Rattle.std.specs.Prelude.{◌≡◌, ◌≢◌, ℕ, ◌<◌, ◌≤◌, List, [], ◌∷◌, ◌++◌, All, Any, map, length, Bool}
+use Rattle.std.specs.Prelude.{◌≡◌, ℕ, ◌<◌, ◌≤◌, List, [], ◌∷◌, ◌++◌, All, map, length, Bool}
 use Rattle.std.specs.Prelude.{true, false}
 use Rattle.std.specs.Prelude.{Option, Some, slice_index_or, vec_capacity}
 use Rattle.cm_gate.specs.declared.asked.Asked.{Asked}
@@ -8,11 +8,10 @@ use Rattle.cm_manager.specs.Gated.{gates_view}
 use Rattle.cm_manager.specs.Work.{Shelf}
 use Rattle.cm_turn.specs.Passes.{LockView}
 use Rattle.cm_session.specs.declared.ended.Ended.{Ended}
-use Rattle.cm_session.specs.declared.ended.Ended.TheVariants as ended
 use Rattle.cm_session.specs.declared.workers.Worker.{Worker}
 use Rattle.cm_session.specs.Doorway.{DoorPass, IsLater, IsOver, links_of, sessions_of}
 use Rattle.cm_session.specs.Links.{LinkView}
-use Rattle.cm_session.specs.Serving.{IsLost, IsOfLink, Serves, Visit}
+use Rattle.cm_session.specs.Serving.{AreWell, EndsLost, IsOfLink, Serves, Visit}
 use Rattle.cm_session.specs.Session.{Session}
 
 -- a link was put behind others and served there
@@ -31,10 +30,11 @@ pub record HasServed {L : Type 0} (view : L → LinkView) (shelf : Shelf) (visit
   pub at_door : IsLater d e
   pub counts : links_of e.mine ≡ length visits
 
--- why a worker stopped: a session ended for want of memory; or none did, and no further accept is due
+-- why a worker stopped: its last session ended for want of memory, and no other; or none did, and no further
+-- accept is due
 pub record Stops (visits : List Visit) (e : DoorPass) (wants : Bool) : Type 0 where
-  pub lost : wants ≡ true → Any IsLost visits
-  pub well : wants ≡ false → All (λ v. v.ended ≢ ended.Memory) visits
+  pub lost : wants ≡ true → EndsLost visits
+  pub well : wants ≡ false → AreWell visits
   pub over : wants ≡ false → IsOver (sessions_of e) e.seen
 
 -- a worker served links until it stopped
@@ -74,8 +74,8 @@ module _ {G L : Type 0} (log_of : G → Option (List Asked)) (faults_of : G → 
     pub served : HasServed view shelf visits p q (gates_view log_of faults_of old.gates)
         (gates_view log_of faults_of new.gates) d e new.links.items
     pub idle : workers ≤ d.caller → visits ≡ []
-    pub lost : new.lost ≡ true → Any IsLost visits
-    pub well : new.lost ≡ false → All (λ v. v.ended ≢ ended.Memory) visits
+    pub lost : new.lost ≡ true → EndsLost visits
+    pub well : new.lost ≡ false → AreWell visits
     pub over : new.lost ≡ false → d.caller < workers → IsOver (sessions_of e) e.seen
 
   -- a worker did its work, with some visits

@@ -75,13 +75,6 @@ abbrev pub OnGiven : {L : Type 0} → Option (Accept L) → (L → Type 0) → T
 OnGiven (Some a) P = OnLink a P
 OnGiven None P = ⊤
 
--- how many links a turn gave
-abbrev pub given_by : {L : Type 0} → Option (Accept L) → ℕ
-given_by (Some (accept.Link l)) = 1
-given_by (Some accept.Closed) = 0
-given_by (Some accept.Failed) = 0
-given_by None = 0
-
 -- how many links were asked for at a door
 abbrev pub sessions_in : Option Opening → ℕ
 sessions_in None = 0
@@ -102,11 +95,10 @@ abbrev pub accepted_by : {L : Type 0} → ℕ → Option (Accept L) → List Acc
 accepted_by w (Some a) = record { worker = w; came = came_of a } ∷ []
 accepted_by w None = []
 
--- a turn at the door, which leaves an entry of the pass's own for its accept, counts a link there where one
--- was given, and tells where no accept is due
+-- a turn at the door, which leaves an entry of the pass's own for its accept, and tells where no accept is
+-- due
 pub record TakesTurn {L : Type 0} (p q : DoorPass) (turned : Option (Accept L)) : Type 0 where
   pub same : IsLater p q
   pub made : q.mine ≡ p.mine ++ accepted_by p.caller turned
-  pub links : links_of q.mine ≡ links_of p.mine + given_by turned
   pub few : links_of q.mine ≤ sessions_of q
   pub over : turned ≡ None → IsOver (sessions_of q) q.seen

@@ -24,6 +24,22 @@ pub record Visit : Type 0 where
 abbrev pub IsLost : Visit → Type 0
 IsLost v = v.ended ≡ ended.Memory
 
+-- none of these sessions ended for want of memory
+abbrev pub AreWell : List Visit → Type 0
+AreWell visits = All (λ v. v.ended ≢ ended.Memory) visits
+
+-- the last of these sessions ended for want of memory, and none before it
+pub record EndsLost (visits : List Visit) : Type 0 where
+  pub before : List Visit
+  pub last : Visit
+  pub visits_are : visits ≡ before ++ last ∷ []
+  pub well : AreWell before
+  pub lost : IsLost last
+
+-- behind a session that ended for want of memory there is none
+abbrev pub StopsAtLoss : List Visit → Type 0
+StopsAtLoss visits = AreWell visits ⊎ EndsLost visits
+
 -- the link was new when it came
 abbrev pub IsNewLink : LinkView → Type 0
 IsNewLink l = IsNew l.source l.sink
@@ -66,8 +82,9 @@ module _ {D L G : Type 0} where
     pub memory : back.cause ≡ cause.Memory
 
 module _ {G L : Type 0} (log_of : G → Option (List Asked)) (faults_of : G → ℕ) (view : L → LinkView) where
-  -- each worker served its links one after another with its own pass and gates; none of the others has any;
-  -- and a session ended for want of memory exactly where that is the cause
+  -- each worker served its links one after another with its own pass and gates, and none behind a session
+  -- that ended for want of memory; none of the others has any; and one ended so exactly where that is the
+  -- cause
   pub record ServesAll {D : Type 0} (shelf : Shelf) (workers : ℕ) (passes : List RealmPass) (gates : List G)
       (back : Served D L G) : Type 0 where
     pub visits : List (List Visit)
@@ -79,8 +96,9 @@ module _ {G L : Type 0} (log_of : G → Option (List Asked)) (faults_of : G → 
         → slice_get gates k ≡ Some g → slice_get back.gates k ≡ Some h
         → Serves shelf vs p q (gates_view log_of faults_of g) (gates_view log_of faults_of h)
     pub idle : (k : ℕ) (vs : List Visit) → workers ≤ k → slice_get visits k ≡ Some vs → vs ≡ []
-    pub well : back.cause ≢ cause.Memory → All (All (λ v. v.ended ≢ ended.Memory)) visits
-    pub lost : back.cause ≡ cause.Memory → Any (Any IsLost) visits
+    pub stops : All StopsAtLoss visits
+    pub well : back.cause ≢ cause.Memory → All AreWell visits
+    pub lost : back.cause ≡ cause.Memory → Any EndsLost visits
 
   -- links were served, or nothing was done
   abbrev pub ServedOrNot : {D : Type 0} → Shelf → ℕ → List RealmPass → List G → D → Served D L G → Type 0

@@ -29,7 +29,8 @@ use std::thread::Threads;
 /// fails, or a session ends for want of memory.
 ///
 /// So many workers, side by side, accept links by turns, and serve each by a session before they
-/// accept the next. A worker uses the pass and the gates of its number, one session after another.
+/// accept the next; one whose session ended for want of memory accepts no further link. A worker uses
+/// the pass and the gates of its number, one session after another.
 /// While it waits for a link, reads or writes, it holds up no other's session.
 ///
 /// The passes are the manager's of callers 0 to 15, in this order, and there are 16 gates. Whatever

@@ -2,3 +2,4 @@ pub mod Dooming
 pub mod Goers
 pub mod Gathered
 pub mod Removing
+pub mod Closing

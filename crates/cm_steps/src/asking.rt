@@ -9,11 +9,12 @@ ghost use Rattle.cm_world.specs.Route.{IsWalked};
 ghost use Rattle.cm_steps.specs.Asking as spec;
 ghost use Rattle.cm_steps.specs.Rooms.{Lacks};
 
+use crate::aside::Aside;
 use crate::nostep::NoStep;
 use crate::replies::opening::{opened, routed, walk_use};
 use crate::rooms::copy_in_room;
 use cm_book::Book;
-use cm_cache::{Found, Keeper, found_by_walk};
+use cm_cache::{Found, found_by_walk};
 use cm_names::{CapPath, Memory};
 use cm_walk::above::{gone, on, resolved};
 use cm_world::{Entry, Event, Reply, Start, View, Walked};
@@ -71,7 +72,7 @@ pub(crate) fn reply_of<V: View>(view: &V, asking: Asking, walked: Walked) -> Rep
 pub(crate) fn answer<V: View>(
     alloc: Global,
     view: &V,
-    keeper: &Keeper,
+    keeper: &Aside,
     inc: u64,
     path: &CapPath,
 ) -> Result<Answered, Memory>
@@ -116,7 +117,7 @@ fn answer_anew<V: View>(
 /// else that may want memory.
 pub(crate) fn tell_found(
     book: &mut Book,
-    keeper: &mut Keeper,
+    keeper: &mut Aside,
     caller: u32,
     event: Event,
     reply: Reply,

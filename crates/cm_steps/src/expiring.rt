@@ -6,10 +6,10 @@
 //! manifest reference (fuchsia.dev, "Collection durability"). What goes is marked to be destroyed;
 //! callers shut it down and remove it.
 
-ghost use Rattle.std.specs.Prelude.{◌≡◌, ◌&&◌, not, false, Some};
+ghost use Rattle.std.specs.Prelude.{◌≡◌, ◌&&◌, not, false, Some, IsTrue};
 ghost use Rattle.std.specs.List.{list_any};
 ghost use Rattle.std.specs.Option.{option_map_or};
-ghost use Rattle.cm_world.specs.Rows.{row_of, has_parent};
+ghost use Rattle.cm_world.specs.Rows.{row_of, has_parent, is_closed};
 ghost use Rattle.cm_world.specs.Marks.{is_dynamic};
 ghost use Rattle.cm_world.specs.Expiring as spec;
 ghost use Rattle.cm_world.specs.Sound.{IsOrderly};
@@ -65,19 +65,9 @@ fn is_single_run(durability: Durability) -> bool
     }
 }
 
-/// Whether something goes with an instance at which an action has ended so.
-pub(crate) fn goes_some_by<V: View>(view: &V, inc: u64, outcome: Outcome) -> bool
-    ensures { result ≡ beside.goes_some_by outcome (V.rows view.now) inc }
-{
-    match outcome {
-        Outcome::Stopped | Outcome::Killed => goes_some(view, inc),
-        _ => false,
-    }
-}
-
 /// Whether something that isn't being destroyed yet goes with an instance that is off: a child in a
 /// collection, or it itself.
-pub(crate) fn goes_some<V: View>(view: &V, inc: u64) -> bool
+fn goes_some<V: View>(view: &V, inc: u64) -> bool
     ensures { result ≡ beside.goes_some (V.rows view.now) inc }
 {
     if closed(view, inc) {
@@ -105,20 +95,41 @@ fn child_goes<V: View>(view: &V, inc: u64) -> bool
     false
 }
 
-/// Lets others go with an instance at which an action has ended so. It takes no memory.
-pub(crate) fn expire_by(table: &mut Table, inc: u64, outcome: Outcome)
-    ensures { table.new ≡ record table.old { rows = spec.expired_by outcome inc table.old.rows } }
+/// Lets others go with an instance at which an action has ended so, and answers whether something goes
+/// that wasn't being destroyed yet. With `closing` a stopped instance is known to be shut, or it or one
+/// above it to be being shut down; then nothing goes. It takes no memory.
+pub(crate) fn expire_by(table: &mut Table, inc: u64, outcome: Outcome, closing: bool) -> bool
+    requires { IsTrue closing → IsTrue (spec.is_stopped outcome)
+        → IsTrue (is_closed table.old.rows inc) }
+    ensures goes { result ≡ beside.goes_some_by outcome table.old.rows inc }
+    ensures rows { table.new ≡ record table.old { rows = spec.expired_by outcome inc table.old.rows } }
 {
+    if closing {
+        return false;
+    }
     match outcome {
         Outcome::Stopped | Outcome::Killed => expire(table, inc),
-        _ => {}
+        _ => false,
     }
 }
 
-/// Lets others go with an instance that is off: marks its children in collections to be
-/// destroyed, or, where its collection runs each child once, it itself. Where it is shut, or it or
-/// one above it is being shut down, nothing goes. It takes no memory.
-pub(crate) fn expire(table: &mut Table, inc: u64)
+/// Lets others go with an instance that is off, and answers whether something goes that wasn't being
+/// destroyed yet. It takes no memory.
+pub(crate) fn expire(table: &mut Table, inc: u64) -> bool
+    ensures goes { result ≡ beside.goes_some table.old.rows inc }
+    ensures rows { table.new ≡ record table.old { rows = spec.expired inc table.old.rows } }
+{
+    let goes = goes_some(table, inc);
+    if goes {
+        doom_goers(table, inc);
+    }
+    goes
+}
+
+/// Marks what goes with an instance that is off to be destroyed: its children in collections, or,
+/// where its collection runs each child once, it itself. Where it is shut, or it or one above it is
+/// being shut down, nothing goes.
+fn doom_goers(table: &mut Table, inc: u64)
     ensures { table.new ≡ record table.old { rows = spec.expired inc table.old.rows } }
 {
     if closed(table, inc) {

@@ -11,6 +11,7 @@
 //! legal history is said by `cm_laws`.
 #![tactic(auto)]
 
+mod aside;
 mod asking;
 mod copies;
 pub mod ending;
@@ -20,6 +21,7 @@ mod pending;
 pub mod realm;
 mod replies;
 mod rooms;
+mod standing;
 
 pub use ending::Ending;
 pub use nostep::NoStep;

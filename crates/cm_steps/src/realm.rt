@@ -21,9 +21,10 @@ mod ends;
 mod marks;
 mod picking;
 
+use crate::aside::Aside;
 use crate::asking::{Answered, Asking, answer, asks, event_of, reply_of, tell_found};
 use crate::copies::copied;
-use crate::expiring::{expire, goes_some};
+use crate::expiring::expire;
 use crate::nostep::NoStep;
 use crate::replies::beginning::{BeginAnswer, begin_answer};
 use crate::replies::finding::found;
@@ -33,9 +34,8 @@ use crate::replies::showing::{ExitAnswer, exit_answer, shown, tailed};
 use crate::replies::surveying::surveyed;
 use crate::rooms::{add_join, copy_in_room, make_room, next_action, put_down};
 use cm_book::Book;
-use cm_cache::Keeper;
 use cm_laws::trees_stay_sound;
-use cm_names::{CapPath, List, Memory, Moniker, Name, Text};
+use cm_names::{Boxed, CapPath, List, Memory, Moniker, Name, Text};
 use cm_order::Plan;
 use cm_table::Table;
 use cm_turn::Storied;
@@ -45,16 +45,30 @@ use std::marker::Model;
 
 /// A realm tree with its history. Contracts see it as its frame, which is what it was made with
 /// and what no step changes, and its entries.
-#[derive(Drop)]
 pub struct Realm {
-    frame: Frame,
+    frame: Boxed<Frame>,
     table: Table,
     acts: Vec<Act>,
     resolves: u32,
     joins: Vec<Join>,
     book: Book,
-    keeper: Keeper,
+    keeper: Aside,
     plan: Plan,
+}
+
+impl Drop for Realm {
+    fn drop(self) {
+        let Realm {
+            frame: _,
+            table: _,
+            acts: _,
+            resolves: _,
+            joins: _,
+            book: _,
+            keeper: _,
+            plan: _,
+        } = self;
+    }
 }
 
 impl Model for Realm {
@@ -96,13 +110,17 @@ impl Realm {
         }) }
     {
         let table = first_table(alloc, &root, &builtins, limits.rows)?;
-        let keeper = Keeper::new(alloc)?;
-        Ok(Realm {
-            frame: Frame {
+        let keeper = Aside::new(alloc)?;
+        let frame = Boxed::new(
+            alloc,
+            Frame {
                 root,
                 builtins,
                 limits,
             },
+        )?;
+        Ok(Realm {
+            frame,
             table,
             acts: Vec::new(alloc),
             resolves: 0,
@@ -484,7 +502,7 @@ impl Realm {
     }
 
     /// Puts down an event by which an action begins at an instance, with room for the entry of
-    /// its end, and hands its reply back.
+    /// its end, and hands its reply back. The history keeps a copy, which takes no more than it needs.
     fn begin_action(
         &mut self,
         caller: u32,
@@ -503,7 +521,7 @@ impl Realm {
         ensures refused { IfErr result (Refuses self.old 2 (λ a. ⊥)) }
         ensures err { OnErr result (self.new ≡ self.old) }
     {
-        let Ok(told) = copied(&reply) else {
+        let Ok(kept) = copied(&reply) else {
             drop(event);
             drop(reply);
             return Err(NoStep::Memory);
@@ -530,7 +548,7 @@ impl Realm {
                 let entry = Entry {
                     caller,
                     event,
-                    reply,
+                    reply: kept,
                 };
                 put_down(
                     &mut self.book,
@@ -539,10 +557,10 @@ impl Realm {
                     entry,
                     false,
                 );
-                Ok(told)
+                Ok(reply)
             }
             Err(fault) => {
-                drop(told);
+                drop(kept);
                 drop(event);
                 drop(reply);
                 Err(fault)
@@ -601,8 +619,7 @@ impl Realm {
     {
         let told = copy_in_room(&mut self.book, &moniker)?;
         self.table.set_on(inc, false);
-        let doomed = goes_some(&self.table, inc);
-        expire(&mut self.table, inc);
+        let doomed = expire(&mut self.table, inc);
         let entry = Entry {
             caller,
             event: Event::Exited(inc),

@@ -22,12 +22,12 @@ ghost use Rattle.cm_steps.specs.Tasks as tasks;
 ghost use Rattle.cm_steps.specs.Rooms.{Lacks};
 ghost use Rattle.cm_steps.specs.Planned.{IsPlannedBy};
 
+use crate::aside::Aside;
 use crate::copies::copied;
 use crate::nostep::NoStep;
 use crate::pending::{act_at, join_place};
 use crate::replies::creating::child_name;
 use cm_book::Book;
-use cm_cache::Keeper;
 use cm_decl::Give;
 use cm_names::{List, Memory, Name, Plain, Text};
 use cm_order::Plan;
@@ -60,7 +60,7 @@ pub fn copy_in_room<T: Plain>(book: &mut Book, value: &T) -> Result<T, NoStep>
 /// Puts down an entry that asks for no use, in room that is reserved, and forgets the answers that
 /// are kept, and what is known of ways down, where it changes what walks read; whether it dooms an
 /// instance is told.
-pub fn put_down(book: &mut Book, keeper: &mut Keeper, plan: &mut Plan, entry: Entry, doomed: bool)
+pub fn put_down(book: &mut Book, keeper: &mut Aside, plan: &mut Plan, entry: Entry, doomed: bool)
     requires { 0 < book.old.reserved }
     ensures book { let entries = book.old.entries ++ entry ∷ [] in
         book.new ≡ record book.old { entries = entries; reserved = book.old.reserved - 1 } }

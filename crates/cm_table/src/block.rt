@@ -24,6 +24,7 @@ pub struct Block {
 // ---- places
 
 /// The incarnation of the first slot, or 0.
+#[inline(always)]
 fn first_in(slots: &[Slot]) -> u64
     ensures { result ≡ first_key inc_of slots.now }
 {
@@ -34,6 +35,7 @@ fn first_in(slots: &[Slot]) -> u64
 }
 
 /// The incarnation of the first slot of the block, or 0.
+#[inline(always)]
 fn first_of(block: &Block) -> u64
     ensures { result ≡ first_key inc_of block.now.slots.items }
 {
@@ -50,13 +52,14 @@ fn begins_upto(blocks: &[Block], place: usize, inc: u64) -> bool
     }
 }
 
-/// About where the block of that incarnation stands: exactly there where all blocks have as many
-/// slots and none was removed.
+/// About where the block of that incarnation stands: exactly there where all blocks behind the first
+/// one have as many slots, and none was removed but in front of them or at the end.
+#[inline(always)]
 fn guess(blocks: &[Block], inc: u64) -> usize
     ensures { result ≤ length blocks.now }
 {
     let count = blocks.len();
-    if count == 0 {
+    if count < 2 {
         return 0;
     }
     let last = count - 1;
@@ -64,8 +67,12 @@ fn guess(blocks: &[Block], inc: u64) -> usize
     if inc >= top {
         return last;
     }
-    let share = inc.saturating_mul(last as u64) / top;
-    last.min(share as usize)
+    let low = first_of(&blocks[1]);
+    if inc < low {
+        return 0;
+    }
+    let share = (inc - low).saturating_mul(last as u64 - 1) / (top - low);
+    (last - 1).min(share as usize) + 1
 }
 
 /// The place of the block that the slot of that incarnation stands in, where that is this place or
@@ -111,6 +118,7 @@ fn slots_upto(slots: &[Slot], inc: u64) -> usize
 
 /// The place of the slot of that incarnation, among slots by rising ones, where each incarnation
 /// from the first slot's up to that one has a slot.
+#[inline(always)]
 fn dense_at(slots: &[Slot], inc: u64) -> Option<usize>
     requires { Rising inc_of slots.now }
     ensures { IfSome result (λ place. IsAt inc_of slots.now inc place) }
@@ -179,8 +187,27 @@ fn slot_at(slots: &[Slot], inc: u64) -> Option<&Slot>
     }
 }
 
-/// The slot of that incarnation.
-pub fn slot_in(blocks: &[Block], inc: u64) -> Option<&Slot>
+/// The slot of that incarnation, where it stands in the block at this place, and each incarnation
+/// from the first slot's there up to that one has a slot. `None` says nothing.
+#[inline(always)]
+fn dense_in(blocks: &[Block], place: usize, inc: u64) -> Option<&Slot>
+    requires { Rising inc_of (flat blocks.now) }
+    ensures { IfSome result (λ slot. slot_of (flat blocks.now) inc ≡ Some slot.now) }
+{
+    if place >= blocks.len() {
+        return None;
+    }
+    let slots = blocks[place].slots.as_slice();
+    match dense_at(slots, inc) {
+        None => None,
+        Some(near) => Some(&slots[near]),
+    }
+}
+
+/// The slot of that incarnation, wherever it stands.
+#[cold]
+#[inline(never)]
+fn slot_anywhere(blocks: &[Block], inc: u64) -> Option<&Slot>
     requires filled { Filled slots_in blocks.now }
     requires rising { Rising inc_of (flat blocks.now) }
     ensures { option_copied result ≡ slot_of (flat blocks.now) inc }
@@ -191,9 +218,23 @@ pub fn slot_in(blocks: &[Block], inc: u64) -> Option<&Slot>
     }
 }
 
+/// The slot of that incarnation.
+#[inline(always)]
+pub fn slot_in(blocks: &[Block], inc: u64) -> Option<&Slot>
+    requires filled { Filled slots_in blocks.now }
+    requires rising { Rising inc_of (flat blocks.now) }
+    ensures { option_copied result ≡ slot_of (flat blocks.now) inc }
+{
+    if let Some(slot) = dense_in(blocks, guess(blocks, inc), inc) {
+        return Some(slot);
+    }
+    slot_anywhere(blocks, inc)
+}
+
 // ---- changes of rows
 
 /// Changes the row of a slot.
+#[inline(always)]
 fn change(slot: &mut Slot, change: Change)
     ensures { slot.new ≡ with_row_by (change_row change) slot.old }
 {
@@ -201,6 +242,7 @@ fn change(slot: &mut Slot, change: Change)
 }
 
 /// Changes the row of that incarnation, among slots by rising ones.
+#[inline(always)]
 fn change_at(block: &mut Block, inc: u64, new: Change)
     requires { Rising inc_of block.old.slots.items }
     ensures { block.new.slots.items
@@ -214,6 +256,7 @@ fn change_at(block: &mut Block, inc: u64, new: Change)
 }
 
 /// Changes the row of that incarnation.
+#[inline(always)]
 pub fn change_in(blocks: &mut Vec<Block>, inc: u64, new: Change)
     requires filled { Filled slots_in blocks.old.items }
     requires rising { Rising inc_of (flat blocks.old.items) }

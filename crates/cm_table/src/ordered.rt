@@ -140,6 +140,7 @@ impl OrderedRow {
     }
 
     /// Makes a change.
+    #[inline(always)]
     pub fn apply(&mut self, change: Change)
         ensures { self.new ≡ change_row change self.old }
     {

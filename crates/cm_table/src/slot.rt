@@ -1,7 +1,7 @@
 //! Rows with the index of their children.
 
 ghost use Rattle.std.specs.Prelude.{◌≡◌, ◌-◌, ◌<◌, ◌^◌, ◌++◌, ◌∷◌, ◌==◌, [], true, None, Some};
-ghost use Rattle.std.specs.Prelude.{ℕ, find, length, if◌then◌else◌, OnOk, OnErr};
+ghost use Rattle.std.specs.Prelude.{ℕ, find, length, if◌then◌else◌, OnOk, OnErr, IfSome};
 ghost use Rattle.std.specs.BTreeMap.{get};
 ghost use Rattle.cm_names.specs.declared.child.ChildName.{ChildName as Name};
 ghost use Rattle.cm_decl.specs.Same.{same_child};
@@ -207,10 +207,37 @@ pub fn last_in(index: &Option<Index>) -> Option<u64>
     }
 }
 
+/// How many of these rising numbers are at most the given one, where it is one of them, and each number
+/// from the first one up to it is there. `None` says nothing.
+fn dense_upto(kids: &[u64], above: u64) -> Option<usize>
+    requires { Rising (λ k. k) kids.now }
+    ensures { IfSome result (λ count. IsPlace (λ k. k) alone kids.now above count) }
+{
+    if kids.is_empty() {
+        return None;
+    }
+    let first = kids[0];
+    if above < first {
+        return None;
+    }
+    let place = (above - first) as usize;
+    if place >= kids.len() {
+        return None;
+    }
+    let kid = kids[place];
+    if kid == above {
+        return Some(place + 1);
+    }
+    None
+}
+
 /// How many of these rising numbers are at most the given one.
 fn kids_upto(kids: &[u64], above: u64) -> usize
     requires { Rising (λ k. k) kids.now }
     ensures { IsPlace (λ k. k) alone kids.now above result }
 {
+    if let Some(count) = dense_upto(kids, above) {
+        return count;
+    }
     kids.partition_point(|kid| *kid <= above)
 }

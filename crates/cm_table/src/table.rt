@@ -301,6 +301,7 @@ impl Table {
     }
 
     /// Changes one row, which is found by its name as it was.
+    #[inline(always)]
     fn change(&mut self, inc: u64, change: Change)
         requires safe { IsSafe change }
         requires sparing { IsSparing change }
@@ -434,6 +435,7 @@ impl Table {
     }
 
     /// The slot of that incarnation.
+    #[inline(always)]
     pub(crate) fn slot(&self, inc: u64) -> Option<&Slot>
         ensures row { option_map (λ s. s.row) (option_copied result) ≡ row_of self.now.rows inc }
         ensures index { IfSome result (λ s. IsIndexed self.now.rows self.now.next_inc s.now) }

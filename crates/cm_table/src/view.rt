@@ -20,6 +20,7 @@ impl View for Table {
 
     ghost builtins = { λ (t : Tree). t.builtins };
 
+    #[inline(always)]
     fn facts(&self, inc: u64) -> Option<Facts> {
         match self.slot(inc) {
             None => None,

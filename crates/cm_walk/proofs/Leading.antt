@@ -1,5 +1,5 @@
 -- Where a moniker leads, name by name.
-use Rattle.std.proofs.Common.{◌≡◌, ℕ, suc, ◌+◌, ◌-◌, ◌*◌, ◌^◌, ◌<◌, ◌≤◌, List, [], ◌∷◌, ◌++◌, length, take, drop, get_or, Bool, true, false, true≢false, Option, Some, None, refl, sym, ◌∙◌, ap, subst, arith}
+use Rattle.std.proofs.Common.{◌≡◌, ℕ, suc, ◌+◌, ◌*◌, ◌<◌, ◌≤◌, List, [], ◌∷◌, ◌++◌, length, take, drop, get_or, Bool, true, false, true≢false, Option, Some, None, refl, sym, ◌∙◌, ap, subst, arith}
 use Rattle.std.specs.Prelude.{if◌then◌else◌}
 use Rattle.std.proofs.lemmas.List.{length-append, take_at, append_assoc, drop_more}
 use Rattle.cm_names.specs.declared.child.ChildName.{ChildName}
@@ -39,18 +39,15 @@ two_more a b m s k one two far = omega arith
 
 -- ---- what a find replies
 
-missing : (front : List ChildName) (c : ChildName) (cs : List ChildName) (k : ℕ) → length front ≡ k → told_index k < 2 ^ 32 - 1 → (told_index k < length (front ++ c ∷ cs)) × (NotFound (record { parts = front }) ≡ NotFound (record { parts = take (told_index k) (front ++ c ∷ cs) }))
-missing front c cs k len less =
-    let same : told_index k ≡ k = exact k less in
-    let long : length (front ++ c ∷ cs) ≡ length front + suc (length cs) = length-append front (c ∷ cs) in (
-      inside (told_index k) k (length front) (length cs) (length (front ++ c ∷ cs)) same len long,
-      ap (λ l. NotFound (record { parts = l })) (sym (take_at front (c ∷ cs) (told_index k) (len ∙ sym same))),
-    ) where
-      exact : (n : ℕ) → told_index n < 2 ^ 32 - 1 → told_index n ≡ n
-      exact n below = omega arith
-
-      inside : (t n f l all : ℕ) → t ≡ n → f ≡ n → all ≡ f + suc l → t < all
-      inside t n f l all a b d = omega arith
+missing : (front : List ChildName) (c : ChildName) (cs : List ChildName) (k : ℕ) → length front ≡ k → (n : ℕ) × (told_index n ≡ told_index k) × (n < length (front ++ c ∷ cs)) × (NotFound (record { parts = front }) ≡ NotFound (record { parts = take n (front ++ c ∷ cs) }))
+missing front c cs k len = (
+  k,
+  refl,
+  inside k (length front) (length cs) (length (front ++ c ∷ cs)) len (length-append front (c ∷ cs)),
+  ap (λ l. NotFound (record { parts = l })) (sym (take_at front (c ∷ cs) k len)),
+) where
+  inside : (n f l all : ℕ) → f ≡ n → all ≡ f + suc l → n < all
+  inside n f l all a b = omega arith
 
 replies_by : (rows : List Row) (i k : ℕ) (front : List ChildName) (c : ChildName) (cs : List ChildName) → length front ≡ k → ((j : ℕ) → IsFindReply rows (front ++ c ∷ cs) (located_from rows j (k + 1) cs) (found_from rows j (front ++ c ∷ []) cs)) → (b : Bool) (o : Option ℕ) → IsFindReply rows (front ++ c ∷ cs) (if b then elim o as (λ _. Located) [ None ↦ Missing (told_index k) | Some j ↦ located_from rows j (k + 1) cs ] else Unresolved i) (if b then elim o as (λ _. Reply) [ None ↦ NotFound (record { parts = front }) | Some j ↦ found_from rows j (front ++ c ∷ []) cs ] else if is_closed rows i then Shut i else Need i)
 replies_by rows i k front c cs len later false o = refl

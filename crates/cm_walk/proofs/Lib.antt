@@ -1,4 +1,5 @@
 pub mod Monikers
+pub mod Placed
 pub mod Up
 pub mod Behind
 pub mod Standing

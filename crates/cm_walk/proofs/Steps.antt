@@ -17,7 +17,8 @@ use Rattle.cm_walk.specs.declared.station.Station.{Station}
 use Rattle.cm_walk.specs.declared.trail.Trail.{Trail}
 use Rattle.cm_walk.specs.declared.walking.Step.{Step}
 use Rattle.cm_walk.specs.declared.walking.Step.TheVariants.{On, Done}
-use Rattle.cm_walk.specs.Walking.{as_station, is_no_child, IsBehind, refused, Leads, Decides, Steps}
+use Rattle.cm_walk.specs.Walking.{as_station, is_no_child, IsBehind, IsPlaced, refused, Leads, Decides, Steps}
+use Rattle.cm_walk.proofs.Placed.{next_placed}
 
 -- ---- what is decided at a station
 
@@ -56,18 +57,18 @@ tried_is : (front : List world.Station) (s : world.Station) (n : Next) (weak : O
 tried_is front s n weak is = tried_by front s n ∙ ap (λ o. or_else o (said_by front s n)) (sym is)
 
 -- a station that is refused
-pub at_refused : (front : List world.Station) (s : world.Station) (n : Next) (why : Why) → Some (Failed s.hop why) ≡ refused front s n → Decides front s n (Done (Failed s.hop why))
-at_refused front s n why is = tried_is front s n (Some (Failed s.hop why)) is
+pub at_refused : (front : List world.Station) (s : world.Station) (n : Next) (t : Trail) (why : Why) → Some (Failed s.hop why) ≡ refused front s n → Decides front s n t (Done (Failed s.hop why))
+at_refused front s n t why is = tried_is front s n (Some (Failed s.hop why)) is
 
 -- one that isn't
-pub at_fitting : (front : List world.Station) (s : world.Station) (n : Next) (step : Step) → None ≡ refused front s n → Leads front s n step → Decides front s n step
-at_fitting front s n (On t u) is leads = (tried_is front s n None is ∙ ap (said_by front s) leads.0, leads.0, leads.1)
-at_fitting front s n (Done v) is leads = tried_is front s n None is ∙ leads
+pub at_fitting : (front : List world.Station) (s : world.Station) (n : Next) (t : Trail) (step : Step) → None ≡ refused front s n → Leads front s n t step → Decides front s n t step
+at_fitting front s n t (On u) is leads = (tried_is front s n None is ∙ ap (said_by front s) leads.0, leads.0, leads.1)
+at_fitting front s n t (Done v) is leads = tried_is front s n None is ∙ leads
 
 -- one whose next is that of the tree
-pub tries : (rows : List Row) (builtins : List Builtin) (front : List world.Station) (s : world.Station) (n : Next) (step : Step) → n ≡ next_of rows builtins s → Decides front s n step → Steps rows builtins front s step
-tries rows builtins front s n (On t u) next found = (ap (trial_by front s) (sym next) ∙ found.0, sym next ∙ found.1, found.2)
-tries rows builtins front s n (Done v) next found = ap (trial_by front s) (sym next) ∙ found
+pub tries : (rows : List Row) (builtins : List Builtin) (front : List world.Station) (s : world.Station) (n : Next) (t : Trail) (step : Step) → n ≡ next_of rows builtins s → Decides front s n t step → Steps rows builtins front s t step
+tries rows builtins front s n t (On u) next found = (ap (trial_by front s) (sym next) ∙ found.0, sym next ∙ found.1, found.2)
+tries rows builtins front s n t (Done v) next found = ap (trial_by front s) (sym next) ∙ found
 
 -- ---- the whole walk
 
@@ -82,47 +83,50 @@ pub record IsOnWay (rows : List Row) (builtins : List Builtin) (first : world.St
   pub front : List world.Station
   pub behind : IsBehind front (as_station here) t
   pub down : KeepsDown (as_station here)
+  pub placed : IsPlaced rows here.hop
   pub whole : (v : Walked) → IsEnd rows builtins front (as_station here) v → IsVerdict rows builtins first v
 
 -- it begins at its first station
-pub begins_way : (rows : List Row) (builtins : List Builtin) (t : Trail) (here : Station) → IsBehind [] (as_station here) t → KeepsDown (as_station here) → IsOnWay rows builtins (as_station here) t here
-begins_way rows builtins t here behind down = record {
+pub begins_way : (rows : List Row) (builtins : List Builtin) (t : Trail) (here : Station) → IsBehind [] (as_station here) t → KeepsDown (as_station here) → IsPlaced rows here.hop → IsOnWay rows builtins (as_station here) t here
+begins_way rows builtins t here behind down placed = record {
   front = [];
   behind = behind;
   down = down;
+  placed = placed;
   whole = λ v end. record { rest = end.rest; chain = end.chain; decided = end.decided };
 }
 
 -- what a step from here comes to
-abbrev pub StepsTo : List Row → List Builtin → Trail → Station → Step → Type 0
-StepsTo rows builtins t here step =
-    (front : List world.Station) → IsBehind front (as_station here) t → Steps rows builtins front (as_station here) step
+abbrev pub StepsTo : List Row → List Builtin → Trail → Trail → Station → Step → Type 0
+StepsTo rows builtins t u here step =
+    (front : List world.Station) → IsBehind front (as_station here) t → Steps rows builtins front (as_station here) u step
 
-on_from : (rows : List Row) (builtins : List Builtin) (first : world.Station) (t u : Trail) (here there : Station) (step : Step) → (way : IsOnWay rows builtins first t here) → step ≡ On u there → StepsTo rows builtins t here step → Steps rows builtins way.front (as_station here) (On u there)
+on_from : (rows : List Row) (builtins : List Builtin) (first : world.Station) (t u : Trail) (here there : Station) (step : Step) → (way : IsOnWay rows builtins first t here) → step ≡ On there → StepsTo rows builtins t u here step → Steps rows builtins way.front (as_station here) u (On there)
 on_from rows builtins first t u here there step way on made =
-    subst (λ z. Steps rows builtins way.front (as_station here) z) on (made way.front way.behind)
+    subst (λ z. Steps rows builtins way.front (as_station here) u z) on (made way.front way.behind)
 
 -- it goes on to the next station
-pub goes_way : (rows : List Row) (next : ℕ) (builtins : List Builtin) (first : world.Station) (t u : Trail) (here there : Station) (step : Step) → IsOrderly rows next → IsOnWay rows builtins first t here → step ≡ On u there → StepsTo rows builtins t here step → IsOnWay rows builtins first u there
+pub goes_way : (rows : List Row) (next : ℕ) (builtins : List Builtin) (first : world.Station) (t u : Trail) (here there : Station) (step : Step) → IsOrderly rows next → IsOnWay rows builtins first t here → step ≡ On there → StepsTo rows builtins t u here step → IsOnWay rows builtins first u there
 goes_way rows next builtins first t u here there step orderly way is made =
-    let on : Steps rows builtins way.front (as_station here) (On u there) = on_from rows builtins first t u here there step way is made in
+    let on : Steps rows builtins way.front (as_station here) u (On there) = on_from rows builtins first t u here there step way is made in
     record {
       front = way.front ++ as_station here ∷ [];
       behind = on.2;
       down = (steps_fall rows next builtins (as_station here) (as_station there) orderly way.down on.1).1;
+      placed = next_placed rows builtins (as_station here) (as_station there) on.1;
       whole = λ v end. way.whole v (record { rest = as_station there ∷ end.rest; chain = (on.1, end.chain); decided = (on.0, end.decided) });
     }
 
 -- from where fewer steps are left
-pub falls_way : (rows : List Row) (next : ℕ) (builtins : List Builtin) (first : world.Station) (t u : Trail) (here there : Station) (step : Step) → IsOrderly rows next → IsOnWay rows builtins first t here → step ≡ On u there → StepsTo rows builtins t here step → steps_left next (as_station there) < steps_left next (as_station here)
+pub falls_way : (rows : List Row) (next : ℕ) (builtins : List Builtin) (first : world.Station) (t u : Trail) (here there : Station) (step : Step) → IsOrderly rows next → IsOnWay rows builtins first t here → step ≡ On there → StepsTo rows builtins t u here step → steps_left next (as_station there) < steps_left next (as_station here)
 falls_way rows next builtins first t u here there step orderly way is made =
-    let on : Steps rows builtins way.front (as_station here) (On u there) = on_from rows builtins first t u here there step way is made in
+    let on : Steps rows builtins way.front (as_station here) u (On there) = on_from rows builtins first t u here there step way is made in
     (steps_fall rows next builtins (as_station here) (as_station there) orderly way.down on.1).0
 
 -- and ends where something is decided
-pub ends_way : (rows : List Row) (builtins : List Builtin) (first : world.Station) (t : Trail) (here : Station) (v : Walked) (step : Step) → IsOnWay rows builtins first t here → step ≡ Done v → StepsTo rows builtins t here step → IsVerdict rows builtins first v
-ends_way rows builtins first t here v step way is made =
-    let done : Steps rows builtins way.front (as_station here) (Done v) = subst (λ z. Steps rows builtins way.front (as_station here) z) is (made way.front way.behind) in
+pub ends_way : (rows : List Row) (builtins : List Builtin) (first : world.Station) (t u : Trail) (here : Station) (v : Walked) (step : Step) → IsOnWay rows builtins first t here → step ≡ Done v → StepsTo rows builtins t u here step → IsVerdict rows builtins first v
+ends_way rows builtins first t u here v step way is made =
+    let done : Steps rows builtins way.front (as_station here) u (Done v) = subst (λ z. Steps rows builtins way.front (as_station here) u z) is (made way.front way.behind) in
     way.whole v (record { rest = []; chain = tt; decided = done })
 
 -- ---- answers that may be want of memory

@@ -1,5 +1,5 @@
 -- Laws of walks, as statements. Functions of this crate promise them, and nothing is assumed.
-use Rattle.std.specs.Prelude.{◌≡◌, ◌↔◌, ◌<◌, ◌-◌, ◌^◌, List, [], None, find, take, length, slice_get}
+use Rattle.std.specs.Prelude.{◌≡◌, ◌↔◌, ℕ, ◌<◌, List, [], None, find, take, length, slice_get}
 use Rattle.std.specs.Prelude.{option_and_then, if◌then◌else◌}
 use Rattle.std.specs.Str.{bytes_eq}
 use Rattle.cm_names.specs.declared.child.ChildName.{ChildName}
@@ -16,6 +16,7 @@ use Rattle.cm_world.specs.declared.reply.Reply.TheVariants as reply
 use Rattle.cm_world.specs.Rows.{decl_of, is_closed}
 use Rattle.cm_world.specs.Find.{found_from}
 use Rattle.cm_world.specs.Located.{located_from}
+use Rattle.cm_world.specs.Offering.{told_index}
 use Rattle.cm_world.specs.Route.{IsWalked}
 
 -- no use of the instance has the path, or no offer the index; a start at an expose has none to look for
@@ -31,14 +32,14 @@ SaysNoUse =
     (rows : List Row) (builtins : List Builtin) (begin : Start) (v : Walked)
     → IsWalked rows builtins begin v → (v ≡ NoSuchUse) ↔ HasNoUse rows begin
 
--- the reply to a find of these names, by where they lead; a number of names that is told as
--- 2 ^ 32 - 1 may be larger
+-- the reply to a find of these names, by where they lead; where one is missing, it is told with those before
+-- it, of which there may be more than are told
 abbrev pub IsFindReply : List Row → List ChildName → Located → Reply → Type 0
 IsFindReply rows names (located.Found i) r = r ≡ reply.Found i
 IsFindReply rows names (located.Unresolved i) r =
     r ≡ (if is_closed rows i then reply.Shut i else reply.Need i)
 IsFindReply rows names (located.Missing k) r =
-    k < 2 ^ 32 - 1 → (k < length names) × (r ≡ reply.NotFound (record { parts = take k names }))
+    (n : ℕ) × (told_index n ≡ k) × (n < length names) × (r ≡ reply.NotFound (record { parts = take n names }))
 
 -- a find replies as its moniker leads
 abbrev pub FindsAsLocated : Type 0

@@ -13,6 +13,8 @@ use Rattle.cm_world.specs.declared.route.StepKind.TheVariants.{FrameworkHop}
 use Rattle.cm_world.specs.declared.route.Walked.{Walked}
 use Rattle.cm_world.specs.declared.route.Walked.TheVariants.{Failed}
 use Rattle.cm_world.specs.declared.route.Why.TheVariants.{NoInstance}
+use Rattle.cm_world.specs.declared.route.Hop.{Hop}
+use Rattle.cm_world.specs.Rows.{moniker_of}
 use Rattle.cm_world.specs.Stations as world
 use Rattle.cm_world.specs.Next as spec
 use Rattle.cm_world.specs.Route.{Named, First, NoUse, NoneExposed, trial, trial_by, said_by, standing}
@@ -32,17 +34,17 @@ use Rattle.cm_walk.specs.declared.walking.Begun.TheVariants as begun
 
 -- where the row of a station says that the capability comes from; an end has no such row
 abbrev pub origin_of : Source → Option Origin
-origin_of (FromRow from name subdir) = Some from
+origin_of (FromRow from name subdir) = Some from.now
 origin_of (End path) = None
 
 -- the name there
 abbrev pub name_of : Source → List ℕ
-name_of (FromRow from name subdir) = name
+name_of (FromRow from name subdir) = name.now
 name_of (End path) = []
 
 -- the subdirectory that the row of a station states
 abbrev pub subdir_of : Source → Option (List ℕ)
-subdir_of (FromRow from name subdir) = subdir
+subdir_of (FromRow from name subdir) = subdir.now
 subdir_of (End path) = None
 
 -- the path that an end provides
@@ -80,6 +82,10 @@ as_named (begun.At s) = First (as_station s)
 as_named begun.NoUse = NoUse
 as_named (begun.NoneExposed hop) = NoneExposed hop
 
+-- a hop tells where its instance stands in the tree
+abbrev pub IsPlaced : List Row → Hop → Type 0
+IsPlaced rows hop = hop.moniker ≡ moniker_of rows hop.inc
+
 -- whether it is a child that isn't there
 abbrev pub is_no_child : spec.Next → Bool
 is_no_child spec.NoChild = true
@@ -105,10 +111,10 @@ pub record IsBehind (front : List world.Station) (s : world.Station) (t : Trail)
   pub from_use : t.from_use ≡ begins_with_use (front ++ s ∷ [])
   pub asked : t.asked ≡ asked_rights (front ++ s ∷ [])
 
--- what is said by the next of a station: to go on to another, or an answer
-abbrev pub Leads : List world.Station → world.Station → spec.Next → Step → Type 0
-Leads front s next (On t u) = (next ≡ spec.To (as_station u)) × IsBehind (front ++ s ∷ []) (as_station u) t
-Leads front s next (Done v) = said_by front s next ≡ Some v
+-- what is said by the next of a station: to go on to another behind this trail, or an answer
+abbrev pub Leads : List world.Station → world.Station → spec.Next → Trail → Step → Type 0
+Leads front s next t (On u) = (next ≡ spec.To (as_station u)) × IsBehind (front ++ s ∷ []) (as_station u) t
+Leads front s next t (Done v) = said_by front s next ≡ Some v
 
 -- what refuses a station before its next is looked at: a child that isn't there, or a hop that is too weak
 abbrev pub refused : List world.Station → world.Station → spec.Next → Option Walked
@@ -116,18 +122,18 @@ refused front s spec.NoChild = Some (Failed s.hop NoInstance)
 refused front s _ = or_else (weak_availability front s) (weak_rights front s)
 
 -- what is decided at a station whose next this is
-abbrev pub Decides : List world.Station → world.Station → spec.Next → Step → Type 0
-Decides front s next (On t u) =
+abbrev pub Decides : List world.Station → world.Station → spec.Next → Trail → Step → Type 0
+Decides front s next t (On u) =
     (trial_by front s next ≡ None) × (next ≡ spec.To (as_station u))
     × IsBehind (front ++ s ∷ []) (as_station u) t
-Decides front s next (Done v) = trial_by front s next ≡ Some v
+Decides front s next t (Done v) = trial_by front s next ≡ Some v
 
 -- what is decided at a station: nothing, and the walk goes on to the next one, or an answer
-abbrev pub Steps : List Row → List Builtin → List world.Station → world.Station → Step → Type 0
-Steps rows builtins front s (On t u) =
+abbrev pub Steps : List Row → List Builtin → List world.Station → world.Station → Trail → Step → Type 0
+Steps rows builtins front s t (On u) =
     (trial rows builtins front s ≡ None) × (spec.next_of rows builtins s ≡ spec.To (as_station u))
     × IsBehind (front ++ s ∷ []) (as_station u) t
-Steps rows builtins front s (Done v) = trial rows builtins front s ≡ Some v
+Steps rows builtins front s t (Done v) = trial rows builtins front s ≡ Some v
 
 -- where a capability stands at its provider, with the subdirectories from there on
 abbrev pub path_at : StepKind → List ℕ → List (List ℕ) → List ℕ

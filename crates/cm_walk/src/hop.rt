@@ -1,21 +1,25 @@
 //! Hops, and where the instances that they name stand.
 
-ghost use Rattle.std.specs.Prelude.{◌≡◌, IfOk, option_and_then};
+ghost use Rattle.std.specs.Prelude.{◌≡◌, IfOk, Some, option_and_then};
 ghost use Rattle.cm_world.specs.Rows.{row_of, moniker_of};
 ghost use Rattle.cm_world.specs.Sound.{IsOrderly};
 ghost use Rattle.cm_world.specs.Stations as spec;
+ghost use Rattle.cm_walk.specs.Walking.{IsPlaced};
 
 use cm_decl::Kind;
 use cm_names::{List, Memory, Moniker, Name};
 use cm_world::{Hop, StepKind, View};
 use std::alloc::Global;
 
+/// For so many names a moniker has room at first.
+const FIRST_ROOM: usize = 8;
+
 /// Where the instance stands: the names from the root down to it. Where it doesn't live, that of
 /// the root. `Err` where memory runs out.
 pub fn moniker<V: View>(alloc: Global, view: &V, inc: u64) -> Result<Moniker, Memory>
     ensures { IfOk result (λ made. made ≡ moniker_of (V.rows view.now) inc) }
 {
-    let mut names = Vec::new(alloc);
+    let mut names = Vec::with_capacity(alloc, FIRST_ROOM)?;
     let mut at = inc;
     'up: while let Some(place) = view.place(at) {
         names.push(place.name.clone()?)?;
@@ -38,19 +42,40 @@ pub fn parent<V: View>(view: &V, inc: u64) -> Option<u64>
     }
 }
 
-/// A hop at the instance that no row of a declaration states: it states no rights and no
-/// availability, and counts as strong.
-pub(crate) fn bare_hop<V: View>(
+/// Where the parent of this hop's instance stands: the names of the hop but the last one, which it
+/// shares. `Err` where memory runs out.
+pub(crate) fn moniker_above<V: View>(
     alloc: Global,
     view: &V,
+    here: &Hop,
+    parent: u64,
+) -> Result<Moniker, Memory>
+    requires orderly { IsOrderly (V.rows view.now) (V.next_inc view.now) }
+    requires placed { IsPlaced (V.rows view.now) here.now }
+    requires parent { let row = row_of (V.rows view.now) here.now.inc in
+        option_and_then (λ r. r.parent) row ≡ Some parent }
+    ensures { IfOk result (λ made. made ≡ moniker_of (V.rows view.now) parent) }
+{
+    let parts = here.moniker.parts.as_slice();
+    let front = &parts[..parts.len().saturating_sub(1)];
+    Ok(Moniker {
+        parts: List::from_vec(front.to_vec(alloc)?),
+    })
+}
+
+/// A hop at the instance, which stands there, that no row of a declaration states: it states no
+/// rights and no availability, and counts as strong.
+pub(crate) fn bare_hop<V: View>(
+    _view: &V,
     step: StepKind,
     inc: u64,
+    moniker: Moniker,
     kind: Kind,
     name: &Name,
 ) -> Result<Hop, Memory>
-    ensures { IfOk result (λ hop. hop ≡ spec.bare_hop (V.rows view.now) step inc kind name.now) }
+    requires { moniker ≡ moniker_of (V.rows _view.now) inc }
+    ensures { IfOk result (λ hop. hop ≡ spec.bare_hop (V.rows _view.now) step inc kind name.now) }
 {
-    let moniker = moniker(alloc, view, inc)?;
     let name = name.clone()?;
     Ok(Hop {
         step,

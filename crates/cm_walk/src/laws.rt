@@ -11,7 +11,7 @@ pub fn says_no_use()
 {}
 
 /// A find replies as its moniker leads: with the instance that stands there, with the one on the
-/// way that isn't resolved, or with the names that are found, where they are fewer than 2^32 - 1.
+/// way that isn't resolved, or with all names that are found.
 pub fn finds_as_located()
     ensures { laws.FindsAsLocated }
 {}

@@ -2,13 +2,14 @@
 
 ghost use Rattle.std.specs.Prelude.{◌≡◌, IfOk, Some, option_and_then};
 ghost use Rattle.std.specs.Option.{option_copied};
-ghost use Rattle.cm_world.specs.Rows.{row_of, child_of, decl_of};
+ghost use Rattle.cm_world.specs.Rows.{row_of, name_of, child_of, decl_of};
 ghost use Rattle.cm_world.specs.declared.row.Row.{Row};
 ghost use Rattle.cm_world.specs.Next as spec;
-ghost use Rattle.cm_walk.specs.Walking.{as_station, as_next, is_no_child, EndsAt};
+ghost use Rattle.cm_world.specs.Sound.{IsOrderly};
+ghost use Rattle.cm_walk.specs.Walking.{as_station, as_next, is_no_child, EndsAt, IsPlaced};
 
 use crate::find;
-use crate::hop::bare_hop;
+use crate::hop::{bare_hop, moniker, moniker_above};
 use crate::station::{
     Source, Station, builtin_station, capability_station, expose_station, framework_station,
     offer_station,
@@ -20,9 +21,9 @@ use std::alloc::Global;
 
 /// What comes behind a station.
 #[derive(Drop)]
-pub(crate) enum Next {
+pub(crate) enum Next<'a> {
     /// Another station.
-    To(Station),
+    To(Station<'a>),
     /// Nothing: the station is an end, which provides the capability at this path.
     Ends(CapPath),
     /// What the declaration of this instance says, which isn't resolved.
@@ -35,7 +36,7 @@ pub(crate) enum Next {
     Misses(Hop, Why),
 }
 
-impl Next {
+impl<'a> Next<'a> {
     /// Whether a child isn't there.
     pub(crate) fn is_no_child(&self) -> bool
         ensures { result ≡ is_no_child (as_next self.now) }
@@ -48,136 +49,166 @@ impl Next {
 }
 
 /// What comes behind the station. `Err` where memory runs out.
-pub(crate) fn next_of<V: View>(alloc: Global, view: &V, station: &Station) -> Result<Next, Memory>
+pub(crate) fn next_of<'a, V: View>(
+    alloc: Global,
+    view: &'a V,
+    station: &Station<'a>,
+) -> Result<Next<'a>, Memory>
+    requires placed { IsPlaced (V.rows view.now) station.now.hop }
     ensures next { IfOk result (λ found. as_next found
         ≡ spec.next_of (V.rows view.now) (V.builtins view.now) (as_station station.now)) }
     ensures path { IfOk result (λ found. EndsAt (as_station station.now) found) }
 {
     match &station.source {
         Source::End(path) => Ok(Next::Ends(path.clone()?)),
-        Source::Row(from, name, _) => {
-            from_origin(alloc, view, station.hop.inc, station.hop.kind, name, from)
-        }
+        Source::Row(from, name, _) => from_origin(alloc, view, &station.hop, name, from),
     }
 }
 
-/// What comes from an origin that is named at the instance.
-fn from_origin<V: View>(
+/// What comes from an origin that is named at the hop.
+fn from_origin<'a, V: View>(
     alloc: Global,
-    view: &V,
-    inc: u64,
-    kind: Kind,
-    name: &Name,
+    view: &'a V,
+    here: &Hop,
+    name: &'a Name,
     from: &Origin,
-) -> Result<Next, Memory>
+) -> Result<Next<'a>, Memory>
+    requires placed { IsPlaced (V.rows view.now) here.now }
     ensures { IfOk result (λ found. as_next found
-        ≡ spec.next_from (V.rows view.now) (V.builtins view.now) inc kind name.now from.now) }
+        ≡ spec.next_from (V.rows view.now) (V.builtins view.now) here.now.inc here.now.kind
+        name.now from.now) }
 {
     match from {
-        Origin::Parent => above(alloc, view, inc, kind, name),
-        Origin::Child(child) => below(alloc, view, view.child(inc, child), kind, name),
-        Origin::Own => own(alloc, view, inc, kind, name),
+        Origin::Parent => above(alloc, view, here, name),
+        Origin::Child(child) => below(alloc, view, view.child(here.inc, child), here.kind, name),
+        Origin::Own => own(view, here, name),
         Origin::Framework => {
-            let station = framework_station(alloc, view, inc, kind, name)?;
+            let moniker = here.moniker.clone()?;
+            let station = framework_station(alloc, view, here.inc, moniker, here.kind, name)?;
             Ok(Next::To(station))
         }
         Origin::Void => Ok(Next::FromVoid),
     }
 }
 
-/// What comes from the parent of the instance, or from above the root.
-fn above<V: View>(
+/// What comes from the parent of the hop's instance, or from above the root.
+fn above<'a, V: View>(
     alloc: Global,
-    view: &V,
-    inc: u64,
-    kind: Kind,
-    name: &Name,
-) -> Result<Next, Memory>
+    view: &'a V,
+    here: &Hop,
+    name: &'a Name,
+) -> Result<Next<'a>, Memory>
+    requires placed { IsPlaced (V.rows view.now) here.now }
     ensures { IfOk result (λ found. as_next found
-        ≡ spec.from_above (V.rows view.now) (V.builtins view.now) kind name.now (row_of
-        (V.rows view.now) inc)) }
+        ≡ spec.from_above (V.rows view.now) (V.builtins view.now) here.now.kind name.now (row_of
+        (V.rows view.now) here.now.inc)) }
 {
-    let Some(facts) = view.facts(inc) else {
+    let Some(facts) = view.facts(here.inc) else {
         return Ok(Next::NoChild);
     };
     match facts.parent {
-        None => builtin(alloc, view, inc, kind, name),
-        Some(parent) => offered(alloc, view, parent, inc, kind, name),
+        None => builtin(view, here, name),
+        Some(parent) => offered(alloc, view, parent, here, name),
     }
 }
 
-/// The capability above the root, which is the instance.
-fn builtin<V: View>(
-    alloc: Global,
-    view: &V,
-    inc: u64,
-    kind: Kind,
-    name: &Name,
-) -> Result<Next, Memory>
+/// The capability above the root, which is the hop's instance.
+fn builtin<'a, V: View>(view: &'a V, here: &Hop, name: &'a Name) -> Result<Next<'a>, Memory>
+    requires placed { IsPlaced (V.rows view.now) here.now }
     ensures { IfOk result (λ found. as_next found
-        ≡ spec.by_builtin (V.rows view.now) inc kind name.now
-        (spec.builtin_of (V.builtins view.now) kind name.now)) }
+        ≡ spec.by_builtin (V.rows view.now) here.now.inc here.now.kind name.now
+        (spec.builtin_of (V.builtins view.now) here.now.kind name.now)) }
 {
-    match view.builtin(kind, name) {
+    let moniker = here.moniker.clone()?;
+    match view.builtin(here.kind, name) {
         Some(builtin) => {
-            let station = builtin_station(alloc, view, inc, builtin)?;
+            let station = builtin_station(view, here.inc, moniker, builtin)?;
             Ok(Next::To(station))
         }
         None => {
-            let hop = bare_hop(alloc, view, StepKind::BuiltinHop, inc, kind, name)?;
+            let hop = bare_hop(
+                view,
+                StepKind::BuiltinHop,
+                here.inc,
+                moniker,
+                here.kind,
+                name,
+            )?;
             Ok(Next::Misses(hop, Why::NoBuiltin))
         }
     }
 }
 
-/// What the parent offers to the instance.
-fn offered<V: View>(
+/// What the parent offers to the hop's instance.
+fn offered<'a, V: View>(
     alloc: Global,
-    view: &V,
+    view: &'a V,
     parent: u64,
-    inc: u64,
-    kind: Kind,
-    name: &Name,
-) -> Result<Next, Memory>
-    ensures { IfOk result (λ found. (r : Row) → row_of (V.rows view.now) inc ≡ Some r
+    here: &Hop,
+    name: &'a Name,
+) -> Result<Next<'a>, Memory>
+    requires placed { IsPlaced (V.rows view.now) here.now }
+    requires parent { let row = row_of (V.rows view.now) here.now.inc in
+        option_and_then (λ r. r.parent) row ≡ Some parent }
+    ensures { IfOk result (λ found. (r : Row) → row_of (V.rows view.now) here.now.inc ≡ Some r
         → r.parent ≡ Some parent → as_next found
-        ≡ spec.offered_by (V.rows view.now) parent r kind name.now (decl_of
+        ≡ spec.offered_by (V.rows view.now) parent r here.now.kind name.now (decl_of
         (V.rows view.now) parent)) }
 {
     let Some(decl) = view.decl(parent) else {
         return Ok(Next::Needs(parent));
     };
-    match offered_by(view, decl, inc, kind, name) {
+    let moniker = moniker_above(alloc, view, here, parent)?;
+    match offered_by(view, decl, parent, here, name) {
         Some(give) => {
-            let station = offer_station(alloc, view, parent, give)?;
+            let station = offer_station(view, parent, moniker, give)?;
             Ok(Next::To(station))
         }
         None => {
-            let hop = bare_hop(alloc, view, StepKind::OfferHop, parent, kind, name)?;
+            let hop = bare_hop(view, StepKind::OfferHop, parent, moniker, here.kind, name)?;
             Ok(Next::Misses(hop, Why::NoOffer))
         }
     }
 }
 
-/// What the instance is offered by its parent, which has this declaration, else by its creation.
+/// What the hop's instance is offered by its parent, which has this declaration, else by its
+/// creation.
 fn offered_by<'a, V: View>(
     view: &'a V,
     decl: &'a Decl,
-    inc: u64,
-    kind: Kind,
+    parent: u64,
+    here: &Hop,
     name: &Name,
 ) -> Option<&'a Give>
-    ensures { (r : Row) → row_of (V.rows view.now) inc ≡ Some r
+    requires orderly { IsOrderly (V.rows view.now) (V.next_inc view.now) }
+    requires placed { IsPlaced (V.rows view.now) here.now }
+    requires parent { let row = row_of (V.rows view.now) here.now.inc in
+        option_and_then (λ r. r.parent) row ≡ Some parent }
+    ensures { (r : Row) → row_of (V.rows view.now) here.now.inc ≡ Some r
         → option_and_then (decl_of (V.rows view.now)) r.parent ≡ Some decl.now
         → option_copied result
-        ≡ option_and_then (λ c. spec.offered decl.now c r.gives kind name.now) r.name }
+        ≡ option_and_then (λ c. spec.offered decl.now c r.gives here.now.kind name.now) r.name }
 {
-    let child = view.name(inc)?;
-    if let Some(offer) = offered_to(view, decl, inc, child, kind, name) {
+    let child = name_at(view, parent, here)?;
+    if let Some(offer) = offered_to(view, decl, here.inc, child, here.kind, name) {
         return Some(&offer.give);
     }
-    let gives = view.gives(inc)?;
-    find::give(gives.as_slice(), kind, name)
+    let gives = view.gives(here.inc)?;
+    find::give(gives.as_slice(), here.kind, name)
+}
+
+/// The name of the hop's instance among the children of this parent, the last one of the hop.
+fn name_at<'a, V: View>(view: &'a V, _parent: u64, here: &'a Hop) -> Option<&'a ChildName>
+    requires orderly { IsOrderly (V.rows view.now) (V.next_inc view.now) }
+    requires placed { IsPlaced (V.rows view.now) here.now }
+    requires parent { let row = row_of (V.rows view.now) here.now.inc in
+        option_and_then (λ r. r.parent) row ≡ Some _parent }
+    ensures { option_copied result ≡ name_of (V.rows view.now) here.now.inc }
+{
+    match here.moniker.parts.as_slice().last() {
+        Some(name) => Some(name.get()),
+        None => view.name(here.inc),
+    }
 }
 
 /// The offer to the instance, which has this name, by this declaration of its parent.
@@ -198,13 +229,13 @@ fn offered_to<'a, V: View>(
 }
 
 /// What comes from a child, if it is there.
-fn below<V: View>(
+fn below<'a, V: View>(
     alloc: Global,
-    view: &V,
+    view: &'a V,
     child: Option<u64>,
     kind: Kind,
-    name: &Name,
-) -> Result<Next, Memory>
+    name: &'a Name,
+) -> Result<Next<'a>, Memory>
     ensures { IfOk result (λ found. as_next found
         ≡ spec.from_child (V.rows view.now) kind name.now child) }
 {
@@ -214,30 +245,34 @@ fn below<V: View>(
     let Some(decl) = view.decl(inc) else {
         return Ok(Next::Needs(inc));
     };
+    let moniker = moniker(alloc, view, inc)?;
     match find::give(decl.exposes.as_slice(), kind, name) {
         Some(give) => {
-            let station = expose_station(alloc, view, inc, give)?;
+            let station = expose_station(view, inc, moniker, give)?;
             Ok(Next::To(station))
         }
         None => {
-            let hop = bare_hop(alloc, view, StepKind::ExposeHop, inc, kind, name)?;
+            let hop = bare_hop(view, StepKind::ExposeHop, inc, moniker, kind, name)?;
             Ok(Next::Misses(hop, Why::NoExpose))
         }
     }
 }
 
-/// What comes from the instance itself.
-fn own<V: View>(alloc: Global, view: &V, inc: u64, kind: Kind, name: &Name) -> Result<Next, Memory>
+/// What comes from the hop's instance itself.
+fn own<'a, V: View>(view: &'a V, here: &Hop, name: &'a Name) -> Result<Next<'a>, Memory>
+    requires placed { IsPlaced (V.rows view.now) here.now }
     ensures { IfOk result (λ found. as_next found
-        ≡ spec.by_capability (V.rows view.now) inc (option_and_then
-        (λ d. spec.capability_of d kind name.now) (decl_of (V.rows view.now) inc))) }
+        ≡ spec.by_capability (V.rows view.now) here.now.inc (option_and_then
+        (λ d. spec.capability_of d here.now.kind name.now) (decl_of (V.rows view.now)
+        here.now.inc))) }
 {
-    let Some(decl) = view.decl(inc) else {
+    let Some(decl) = view.decl(here.inc) else {
         return Ok(Next::NoChild);
     };
-    match find::capability(decl, kind, name) {
+    match find::capability(decl, here.kind, name) {
         Some(capability) => {
-            let station = capability_station(alloc, view, inc, capability)?;
+            let moniker = here.moniker.clone()?;
+            let station = capability_station(view, here.inc, moniker, capability)?;
             Ok(Next::To(station))
         }
         None => Ok(Next::NoChild),

@@ -2,27 +2,27 @@
 
 ghost use Rattle.std.specs.Prelude.{◌≡◌, IfOk, Some};
 ghost use Rattle.cm_decl.specs.Graph as graph;
+ghost use Rattle.cm_world.specs.Rows.{moniker_of};
 ghost use Rattle.cm_world.specs.Stations as spec;
-ghost use Rattle.cm_walk.specs.declared.station.Source.TheVariants as source;
 ghost use Rattle.cm_walk.specs.Walking.{as_station};
 
 use crate::hop::bare_hop;
 use cm_decl::{Capability, Give, Kind, Origin, Usage};
-use cm_names::{Availability, CapPath, Dependency, Memory, Name, Rights, SubDir};
+use cm_names::{Availability, CapPath, Dependency, Memory, Moniker, Name, Rights, SubDir};
 use cm_world::{Builtin, Hop, StepKind, View};
 use std::alloc::Global;
 
 /// A hop, with what leads on from it.
 #[derive(Drop)]
-pub(crate) struct Station {
+pub(crate) struct Station<'a> {
     pub hop: Hop,
-    pub source: Source,
+    pub source: Source<'a>,
 }
 
-impl Station {
+impl<'a> Station<'a> {
     /// The hop alone.
     pub(crate) fn into_hop(self) -> Hop
-        ensures { result ≡ self.hop }
+        ensures { result ≡ self.entry.hop }
     {
         self.hop
     }
@@ -30,40 +30,39 @@ impl Station {
 
 /// What leads on from a hop.
 #[derive(Drop)]
-pub(crate) enum Source {
+pub(crate) enum Source<'a> {
     /// The row of a declaration: where it says that the capability comes from, the name there,
     /// and the part of the directory that it passes on, if it isn't the whole.
-    Row(Origin, Name, Option<SubDir>),
+    Row(&'a Origin, &'a Name, &'a Option<SubDir>),
     /// Nothing: the hop is an end, which provides the capability at this path.
     End(CapPath),
 }
 
-/// The station of a use.
-pub(crate) fn use_station<V: View>(
-    alloc: Global,
+/// The station of a use of the instance, which stands there.
+pub(crate) fn use_station<'a, V: View>(
     view: &V,
     inc: u64,
-    usage: &Usage,
-) -> Result<Station, Memory>
+    moniker: Moniker,
+    usage: &'a Usage,
+) -> Result<Station<'a>, Memory>
+    requires { moniker ≡ moniker_of (V.rows view.now) inc }
     ensures { IfOk result (λ made. as_station made
         ≡ spec.use_station (V.rows view.now) inc usage.now) }
 {
-    let bare = bare_hop(alloc, view, StepKind::UseHop, inc, usage.kind, &usage.name)?;
-    let source = source_of(&usage.from, &usage.name, &usage.subdir)?;
+    let bare = bare_hop(
+        view,
+        StepKind::UseHop,
+        inc,
+        moniker,
+        usage.kind,
+        &usage.name,
+    )?;
+    let source = Source::Row(&usage.from, &usage.name, &usage.subdir);
     let strong = is_strong(usage.dependency);
     Ok(Station {
         hop: stating(bare, usage.rights, usage.availability, strong),
         source,
     })
-}
-
-/// What the row of a declaration names as its source.
-fn source_of(from: &Origin, name: &Name, subdir: &Option<SubDir>) -> Result<Source, Memory>
-    ensures { IfOk result (λ made. made ≡ source.Row from.now name.now subdir.now) }
-{
-    let name = name.clone()?;
-    let subdir = subdir.clone()?;
-    Ok(Source::Row(from.clone()?, name, subdir))
 }
 
 /// The hop with what its row states.
@@ -93,19 +92,20 @@ fn is_strong(dependency: Dependency) -> bool
 }
 
 /// The station of what is given: its hop has its name at the target.
-fn give_station<V: View>(
-    alloc: Global,
+fn give_station<'a, V: View>(
     view: &V,
     step: StepKind,
     inc: u64,
-    give: &Give,
+    moniker: Moniker,
+    give: &'a Give,
     strong: bool,
-) -> Result<Station, Memory>
+) -> Result<Station<'a>, Memory>
+    requires { moniker ≡ moniker_of (V.rows view.now) inc }
     ensures { IfOk result (λ made. as_station made
         ≡ spec.give_station (V.rows view.now) step inc give.now strong) }
 {
-    let bare = bare_hop(alloc, view, step, inc, give.kind, &give.target_name)?;
-    let source = source_of(&give.from, &give.source_name, &give.subdir)?;
+    let bare = bare_hop(view, step, inc, moniker, give.kind, &give.target_name)?;
+    let source = Source::Row(&give.from, &give.source_name, &give.subdir);
     Ok(Station {
         hop: stating(bare, give.rights, give.availability, strong),
         source,
@@ -113,40 +113,46 @@ fn give_station<V: View>(
 }
 
 /// The station of an offer of the instance.
-pub(crate) fn offer_station<V: View>(
-    alloc: Global,
+pub(crate) fn offer_station<'a, V: View>(
     view: &V,
     inc: u64,
-    give: &Give,
-) -> Result<Station, Memory>
+    moniker: Moniker,
+    give: &'a Give,
+) -> Result<Station<'a>, Memory>
+    requires { moniker ≡ moniker_of (V.rows view.now) inc }
     ensures { IfOk result (λ made. as_station made
         ≡ spec.offer_station (V.rows view.now) inc give.now) }
 {
     give_station(
-        alloc,
         view,
         StepKind::OfferHop,
         inc,
+        moniker,
         give,
         is_strong(give.dependency),
     )
 }
 
 /// The station of an expose of the instance, which counts as strong.
-pub(crate) fn expose_station<V: View>(
-    alloc: Global,
+pub(crate) fn expose_station<'a, V: View>(
     view: &V,
     inc: u64,
-    give: &Give,
-) -> Result<Station, Memory>
+    moniker: Moniker,
+    give: &'a Give,
+) -> Result<Station<'a>, Memory>
+    requires { moniker ≡ moniker_of (V.rows view.now) inc }
     ensures { IfOk result (λ made. as_station made
         ≡ spec.expose_station (V.rows view.now) inc give.now) }
 {
-    give_station(alloc, view, StepKind::ExposeHop, inc, give, true)
+    give_station(view, StepKind::ExposeHop, inc, moniker, give, true)
 }
 
 /// The station of an end that states these rights and provides the capability at this path.
-fn end_station(bare: Hop, rights: Option<Rights>, path: &CapPath) -> Result<Station, Memory>
+fn end_station<'a>(
+    bare: Hop,
+    rights: Option<Rights>,
+    path: &'a CapPath,
+) -> Result<Station<'a>, Memory>
     ensures { IfOk result (λ made. as_station made
         ≡ spec.end_station (record bare { rights = rights }) path.now) }
 {
@@ -158,47 +164,51 @@ fn end_station(bare: Hop, rights: Option<Rights>, path: &CapPath) -> Result<Stat
 }
 
 /// The station of a capability that the instance provides.
-pub(crate) fn capability_station<V: View>(
-    alloc: Global,
+pub(crate) fn capability_station<'a, V: View>(
     view: &V,
     inc: u64,
-    capability: &Capability,
-) -> Result<Station, Memory>
+    moniker: Moniker,
+    capability: &'a Capability,
+) -> Result<Station<'a>, Memory>
+    requires { moniker ≡ moniker_of (V.rows view.now) inc }
     ensures { IfOk result (λ made. as_station made
         ≡ spec.capability_station (V.rows view.now) inc capability.now) }
 {
     let step = StepKind::CapabilityHop;
-    let bare = bare_hop(alloc, view, step, inc, capability.kind, &capability.name)?;
+    let bare = bare_hop(view, step, inc, moniker, capability.kind, &capability.name)?;
     end_station(bare, capability.rights, &capability.path)
 }
 
 /// The station of a capability that stands above the root.
-pub(crate) fn builtin_station<V: View>(
-    alloc: Global,
+pub(crate) fn builtin_station<'a, V: View>(
     view: &V,
     inc: u64,
-    builtin: &Builtin,
-) -> Result<Station, Memory>
+    moniker: Moniker,
+    builtin: &'a Builtin,
+) -> Result<Station<'a>, Memory>
+    requires { moniker ≡ moniker_of (V.rows view.now) inc }
     ensures { IfOk result (λ made. as_station made
         ≡ spec.builtin_station (V.rows view.now) inc builtin.now) }
 {
     let step = StepKind::BuiltinHop;
-    let bare = bare_hop(alloc, view, step, inc, builtin.kind, &builtin.name)?;
+    let bare = bare_hop(view, step, inc, moniker, builtin.kind, &builtin.name)?;
     end_station(bare, builtin.rights, &builtin.path)
 }
 
 /// The station of what the framework provides to the instance, at the path `/svc/` and its name.
-pub(crate) fn framework_station<V: View>(
+pub(crate) fn framework_station<'a, V: View>(
     alloc: Global,
     view: &V,
     inc: u64,
+    moniker: Moniker,
     kind: Kind,
-    name: &Name,
-) -> Result<Station, Memory>
+    name: &'a Name,
+) -> Result<Station<'a>, Memory>
+    requires { moniker ≡ moniker_of (V.rows view.now) inc }
     ensures { IfOk result (λ made. as_station made
         ≡ spec.framework_station (V.rows view.now) inc kind name.now) }
 {
-    let hop = bare_hop(alloc, view, StepKind::FrameworkHop, inc, kind, name)?;
+    let hop = bare_hop(view, StepKind::FrameworkHop, inc, moniker, kind, name)?;
     let path = CapPath::service(alloc, name)?;
     Ok(Station {
         hop,

@@ -13,6 +13,10 @@ use crate::station::{Source, Station};
 use cm_names::{Availability, CapPath, List, Memory, Rights, SubDir, Text};
 use cm_world::{Hop, Provider, Route, StepKind, Why};
 use std::alloc::Global;
+use std::mem;
+
+/// For so many hops a trail has room at first: those of a use, of an offer and of the capability.
+const FIRST_ROOM: usize = 3;
 
 /// What is kept of the stations behind the one that is tried.
 #[derive(Drop)]
@@ -30,17 +34,18 @@ pub(crate) struct Trail {
 }
 
 impl Trail {
-    /// The trail before the first station, which has this hop.
-    pub(crate) fn new(alloc: Global, first: &Hop) -> Trail
-        ensures { (s : Place) → s.hop ≡ first.now → IsBehind [] s result }
+    /// The trail before the first station, which has this hop. It has room for the hops of a route
+    /// that leads up to the root, where that isn't too deep. `Err` where memory runs out.
+    pub(crate) fn new(alloc: Global, first: &Hop) -> Result<Trail, Memory>
+        ensures { IfOk result (λ made. (s : Place) → s.hop ≡ first.now → IsBehind [] s made) }
     {
-        Trail {
-            hops: List::new(alloc),
+        Ok(Trail {
+            hops: List::with_capacity(alloc, FIRST_ROOM)?,
             subdirs: List::new(alloc),
             availability: None,
             from_use: first.step == StepKind::UseHop,
             asked: first.rights,
-        }
+        })
     }
 
     /// Why the hop is too weak, if it is: in its availability, else in its rights.
@@ -88,30 +93,36 @@ impl Trail {
         }
     }
 
-    /// The trail with this station at its end, before the next one, which has this hop.
-    pub(crate) fn with(self, here: Station, next: &Hop) -> Result<Trail, Memory>
-        ensures { IfOk result (λ made. (front : Seq Place) (t : Place)
-            → IsBehind front (as_station here) self → t.hop ≡ next.now
-            → IsBehind (front ++ as_station here ∷ []) t made) }
+    /// Puts this station at the end, before the next one, which has this hop. `Err` where memory
+    /// runs out.
+    pub(crate) fn push(&mut self, here: Station<'_>, next: &Hop) -> Result<(), Memory>
+        ensures { OnOk result ((front : Seq Place) (t : Place)
+            → IsBehind front (as_station here.entry) self.old → t.hop ≡ next.now
+            → IsBehind (front ++ as_station here.entry ∷ []) t self.new) }
     {
-        let mut trail = self;
-        trail.asked = asked_then(trail.from_use, trail.asked, next.rights);
-        trail.availability = standing_then(trail.availability, here.hop.availability);
-        trail.hops.push(here.hop)?;
-        push_subdir(&mut trail.subdirs, into_subdir(here.source))?;
-        Ok(trail)
+        self.asked = asked_then(self.from_use, self.asked, next.rights);
+        self.availability = standing_then(self.availability, here.hop.availability);
+        push_subdir(&mut self.subdirs, &here.source)?;
+        self.hops.push(here.into_hop())?;
+        Ok(())
     }
 
-    /// The route that ends at this hop, where the capability is provided at this path.
-    pub(crate) fn into_route(self, alloc: Global, hop: Hop, path: &CapPath) -> Result<Route, Memory>
-        ensures { IfOk result (λ made. (front : Seq Place) (s : Place) → IsBehind front s self
+    /// Takes out the route that ends at this hop, where the capability is provided at this path.
+    pub(crate) fn take_route(
+        &mut self,
+        alloc: Global,
+        hop: Hop,
+        path: &CapPath,
+    ) -> Result<Route, Memory>
+        ensures { IfOk result (λ made. (front : Seq Place) (s : Place) → IsBehind front s self.old
             → s.hop
             ≡ hop → s.path ≡ path.now → made ≡ spec.route_of front s) }
     {
         let rights = self.asked;
         let provider = provider(&hop)?;
-        let path = path_at(alloc, hop.step, path, self.subdirs)?;
-        let mut hops = self.hops;
+        let subdirs = mem::replace(&mut self.subdirs, List::new(alloc));
+        let path = path_at(alloc, hop.step, path, subdirs)?;
+        let mut hops = mem::replace(&mut self.hops, List::new(alloc));
         hops.push(hop)?;
         Ok(Route {
             hops,
@@ -165,24 +176,17 @@ fn asked_then(from_use: bool, asked: Option<Rights>, stated: Option<Rights>) -> 
     }
 }
 
-/// The subdirectory that the station's row states.
-fn into_subdir(source: Source) -> Option<SubDir>
-    ensures { result ≡ subdir_of source }
+/// Puts the subdirectory that the station's row states at the end, if there is one.
+fn push_subdir(subdirs: &mut List<SubDir>, source: &Source<'_>) -> Result<(), Memory>
+    ensures { OnOk result (subdirs.new ≡ subdirs.old ++ option_to_list (subdir_of source.now)) }
 {
     match source {
-        Source::Row(_from, _name, subdir) => subdir,
-        Source::End(_path) => None,
+        Source::Row(_from, _name, Some(subdir)) => {
+            subdirs.push(subdir.clone()?)?;
+            Ok(())
+        }
+        _ => Ok(()),
     }
-}
-
-/// Puts the subdirectory at the end, if there is one.
-fn push_subdir(subdirs: &mut List<SubDir>, subdir: Option<SubDir>) -> Result<(), Memory>
-    ensures { OnOk result (subdirs.new ≡ subdirs.old ++ option_to_list subdir) }
-{
-    if let Some(subdir) = subdir {
-        subdirs.push(subdir)?;
-    }
-    Ok(())
 }
 
 /// Who provides the capability at an end.

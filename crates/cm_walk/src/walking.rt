@@ -9,10 +9,10 @@ ghost use Rattle.cm_world.specs.Stations.{Station as Place};
 ghost use Rattle.cm_world.specs.Sound.{IsOrderly};
 ghost use Rattle.cm_world.specs.Ending.{KeepsDown};
 ghost use Rattle.cm_walk.specs.Walking.{as_station, as_next, as_named};
-ghost use Rattle.cm_walk.specs.Walking.{EndsAt, IsBehind, refused, Leads, Decides, Steps};
+ghost use Rattle.cm_walk.specs.Walking.{EndsAt, IsBehind, IsPlaced, refused, Leads, Decides, Steps};
 
 use crate::find;
-use crate::hop::bare_hop;
+use crate::hop::{bare_hop, moniker};
 use crate::next::{Next, next_of};
 use crate::station::{Station, expose_station, offer_station, use_station};
 use crate::trail::Trail;
@@ -23,18 +23,18 @@ use std::alloc::Global;
 
 /// What one step of a walk comes to.
 #[derive(Drop)]
-pub(crate) enum Step {
+pub(crate) enum Step<'a> {
     /// Nothing is decided at the station, and the walk goes on to this one.
-    On(Trail, Station),
+    On(Station<'a>),
     /// This is decided.
     Done(Walked),
 }
 
 /// What a start names.
 #[derive(Drop)]
-pub(crate) enum Begun {
+pub(crate) enum Begun<'a> {
     /// A use, an expose or an offer.
-    At(Station),
+    At(Station<'a>),
     /// A use or an offer that isn't there.
     NoUse,
     /// An expose that isn't there: the hop that is missing.
@@ -80,7 +80,7 @@ fn failed(alloc: Global, hop: Hop, why: Why) -> Result<Walked, Memory>
 }
 
 /// The end of a walk that fails at this hop.
-fn done_failed(alloc: Global, hop: Hop, why: Why) -> Result<Step, Memory>
+fn done_failed<'a>(alloc: Global, hop: Hop, why: Why) -> Result<Step<'a>, Memory>
     ensures { IfOk result (λ made. made ≡ step.Done (walked.Failed hop why)) }
 {
     let walked = failed(alloc, hop, why)?;
@@ -88,7 +88,7 @@ fn done_failed(alloc: Global, hop: Hop, why: Why) -> Result<Step, Memory>
 }
 
 /// The end of a walk at this hop, which leaves the capability out on purpose.
-fn done_void(alloc: Global, hop: Hop) -> Result<Step, Memory>
+fn done_void<'a>(alloc: Global, hop: Hop) -> Result<Step<'a>, Memory>
     ensures { IfOk result (λ made. made ≡ step.Done (walked.Void hop)) }
 {
     let hop = Shared::new(alloc, hop)?;
@@ -96,7 +96,7 @@ fn done_void(alloc: Global, hop: Hop) -> Result<Step, Memory>
 }
 
 /// What the start names.
-fn begin<V: View>(alloc: Global, view: &V, start: &Start) -> Result<Begun, Memory>
+fn begin<'a, V: View>(alloc: Global, view: &'a V, start: &Start) -> Result<Begun<'a>, Memory>
     ensures named { IfOk result (λ begun. as_named begun
         ≡ spec.named_by (V.rows view.now) start.now) }
     ensures orderly { IsOrderly (V.rows view.now) (V.next_inc view.now) }
@@ -109,7 +109,12 @@ fn begin<V: View>(alloc: Global, view: &V, start: &Start) -> Result<Begun, Memor
 }
 
 /// The use of that path.
-fn begin_use<V: View>(alloc: Global, view: &V, inc: u64, path: &CapPath) -> Result<Begun, Memory>
+fn begin_use<'a, V: View>(
+    alloc: Global,
+    view: &'a V,
+    inc: u64,
+    path: &CapPath,
+) -> Result<Begun<'a>, Memory>
     ensures named { IfOk result (λ begun. as_named begun
         ≡ spec.named_by (V.rows view.now) (Start.UseAt inc path.now)) }
     ensures orderly { IsOrderly (V.rows view.now) (V.next_inc view.now) }
@@ -119,7 +124,8 @@ fn begin_use<V: View>(alloc: Global, view: &V, inc: u64, path: &CapPath) -> Resu
     };
     match find::usage(decl, path) {
         Some(usage) => {
-            let station = use_station(alloc, view, inc, usage)?;
+            let moniker = moniker(alloc, view, inc)?;
+            let station = use_station(view, inc, moniker, usage)?;
             Ok(Begun::At(station))
         }
         None => Ok(Begun::NoUse),
@@ -127,7 +133,12 @@ fn begin_use<V: View>(alloc: Global, view: &V, inc: u64, path: &CapPath) -> Resu
 }
 
 /// The offer at that index.
-fn begin_offer<V: View>(alloc: Global, view: &V, inc: u64, index: u32) -> Result<Begun, Memory>
+fn begin_offer<'a, V: View>(
+    alloc: Global,
+    view: &'a V,
+    inc: u64,
+    index: u32,
+) -> Result<Begun<'a>, Memory>
     ensures named { IfOk result (λ begun. as_named begun
         ≡ spec.named_by (V.rows view.now) (Start.OfferAt inc index)) }
     ensures orderly { IsOrderly (V.rows view.now) (V.next_inc view.now) }
@@ -137,7 +148,8 @@ fn begin_offer<V: View>(alloc: Global, view: &V, inc: u64, index: u32) -> Result
     };
     match decl.offers.get(index as usize) {
         Some(offer) => {
-            let station = offer_station(alloc, view, inc, &offer.give)?;
+            let moniker = moniker(alloc, view, inc)?;
+            let station = offer_station(view, inc, moniker, &offer.give)?;
             Ok(Begun::At(station))
         }
         None => Ok(Begun::NoUse),
@@ -145,7 +157,12 @@ fn begin_offer<V: View>(alloc: Global, view: &V, inc: u64, index: u32) -> Result
 }
 
 /// The expose of that name. A missing one has the kind of a protocol.
-fn begin_expose<V: View>(alloc: Global, view: &V, inc: u64, name: &Name) -> Result<Begun, Memory>
+fn begin_expose<'a, V: View>(
+    alloc: Global,
+    view: &'a V,
+    inc: u64,
+    name: &Name,
+) -> Result<Begun<'a>, Memory>
     ensures named { IfOk result (λ begun. as_named begun
         ≡ spec.named_by (V.rows view.now) (Start.ExposeAt inc name.now)) }
     ensures orderly { IsOrderly (V.rows view.now) (V.next_inc view.now) }
@@ -154,65 +171,78 @@ fn begin_expose<V: View>(alloc: Global, view: &V, inc: u64, name: &Name) -> Resu
         Some(decl) => find::expose(decl, name),
         None => None,
     };
+    let moniker = moniker(alloc, view, inc)?;
     match found {
         Some(give) => {
-            let station = expose_station(alloc, view, inc, give)?;
+            let station = expose_station(view, inc, moniker, give)?;
             Ok(Begun::At(station))
         }
         None => {
-            let hop = bare_hop(alloc, view, StepKind::ExposeHop, inc, Kind::Protocol, name)?;
+            let hop = bare_hop(
+                view,
+                StepKind::ExposeHop,
+                inc,
+                moniker,
+                Kind::Protocol,
+                name,
+            )?;
             Ok(Begun::NoneExposed(hop))
         }
     }
 }
 
 /// Walks from the station to what is decided.
-fn follow<V: View>(alloc: Global, view: &V, first: Station) -> Result<Walked, Memory>
+fn follow<'a, V: View>(alloc: Global, view: &'a V, first: Station<'a>) -> Result<Walked, Memory>
     requires orderly { IsOrderly (V.rows view.now) (V.next_inc view.now) }
     requires down { KeepsDown (as_station first) }
+    requires placed { IsPlaced (V.rows view.now) first.hop }
     ensures { IfOk result (λ walked. spec.IsVerdict (V.rows view.now) (V.builtins view.now)
-        (as_station first) walked) }
+        (as_station first.entry) walked) }
 {
-    let mut trail = Trail::new(alloc, &first.hop);
+    let mut trail = Trail::new(alloc, &first.hop)?;
     let mut here = first;
     'walk: loop {
-        match try_station(alloc, view, trail, here)? {
-            Step::On(behind, next) => {
-                trail = behind;
-                here = next;
-            }
+        match try_station(alloc, view, &mut trail, here)? {
+            Step::On(next) => here = next,
             Step::Done(walked) => return Ok(walked),
         }
     }
 }
 
 /// Tries the station behind this trail, and goes on to the next one where nothing is decided.
-fn try_station<V: View>(
+fn try_station<'a, V: View>(
     alloc: Global,
-    view: &V,
-    trail: Trail,
-    here: Station,
-) -> Result<Step, Memory>
-    ensures { IfOk result (λ step. (front : Seq Place) → IsBehind front (as_station here) trail
-        → Steps (V.rows view.now) (V.builtins view.now) front (as_station here) step) }
+    view: &'a V,
+    trail: &mut Trail,
+    here: Station<'a>,
+) -> Result<Step<'a>, Memory>
+    requires placed { IsPlaced (V.rows view.now) here.hop }
+    ensures { IfOk result (λ step. (front : Seq Place) → IsBehind front (as_station here.entry) trail.old
+        → Steps (V.rows view.now) (V.builtins view.now) front (as_station here.entry) trail.new step) }
 {
     let next = next_of(alloc, view, &here)?;
     decide(alloc, trail, here, next)
 }
 
 /// Does what is decided at the station whose next this is.
-fn decide(alloc: Global, trail: Trail, here: Station, next: Next) -> Result<Step, Memory>
-    ensures { IfOk result (λ step. (front : Seq Place) → IsBehind front (as_station here) trail
-        → EndsAt (as_station here) next → Decides front (as_station here) (as_next next) step) }
+fn decide<'a>(
+    alloc: Global,
+    trail: &mut Trail,
+    here: Station<'a>,
+    next: Next<'a>,
+) -> Result<Step<'a>, Memory>
+    ensures { IfOk result (λ step. (front : Seq Place) → IsBehind front (as_station here.entry) trail.old
+        → EndsAt (as_station here.entry) next.entry
+        → Decides front (as_station here.entry) (as_next next.entry) trail.new step) }
 {
-    match refusal(&trail, &here.hop, &next) {
+    match refusal(trail, &here.hop, &next) {
         Some(why) => done_failed(alloc, here.into_hop(), why),
         None => go(alloc, trail, here, next),
     }
 }
 
 /// Why the walk ends at the hop, if it does by the hop itself or by a child that isn't there.
-fn refusal(trail: &Trail, hop: &Hop, next: &Next) -> Option<Why>
+fn refusal(trail: &Trail, hop: &Hop, next: &Next<'_>) -> Option<Why>
     ensures { (front : Seq Place) (s : Place) → s.hop ≡ hop.now → IsBehind front s trail.now
         → option_map (walked.Failed hop.now) result ≡ refused front s (as_next next.now) }
 {
@@ -223,9 +253,15 @@ fn refusal(trail: &Trail, hop: &Hop, next: &Next) -> Option<Why>
 }
 
 /// Does what the next of the station says by itself.
-fn go(alloc: Global, trail: Trail, here: Station, next: Next) -> Result<Step, Memory>
-    ensures { IfOk result (λ step. (front : Seq Place) → IsBehind front (as_station here) trail
-        → EndsAt (as_station here) next → Leads front (as_station here) (as_next next) step) }
+fn go<'a>(
+    alloc: Global,
+    trail: &mut Trail,
+    here: Station<'a>,
+    next: Next<'a>,
+) -> Result<Step<'a>, Memory>
+    ensures { IfOk result (λ step. (front : Seq Place) → IsBehind front (as_station here.entry) trail.old
+        → EndsAt (as_station here.entry) next.entry
+        → Leads front (as_station here.entry) (as_next next.entry) trail.new step) }
 {
     match next {
         Next::To(station) => go_on(trail, here, station),
@@ -238,20 +274,25 @@ fn go(alloc: Global, trail: Trail, here: Station, next: Next) -> Result<Step, Me
 }
 
 /// Goes on to the next station.
-fn go_on(trail: Trail, here: Station, next: Station) -> Result<Step, Memory>
-    ensures { IfOk result (λ step. (front : Seq Place) → IsBehind front (as_station here) trail
-        → Leads front (as_station here) (to.To (as_station next)) step) }
+fn go_on<'a>(trail: &mut Trail, here: Station<'a>, next: Station<'a>) -> Result<Step<'a>, Memory>
+    ensures { IfOk result (λ step. (front : Seq Place) → IsBehind front (as_station here.entry) trail.old
+        → Leads front (as_station here.entry) (to.To (as_station next.entry)) trail.new step) }
 {
-    let trail = trail.with(here, &next.hop)?;
-    Ok(Step::On(trail, next))
+    trail.push(here, &next.hop)?;
+    Ok(Step::On(next))
 }
 
 /// Gives the route that ends at this station, which provides the capability at this path.
-fn arrive(alloc: Global, trail: Trail, here: Station, path: CapPath) -> Result<Step, Memory>
-    ensures { IfOk result (λ step. (front : Seq Place) → IsBehind front (as_station here) trail
-        → path ≡ (as_station here).path → Leads front (as_station here) to.Ends step) }
+fn arrive<'a>(
+    alloc: Global,
+    trail: &mut Trail,
+    here: Station<'a>,
+    path: CapPath,
+) -> Result<Step<'a>, Memory>
+    ensures { IfOk result (λ step. (front : Seq Place) → IsBehind front (as_station here.entry) trail.old
+        → path ≡ (as_station here.entry).path → Leads front (as_station here.entry) to.Ends trail.new step) }
 {
-    let route = trail.into_route(alloc, here.into_hop(), &path)?;
+    let route = trail.take_route(alloc, here.into_hop(), &path)?;
     let route = Shared::new(alloc, route)?;
     Ok(Step::Done(Walked::Given(route)))
 }

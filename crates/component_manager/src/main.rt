@@ -19,7 +19,7 @@ use std::alloc::{AllocError, Global};
 use std::io::ErrorKind;
 use std::process::ExitCode;
 use std::rt::Files;
-use std::{env, io};
+use std::{env, io, mem};
 
 /// The words behind the program's name. Words that can't be read are no words of a command.
 fn words<R: env::Env + Alloc<A = Global>>(rt: &R) -> Result<List<Text>, Memory> {
@@ -82,9 +82,12 @@ fn main(rt: HostRuntime) -> ExitCode {
     );
     let Ran {
         status,
+        book,
         mut door,
         ..
     } = ran;
+    // The system takes the memory of the history back with the process, not entry by entry.
+    mem::forget(book);
     // The socket file would outlive the program.
     door.close();
     ExitCode::from(status)

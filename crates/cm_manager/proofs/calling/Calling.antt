@@ -1,5 +1,5 @@
 -- How a call is put together of its parts.
-use Rattle.std.proofs.Common.{◌≡◌, ℕ, List, Option, None, Result, Ok, Err, IfOk, IsTrue, refl, sym, ap, subst, ◌∙◌}
+use Rattle.std.proofs.Common.{◌≡◌, ℕ, List, Option, None, Result, Ok, Err, IsTrue, refl, sym, ap, subst, ◌∙◌}
 use Rattle.cm_world.specs.declared.frame.Frame.{Frame}
 use Rattle.cm_world.specs.declared.action.ActKind.{ActKind}
 use Rattle.cm_world.specs.declared.action.ActKind.TheVariants as kind
@@ -11,8 +11,6 @@ use Rattle.cm_world.specs.declared.reply.Entry.{Entry}
 use Rattle.cm_world.specs.declared.reply.Reply.{Reply}
 use Rattle.cm_world.specs.declared.answer.Answer.{Answer}
 use Rattle.cm_world.specs.declared.answer.Refusal.{Refusal}
-use Rattle.cm_world.specs.declared.answer.Refusal.TheVariants as refusal
-use Rattle.cm_names.specs.declared.memory.Memory.{Memory}
 use Rattle.cm_names.specs.declared.moniker.Moniker.{Moniker}
 use Rattle.cm_command.specs.declared.command.Command.{Command}
 use Rattle.cm_manager.specs.declared.acted.Acted.{Acted}
@@ -20,16 +18,15 @@ use Rattle.cm_manager.specs.declared.question.Question.{Question}
 use Rattle.cm_manager.specs.declared.question.Question.TheVariants as question
 use Rattle.cm_manager.specs.declared.question.Request.{Request}
 use Rattle.cm_manager.specs.declared.question.Request.TheVariants as request
-use Rattle.cm_manager.specs.Turns.{Later}
-use Rattle.cm_manager.specs.Runs.{Acts, Tries, cut_try}
+use Rattle.cm_manager.specs.Runs.{Acts, Tries}
 use Rattle.cm_manager.specs.Answers.{decided_by, found_by, unless_ended}
 use Rattle.cm_manager.specs.Calls.{Way, Finding, Behind, OnRow, Nothing, Then, Tried, TriedThen, ActedOn, Calls}
 use Rattle.cm_manager.specs.Questions.{requested_by, asked_by, event_for, Requested, AnswersTo}
 use Rattle.cm_manager.specs.Work.{Shelf}
-use Rattle.cm_manager.specs.Contract.{RealmPass, GatesView, IsSamePass, Helps, Performs}
+use Rattle.cm_manager.specs.Contract.{RealmPass, GatesView, Helps, Performs}
 use Rattle.cm_manager.specs.Asking.{frame_in, frame_of, is_asked, is_plain}
 use Rattle.cm_manager.specs.Parts.{Finds}
-use Rattle.cm_manager.proofs.calling.Helping.{helps_then, helps_as, helps_nothing}
+use Rattle.cm_manager.proofs.calling.Helping.{helps_then, helps_as}
 
 -- ---- an event
 
@@ -39,23 +36,9 @@ try_finds shelf f c e m p q g h went row help is by =
     helps_as shelf f (λ x y. Tries f c (event.Find m) x y went) (λ x y. Finding f c (target.Named m) x y row) p q g h (λ way. (went, way, by))
     (subst (λ (e : Event). Helps shelf f (λ x y. Tries f c e x y went) p q g h) is help)
 
--- ---- memory is wanting before the event
-
-pub lost_event : (shelf : Shelf) (e : Event) (p q : RealmPass) (g : GatesView) → IsSamePass (frame_of p) p q → Later p.caller p.seen q.seen → q.mine ≡ p.mine → Helps shelf (frame_of p) (λ x y. Tries (frame_of p) p.caller e x y (Err refusal.Memory)) p q g g
-lost_event shelf e p q g same later mine = helps_nothing shelf (frame_of p) (λ x y. Tries (frame_of p) p.caller e x y (Err refusal.Memory)) p q g same (cut_try later) mine
-
--- an event that was made to find an instance
-pub find_asked : (made : Result Event Memory) (m : Moniker) → IfOk made (λ e. e ≡ event.Find m) → IfOk made (λ e. IsTrue (is_asked e))
-find_asked (Ok e) m is = subst (λ (e : Event). IsTrue (is_asked e)) (sym is) refl
-find_asked (Err x) m is = tt
-
-pub find_plain : (made : Result Event Memory) (m : Moniker) → IfOk made (λ e. e ≡ event.Find m) → IfOk made (λ e. IsTrue (is_plain e))
-find_plain (Ok e) m is = subst (λ (e : Event). IsTrue (is_plain e)) (sym is) refl
-find_plain (Err x) m is = tt
-
 -- ---- a request
 
-request_asked : (r : Request) (i : ℕ) → IsTrue (is_asked (event_for r i))
+pub request_asked : (r : Request) (i : ℕ) → IsTrue (is_asked (event_for r i))
 request_asked (request.Create coll name url gives) i = refl
 request_asked (request.List coll) i = refl
 request_asked (request.OpenUse path) i = refl
@@ -65,7 +48,7 @@ request_asked request.Show i = refl
 request_asked request.Survey i = refl
 request_asked request.Exited i = refl
 
-request_plain : (r : Request) (i : ℕ) → IsTrue (is_plain (event_for r i))
+pub request_plain : (r : Request) (i : ℕ) → IsTrue (is_plain (event_for r i))
 request_plain (request.Create coll name url gives) i = refl
 request_plain (request.List coll) i = refl
 request_plain (request.OpenUse path) i = refl
@@ -74,15 +57,6 @@ request_plain (request.Route path) i = refl
 request_plain request.Show i = refl
 request_plain request.Survey i = refl
 request_plain request.Exited i = refl
-
--- an event that was made for a request
-pub made_asked : (made : Result Event Memory) (r : Request) (i : ℕ) → IfOk made (λ e. e ≡ event_for r i) → IfOk made (λ e. IsTrue (is_asked e))
-made_asked (Ok e) r i is = subst (λ (e : Event). IsTrue (is_asked e)) (sym is) (request_asked r i)
-made_asked (Err x) r i is = tt
-
-pub made_plain : (made : Result Event Memory) (r : Request) (i : ℕ) → IfOk made (λ e. e ≡ event_for r i) → IfOk made (λ e. IsTrue (is_plain e))
-made_plain (Ok e) r i is = subst (λ (e : Event). IsTrue (is_plain e)) (sym is) (request_plain r i)
-made_plain (Err x) r i is = tt
 
 -- ---- questions
 

@@ -3,7 +3,6 @@ use Rattle.std.proofs.Common.{◌≡◌, ℕ, List, Bool, true, false, Option, S
 use Rattle.cm_world.specs.declared.action.ActKind.TheVariants as kind
 use Rattle.cm_world.specs.declared.answer.Answer.{Answer}
 use Rattle.cm_world.specs.declared.answer.Refusal.{Refusal}
-use Rattle.cm_world.specs.declared.answer.Refusal.TheVariants as refusal
 use Rattle.cm_world.specs.declared.event.Event.{Event}
 use Rattle.cm_world.specs.declared.frame.Frame.{Frame}
 use Rattle.cm_world.specs.declared.reply.Entry.{Entry}
@@ -17,7 +16,7 @@ use Rattle.cm_manager.specs.declared.question.Request.TheVariants as request
 use Rattle.cm_manager.specs.Turns.{Later, world_after}
 use Rattle.cm_manager.specs.Answers.{unless_ended, decided_by, created_in, has_left}
 use Rattle.cm_manager.specs.Calls.{Way, Then, TriedThen, OnceCreated, SweptLeft}
-use Rattle.cm_manager.specs.Questions.{event_for, started_for, swept_for, follow_of, FollowsBy, Requested}
+use Rattle.cm_manager.specs.Questions.{started_for, swept_for, follow_of, FollowsBy}
 use Rattle.cm_manager.specs.Runs.{Acts, Tries, Onces, ends_eager}
 use Rattle.cm_manager.specs.Sweeps.{Sweeps}
 use Rattle.cm_manager.specs.Asking.{frame_of}
@@ -46,10 +45,6 @@ something_follows shelf e follow Part i went end a p q r g h k name first second
     helps_then shelf f (λ x y. Tries f c (e i) x y went) (λ x y. Part f c x y) (λ x y. TriedThen f c e (follow f c) i x y a) p q r g h k
     (λ way part. record { went = went; h₁ = q.seen; end = end; tries = way; follows = name f c q.seen r.seen part; answer = is }) first
     (by_first (λ f c. Helps shelf f (λ x y. Part f c x y) q r h k) p q first.same.frame first.same.caller second)
-
--- the event that was tried, by what it is
-pub tried_as : (shelf : Shelf) (f : Frame) (c : ℕ) (e e' : Event) (went : Result Reply Refusal) (p q : RealmPass) (g h : GatesView) → e ≡ e' → Helps shelf f (λ x y. Tries f c e x y went) p q g h → Helps shelf f (λ x y. Tries f c e' x y went) p q g h
-tried_as shelf f c e e' went p q g h is help = subst (λ (e : Event). Helps shelf f (λ x y. Tries f c e x y went) p q g h) is help
 
 -- ---- a create
 

@@ -167,10 +167,10 @@ turned_by p q s t e (Err nostep.HistoryFull) is step =
     ((n.0, lacks), n.1)
 turned_by p q s t e (Err nostep.Memory) is step = nothing_by p q s t is
 
--- an action that the event has to wait for is pending
-pub busy_by : (p q : RealmPass) (s t : Story) (c : ℕ) (e : Event) (r : Result Reply NoStep) → Took p q s t (entries_of c e r) → IfErr r (IsBusy (world_of s)) → IfErr r (IsBusy (world_after (frame_of p) q.seen))
+-- what the event has to wait for, it has to wait for in what the pass has seen then
+pub busy_by : (p q : RealmPass) (s t : Story) (c : ℕ) (e : Event) (r : Result Reply NoStep) → Took p q s t (entries_of c e r) → IfErr r (IsBusy (world_of s) e) → IfErr r (IsBusy (world_after (frame_of p) q.seen) e)
 busy_by p q s t c e (Ok r) is busy = tt
-busy_by p q s t c e (Err x) is busy = found_by p q s t (λ (w : World). IsBusy w x) is busy
+busy_by p q s t c e (Err x) is busy = found_by p q s t (λ (w : World). IsBusy w e x) is busy
 
 pub told_by : (p q : RealmPass) (s t : Story) (e : Event) (o : Outcome) → Took p q s t (entry_of p.caller e (reply.Ended o) ∷ []) → Told p q e o
 told_by p q s t e o is = record {

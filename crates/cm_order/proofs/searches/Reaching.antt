@@ -1,12 +1,12 @@
 -- Ways down that are kept from one pick to the next.
-use Rattle.std.proofs.Common.{◌≡◌, ℕ, ◌<◌, ◌≤◌, List, [], ◌∷◌, ◌++◌, false, not, Option, Some, None, IsTrue, refl, sym, ◌∙◌, ap, subst, inl, inr, arith}
+use Rattle.std.proofs.Common.{◌≡◌, ℕ, zero, suc, ◌<◌, ◌≤◌, List, [], ◌∷◌, ◌++◌, length, get_or, le_of_suc-le-suc, true, false, not, Option, Some, None, IsTrue, refl, sym, ◌∙◌, ap, subst, inl, inr, arith}
 use Rattle.std.specs.Prelude.{IfSome}
 use Rattle.std.specs.Option.{option_map_or}
 use Rattle.std.specs.Ordering.{nat_cmp}
 use Rattle.std.specs.BTreeMap.{get}
 use Rattle.cm_decl.proofs.Sameness.{never}
 use Rattle.cm_world.specs.declared.row.Row.{Row}
-use Rattle.cm_world.specs.Rows.{row_of, is_below, is_subtree_shut}
+use Rattle.cm_world.specs.Rows.{row_of, is_below, is_subtree_shut, has_closing, is_closing}
 use Rattle.cm_world.specs.Sound.{IsOrderly}
 use Rattle.cm_world.specs.Stopping.{IsFree, outermost}
 use Rattle.cm_world.proofs.trees.Finding.{some_same}
@@ -16,9 +16,10 @@ use Rattle.cm_order.specs.declared.plan.Plan.{Plan}
 use Rattle.cm_order.specs.Kids.{IsKid}
 use Rattle.cm_order.specs.declared.search.Visit.{Visit}
 use Rattle.cm_order.specs.declared.search.Visit.TheVariants.{Below}
-use Rattle.cm_order.specs.Glances.{IsFreeKid, IsGlance}
+use Rattle.cm_order.specs.Glances.{IsFreeKid, IsGlance, AreKidsShut}
 use Rattle.cm_order.specs.Plans.{IsReached, IsKnown, IsStand, IsWay, IsPlan, KnowsNone}
 use Rattle.cm_order.proofs.trees.Trees.{climb, below_self, below_up, below_cases, below_lives, below_least, below_trans, kid_below, kid_higher}
+use Rattle.cm_order.proofs.trees.Tops.{closing_below}
 use Rattle.cm_order.proofs.levels.Glancing.{shut_below}
 use Rattle.cm_order.proofs.searches.Turns.{under, each_join, each_split}
 use Rattle.cm_order.proofs.searches.Searching.{IsOpen, open_kid}
@@ -126,3 +127,24 @@ way_changed rows old new top it own same others way = record {
   way = subst (λ t. IsWay rows t new.way.items) (sym (same ∙ own)) way;
   others = λ t. subst (λ m. IfSome (get nat_cmp m t) (λ w. IsWay rows t w.items)) (sym others) (it.others t);
 }
+
+-- ---- what stands on a way
+
+pub stand_at : (rows : List Row) (top : ℕ) (stands : List Stand) (k : ℕ) (d : Stand) → IsWay rows top stands → k < length stands → IsStand rows top (get_or stands k d)
+stand_at rows top [] k d all lt = absurd (omega arith)
+stand_at rows top (s ∷ ss) zero d all lt = all.0
+stand_at rows top (s ∷ ss) (suc k) d all lt = stand_at rows top ss k d all.1 (le_of_suc-le-suc lt)
+
+-- an instance on the way of a plan whose top is closing is closing
+pub closing_on : (rows : List Row) (next : ℕ) → IsOrderly rows next → (plan : Plan) (k : ℕ) (s : Stand) (i : ℕ) → IsPlan rows plan → k < length plan.way.items → s ≡ get_or plan.way.items k s → s.inc ≡ i → has_closing rows plan.top ≡ true → IsTrue (is_closing rows i)
+closing_on rows next orderly plan k s i it lt is own closing =
+    let stand : IsStand rows plan.top (get_or plan.way.items k s) = stand_at rows plan.top plan.way.items k s it.way lt in
+    closing_below rows next orderly plan.top i closing
+    (subst (λ n. IsTrue (is_below rows plan.top n)) (ap (λ (z : Stand). z.inc) (sym is) ∙ own) stand.reached.below)
+
+-- and what is known of it holds
+pub kids_on : (rows : List Row) (plan : Plan) (k : ℕ) (s : Stand) (i : ℕ) → IsPlan rows plan → k < length plan.way.items → s ≡ get_or plan.way.items k s → s.inc ≡ i → IsTrue s.below_shut → AreKidsShut rows i
+kids_on rows plan k s i it lt is own known =
+    let stand : IsStand rows plan.top (get_or plan.way.items k s) = stand_at rows plan.top plan.way.items k s it.way lt in
+    subst (AreKidsShut rows) own
+    (subst (λ (z : Stand). IsTrue z.below_shut → AreKidsShut rows z.inc) (sym is) stand.known.below known)

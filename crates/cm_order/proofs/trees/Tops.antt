@@ -9,7 +9,7 @@ use Rattle.cm_world.specs.Sound.{IsOrderly}
 use Rattle.cm_world.specs.Stopping.{outermost}
 use Rattle.cm_world.proofs.trees.Climbing.{some_above-step, line_of-step, above_root, line_root}
 use Rattle.cm_world.proofs.trees.Finding.{none_some, some_same}
-use Rattle.cm_order.proofs.trees.Trees.{climb, below_self, below_up, below_cases, below_lives}
+use Rattle.cm_order.proofs.trees.Trees.{climb, below_self, below_up, below_cases, below_lives, or_left, or_right}
 
 -- the outermost closing row on a way up
 abbrev pub outermost_from : List Row → Option ℕ → Option ℕ
@@ -152,3 +152,21 @@ module _ (rows : List Row) (next : ℕ) (orderly : IsOrderly rows next) where
   -- a row with an outermost closing one lives
   pub top_lives : (i top : ℕ) → outermost rows i ≡ Some top → (r : Row) × (row_of rows i ≡ Some r)
   top_lives i top all = lives_top i top (row_of rows i) refl all
+
+  -- a row at or below a closing one is closing
+  pub closing_below : (top i : ℕ) → has_closing rows top ≡ true → IsTrue (is_below rows top i) → IsTrue (is_closing rows i)
+  closing_below top i closing below =
+      let row : (r : Row) × (row_of rows i ≡ Some r) = below_lives rows next orderly top i below in
+      climb rows next orderly (λ i. IsTrue (is_below rows top i) → IsTrue (is_closing rows i)) step i row.0 row.1 below
+    where
+      step : (i : ℕ) (r : Row) → row_of rows i ≡ Some r → ((p : ℕ) → r.parent ≡ Some p → IsTrue (is_below rows top p) → IsTrue (is_closing rows p)) → IsTrue (is_below rows top i) → IsTrue (is_closing rows i)
+      step i r lives up below = elim (below_cases rows next orderly top i r lives below) [
+        | inl same ↦
+            some_above-step (λ r. r.closing) rows next i r orderly lives
+            ∙ or_left r.closing (at_or_above (length rows) (λ r. r.closing) rows r.parent)
+            (sym (ap (λ o. option_map_or (λ r. r.closing) o false) lives) ∙ ap (has_closing rows) same ∙ closing)
+        | inr above ↦
+            some_above-step (λ r. r.closing) rows next i r orderly lives
+            ∙ or_right r.closing (at_or_above (length rows) (λ r. r.closing) rows r.parent)
+            (ap (at_or_above (length rows) (λ r. r.closing) rows) above.1 ∙ up above.0 above.1 above.2)
+      ]

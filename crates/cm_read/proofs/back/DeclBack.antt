@@ -28,9 +28,9 @@ use Rattle.cm_read.specs.Environments.{environment_item_at}
 use Rattle.cm_read.specs.Sections.{section_at}
 use Rattle.cm_read.specs.Manifest.{program_at, runner_at, sections_at, children_at, section_rows_at, decl_at}
 use Rattle.cm_read.specs.Manifest.{declared_by}
-use Rattle.cm_read.specs.Writing.{decl_data, capability_data, use_data, offer_data, expose_data, storage_data}
-use Rattle.cm_read.specs.Writing.{debug_use_data, storage_use_data, storage_offer_data, environment_data, list_of}
-use Rattle.cm_read.specs.Writing.{capability_items, use_items, offer_items}
+use Rattle.cm_write.specs.Writing.{decl_data, capability_data, use_data, offer_data, expose_data, storage_data}
+use Rattle.cm_write.specs.Writing.{debug_use_data, storage_use_data, storage_offer_data, environment_data, list_of}
+use Rattle.cm_write.specs.Writing.{capability_items, use_items, offer_items}
 use Rattle.cm_read.specs.Readable.{ForSomeOf, IsCapability, IsUsage, IsOffer, IsExpose, IsStorage, IsDebugUse}
 use Rattle.cm_read.specs.Readable.{IsStorageUse, IsStorageOffer, IsEnvironment, IsReadable}
 use Rattle.cm_read.proofs.back.RoundTrip.{name_has_no_fault, section_read_back, children_read_back}

@@ -24,21 +24,17 @@ use Rattle.cm_decl.specs.declared.environment.DebugUse.{DebugUse}
 use Rattle.cm_decl.specs.declared.storage.Storage.{Storage}
 use Rattle.cm_decl.specs.declared.storage.StorageUse.{StorageUse}
 use Rattle.cm_decl.specs.declared.storage.StorageOffer.{StorageOffer}
-use Rattle.cm_read.specs.Writing.{Pairs, with_pairs, object_of, list_of, rights_pair, subdir_pair, program_pair}
-use Rattle.cm_read.specs.Writing.{environment_pair, environments_pair, child_pairs, collection_pairs}
-use Rattle.cm_read.specs.Writing.{capability_pairs, use_pairs, give_pairs, offer_pairs, runner_pairs, decl_pairs}
-use Rattle.cm_read.specs.Writing.{storage_pairs, debug_use_pairs, storage_use_pairs, storage_offer_pairs}
-use Rattle.cm_read.specs.Writing.{registration_pairs, registration_data, environment_pairs, child_data}
-use Rattle.cm_read.specs.Writing.{collection_data, capability_data, use_data, offer_data, expose_data}
-use Rattle.cm_read.specs.Writing.{storage_data, debug_use_data, storage_use_data, storage_offer_data}
-use Rattle.cm_read.specs.Writing.{environment_data, capability_items, use_items, offer_items, decl_data}
-use Rattle.cm_read.specs.Writing.{decl_text}
+use Rattle.cm_write.specs.Writing.{Pairs, with_pairs, object_of, list_of, rights_pair, subdir_pair, program_pair}
+use Rattle.cm_write.specs.Writing.{environment_pair, environments_pair, child_pairs, collection_pairs}
+use Rattle.cm_write.specs.Writing.{capability_pairs, use_pairs, give_pairs, offer_pairs, runner_pairs, decl_pairs}
+use Rattle.cm_write.specs.Writing.{storage_pairs, debug_use_pairs, storage_use_pairs, storage_offer_pairs}
+use Rattle.cm_write.specs.Writing.{registration_pairs, registration_data, environment_pairs, child_data}
+use Rattle.cm_write.specs.Writing.{collection_data, capability_data, use_data, offer_data, expose_data}
+use Rattle.cm_write.specs.Writing.{storage_data, debug_use_data, storage_use_data, storage_offer_data}
+use Rattle.cm_write.specs.Writing.{environment_data, capability_items, use_items, offer_items, decl_data}
+use Rattle.cm_write.specs.Writing.{decl_text}
 use Rattle.cm_read.specs.Readable.{IsReadable}
 use Rattle.cm_read.proofs.back.DeclBack.{reads_back}
-
-pub with_pairs_append : (ms : Members) (ps qs : Pairs) → with_pairs ms (ps ++ qs) ≡ with_pairs (with_pairs ms ps) qs
-with_pairs_append ms [] qs = refl
-with_pairs_append ms (p ∷ ps) qs = with_pairs_append (put p.0 p.1 ms) ps qs
 
 -- ---- no float, and not deep
 

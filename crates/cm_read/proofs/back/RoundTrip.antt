@@ -17,7 +17,7 @@ use Rattle.cm_names.specs.Urls.{is_url_text}
 use Rattle.cm_read.specs.Sections.{next, rows_at, section_at}
 use Rattle.cm_read.specs.Reading.{Read, start}
 use Rattle.cm_read.specs.Items.{child_at, collection_at}
-use Rattle.cm_read.specs.Writing.{child_data, collection_data, list_of}
+use Rattle.cm_write.specs.Writing.{child_data, collection_data, list_of}
 use Rattle.cm_read.specs.Readable.{IsChild, IsCollection, AreRows, ForSomeOf}
 use Rattle.cm_read.proofs.examples.OnLiterals.{read_on_literals}
 

@@ -42,9 +42,9 @@ use Rattle.cm_read.specs.Words.{use_from_in_at, use_source_in_at, offer_from_in_
 use Rattle.cm_read.specs.Words.{static_from_in_at, storage_origin_named}
 use Rattle.cm_read.specs.Items.{capability_at, use_at, offer_at, expose_at}
 use Rattle.cm_read.specs.Environments.{registration_at, registrations_in_at, environment_item_at}
-use Rattle.cm_read.specs.Writing.{capability_data, use_data, offer_data, expose_data, list_of, origin_text}
-use Rattle.cm_read.specs.Writing.{storage_data, debug_use_data, storage_use_data, storage_offer_data}
-use Rattle.cm_read.specs.Writing.{registration_data, environment_data}
+use Rattle.cm_write.specs.Writing.{capability_data, use_data, offer_data, expose_data, list_of, origin_text}
+use Rattle.cm_write.specs.Writing.{storage_data, debug_use_data, storage_use_data, storage_offer_data}
+use Rattle.cm_write.specs.Writing.{registration_data, environment_data}
 use Rattle.cm_read.specs.Readable.{MayHave, IsSubDir, IsUsage, IsOffer, IsExpose, IsOrigin, IsCapability}
 use Rattle.cm_read.specs.Readable.{MustHave, AreRights, IsStaticSource, IsStorageSource, ForSomeOf}
 use Rattle.cm_read.specs.Readable.{IsRegistration, IsEnvironment, IsDebugUse, IsStorage, IsStorageUse}

@@ -3,7 +3,7 @@ use Rattle.std.proofs.Common.{◌≡◌, ℕ, List, [], codes, Ok, Err, refl}
 use Rattle.cm_decl.specs.declared.decl.Decl.{Decl}
 use Rattle.cm_read.specs.Reading.{Read}
 use Rattle.cm_read.specs.Manifest.{decl_of_text, decl_of_json}
-use Rattle.cm_read.specs.Writing.{decl_text}
+use Rattle.cm_write.specs.Writing.{decl_text}
 use Rattle.cm_read.proofs.examples.OnLiterals.{read_on_literals}
 
 abbrev text_from : Read Decl → List ℕ

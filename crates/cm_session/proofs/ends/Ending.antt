@@ -1,5 +1,5 @@
 -- From passes, gates and links to workers, and back.
-use Rattle.std.proofs.Common.{◌≡◌, ◌≢◌, ℕ, zero, suc, ◌<◌, ◌≤◌, List, [], ◌∷◌, ◌++◌, All, Any, map, take, drop, length, get_or, true, false, Option, Some, refl, sym, ap, ◌∙◌, subst, append-nil, arith}
+use Rattle.std.proofs.Common.{◌≡◌, ◌⊎◌, ℕ, zero, suc, ◌<◌, ◌≤◌, List, [], ◌∷◌, ◌++◌, All, Any, map, take, drop, length, get_or, Bool, true, false, Option, Some, inl, inr, refl, sym, ap, ◌∙◌, subst, append-nil, arith}
 use mathlib.Core.Logic.{dite}
 use native.Mathlib.Decide.{dec_lt}
 use Rattle.std.specs.List.{slice_get}
@@ -17,13 +17,12 @@ use Rattle.cm_turn.specs.Passes.{LockView, new_pass, new_passes}
 use Rattle.cm_session.specs.declared.crew.Parts.{Parts}
 use Rattle.cm_session.specs.declared.doorway.Accepted.{Accepted}
 use Rattle.cm_session.specs.declared.doorway.Opening.{Opening}
-use Rattle.cm_session.specs.declared.ended.Ended.TheVariants as ended
 use Rattle.cm_session.specs.declared.workers.Worker.{Worker}
 use Rattle.cm_session.specs.Crew.{CrewWorked, DidWork, HasServed, IsReady, Worked}
 use Rattle.cm_session.specs.Doorway.{DoorPass, IsOver, sessions_of}
 use Rattle.cm_session.specs.Links.{LinkView}
 use Rattle.cm_session.specs.Parts.{AreParts, HasPasses, HasRoomIn, HasRooms, Links}
-use Rattle.cm_session.specs.Serving.{IsLost, Visit}
+use Rattle.cm_session.specs.Serving.{AreWell, EndsLost, StopsAtLoss, Visit}
 use Rattle.cm_session.proofs.work.Making.{Made}
 use Rattle.cm_session.proofs.work.Places.{all_places, any_place, as_long, at_map, at_place, field_at, item_at, there_at}
 use Rattle.cm_session.proofs.work.Working.{some_same}
@@ -60,6 +59,10 @@ pub new_at : (door : LockView) (o : Opening) (n c : ℕ) (d : DoorPass) → slic
 new_at door o n c d there = sym (get_or_from_slice_get (new_passes door.lock o n) c d d there) ∙ new_or door o n c d (subst (λ (k : ℕ). c < k) (new_length door o n) (slice_get_within (new_passes door.lock o n) c d there))
 
 -- ---- the visits of all workers
+
+either_way : {A B : Type 0} (b : Bool) → (b ≡ false → A) → (b ≡ true → B) → A ⊎ B
+either_way true left right = inr (right refl)
+either_way false left right = inl (left refl)
 
 module _ {G L : Type 0} (log_of : G → Option (List Asked)) (faults_of : G → ℕ) (view : L → LinkView) (shelf : Shelf) (workers : ℕ) where
   -- these are the visits of the workers, in their order
@@ -99,7 +102,8 @@ module _ {G L : Type 0} (log_of : G → Option (List Asked)) (faults_of : G → 
     pub r_is : slice_get parts.links.items k ≡ Some r
     pub served : HasServed view shelf vs p q (gates_view log_of faults_of g) (gates_view log_of faults_of h) d e r.items
     pub idle : workers ≤ d.caller → vs ≡ []
-    pub well : parts.lost ≡ false → All (λ v. v.ended ≢ ended.Memory) vs
+    pub stops : StopsAtLoss vs
+    pub well : parts.lost ≡ false → AreWell vs
     pub over : parts.lost ≡ false → d.caller < workers → IsOver (sessions_of e) e.seen
 
   -- what was at all places
@@ -110,7 +114,7 @@ module _ {G L : Type 0} (log_of : G → Option (List Asked)) (faults_of : G → 
     pub gates_long : length parts.gates.items ≡ length passes
     pub links_long : length parts.links.items ≡ length passes
     pub each : (k : ℕ) (vs : List Visit) → slice_get visits k ≡ Some vs → PlaceAt passes at_door gates parts k vs
-    pub lost : parts.lost ≡ true → Any (Any IsLost) visits
+    pub lost : parts.lost ≡ true → Any EndsLost visits
 
   -- of the workers that were made, did their work and were taken apart
   pub places_of : (passes : List RealmPass) (at_door : List DoorPass) (gates : List G) (links : List (Links L)) (xs ys : List (Worker G L)) (parts : Parts G L) (visits : List (List Visit)) → Made passes at_door gates links xs → length ys ≡ length xs → Team xs ys visits → AreParts ys parts → Places passes at_door gates parts visits
@@ -149,16 +153,17 @@ module _ {G L : Type 0} (log_of : G → Option (List Asked)) (faults_of : G → 
           r_is = at_map (λ (w : Worker G L). w.links) ys parts.links.items k y.0 (sym are.links) y.1;
           served = worked.served;
           idle = worked.idle;
+          stops = either_way y.0.lost worked.well worked.lost;
           well = λ no. worked.well (at_place (λ (w : Worker G L). w.lost ≡ false) ys k y.0 (are.well no) y.1);
           over = λ no. worked.over (at_place (λ (w : Worker G L). w.lost ≡ false) ys k y.0 (are.well no) y.1);
         }
 
-    lost_at : Any (λ (w : Worker G L). w.lost ≡ true) ys → Any (Any IsLost) visits
+    lost_at : Any (λ (w : Worker G L). w.lost ≡ true) ys → Any EndsLost visits
     lost_at any =
         let y_is : slice_get ys any.0 ≡ Some any.1 = slice_get-get_or ys any.0 any.1 any.2 ∙ ap Some any.3 in
         let x = there_at xs any.0 (grind (arith, any.2, long)) in
         let v = there_at visits any.0 (grind (arith, any.2, long, team.count)) in
-        any_place (Any IsLost) visits any.0 v.0 v.1 ((team.each any.0 x.0 any.1 v.0 x.1 y_is v.1).lost any.4)
+        any_place EndsLost visits any.0 v.0 v.1 ((team.each any.0 x.0 any.1 v.0 x.1 y_is v.1).lost any.4)
 
 -- ---- before the work
 

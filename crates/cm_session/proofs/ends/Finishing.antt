@@ -16,7 +16,6 @@ use Rattle.cm_manager.specs.Work.{Shelf}
 use Rattle.cm_turn.specs.Passes.{AreAll, LockView, new_pass, new_passes}
 use Rattle.cm_session.specs.declared.crew.Parts.{Parts}
 use Rattle.cm_session.specs.declared.doorway.Opening.{Opening}
-use Rattle.cm_session.specs.declared.ended.Ended.TheVariants as ended
 use Rattle.cm_session.specs.declared.served.Back.{Back}
 use Rattle.cm_session.specs.declared.served.Cause.{Cause}
 use Rattle.cm_session.specs.declared.served.Cause.TheVariants as cause
@@ -25,7 +24,7 @@ use Rattle.cm_session.specs.Closing.{ClosesDoor, CountsLinks, backs_of, cause_of
 use Rattle.cm_session.specs.Doorway.{DoorPass, IsOver, failures_of, links_of, sessions_in, sessions_of}
 use Rattle.cm_session.specs.Links.{LinkView}
 use Rattle.cm_session.specs.Parts.{Links}
-use Rattle.cm_session.specs.Serving.{IsOfLink, Serves, ServesAll, Visit, back_view, worker_by_worker}
+use Rattle.cm_session.specs.Serving.{AreWell, IsOfLink, Serves, ServesAll, StopsAtLoss, Visit, back_view, worker_by_worker}
 use Rattle.cm_session.specs.Session.{KeepsOrNot}
 use Rattle.cm_session.proofs.links.Accepts.{over_later}
 use Rattle.cm_session.proofs.ends.Ending.{PlaceAt, Places, new_at}
@@ -196,7 +195,8 @@ module _ {G L : Type 0} (log_of : G → Option (List Asked)) (faults_of : G → 
         came = all_places (λ (vs : List Visit). All (λ v. IsOfLink view v.was) vs) visits (λ k vs there. (pl.each k vs there).served.came);
         each = kept_at;
         idle = λ k vs past there. (pl.each k vs there).idle (idle_at k vs past there);
-        well = λ other. all_places (λ (vs : List Visit). All (λ v. v.ended ≢ ended.Memory) vs) visits (λ k vs there. (pl.each k vs there).well (well_means parts.lost is.failed why is.why_is (λ same. other (why_is ∙ same))));
+        stops = all_places StopsAtLoss visits (λ k vs there. (pl.each k vs there).stops);
+        well = λ other. all_places AreWell visits (λ k vs there. (pl.each k vs there).well (well_means parts.lost is.failed why is.why_is (λ same. other (why_is ∙ same))));
         lost = λ memory. pl.lost (memory_means parts.lost is.failed why is.why_is (sym why_is ∙ memory));
       } where
         idle_at : (k : ℕ) (vs : List Visit) → workers ≤ k → (there : slice_get visits k ≡ Some vs) → workers ≤ (pl.each k vs there).d.caller

@@ -13,7 +13,7 @@ use Rattle.cm_session.specs.declared.doorway.Accepted.{Accepted}
 use Rattle.cm_session.specs.declared.doorway.Came.{Came}
 use Rattle.cm_session.specs.declared.doorway.Came.TheVariants as came
 use Rattle.cm_session.specs.declared.doorway.Opening.{Opening}
-use Rattle.cm_session.specs.Doorway.{accepted_by, came_of, closings_of, failures_of, given_by, is_closing, is_failure, is_link, links_of, sessions_in, sessions_of, DoorPass, DoorwayView, IsCounted, IsLater, IsOver, TakesTurn, TurnedBy}
+use Rattle.cm_session.specs.Doorway.{accepted_by, came_of, closings_of, failures_of, is_closing, is_failure, is_link, links_of, sessions_in, sessions_of, DoorPass, DoorwayView, IsCounted, IsLater, IsOver, TakesTurn, TurnedBy}
 
 -- how many of a list's entries pass, with more behind them
 pub count_more : {A : Type 0} (p : A → Bool) (xs ys : List A) → length (filter p (xs ++ ys)) ≡ length (filter p xs) + length (filter p ys)
@@ -112,12 +112,19 @@ links_within p (e ∷ es) = within (p e) (links_within p es) where
   within true less = grind (arith, less, count_more is_link (e ∷ []) (filter p es), count_more is_link (e ∷ []) es)
   within false less = grind (arith, less, count_more is_link (e ∷ []) es)
 
--- what a turn counts among the pass's own entries
-pub counts_given : {L : Type 0} (w sessions : ℕ) (found left mine mine' : List Accepted) (a : Option (Accept L)) → TurnedBy w sessions found left a → ((es : List Accepted) → left ≡ found ++ es → mine' ≡ mine ++ es) → links_of mine' ≡ links_of mine + given_by a
-counts_given w sessions found left mine mine' (Some (accept.Link l)) is grows = ap links_of (grows (entry_of w came.Link ∷ []) is) ∙ (with_link mine w).links_are
-counts_given w sessions found left mine mine' (Some accept.Closed) is grows = ap links_of (grows (entry_of w came.Closed ∷ []) is) ∙ (with_closing mine w).links_are
-counts_given w sessions found left mine mine' (Some accept.Failed) is grows = ap links_of (grows (entry_of w came.Failed ∷ []) is) ∙ (with_failure mine w).links_are
-counts_given w sessions found left mine mine' None is grows = ap links_of (grows [] (is.0 ∙ sym (append-nil found))) ∙ ap links_of (append-nil mine) ∙ grind arith
+-- how many links a turn gave
+abbrev pub given_by : {L : Type 0} → Option (Accept L) → ℕ
+given_by (Some (accept.Link l)) = 1
+given_by (Some accept.Closed) = 0
+given_by (Some accept.Failed) = 0
+given_by None = 0
+
+-- so many it counts among the pass's own entries
+pub counts_given : {L : Type 0} (p q : DoorPass) (a : Option (Accept L)) → TakesTurn p q a → links_of q.mine ≡ links_of p.mine + given_by a
+counts_given p q (Some (accept.Link l)) turn = ap links_of turn.made ∙ (with_link p.mine p.caller).links_are
+counts_given p q (Some accept.Closed) turn = ap links_of turn.made ∙ (with_closing p.mine p.caller).links_are
+counts_given p q (Some accept.Failed) turn = ap links_of turn.made ∙ (with_failure p.mine p.caller).links_are
+counts_given p q None turn = ap links_of (turn.made ∙ append-nil p.mine) ∙ grind arith
 
 -- what a turn leaves among the pass's own entries
 made_by : {L : Type 0} (w sessions : ℕ) (found left mine mine' : List Accepted) (a : Option (Accept L)) → TurnedBy w sessions found left a → ((es : List Accepted) → left ≡ found ++ es → mine' ≡ mine ++ es) → mine' ≡ mine ++ accepted_by w a
@@ -138,7 +145,6 @@ turn_taken p q o found left a framed turned few same seen own grows =
     record {
       same = same;
       made = made_by p.caller o.sessions found left p.mine q.mine a turned grows;
-      links = counts_given p.caller o.sessions found left p.mine q.mine a turned grows;
       few = grind (arith, sessions, within, seen_few);
       over = λ none. subst (λ (n : ℕ). IsOver n q.seen) (sym sessions) (subst (IsOver o.sessions) (sym seen) (over_found p.caller o.sessions found left a turned none));
     }

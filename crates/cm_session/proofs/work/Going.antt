@@ -2,7 +2,6 @@
 use Rattle.std.proofs.Common.{◌≡◌, ◌≢◌, ℕ, ◌+◌, ◌<◌, ◌≤◌, true, false, true≢false, List, [], ◌∷◌, ◌++◌, All, map, length, set, get_or, Option, Some, None, refl, sym, ap, ◌∙◌, subst, arith}
 use Rattle.std.proofs.lemmas.List.{map-append, length-append, length-map}
 use Rattle.std.proofs.lemmas.List.Elements.{All-push, All-nil}
-use Rattle.std.proofs.lemmas.List.Quantifiers.{Any-push}
 use Rattle.std.proofs.Math.Seq.{get_or-append_seam, set-append_seam}
 use Rattle.cm_io.specs.declared.door.Accept.{Accept}
 use Rattle.cm_io.specs.declared.door.Accept.TheVariants as accept
@@ -12,10 +11,11 @@ use Rattle.cm_turn.specs.Passes.{LockView}
 use Rattle.cm_session.specs.declared.ended.Ended.{Ended}
 use Rattle.cm_session.specs.declared.ended.Ended.TheVariants as ended
 use Rattle.cm_session.specs.Crew.{HasServed, ServesLink, ServesLinks}
-use Rattle.cm_session.specs.Doorway.{DoorPass, IsLater, OnGiven, TakesTurn, given_by, links_of, sessions_in, sessions_of}
+use Rattle.cm_session.specs.Doorway.{DoorPass, IsLater, OnGiven, TakesTurn, links_of, sessions_in, sessions_of}
 use Rattle.cm_session.specs.Links.{LinkView}
-use Rattle.cm_session.specs.Serving.{IsLost, IsNewLink, IsOfLink, Visit, none_came}
+use Rattle.cm_session.specs.Serving.{AreWell, IsNewLink, IsOfLink, Visit, none_came}
 use Rattle.cm_session.specs.Session.{Session}
+use Rattle.cm_session.proofs.links.Accepts.{counts_given, given_by}
 use Rattle.cm_session.proofs.links.Visits.{same_lock, serves_more}
 
 pub no_more : (x y z n : ℕ) → x ≡ y + z → z ≡ 0 → y ≡ n → x ≡ n
@@ -29,7 +29,7 @@ module _ {L : Type 0} (view : L → LinkView) (shelf : Shelf) where
   pub record Going (realm door : LockView) (p q : RealmPass) (g h : GatesView) (d e : DoorPass) (links : List L) (capacity : ℕ) : Type 0 where
     pub visits : List Visit
     pub served : HasServed view shelf visits p q g h d e links
-    pub well : All (λ v. v.ended ≢ ended.Memory) visits
+    pub well : AreWell visits
     pub of_realm : q.lock ≡ realm.lock
     pub of_door : e.lock ≡ door.lock
     pub room : sessions_of e ≤ capacity
@@ -59,7 +59,7 @@ module _ {L : Type 0} (view : L → LinkView) (shelf : Shelf) where
       came = is.served.came;
       links_are = is.served.links_are;
       at_door = later_then d e f is.served.at_door turn.same;
-      counts = no_more (links_of f.mine) (links_of e.mine) (given_by a) (length is.visits) turn.links none is.served.counts;
+      counts = no_more (links_of f.mine) (links_of e.mine) (given_by a) (length is.visits) (counts_given e f a turn) none is.served.counts;
     };
     well = is.well;
     of_realm = is.of_realm;
@@ -72,7 +72,7 @@ module _ {L : Type 0} (view : L → LinkView) (shelf : Shelf) where
   fits realm door p q g h d e f links capacity l is turn =
       let as_many : length links ≡ length is.visits = sym (length-map links view) ∙ ap (λ (l : List LinkView). length l) is.served.links_are ∙ length-map is.visits (λ (v : Visit). v.now) in
       let sessions : sessions_of f ≡ sessions_of e = ap sessions_in turn.same.frame in
-      grind (arith, as_many, sessions, turn.links, turn.few, is.served.counts, is.room)
+      grind (arith, as_many, sessions, counts_given e f (Some (accept.Link l)) turn, turn.few, is.served.counts, is.room)
 
   -- a link that came was served
   pub served_more : (visits : List Visit) (p q r : RealmPass) (g h k : GatesView) (d e f : DoorPass) (links links' : List L) (l : L) (end : Ended) → HasServed view shelf visits p q g h d e links → TakesTurn e f (Some (accept.Link l)) → IsNewLink (view l) → (s : ServesLink view shelf q r h k l links links' end) → HasServed view shelf (visits ++ record { was = view l; now = view s.now; ended = end } ∷ []) p r g k d f links'
@@ -82,7 +82,7 @@ module _ {L : Type 0} (view : L → LinkView) (shelf : Shelf) where
         came = All-push (λ (v : Visit). IsOfLink view v.was) visits v is.came (l, refl);
         links_are = ap (map view) s.links ∙ map-append view links (s.now ∷ []) ∙ ap (λ (x : List LinkView). x ++ view s.now ∷ []) is.links_are ∙ sym (map-append (λ (v : Visit). v.now) visits (v ∷ []));
         at_door = later_then d e f is.at_door turn.same;
-        counts = grind (arith, turn.links, is.counts, length-append visits (v ∷ []));
+        counts = grind (arith, counts_given e f (Some (accept.Link l)) turn, is.counts, length-append visits (v ∷ []));
       }
 
   -- and the worker goes on
@@ -102,7 +102,13 @@ module _ {L : Type 0} (view : L → LinkView) (shelf : Shelf) where
     visits = is.visits ++ record { was = view l; now = view s.now; ended = end } ∷ [];
     served = served_more is.visits p q r g h k d e f links links' l end is.served turn new s;
     stops = record {
-      lost = λ yes. Any-push IsLost is.visits (record { was = view l; now = view s.now; ended = end }) lost;
+      lost = λ yes. record {
+        before = is.visits;
+        last = record { was = view l; now = view s.now; ended = end };
+        visits_are = refl;
+        well = is.well;
+        lost = lost;
+      };
       well = λ no. absurd (true≢false no);
       over = λ no. absurd (true≢false no);
     };

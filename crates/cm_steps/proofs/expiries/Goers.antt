@@ -6,14 +6,14 @@ use Rattle.cm_world.specs.declared.row.Row.{Row}
 use Rattle.cm_world.specs.Rows.{row_of, has_parent, is_closed}
 use Rattle.cm_world.specs.End.{changed, set_doomed}
 use Rattle.cm_world.specs.Marks.{is_dynamic}
-use Rattle.cm_world.specs.Expiring.{runs_once, goes_with}
+use Rattle.cm_world.specs.Expiring.{runs_once, goes_with, expired}
 use Rattle.cm_world.specs.Sound.{IsOrderly}
 use Rattle.cm_world.proofs.trees.Finding.{none_some, some_same, row_of-inc}
 use Rattle.std.specs.Cmp.{unsigned_Decides}
 use Rattle.cm_cache.specs.Beside.{goes_some}
 use Rattle.cm_walk.proofs.Behind.{next_of, IsNext, is_next}
 use Rattle.cm_steps.specs.Expiring.{doomed_if_dynamic}
-use Rattle.cm_steps.proofs.expiries.Dooming.{may_go, doomed_up_to, undoomed_there, expired_once, open_goes, up_more, up_all}
+use Rattle.cm_steps.proofs.expiries.Dooming.{may_go, doomed_up_to, undoomed_there, expired_closed, expired_once, open_goes, up_more, up_all}
 
 -- ---- lists
 
@@ -54,6 +54,16 @@ none_fixed p [] e = refl
 none_fixed p (x ∷ xs) e =
     ap (λ t. t || list_any (λ r. p r && not r.doomed) xs) (fixed_by (p x) x.doomed x refl (ap (λ ys. head_of ys x) e))
     ∙ none_fixed p xs (ap tail_of e)
+
+stays_by : (t any : Bool) (x : Row) (xs ys : List Row) → (t || any) ≡ false → (any ≡ false → ys ≡ xs) → cond t (set_doomed x) x ∷ ys ≡ x ∷ xs
+stays_by true any x xs ys none later = absurd (true≢false none)
+stays_by false any x xs ys none later = ap (λ zs. x ∷ zs) (later none)
+
+-- where none would be doomed that isn't yet, no row changes
+pub fixed_none : (p : Row → Bool) (xs : List Row) → list_any (λ r. p r && not r.doomed) xs ≡ false → map (λ r. cond (p r && not r.doomed) (set_doomed r) r) xs ≡ xs
+fixed_none p [] none = refl
+fixed_none p (x ∷ xs) none =
+    stays_by (p x && not x.doomed) (list_any (λ r. p r && not r.doomed) xs) x xs (map (λ r. cond (p r && not r.doomed) (set_doomed r) r) xs) none (fixed_none p xs)
 
 -- ---- children
 
@@ -125,3 +135,17 @@ once_by false rows next i may orderly unclosed once =
 
 pub once_goes : (rows : List Row) (next i : ℕ) → IsOrderly rows next → is_closed rows i ≡ false → runs_once rows i ≡ true → may_go rows i ≡ goes_some rows i
 once_goes rows next i orderly unclosed once = once_by (may_go rows i) rows next i refl orderly unclosed once
+
+-- ---- where none goes
+
+pub none_expired : (rows : List Row) (i : ℕ) → goes_some rows i ≡ false → expired i rows ≡ rows
+none_expired rows i none = fixed_none (goes_with rows i) rows none
+
+-- a row that stops while it is being shut down
+pub none_stopped : (t : Bool) (rows : List Row) (i : ℕ) → (t ≡ true → is_closed rows i ≡ true) → false ≡ (t && goes_some rows i)
+none_stopped true rows i closes = closed_none rows i (closes refl)
+none_stopped false rows i closes = refl
+
+pub same_stopped : (t : Bool) (rows : List Row) (i : ℕ) → (t ≡ true → is_closed rows i ≡ true) → cond t (expired i rows) rows ≡ rows
+same_stopped true rows i closes = expired_closed rows i (closes refl)
+same_stopped false rows i closes = refl

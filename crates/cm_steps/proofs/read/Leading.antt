@@ -1,5 +1,5 @@
 -- What a find replies, by where its moniker leads.
-use Rattle.std.proofs.Common.{◌≡◌, ℕ, ◌-◌, ◌^◌, ◌<◌, ◌≤◌, List, [], length, take, sym, ◌∙◌, arith}
+use Rattle.std.proofs.Common.{◌≡◌, ℕ, ◌-◌, ◌^◌, ◌<◌, ◌≤◌, List, [], length, take, sym, ap, ◌∙◌, arith}
 use Rattle.std.specs.Prelude.{if◌then◌else◌}
 use Rattle.cm_names.specs.declared.child.ChildName.{ChildName}
 use Rattle.cm_world.specs.declared.row.Row.{Row}
@@ -9,6 +9,7 @@ use Rattle.cm_world.specs.declared.store.Located.TheVariants.{Found, Unresolved,
 use Rattle.cm_world.specs.Rows.{is_closed}
 use Rattle.cm_world.specs.Find.{found_from}
 use Rattle.cm_world.specs.Located.{located_from}
+use Rattle.cm_world.specs.Offering.{told_index}
 use Rattle.cm_walk.proofs.Leading.{find_reply}
 
 module _ (rows : List Row) (names : List ChildName) where
@@ -18,10 +19,16 @@ module _ (rows : List Row) (names : List ChildName) where
   pub unresolved_reply : (i : ℕ) (r : Reply) → Unresolved i ≡ located_from rows 0 0 names → r ≡ (if is_closed rows i then reply.Shut i else reply.Need i) → r ≡ found_from rows 0 [] names
   unresolved_reply i r led is = is ∙ sym (find_reply rows names (Unresolved i) (sym led))
 
+  -- a number that is told and isn't the highest one is exact
+  exact : (n k : ℕ) → told_index n ≡ k → k < 2 ^ 32 - 1 → n ≡ k
+  exact n k told few = omega arith
+
   pub names_within : (k : ℕ) → located_from rows 0 0 names ≡ Missing k → k < 2 ^ 32 - 1 → k ≤ length names
-  names_within k led few = less k (length names) (find_reply rows names (Missing k) led few).0 where
-    less : (a b : ℕ) → a < b → a ≤ b
-    less a b h = omega arith
+  names_within k led few = (let at = find_reply rows names (Missing k) led in less at.0 k (length names) (exact at.0 k at.1 few) at.2) where
+    less : (n a b : ℕ) → n ≡ a → n < b → a ≤ b
+    less n a b same h = omega arith
 
   pub missing_reply : (k : ℕ) (r : Reply) → located_from rows 0 0 names ≡ Missing k → k < 2 ^ 32 - 1 → r ≡ reply.NotFound (record { parts = take k names }) → r ≡ found_from rows 0 [] names
-  missing_reply k r led few is = is ∙ sym (find_reply rows names (Missing k) led few).1
+  missing_reply k r led few is =
+      let at = find_reply rows names (Missing k) led in
+      is ∙ ap (λ n. reply.NotFound (record { parts = take n names })) (sym (exact at.0 k at.1 few)) ∙ sym at.3

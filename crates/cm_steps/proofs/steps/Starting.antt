@@ -1,7 +1,8 @@
 -- A new realm.
-use Rattle.std.proofs.Common.{◌≡◌, ◌+◌, ◌≤◌, List, [], length, sym, ◌∙◌, ap, subst, arith}
+use Rattle.std.proofs.Common.{◌≡◌, ℕ, ◌+◌, ◌≤◌, List, [], length, sym, ◌∙◌, ap, subst, arith}
 use Rattle.std.specs.List.{count_by}
 use Rattle.cm_world.specs.declared.reply.Entry.{Entry}
+use Rattle.cm_world.specs.declared.frame.Frame.{Frame}
 use Rattle.cm_world.specs.declared.action.Act.{Act}
 use Rattle.cm_world.specs.declared.action.Join.{Join}
 use Rattle.cm_world.specs.World.{World, start, owed}
@@ -34,17 +35,23 @@ stands_new a table acts joins entries =
     }
 
 -- the fields of a new realm are the tree that no entry leaves
-pub kept_new : (a : Inside) → a.table ≡ first_tree a.frame.root a.frame.builtins a.frame.limits.rows → a.acts.items ≡ [] → a.resolves ≡ 0 → a.joins.items ≡ [] → a.book ≡ record { entries = []; reserved = 0; limit = a.frame.limits.entries } → a.keeper ≡ nothing_held → KnowsNone a.plan → IsKept a
-kept_new a table acts resolves joins book held unknown = record {
-  stands = stands_new a table acts joins (ap (λ (h : History). h.entries) book);
-  owes = ap (λ (h : History). h.reserved) book ∙ sym (ap (λ xs. owed xs a.joins.items) acts ∙ ap (owed []) joins);
-  counted = resolves ∙ ap (count_by is_open_resolve) (sym acts);
-  spare = subst (λ xs. count_by is_open_resolve xs ≤ a.table.spare) (sym acts) (omega arith);
-  rows = ap (λ (t : Tree). t.limit) table;
-  entries = ap (λ (h : History). h.limit) book;
-  builtins = ap (λ (t : Tree). t.builtins) table;
-  numbers = subst (IsNumbered 1) (sym acts) tt;
-  tasks = subst (λ xs. IsTasked a.table.rows xs) (sym acts) (subst (λ (t : Tree). IsTasked t.rows []) (sym table) (tasked_new a.frame.root));
-  beside = beside_new a.frame a.book.entries a.keeper (ap (λ (h : History). h.entries) book) held;
-  planned = planned_none a.table.rows a.plan unknown;
-}
+pub kept_new : (a : Inside) (f : Frame) → a.frame ≡ f → a.table ≡ first_tree f.root f.builtins f.limits.rows → a.acts.items ≡ [] → a.resolves ≡ 0 → a.joins.items ≡ [] → a.book ≡ record { entries = []; reserved = 0; limit = f.limits.entries } → a.keeper ≡ nothing_held → KnowsNone a.plan → IsKept a
+kept_new a f frame first acts resolves joins empty held unknown =
+    let table : a.table ≡ first_tree a.frame.root a.frame.builtins a.frame.limits.rows =
+    first ∙ ap (λ (g : Frame). first_tree g.root g.builtins g.limits.rows) (sym frame) in
+    let made : ℕ → History = λ n. record { entries = []; reserved = 0; limit = n } in
+    let book : a.book ≡ record { entries = []; reserved = 0; limit = a.frame.limits.entries } =
+    empty ∙ ap (λ (g : Frame). made g.limits.entries) (sym frame) in
+    record {
+      stands = stands_new a table acts joins (ap (λ (h : History). h.entries) book);
+      owes = ap (λ (h : History). h.reserved) book ∙ sym (ap (λ xs. owed xs a.joins.items) acts ∙ ap (owed []) joins);
+      counted = resolves ∙ ap (count_by is_open_resolve) (sym acts);
+      spare = subst (λ xs. count_by is_open_resolve xs ≤ a.table.spare) (sym acts) (omega arith);
+      rows = ap (λ (t : Tree). t.limit) table;
+      entries = ap (λ (h : History). h.limit) book;
+      builtins = ap (λ (t : Tree). t.builtins) table;
+      numbers = subst (IsNumbered 1) (sym acts) tt;
+      tasks = subst (λ xs. IsTasked a.table.rows xs) (sym acts) (subst (λ (t : Tree). IsTasked t.rows []) (sym table) (tasked_new a.frame.root));
+      beside = beside_new a.frame a.book.entries a.keeper (ap (λ (h : History). h.entries) book) held;
+      planned = planned_none a.table.rows a.plan unknown;
+    }

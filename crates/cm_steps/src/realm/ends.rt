@@ -13,7 +13,7 @@ ghost use Rattle.cm_steps.specs.Ends.{finish_of};
 
 use super::Realm;
 use crate::ending::{Ending, end_at};
-use crate::expiring::{expire_by, goes_some_by};
+use crate::expiring::expire_by;
 use crate::pending::{inc_at, outcome_at, settle, take_join};
 use crate::rooms::{put_down, resolves_left};
 use cm_table::Settled;
@@ -31,9 +31,9 @@ impl Realm {
         ensures step { Tells self.old self.new caller (Event.End action (finish_of ending)) result }
     {
         let inc = inc_at(self.acts.as_slice(), action);
+        let closing = self.plan.closes(&self.table, inc);
         let Settled { finish, outcome } = end_at(&mut self.table, inc, ending);
-        let doomed = goes_some_by(&self.table, inc, outcome);
-        expire_by(&mut self.table, inc, outcome);
+        let doomed = expire_by(&mut self.table, inc, outcome, closing);
         self.resolves = resolves_left(self.acts.as_slice(), self.resolves, action);
         settle(&mut self.acts, action, outcome);
         let entry = Entry {

@@ -4,7 +4,7 @@ ghost use Rattle.std.specs.Prelude.{◌≡◌, ◌++◌, [], IfOk, OnOk, Some, i
 ghost use Rattle.std.specs.Prelude.{option_map, option_and_then, option_to_list, unwrap_or};
 ghost use Rattle.std.specs.Option.{option_copied};
 ghost use Rattle.cm_world.specs.declared.row.Row.{Row};
-ghost use Rattle.cm_world.specs.Rows.{row_of, decl_of, facts_of};
+ghost use Rattle.cm_world.specs.Rows.{row_of, decl_of, facts_of, is_closed};
 ghost use Rattle.cm_world.specs.Begin as begin;
 ghost use Rattle.cm_world.specs.Begin.{same_act};
 ghost use Rattle.cm_world.specs.Work as works;
@@ -12,10 +12,11 @@ ghost use Rattle.cm_world.specs.Work.{work_of};
 ghost use Rattle.cm_steps.specs.Answers.{AnswersBegin, AnswersIdle};
 ghost use Rattle.cm_steps.specs.Eager.{eager_by, eager_child, eager_kids, above_url};
 
+use crate::standing::{Standing, standing_of};
 use cm_decl::Child;
 use cm_names::{Boxed, ChildName, List, Memory, Name, Text};
 use cm_table::Table;
-use cm_walk::above::{closed, gone, resolved};
+use cm_walk::above::resolved;
 use cm_walk::hop::moniker;
 use cm_world::{ActKind, Facts, Reply, View, Work};
 use std::alloc::Global;
@@ -43,10 +44,15 @@ pub fn begin_answer(
 ) -> Result<BeginAnswer, Memory>
     ensures { IfOk result (AnswersBegin table.now.rows next_action kind inc) }
 {
-    if gone(table, inc) {
+    let Standing {
+        facts,
+        gone,
+        closed,
+    } = standing_of(table, inc);
+    if gone {
         return Ok(BeginAnswer::Quiet(Reply::Gone(inc)));
     }
-    let facts = match table.facts(inc) {
+    let facts = match facts {
         None => return Ok(BeginAnswer::Quiet(Reply::Gone(inc))),
         Some(facts) => facts,
     };
@@ -56,7 +62,7 @@ pub fn begin_answer(
         } else {
             BeginAnswer::Busy(action)
         }),
-        None => idle_answer(alloc, table, next_action, kind, inc, facts),
+        None => idle_answer(alloc, table, next_action, kind, inc, facts, closed),
     }
 }
 
@@ -74,8 +80,10 @@ fn idle_answer(
     kind: ActKind,
     inc: u64,
     facts: Facts,
+    closed: bool,
 ) -> Result<BeginAnswer, Memory>
-    requires { Some facts ≡ option_map facts_of (row_of table.now.rows inc) }
+    requires facts { Some facts ≡ option_map facts_of (row_of table.now.rows inc) }
+    requires closed { closed ≡ is_closed table.now.rows inc }
     ensures { IfOk result (λ answer. (r : Row) → row_of table.now.rows inc ≡ Some r
         → AnswersIdle table.now.rows next_action kind r answer) }
 {
@@ -83,7 +91,7 @@ fn idle_answer(
     if is_so(kind, facts.on, resolved) {
         return Ok(BeginAnswer::Quiet(Reply::Already));
     }
-    if closed(table, inc) {
+    if closed {
         return Ok(BeginAnswer::Quiet(Reply::Shut(inc)));
     }
     if needs_decl(kind, resolved) {

@@ -9,7 +9,7 @@ ghost use Rattle.cm_world.specs.Located.{located_from};
 
 use cm_names::{ChildName, List, Memory, Moniker, Shared};
 use cm_table::Table;
-use cm_walk::above::{closed, resolved};
+use cm_walk::above::closed;
 use cm_walk::locate;
 use cm_world::{Located, Reply, Steps, View};
 use std::alloc::Global;
@@ -43,8 +43,8 @@ fn located<L: Ledger>(table: &Table, moniker: &Moniker, blank: Blank) -> Located
     locate(table, moniker, &mut steps)
 }
 
-/// What is said where so many of these names are found, and the next one isn't. Where the number
-/// is 2^32 - 1, they are looked for once more: there may be more of them.
+/// What is said where so many of these names are found, and the next one isn't. No tree has 2^32 - 1
+/// of them one below the other, since it has at most so many rows; that would be want of memory.
 #[tactic(auto, using(crate::proofs::read::Leading::missing_reply))]
 fn missing(
     alloc: Global,
@@ -55,31 +55,12 @@ fn missing(
     requires { located_from table.now.rows 0 0 parts.now ≡ Located.Missing count }
     ensures { IfOk result (λ reply. reply ≡ found_from table.now.rows 0 [] parts.now) }
 {
+    // The tree of which the contract speaks.
+    let _table = table;
     if count < u32::MAX {
         return not_found(alloc, &parts[..count as usize]);
     }
-    looked_for(alloc, table, parts)
-}
-
-/// Which instance stands where these names lead from the root.
-fn looked_for<V: View>(
-    alloc: Global,
-    view: &V,
-    parts: &[Shared<ChildName>],
-) -> Result<Reply, Memory>
-    ensures { IfOk result (λ reply. reply ≡ found_from (V.rows view.now) 0 [] parts.now) }
-{
-    let mut at = 0;
-    for (depth, name) in parts.iter().enumerate() {
-        if !resolved(view, at) {
-            return Ok(unresolved(view, at));
-        }
-        match view.child(at, name.get()) {
-            None => return not_found(alloc, &parts[..depth]),
-            Some(next) => at = next,
-        }
-    }
-    Ok(Reply::Found(at))
+    Err(Memory)
 }
 
 /// What is said where nothing stands behind these names.

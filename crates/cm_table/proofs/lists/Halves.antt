@@ -83,6 +83,15 @@ module _ {Y : Type 0} (key : Y → ℕ) where
   none_append [] ys i e = refl
   none_append (x ∷ xs) ys i e = none_by (key x == i) x (item_of key xs i) (item_of key (xs ++ ys) i) (item_of key ys i) (none_append xs ys i) e
 
+  first_by : (t : Bool) (x y : Y) (o p : Option Y) → (o ≡ Some y → p ≡ Some y) → cond t (Some x) o ≡ Some y → cond t (Some x) p ≡ Some y
+  first_by true x y o p later at = at
+  first_by false x y o p later at = later at
+
+  pub some_front : (xs ys : List Y) (i : ℕ) (y : Y) → item_of key xs i ≡ Some y → item_of key (xs ++ ys) i ≡ Some y
+  some_front [] ys i y at = absurd (true≢false (sym (ap is_some at)))
+  some_front (x ∷ xs) ys i y at =
+      first_by (key x == i) x y (item_of key xs i) (item_of key (xs ++ ys) i) (some_front xs ys i y) at
+
   -- ---- a list of parts
 
   pub own : (s : Y) (ss : List Y) → IsSome (item_of key (s ∷ ss) (key s))
@@ -151,6 +160,17 @@ module _ {Y : Type 0} (key : Y → ℕ) where
     part_rising [] k d lt r = absurd (omega arith)
     part_rising (x ∷ xs) zero d lt r = rising_front (f x) (flat_map f xs) r
     part_rising (x ∷ xs) (suc k) d lt r = part_rising xs k d (le_of_suc-le-suc lt) (rising_back (f x) (flat_map f xs) r)
+
+    -- an item of that part is the item of its key
+    pub in_part : (xs : List X) (i k : ℕ) (d : X) (y : Y) → Rising key (flat_map f xs) → k < length xs → item_of key (f (get_or xs k d)) i ≡ Some y → item_of key (flat_map f xs) i ≡ Some y
+    in_part [] i k d y r lt at = absurd (omega arith)
+    in_part (x ∷ xs) i zero d y r lt at = some_front (f x) (flat_map f xs) i y at
+    in_part (x ∷ xs) i (suc k) d y r lt at =
+        let later : item_of key (flat_map f xs) i ≡ Some y = in_part xs i k d y (rising_back (f x) (flat_map f xs) r) (le_of_suc-le-suc lt) at in
+        none_append (f x) (flat_map f xs) i
+        (no_some (item_of key (f x) i)
+        (λ h. let up : i < i = before (f x) (flat_map f xs) i i r h (ap is_some later) in absurd (omega arith)))
+        ∙ later
 
     -- the place before the count, as `IsPlace` at a successor
     pub place_before : (xs : List X) (i k : ℕ) → (k ≡ 0 → ⊥) → IsPlace key f xs i k → IsPlace key f xs i (suc (k - 1))
@@ -270,4 +290,22 @@ at_place key ss i k s r lt is own =
       bound = lt;
       own = here;
       found = λ d. find-nth (λ y. key y == i) ss k d (lt_le k (length ss) lt) (others_before key ss k d i r lt (here d)) (λ le. (unsigned_Decides (key (get_or ss k d)) i).1 (here d)) ∙ nth-some ss k d lt;
+    }
+
+-- and the place behind it is that of its key among the items as parts
+pub place_behind : {Y : Type 0} (key : Y → ℕ) (ss : List Y) (i k : ℕ) (e : Y) → Rising key ss → k < length ss → key (get_or ss k e) ≡ i → IsPlace key alone ss i (k + 1)
+place_behind key ss i k e r lt own =
+    let here : (d : _) → key (get_or ss k d) ≡ i = λ d. ap key (sym (get_or_default ss k e d lt)) ∙ own in
+    record {
+      bound = omega (arith, lt);
+      low = λ j d less.
+          let up : key (get_or ss j d) ≤ key (get_or ss k d) = rising_alone key ss r j k d (omega arith) lt in
+          let at : key (get_or ss k d) ≡ i = here d in
+          let it : key (get_or ss j d) ≤ i = omega arith in
+          it;
+      high = λ j d le within.
+          let up : key (get_or ss k d) < key (get_or ss j d) = strictly key ss k j d r (omega arith) within in
+          let at : key (get_or ss k d) ≡ i = here d in
+          let it : i < key (get_or ss j d) = omega arith in
+          it;
     }

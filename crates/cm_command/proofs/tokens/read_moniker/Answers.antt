@@ -1,6 +1,11 @@
-use Rattle.cm_command.proofs.counts.MonikerCounts.{moniker_utf8}
+use Rattle.std.proofs.Common.{◌≡◌, ◌∙◌, All, IfSome, map, subst, ap, rules}
+use Rattle.cm_names.specs.Child.{child_text}
+use Rattle.cm_names.specs.Moniker.{IsChild}
+use Rattle.cm_names.specs.Path.{parts_of}
+use Rattle.cm_names.proofs.MonikerParts.{made}
 use Rattle.cm_command.proofs.tokens.read_moniker.Goals as goal
 
-pub unreachable-requires : goal.unreachable-requires
-unreachable-requires c =
-    c.in_default-text_of.ensures (moniker_utf8 c.args.word.now c.in_default.ensures)
+pub returns-in-Some : goal.returns-in-Some
+returns-in-Some c =
+    let read = subst (λ found. IfSome found (λ parts. All IsChild parts × (map child_text parts ≡ parts_of c.behind_slash.result.now))) c.in-Some.is c.in_ok-parts.ensures in
+    (made c.args.word.now c.in-Some.parts read.0 (read.1 ∙ ap parts_of c.behind_slash.ensures), search rules)

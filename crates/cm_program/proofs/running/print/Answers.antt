@@ -16,5 +16,5 @@ returns-in-Done-clause-printed g c =
     let old = g.K.Sink.written c.args.out.now in
     let new = g.K.Sink.written c.put_all-put.new.sink in
     let same = c.as_bytes.ensures.value ∙ c.as_str.ensures ∙ c.in-Ok.ensures in
-    printed_done _ c.args.said.now old new c.put_all-put.result c.in-Done.is (c.is_wanting.ensures c.if-is_wanting.false)
+    printed_done _ c.args.said.now old new c.put_all-put.result c.in-Done.is (c.is_wanting.ensures.told c.if-is_wanting.false)
     (subst (λ t. PutsAll old new t c.put_all-put.result) same c.put_all-put.ensures.bytes)

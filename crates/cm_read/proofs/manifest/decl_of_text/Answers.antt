@@ -1,5 +1,5 @@
 use Rattle.std.proofs.Common.{◌≡◌, true, sym, subst, arith}
-use Rattle.cm_read.specs.Plain.{ReadsAsJson}
+use Rattle.cm_plain.specs.Plain.{ReadsAsJson}
 use Rattle.cm_read.specs.Reading.{Gives}
 use Rattle.cm_read.proofs.TextLemmas.{plain_decl}
 use Rattle.cm_read.proofs.manifest.decl_of_text.Goals as goal

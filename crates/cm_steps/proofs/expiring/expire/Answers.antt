@@ -1,17 +1,10 @@
 use Rattle.std.proofs.Common.{List, sym, ap, ◌∙◌}
 use Rattle.cm_world.specs.declared.row.Row.{Row}
 use Rattle.cm_table.specs.Tree.{Tree}
-use Rattle.cm_steps.proofs.expiries.Dooming.{expired_closed, expired_once}
+use Rattle.cm_steps.proofs.expiries.Goers.{none_expired}
 use Rattle.cm_steps.proofs.expiring.expire.Goals as goal
 
-pub returns-then-closed : goal.returns-then-closed
-returns-then-closed c =
+pub returns-else-goes-clause-rows : goal.returns-else-goes-clause-rows
+returns-else-goes-clause-rows c =
     let t : Tree = c.args.table.now in
-    ap (λ (rs : List Row). record t { rows = rs }) (sym (expired_closed t.rows c.args.inc (sym c.closed.ensures ∙ c.if-closed.true)))
-
-pub returns-then-runs_once : goal.returns-then-runs_once
-returns-then-runs_once c =
-    let t : Tree = c.args.table.now in
-    c.doom_dynamic.ensures
-    ∙ ap (λ (rs : List Row). record t { rows = rs })
-    (sym (expired_once t.rows t.next_inc c.args.inc c.runs_once.ensures.orderly (sym c.closed.ensures ∙ c.if-closed.false) (sym c.runs_once.ensures.once ∙ c.if-runs_once.true)))
+    ap (λ (rs : List Row). record t { rows = rs }) (sym (none_expired t.rows c.args.inc (sym c.goes_some-goes.ensures ∙ c.if-goes.false)))

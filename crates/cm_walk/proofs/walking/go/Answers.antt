@@ -7,6 +7,6 @@ use Rattle.cm_walk.proofs.walking.go.Goals as goal
 
 pub returns-in-To : goal.returns-in-To
 returns-in-To c =
-    if_ok (λ step. (front : List Place) → IsBehind front (as_station c.args.here) c.args.trail → Leads front (as_station c.args.here) (to.To (as_station c.in-To.station)) step)
-    (λ step. (front : List Place) → IsBehind front (as_station c.args.here) c.args.trail → EndsAt (as_station c.args.here) c.args.next → Leads front (as_station c.args.here) (as_next c.args.next) step) c.go_on.result
-    (λ step leads. λ front behind ends. subst (λ n. Leads front (as_station c.args.here) (as_next n) step) (sym c.in-To.is) (leads front behind)) c.go_on.ensures
+    if_ok (λ step. (front : List Place) → IsBehind front (as_station c.args.here) c.args.trail.now → Leads front (as_station c.args.here) (to.To (as_station c.in-To.station)) c.go_on.new.trail step)
+    (λ step. (front : List Place) → IsBehind front (as_station c.args.here) c.args.trail.now → EndsAt (as_station c.args.here) c.args.next → Leads front (as_station c.args.here) (as_next c.args.next) c.go_on.new.trail step) c.go_on.result
+    (λ step leads. λ front behind ends. subst (λ n. Leads front (as_station c.args.here) (as_next n) c.go_on.new.trail step) (sym c.in-To.is) (leads front behind)) c.go_on.ensures

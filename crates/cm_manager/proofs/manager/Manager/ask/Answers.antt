@@ -13,7 +13,6 @@ loop-init g c = record {
 pub ask_once-after-requires : goal.ask_once-after-requires
 ask_once-after-requires g c = record {
   lock = c.loop.invariant.waits.lock ∙ c.requires.lock;
-  asked = c.requires.asked;
   due = c.loop.invariant.due;
 }
 

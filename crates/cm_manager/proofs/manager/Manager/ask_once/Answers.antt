@@ -2,9 +2,11 @@ use Rattle.cm_manager.proofs.left.Due.{open_at}
 use Rattle.cm_manager.proofs.onward.Turning.{entered_by, may_leave, took_by, same_pass, turned_as, busy_by, steps_on}
 use Rattle.cm_manager.proofs.manager.Manager.ask_once.Goals as goal
 
-pub tell-went-requires-clause-ready : goal.tell-went-requires-clause-ready
-tell-went-requires-clause-ready g c = λ legal.
-    open_at c.due_events_stay.ensures.stays c.due_events_stay.ensures.allowed _ _ _ (entered_by _ _ _ c.enter-held.ensures c.state.ensures.value legal) c.requires.due
+pub tell-went-requires : goal.tell-went-requires
+tell-went-requires g c = record {
+  ready = λ legal.
+      open_at c.due_events_stay.ensures.stays c.due_events_stay.ensures.allowed _ _ _ (entered_by _ _ _ c.enter-held.ensures c.state.ensures.value legal) c.requires.due;
+}
 
 pub leave-requires-clause-entries : goal.leave-requires-clause-entries
 leave-requires-clause-entries g c =

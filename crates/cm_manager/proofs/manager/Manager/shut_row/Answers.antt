@@ -4,25 +4,25 @@ use Rattle.cm_manager.proofs.manager.Manager.shut_row.Goals as goal
 
 pub stop_all-requires-clause-leaving : goal.stop_all-requires-clause-leaving
 stop_all-requires-clause-leaving g c κs within =
-    let asked = c.ask_for-pass.ensures in
-    (marked_at c.marks_stay.ensures.marks c.args.doom c.args.inc c.ask_for-pass.result.1 c.args.pass c.ask_for-pass.result.0 (sym c.unmarked.ensures ∙ c.in-None.is) asked.same asked.asked).0
+    let asked = c.ask-pass.ensures in
+    (marked_at c.marks_stay.ensures.marks c.args.doom c.args.inc c.ask-pass.result.1 c.args.pass c.ask-pass.result.0 (sym c.unmarked.ensures ∙ c.in-None.is) asked.same asked.asked).0
 
 pub returns-in-None : goal.returns-in-None
 returns-in-None g c =
-    let asked = c.ask_for-pass.ensures in
+    let asked = c.ask-pass.ensures in
     let is = sym c.unmarked.ensures ∙ c.in-None.is in
     record {
       helps = marked_shuts _ _ _ _ _ _ _ _ _ _ (marks_help c.args.self.now.shelf c.args.doom c.args.inc _ _ _ _ is asked.same asked.asked) c.stop_all.ensures.helps;
       marked =
           none_or _ _
-          (marked_next c.marks_stay.ensures.stays c.args.doom c.args.inc c.ask_for-pass.result.0 _ c.stop_all.ensures.helps.same
-          (marked_at c.marks_stay.ensures.marks c.args.doom c.args.inc c.ask_for-pass.result.1 c.args.pass c.ask_for-pass.result.0 is asked.same asked.asked));
+          (marked_next c.marks_stay.ensures.stays c.args.doom c.args.inc c.ask-pass.result.0 _ c.stop_all.ensures.helps.same
+          (marked_at c.marks_stay.ensures.marks c.args.doom c.args.inc c.ask-pass.result.1 c.args.pass c.ask-pass.result.0 is asked.same asked.asked));
       over = c.stop_all.ensures.over;
     }
 
 pub returns-in-Some : goal.returns-in-Some
 returns-in-Some g c = record {
-  helps = unmarked_shuts _ _ _ _ _ _ _ _ (sym c.unmarked.ensures ∙ c.in-Some.is) c.ask_for-pass.ensures.same c.ask_for-pass.ensures.asked;
+  helps = unmarked_shuts _ _ _ _ _ _ _ _ (sym c.unmarked.ensures ∙ c.in-Some.is) c.ask-pass.ensures.same c.ask-pass.ensures.asked;
   marked = tt;
   over = tt;
 }

@@ -1,12 +1,11 @@
-use Rattle.cm_manager.specs.Questions.{event_for}
-use Rattle.cm_manager.proofs.calling.Calling.{made_asked, made_plain}
+use Rattle.cm_manager.proofs.calling.Calling.{request_asked, request_plain}
 use Rattle.cm_manager.proofs.manager.Manager.try_request.Goals as goal
 
-pub try_made-requires-clause-asked : goal.try_made-requires-clause-asked
-try_made-requires-clause-asked g c κs within = made_asked c.event_at.result c.args.request c.args.inc c.event_at.ensures
+pub try_event-requires-clause-asked : goal.try_event-requires-clause-asked
+try_event-requires-clause-asked g c κs within = request_asked c.args.request c.args.inc
 
-pub try_made-requires-clause-plain : goal.try_made-requires-clause-plain
-try_made-requires-clause-plain g c κs within = made_plain c.event_at.result c.args.request c.args.inc c.event_at.ensures
+pub try_event-requires-clause-plain : goal.try_event-requires-clause-plain
+try_event-requires-clause-plain g c κs within = request_plain c.args.request c.args.inc
 
 pub returns : goal.returns
-returns g c = record { helps = c.try_made.ensures.helps (event_for c.args.request c.args.inc) c.event_at.ensures }
+returns g c = record { helps = c.try_event.ensures.helps }

@@ -5,6 +5,7 @@ use Rattle.cm_table.specs.Tree.{Tree}
 use Rattle.cm_table.specs.Change.{with_changed}
 use Rattle.cm_world.specs.declared.action.Act.{Act}
 use Rattle.cm_world.specs.declared.reply.Entry.{Entry}
+use Rattle.cm_world.specs.declared.reply.Reply.{Reply}
 use Rattle.cm_world.specs.World.{World, is_open}
 use Rattle.cm_world.specs.End.{set_pending}
 use Rattle.cm_world.specs.After.{new_act, with_action, moved, counted, after}
@@ -18,6 +19,8 @@ use Rattle.cm_steps.proofs.steps.Going.{goes_on, one_longer}
 use Rattle.cm_steps.proofs.actions.Begun.{new_resolve}
 use Rattle.cm_laws.proofs.actions.Tasks.{numbered_more, tasked_begun}
 use Rattle.cm_cache.specs.Keeping.{asked_by}
+use Rattle.cm_cache.specs.Beside.{is_emptied, followed}
+use Rattle.cm_steps.specs.Planned.{IsPlannedBy}
 use Rattle.cm_cache.proofs.Dooming.{others_doom_none}
 use Rattle.cm_steps.proofs.asked.Keepers.{goes_beside}
 use Rattle.cm_steps.proofs.Planning.{planned_after}
@@ -32,8 +35,9 @@ invariant_of-self c =
     let e : Entry = entry_of c.args.caller c.args.event c.args.reply in
     let act : ℕ → Act = λ n. new_act n c.args.kind c.args.inc c.args.caller in
     let all : List Act = xs ++ act next ∷ [] in
-    let pushed : History → History = λ t. record { entries = t.entries ++ e ∷ []; reserved = t.reserved - 1; limit = t.limit } in
-    let book = c.put_down.ensures.book ∙ ap pushed c.in-Ok-room.ensures.book in
+    let same : c.in-Ok.kept ≡ c.args.reply = c.in-Ok.ensures in
+    let pushed : Reply → History → History = λ r t. record { entries = t.entries ++ entry_of c.args.caller c.args.event r ∷ []; reserved = t.reserved - 1; limit = t.limit } in
+    let book = c.put_down.ensures.book ∙ ap (λ r. pushed r c.make_room-room.new.book) same ∙ ap (pushed c.args.reply) c.in-Ok-room.ensures.book in
     let more = ap (λ (t : History). t.entries) book in
     let number : c.next_action-action.result ≡ next = c.next_action-action.ensures ∙ ap (λ ys. length ys + 1) (c.as_slice.ensures.value ∙ c.make_room-room.ensures.acts) in
     let pended : ℕ → Tree → Tree = λ n t. with_changed c.args.inc (set_pending (Some (c.args.kind, n))) t in
@@ -87,8 +91,10 @@ invariant_of-self c =
       beside =
           goes_beside c.self.inside e false _ _ c.self.invariant.stands c.self.invariant.beside more
           (subst (λ (v : World). asked_by v c.args.event ≡ None) here c.requires.unasked)
-          (others_doom_none w e c.requires.undoomed) c.put_down.ensures.keeper;
+          (others_doom_none w e c.requires.undoomed)
+          (c.put_down.ensures.keeper ∙ ap (λ r. followed c.args.event r false c.self.inside.keeper) same);
       planned =
           planned_after c.self.inside e false c.set_pending.new.self.rows c.put_down.new.plan c.self.invariant.stands step (ap (λ (v : World). v.rows) behind)
-          (others_doom_none w e c.requires.undoomed) c.self.invariant.planned c.put_down.ensures.plan;
+          (others_doom_none w e c.requires.undoomed) c.self.invariant.planned
+          (subst (λ r. IsPlannedBy (is_emptied c.args.event r false) c.self.inside.plan c.put_down.new.plan) same c.put_down.ensures.plan);
     }

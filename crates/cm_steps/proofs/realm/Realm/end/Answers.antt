@@ -1,4 +1,4 @@
-use Rattle.std.proofs.Common.{◌≡◌, ◌+◌, ◌≤◌, ◌++◌, ◌∷◌, [], refl, ap, sym, ◌∙◌, subst, arith}
+use Rattle.std.proofs.Common.{◌≡◌, ◌+◌, ◌≤◌, ◌++◌, ◌∷◌, [], IsTrue, refl, ap, sym, ◌∙◌, subst, arith}
 use Rattle.std.specs.List.{count_by}
 use Rattle.cm_book.specs.History.{History}
 use Rattle.cm_world.specs.declared.event.Event.TheVariants.{End}
@@ -6,6 +6,7 @@ use Rattle.cm_world.specs.declared.reply.Reply.TheVariants.{Ended}
 use Rattle.cm_world.specs.World.{World}
 use Rattle.cm_world.specs.End.{rows_by, outcome_by, ended}
 use Rattle.cm_world.specs.Step.{MayEnd}
+use Rattle.cm_world.specs.Rows.{is_closed}
 use Rattle.cm_world.specs.Expiring.{expired_by}
 use Rattle.cm_table.specs.Tree.{Tree}
 use Rattle.cm_steps.specs.Ends.{inc_of, finish_of, takes_of}
@@ -19,6 +20,7 @@ use Rattle.cm_steps.specs.Planned.{IsPlannedBy}
 use Rattle.cm_cache.proofs.Dooming.{ends_doom}
 use Rattle.cm_steps.specs.Inside.{world_in}
 use Rattle.cm_steps.proofs.asked.Keepers.{rising_in}
+use Rattle.cm_steps.proofs.expiries.Closing.{orderly_in, still_closed}
 use Rattle.cm_steps.proofs.realm.Realm.end.Goals as goal
 
 pub inc_at-inc-requires : goal.inc_at-inc-requires
@@ -37,6 +39,12 @@ end_at-finish-requires c =
     let may : MayEnd acts c.args.caller c.args.action f = subst (λ (w : World). MayEnd w.acts c.args.caller c.args.action f) (ap world_of (sym c.self.view_is) ∙ c.self.invariant.stands.world) c.requires.may in
     let here : c.inc_at-inc.result ≡ may.act.inc = c.inc_at-inc.ensures ∙ ap (λ xs. inc_of xs c.args.action) c.as_slice.ensures.value ∙ inc-ended acts c.args.caller c.args.action f may in
     can_take c.self.inside.table acts c.args.caller c.args.action c.inc_at-inc.result c.args.ending may here c.self.invariant.tasks c.self.invariant.spare
+
+pub expire_by-doomed-requires : goal.expire_by-doomed-requires
+expire_by-doomed-requires c = λ closing stopped.
+    let t = c.self.inside.table in
+    subst (λ rs. IsTrue (is_closed rs c.inc_at-inc.result)) (sym c.end_at-finish.ensures.rows)
+    (still_closed t.limit t.next_inc c.inc_at-inc.result (finish_of c.args.ending) c.end_at-finish.result.outcome t.rows (orderly_in c.self.inside c.self.invariant.stands) c.end_at-finish.ensures.outcome stopped (c.closes-closing.ensures closing))
 
 pub put_down-requires : goal.put_down-requires
 put_down-requires c =
@@ -58,15 +66,15 @@ invariant_of-self c =
     (record {
       frame = refl;
       rows =
-          ap (λ (t : Tree). t.rows) c.expire_by.ensures
+          ap (λ (t : Tree). t.rows) c.expire_by-doomed.ensures.rows
           ∙ ap (expired_by o c.inc_at-inc.result) c.end_at-finish.ensures.rows
           ∙ ap (λ i. expired_by o i (rows_by i t.next_inc f o t.rows)) here;
-      next = ap (λ (t : Tree). t.next_inc) c.expire_by.ensures ∙ c.end_at-finish.ensures.next;
+      next = ap (λ (t : Tree). t.next_inc) c.expire_by-doomed.ensures.rows ∙ c.end_at-finish.ensures.next;
       spare =
-          subst (λ n. t.spare ≤ n + takes_of f) (sym (ap (λ (t : Tree). t.spare) c.expire_by.ensures))
+          subst (λ n. t.spare ≤ n + takes_of f) (sym (ap (λ (t : Tree). t.spare) c.expire_by-doomed.ensures.rows))
           c.end_at-finish.ensures.spare;
-      limit = ap (λ (t : Tree). t.limit) c.expire_by.ensures ∙ c.end_at-finish.ensures.limit;
-      builtins = ap (λ (t : Tree). t.builtins) c.expire_by.ensures ∙ c.end_at-finish.ensures.builtins;
+      limit = ap (λ (t : Tree). t.limit) c.expire_by-doomed.ensures.rows ∙ c.end_at-finish.ensures.limit;
+      builtins = ap (λ (t : Tree). t.builtins) c.expire_by-doomed.ensures.rows ∙ c.end_at-finish.ensures.builtins;
       acts = c.settle.ensures;
       resolves = c.resolves_left-self-inside.ensures o ∙ ap (λ xs. count_by is_open_resolve (ended c.args.action o xs)) c.as_slice-2.ensures.value;
       joins = refl;
@@ -75,18 +83,18 @@ invariant_of-self c =
           ∙ ap (λ g. c.self.inside.book.entries ++ entry_of c.args.caller (End c.args.action g) (Ended o) ∷ []) c.end_at-finish.ensures.finish;
       reserved = ap (λ (h : History). h.reserved) c.put_down.ensures.book;
       most = ap (λ (h : History). h.limit) c.put_down.ensures.book;
-      doomed = c.goes_some_by-doomed.result;
+      doomed = c.expire_by-doomed.result;
       told =
           subst (IsTold (world_in c.self.inside) (entry_of c.args.caller (End c.args.action f) (Ended o)))
           (sym (
-          c.goes_some_by-doomed.ensures
+          c.expire_by-doomed.ensures.goes
           ∙ ap (λ rs. goes_some_by o rs c.inc_at-inc.result) c.end_at-finish.ensures.rows
           ∙ ap (λ i. goes_some_by o (rows_by i t.next_inc f o t.rows) i) here))
           (ends_doom (world_in c.self.inside) c.args.caller c.args.action f o may.act (rising_in c.self.inside c.self.invariant.stands) may.there);
       keeper =
           c.put_down.ensures.keeper
-          ∙ ap (λ g. followed (End c.args.action g) (Ended o) c.goes_some_by-doomed.result c.self.inside.keeper) c.end_at-finish.ensures.finish;
+          ∙ ap (λ g. followed (End c.args.action g) (Ended o) c.expire_by-doomed.result c.self.inside.keeper) c.end_at-finish.ensures.finish;
       plan =
-          subst (λ g. IsPlannedBy (is_emptied (End c.args.action g) (Ended o) c.goes_some_by-doomed.result) c.self.inside.plan c.put_down.new.plan)
+          subst (λ g. IsPlannedBy (is_emptied (End c.args.action g) (Ended o) c.expire_by-doomed.result) c.self.inside.plan c.put_down.new.plan)
           c.end_at-finish.ensures.finish c.put_down.ensures.plan;
     })

@@ -32,15 +32,15 @@ invariant_of-self-2 c =
     (tasked_changed w.rows w.acts c.args.inc (set_on false) (λ r. refl) (λ r. refl) (λ r. refl) c.self.invariant.tasks))
     (record {
       frame = refl;
-      table = c.expire.ensures ∙ ap (λ (t : Tree). record t { rows = expired c.args.inc t.rows }) c.set_on.ensures;
+      table = c.expire-doomed.ensures.rows ∙ ap (λ (t : Tree). record t { rows = expired c.args.inc t.rows }) c.set_on.ensures;
       acts = refl;
       resolves = refl;
       joins = refl;
       book = one_pushed _ _ _ e c.in_ok-told.ensures.book c.put_down.ensures.book;
-      doomed = c.goes_some-doomed.result;
+      doomed = c.expire-doomed.result;
       unasked = refl;
       told =
-          subst (IsTold w e) (sym (c.goes_some-doomed.ensures ∙ ap (λ (t : Tree). goes_some t.rows c.args.inc) c.set_on.ensures))
+          subst (IsTold w e) (sym (c.expire-doomed.ensures.goes ∙ ap (λ (t : Tree). goes_some t.rows c.args.inc) c.set_on.ensures))
           (exits_doom w c.args.caller c.args.inc c.args.moniker (rising_in c.self.inside c.self.invariant.stands));
       keeper = c.put_down.ensures.keeper;
       plan = c.put_down.ensures.plan;

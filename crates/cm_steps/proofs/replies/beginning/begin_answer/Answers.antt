@@ -9,4 +9,4 @@ pub returns-in-None-pending : goal.returns-in-None-pending
 returns-in-None-pending c =
     if_ok (λ answer. (r : Row) → row_of c.args.table.now.rows c.args.inc ≡ Some r → AnswersIdle c.args.table.now.rows c.args.next_action c.args.kind r answer)
     (AnswersBegin c.args.table.now.rows c.args.next_action c.args.kind c.args.inc) c.idle_answer.result
-    (λ answer h. idle_answers c.args.table.now.rows c.args.next_action c.args.inc c.args.kind c.in-Some.facts answer (sym c.gone.ensures ∙ c.if-gone.false) c.in-Some.ensures.facts c.in-None-pending.is h) c.idle_answer.ensures
+    (λ answer h. idle_answers c.args.table.now.rows c.args.next_action c.args.inc c.args.kind c.in-Some.facts answer (sym c.standing_of-facts.ensures.gone ∙ c.if-gone.false) (sym c.in-Some.is ∙ c.standing_of-facts.ensures.facts) c.in-None-pending.is h) c.idle_answer.ensures

@@ -1,0 +1,146 @@
+#!/usr/bin/env python3
+"""Prints what realms cost that are as bad as the limits let them be, at two sizes each.
+
+A realm that is filled until it is refused, a history filled to its last entry, chains of instances, a
+name of 255 bytes below each of many parents, names that differ in their last bytes alone, sections with as
+many rows as they may have, and a child that is created and destroyed again and again. The columns are those
+of bench/scale.py, whose options these are, and behind them how often the cost of a command at the smaller
+size goes into that at the larger one: 1.0 where the work grows with what it goes over. Where one command
+goes over the whole realm, each instance or row counts as one.
+
+Usage: bench/hostile.py [--instructions] [--seconds N] [--only WORD] [PROGRAM [OTHER]]
+"""
+
+import scale
+from scale import PACKAGE, Case, cost, manifest, shown
+
+LONG = 255
+LEAF = '{"program":{"runner":"gen"}}'
+COLLECTION = '{"collections":[{"name":"k","durability":"transient"}]}'
+
+
+def root(text, *others):
+    """A script's beginning: the root's manifest, a leaf's, and others by their names."""
+    manifests = [manifest("root", text), manifest("x", LEAF), *(manifest(*it) for it in others)]
+    return "".join(manifests) + f"root {PACKAGE}root.cm\n"
+
+
+def numbered(number):
+    """A name of the greatest length, which differs from the others in its last bytes alone."""
+    return f"{number}".rjust(LONG, "n")
+
+
+def full_realm(size):
+    """Children are created until the realm is full, and then some more, each of which is refused."""
+    text = root(COLLECTION) + "0 start .\n"
+    lines = "".join(f"0 create . k c{it} #meta/x.cm\n" for it in range(size))
+    yield Case("create to the limit", size, text + lines, text, commands=size)
+
+
+def refused_creations(size):
+    """The realm is full: each creation is refused."""
+    text = root(COLLECTION) + "0 start .\n"
+    text += "".join(f"0 create . k c{it} #meta/x.cm\n" for it in range(65535))
+    lines = "".join(f"0 create . k d{it} #meta/x.cm\n" for it in range(size))
+    yield Case("create in a full one", size, text + lines, text, commands=size)
+
+
+def full_history(size):
+    """So many entries, two for a command, up to the last one that there may be."""
+    text = root(LEAF) + "0 start .\n"
+    lines = "0 show .\n" * (size // 2)
+    yield Case("fill the history", size, text + lines, text, commands=size // 2)
+
+
+def chain(size):
+    """One instance below the other: the last is started, all is surveyed, and shut down."""
+    below = '{"children":[{"name":"a","url":"#meta/%d.cm"}],"program":{"runner":"gen"}}'
+    others = [(f"{it}", below % (it + 1)) for it in range(size)] + [(f"{size}", LEAF)]
+    text = root(below % 0, *others)
+    last = "/".join(["a"] * size)
+    yield Case("start the last of a chain", size, text + f"0 start {last}\n", text, commands=size)
+    started = text + f"0 start {last}\n"
+    yield Case("survey a chain", size, started + "0 survey .\n", started, commands=size)
+    yield Case("shut a chain down", size, started + "0 shutdown .\n", started, commands=size)
+
+
+def namesakes(size):
+    """A child of the same long name below each of so many parents is shown."""
+    name = numbered(0)
+    parents = ",\n".join(f'{{"name":"p{it}","url":"#meta/parent.cm"}}' for it in range(size))
+    parent = f'{{"children":[{{"name":"{name}","url":"#meta/x.cm"}}]}}'
+    text = root(f'{{"children":[{parents}]}}', ("parent", parent))
+    text += "".join(f"0 resolve p{it}\n" for it in range(size))
+    lines = "".join(f"0 show p{it}/{name}\n" for it in range(size))
+    yield Case("show namesakes", size, text + lines, text, commands=size)
+
+
+def alike(size):
+    """Children whose long names differ in their last bytes alone are created, shown and listed."""
+    text = root(COLLECTION) + "0 start .\n"
+    made = "".join(f"0 create . k {numbered(it)} #meta/x.cm\n" for it in range(size))
+    yield Case("create children alike", size, text + made, text, commands=size)
+    lines = "".join(f"0 show k:{numbered(it * 7919 % size)}\n" for it in range(size))
+    yield Case("show children alike", size, text + made + lines, text + made, commands=size)
+    yield Case("list children alike", size, text + made + "0 list . k\n", text + made, commands=size)
+
+
+def rows(size):
+    """A leaf with so many uses, each offered to it: all are routed by a doctor, and the last by itself."""
+    uses = ",\n".join(f'{{"protocol":"p{it}"}}' for it in range(size))
+    offers = ",\n".join(f'"p{it}"' for it in range(size))
+    given = '"offer":[{"protocol":[%s],"from":"self","to":"#c"}],"capabilities":[{"protocol":[%s]}]'
+    parent = '{"children":[{"name":"c","url":"#meta/c.cm"}],' + given % (offers, offers) + "}"
+    text = root(parent, ("c", f'{{"program":{{"runner":"gen"}},"use":[{uses}]}}'))
+    started = text + "0 start c\n"
+    yield Case("start with many rows", size, started, text, commands=size)
+    yield Case("a doctor of many rows", size, started + "0 doctor .\n", started, commands=size)
+    last = f"0 route c /svc/p{size - 1}\n" * 1000
+    yield Case("route the last row", size, started + last, started, commands=1000)
+
+
+def again(size):
+    """One child is created and destroyed again and again."""
+    text = root(COLLECTION) + "0 start .\n"
+    lines = "0 create . k c #meta/x.cm\n0 destroy k:c\n" * size
+    yield Case("create and destroy again", size, text + lines, text, commands=2 * size)
+
+
+KINDS = (
+    (full_realm, (8192, 66000)),
+    (refused_creations, (1000, 8000)),
+    (full_history, (524288, 4194304)),
+    (chain, (250, 2000)),
+    (namesakes, (1000, 8000)),
+    (alike, (1000, 8000)),
+    (rows, (2048, 16384)),
+    (again, (12500, 100000)),
+)
+
+
+def cases():
+    """The cases of each kind, the smaller size before the larger one."""
+    for kind, sizes in KINDS:
+        for pair in zip(*(list(kind(size)) for size in sizes)):
+            yield from pair
+
+
+def main():
+    options, programs = scale.options_of(__doc__)
+    smaller = {}
+    for case in cases():
+        if options.only not in case.kind:
+            continue
+        found = [cost(it, case, options) for it in programs]
+        growth = ""
+        if found[0] is not None:
+            each = found[0].work / case.commands
+            if case.kind in smaller and smaller[case.kind] > 0:
+                growth = f"{each / smaller[case.kind]:>8.1f}"
+            smaller[case.kind] = each
+        row = " |".join(shown(it, case, options) for it in found)
+        print(f"{case.kind:<25} {case.size:>8} |{row} |{growth}", flush=True)
+
+
+if __name__ == "__main__":
+    main()

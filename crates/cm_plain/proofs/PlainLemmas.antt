@@ -1,0 +1,409 @@
+-- Plain texts: their lexemes, their tokens, and what the loops have read.
+use Rattle.std.proofs.Common.{◌≡◌, ℕ, ◌-◌, ◌<◌, ◌≤◌, List, [], ◌∷◌, ◌++◌, length, take, drop}
+use Rattle.std.proofs.Common.{Bool, true, false, cond, ◌||◌, ◌==◌, nat_lt, Some, String, Vec, BTreeMap, Global}
+use Rattle.std.proofs.Common.{string_bytes, string_cmp, take_while, refl, sym, ap, ap₂, ◌∙◌, subst, arith, rules}
+use Rattle.std.proofs.lemmas.Bool.{and_parts, or_parts, not-true, eqb-true, eqb-false, ltb-false}
+use Rattle.std.proofs.lemmas.List.{take-append-drop, length-drop}
+use Rattle.std.proofs.Math.Seq.{take-length}
+use Rattle.std.proofs.lemmas.List.Sums.{take_while-cons}
+use Rattle.std.specs.List.{list_all}
+use Rattle.std.specs.BTreeMap.{insert_entry}
+use Rattle.json.specs.Token.{Token, key, end_array, end_object, begin_array, begin_object}
+use Rattle.json.specs.Token as of_token
+use Rattle.json.specs.Json.{parse_map, read_key, after_end_array, items, members, value}
+use Rattle.json.specs.Lex.{Lexeme, token, comma, colon, class, operator, operator_lexeme, string_token, lex, lex_byte}
+use Rattle.json.specs.Lex.{between, Place, fresh, after_value, after_comma, after_key, may_begin}
+use Rattle.json.specs.Lex.{begins_colon, punctuate, tokens}
+use Rattle.json.specs.Lex as of_lex
+use Rattle.json.specs.Print.{escape}
+use Rattle.json.proofs.Grammar.{value_is, value-begin_array, value-begin_object, read_key-shorter}
+use Rattle.json.proofs.Printed.Strings.{escape_byte_plain, content-escape, lex-escape}
+use Rattle.serde_json.specs.Data.{Data, array, object, Members, no_members, put}
+use Rattle.serde_json.specs.Data as of_data
+use Rattle.serde_json.specs.Read.{of_json, of_items, of_members, converted, read}
+use Rattle.serde_json.specs.View.{view, items_view, members_view}
+use Rattle.serde_json.specs.declared.value.Value.{Value, Array, Object, the_lemmas}
+use Rattle.serde_json.specs.declared.value.Value as made
+use Rattle.serde_json.proofs.Views.{Entry, view-Array, view-Object, members_view-insert_entry}
+use Rattle.cm_text.specs.Bytes.{is_mark, is_space, begins_with}
+use Rattle.cm_plain.specs.Plain.{is_plain, begins, left, NoColon, HasValue, HasItems, HasMembers, AddsItem, AddsMember}
+use Rattle.cm_plain.proofs.ValueLemmas.{array_read, object_read, item_read, items_over, member_read, members_over}
+use Rattle.cm_plain.proofs.ValueLemmas.{value_shorter, no_end, items_before, items_are_before, one_more}
+use Rattle.cm_plain.proofs.ValueLemmas.{none_before, whole_read}
+
+-- ---- lexemes
+
+pub behind_a_space : (xs : List ℕ) → lex between (32 ∷ xs) ≡ lex between xs
+unfolding lex
+behind_a_space xs = refl
+
+pub at_mark : (c : ℕ) (t : List ℕ) → class c ≡ operator → lex between (c ∷ t) ≡ operator_lexeme c ∷ lex between t
+unfolding lex
+at_mark c t e = ap (λ k. lex_byte between k c t (λ m. lex m t)) e
+
+space_class : (b : ℕ) → is_space b ≡ true → class b ≡ of_lex.space
+space_class b h =
+    let no_quote : (b == 34) ≡ false = grind (arith, rules) in
+    let no_backslash : (b == 92) ≡ false = grind (arith, rules) in
+    let no_mark : is_mark b ≡ false = grind (arith, rules) in
+    rw (no_quote, no_backslash, no_mark, h)
+
+pub at_space : (b : ℕ) (t : List ℕ) → is_space b ≡ true → lex between (b ∷ t) ≡ lex between t
+unfolding lex
+at_space b t h = ap (λ k. lex_byte between k b t (λ m. lex m t)) (space_class b h)
+
+pub unslice : (n : ℕ) (t : List ℕ) → take (length t - n) (drop n t) ≡ drop n t
+unslice n t = ap (λ k. take k (drop n t)) (sym (length-drop n t)) ∙ take-length (drop n t)
+
+pub first_of : (c : ℕ) (t : List ℕ) → begins c t ≡ true → t ≡ c ∷ take (length t - 1) (drop 1 t)
+first_of c [] h = absurd (cc)
+first_of c (x ∷ xs) h = ap₂ (λ a b. a ∷ b) (eqb-true x c h) (sym (unslice 1 (x ∷ xs)))
+
+pub some_first : (c : ℕ) (t : List ℕ) → begins c t ≡ true → 1 ≤ length t
+some_first c [] h = absurd (cc)
+some_first c (x ∷ xs) h = omega arith
+
+pub some_space : (t : List ℕ) → begins_with is_space t ≡ true → 1 ≤ length t
+some_space [] h = absurd (cc)
+some_space (x ∷ xs) h = omega arith
+
+pub space_passed : (t : List ℕ) → begins_with is_space t ≡ true
+    → lex between (take (length t - 1) (drop 1 t)) ≡ lex between t
+space_passed [] h = absurd (cc)
+space_passed (x ∷ xs) h = ap (lex between) (unslice 1 (x ∷ xs)) ∙ sym (at_space x xs h)
+
+pub mark_passed : (c : ℕ) (t : List ℕ) → class c ≡ operator → begins c t ≡ true
+    → lex between t ≡ operator_lexeme c ∷ lex between (take (length t - 1) (drop 1 t))
+mark_passed c t e h = ap (lex between) (first_of c t h) ∙ at_mark c _ e
+
+plain_escape : (s : List ℕ) → list_all is_plain s ≡ true → escape s ≡ s
+plain_escape [] h = refl
+plain_escape (x ∷ s) h =
+    let both = and_parts (is_plain x) (list_all is_plain s) h in
+    let none = or_parts ((x == 34) || (x == 92)) (nat_lt x 32) (not-true _ both.0) in
+    let tests = or_parts (x == 34) (x == 92) none.0 in
+    ap₂ (λ a b. a ++ b)
+    (escape_byte_plain x (eqb-false x 34 tests.0) (eqb-false x 92 tests.1) (ltb-false x 32 none.1))
+    (plain_escape s both.1)
+
+pub at_string : (s r : List ℕ) → list_all is_plain s ≡ true
+    → lex between (34 ∷ (s ++ 34 ∷ r)) ≡ token (of_token.string s) ∷ lex between r
+unfolding lex
+at_string s r h =
+    let e : s ++ 34 ∷ r ≡ escape s ++ 34 ∷ r = ap (λ a. a ++ 34 ∷ r) (sym (plain_escape s h)) in
+    ap (λ l. lex between (34 ∷ l)) e
+    ∙ ap₂ (λ o l. token (string_token o) ∷ l) (content-escape s r) (lex-escape s r)
+
+front_by : (x : ℕ) (xs : List ℕ) (b : Bool) → is_plain x ≡ b
+    → list_all is_plain (take (length (take_while is_plain xs)) xs) ≡ true
+    → list_all is_plain (take (length (cond b (x ∷ take_while is_plain xs) [])) (x ∷ xs)) ≡ true
+front_by x xs true e h = rw e h
+front_by x xs false e h = refl
+
+pub front_is_plain : (xs : List ℕ) → list_all is_plain (take (length (take_while is_plain xs)) xs) ≡ true
+front_is_plain [] = refl
+front_is_plain (x ∷ xs) =
+    subst (λ l. list_all is_plain (take (length l) (x ∷ xs)) ≡ true) (sym (take_while-cons is_plain x xs))
+    (front_by x xs (is_plain x) refl (front_is_plain xs))
+
+-- a string up to its closing quote
+pub string_read : (inside s rest : List ℕ) (n : ℕ) → n ≡ length (take_while is_plain inside)
+    → s ≡ take n inside → drop n inside ≡ 34 ∷ rest
+    → lex between (34 ∷ inside) ≡ token (of_token.string s) ∷ lex between rest
+string_read inside s rest n len front behind =
+    let parts : inside ≡ take n inside ++ 34 ∷ rest =
+    sym (take-append-drop n inside) ∙ ap (λ l. take n inside ++ l) behind in
+    let all : list_all is_plain (take n inside) ≡ true =
+    ap (λ k. list_all is_plain (take k inside)) len ∙ front_is_plain inside in
+    ap (λ l. lex between (34 ∷ l)) parts ∙ at_string (take n inside) rest all
+    ∙ ap (λ l. token (of_token.string l) ∷ lex between rest) (sym front)
+
+-- the same, by its bytes
+pub parts_of_string : (opened inside closed rest : List ℕ) (n : ℕ) → begins 34 opened ≡ true
+    → inside ≡ take (length opened - 1) (drop 1 opened) → n ≡ length (take_while is_plain inside)
+    → closed ≡ take (length inside - n) (drop n inside) → begins 34 closed ≡ true
+    → rest ≡ take (length closed - 1) (drop 1 closed)
+    → (opened ≡ 34 ∷ (take n inside ++ 34 ∷ rest)) × (list_all is_plain (take n inside) ≡ true)
+parts_of_string opened inside closed rest n h i len c k r =
+    let behind : drop n inside ≡ 34 ∷ rest =
+    sym (c ∙ unslice n inside) ∙ first_of 34 closed k ∙ ap (λ l. 34 ∷ l) (sym r) in (
+      first_of 34 opened h
+          ∙ ap (λ l. 34 ∷ l) (sym i ∙ sym (take-append-drop n inside) ∙ ap (λ l. take n inside ++ l) behind),
+      ap (λ k. list_all is_plain (take k inside)) len ∙ front_is_plain inside,
+    )
+
+pub string_passed : (opened inside closed rest s : List ℕ) (n : ℕ) → begins 34 opened ≡ true
+    → inside ≡ take (length opened - 1) (drop 1 opened) → n ≡ length (take_while is_plain inside)
+    → closed ≡ take (length inside - n) (drop n inside) → begins 34 closed ≡ true
+    → rest ≡ take (length closed - 1) (drop 1 closed) → s ≡ take n inside
+    → lex between opened ≡ token (of_token.string s) ∷ lex between rest
+string_passed opened inside closed rest s n h i len c k r front =
+    ap (lex between) (first_of 34 opened h ∙ ap (λ l. 34 ∷ l) (sym i))
+    ∙ string_read inside s rest n len front
+    (sym (c ∙ unslice n inside) ∙ first_of 34 closed k ∙ ap (λ l. 34 ∷ l) (sym r))
+
+-- ---- tokens
+
+string_next : (p : Place) (s : List ℕ) (ls : List Lexeme) → may_begin p ≡ true → begins_colon ls ≡ false
+    → punctuate p (token (of_token.string s) ∷ ls) ≡ of_token.string s ∷ punctuate after_value ls
+unfolding punctuate
+string_next fresh s ls m e = rw e
+string_next after_value s ls m e = absurd (cc)
+string_next after_comma s ls m e = rw e
+string_next after_key s ls m e = absurd (cc)
+
+key_next : (p : Place) (s : List ℕ) (ls : List Lexeme) → may_begin p ≡ true
+    → punctuate p (token (of_token.string s) ∷ colon ∷ ls) ≡ key s ∷ punctuate fresh ls
+unfolding punctuate
+key_next fresh s ls m = refl
+key_next after_value s ls m = absurd (cc)
+key_next after_comma s ls m = refl
+key_next after_key s ls m = absurd (cc)
+
+array_next : (p : Place) (ls : List Lexeme) → may_begin p ≡ true
+    → punctuate p (token begin_array ∷ ls) ≡ begin_array ∷ punctuate fresh ls
+unfolding punctuate
+array_next fresh ls m = refl
+array_next after_value ls m = absurd (cc)
+array_next after_comma ls m = refl
+array_next after_key ls m = absurd (cc)
+
+object_next : (p : Place) (ls : List Lexeme) → may_begin p ≡ true
+    → punctuate p (token begin_object ∷ ls) ≡ begin_object ∷ punctuate fresh ls
+unfolding punctuate
+object_next fresh ls m = refl
+object_next after_value ls m = absurd (cc)
+object_next after_comma ls m = refl
+object_next after_key ls m = absurd (cc)
+
+comma_next : (ls : List Lexeme) → punctuate after_value (comma ∷ ls) ≡ punctuate after_comma ls
+unfolding punctuate
+comma_next ls = refl
+
+array_ends : (ls : List Lexeme) → punctuate after_value (token end_array ∷ ls) ≡ end_array ∷ punctuate after_value ls
+unfolding punctuate
+array_ends ls = refl
+
+array_is_empty : (ls : List Lexeme) → punctuate fresh (token end_array ∷ ls) ≡ end_array ∷ punctuate after_value ls
+unfolding punctuate
+array_is_empty ls = refl
+
+object_ends : (ls : List Lexeme) → punctuate after_value (token end_object ∷ ls) ≡ end_object ∷ punctuate after_value ls
+unfolding punctuate
+object_ends ls = refl
+
+object_is_empty : (ls : List Lexeme) → punctuate fresh (token end_object ∷ ls) ≡ end_object ∷ punctuate after_value ls
+unfolding punctuate
+object_is_empty ls = refl
+
+nothing_left : punctuate after_value [] ≡ []
+unfolding punctuate
+nothing_left = refl
+
+-- ---- one value
+
+pub value_of_string : (depth : ℕ) (text rest : List ℕ) (s : String Global)
+    → lex between text ≡ token (of_token.string (string_bytes s)) ∷ lex between rest
+    → HasValue depth text (view (made.String s)) rest
+value_of_string depth text rest s e p m free =
+    let seen : view (made.String s) ≡ of_data.string (string_bytes s) = search (rules, the_lemmas) in
+    let ts : left p text ≡ of_token.string (string_bytes s) ∷ left after_value rest =
+    ap (punctuate p) e ∙ string_next p (string_bytes s) (lex between rest) m free in
+    ap (converted of_json) (ap (value depth) ts ∙ value_is depth _) ∙ ap (λ d. Some (d, left after_value rest)) (sym seen)
+
+pub value_of_items : (depth : ℕ) (text inside rest : List ℕ) (v : Vec Value Global) → 0 < depth
+    → lex between text ≡ token begin_array ∷ lex between inside
+    → HasItems (depth - 1) inside (items_view v.items) rest → HasValue depth text (view (Array v)) rest
+value_of_items depth text inside rest v some e h p m free =
+    let ts : left p text ≡ begin_array ∷ left fresh inside =
+    ap (punctuate p) e ∙ array_next p (lex between inside) m in
+    ap (converted of_json) (ap (value depth) ts ∙ value-begin_array depth (left fresh inside) some)
+    ∙ array_read (items (value (depth - 1)) (length (left fresh inside)) (left fresh inside))
+    ∙ ap (parse_map array) h ∙ ap (λ d. Some (d, left after_value rest)) (sym (view-Array v))
+
+pub value_of_members : (depth : ℕ) (text inside rest : List ℕ) (m : BTreeMap (String Global) Value) → 0 < depth
+    → lex between text ≡ token begin_object ∷ lex between inside
+    → HasMembers (depth - 1) inside (members_view m.entries) rest → HasValue depth text (view (Object m)) rest
+value_of_members depth text inside rest m some e h p may free =
+    let ts : left p text ≡ begin_object ∷ left fresh inside =
+    ap (punctuate p) e ∙ object_next p (lex between inside) may in
+    ap (converted of_json) (ap (value depth) ts ∙ value-begin_object depth (left fresh inside) some)
+    ∙ object_read (members (value (depth - 1)) (length (left fresh inside)) (left fresh inside))
+    ∙ ap (parse_map object) h ∙ ap (λ d. Some (d, left after_value rest)) (sym (view-Object m))
+
+-- ---- items
+
+-- what is left gives the items behind those that were found
+pub record ItemsFrom (depth : ℕ) (text : List ℕ) (found : List Value) (ts : List Token) : Type 0 where
+  pub turns : ℕ
+  pub enough : length ts ≤ turns
+  pub same : converted of_items (items (value depth) (length (left fresh text)) (left fresh text))
+      ≡ parse_map (items_before found) (converted of_items (items (value depth) turns ts))
+
+-- so it is behind an item, unless a colon is next
+abbrev pub ItemsSo : ℕ → List ℕ → List Value → List ℕ → Type 0
+ItemsSo depth text found rest = NoColon rest → ItemsFrom depth text found (left after_value rest)
+
+item_turn : (depth : ℕ) (text here : List ℕ) (p : Place) (old new : List Value) (rest : List ℕ)
+    → may_begin p ≡ true → ItemsFrom depth text old (left p here) → AddsItem depth here old new rest
+    → ItemsSo depth text new rest
+item_turn depth text here p old new rest m so adds free =
+    let ts = left p here in
+    let r = left after_value rest in
+    let d = view adds.added in
+    let turned : converted of_json (value depth ts) ≡ Some (d, r) = adds.reads p m free in
+    let less : length r < length ts = value_shorter depth ts r d turned in
+    let enough = so.enough in
+    record {
+      turns = so.turns - 1;
+      enough = omega arith;
+      same = so.same
+          ∙ ap (parse_map (items_before old))
+          (item_read (value depth) so.turns ts r d (omega arith) (no_end depth ts r d turned) turned)
+          ∙ one_more old adds.added _
+          ∙ ap (λ vs. parse_map (items_before vs) (converted of_items (items (value depth) (so.turns - 1) r)))
+          (sym adds.grows);
+    }
+
+pub first_item : (depth : ℕ) (text : List ℕ) (old new : List Value) (rest : List ℕ) → old ≡ []
+    → AddsItem depth text old new rest → ItemsSo depth text new rest
+first_item depth text old new rest none adds =
+    let all = converted of_items (items (value depth) (length (left fresh text)) (left fresh text)) in
+    item_turn depth text text fresh old new rest refl
+    (record {
+      turns = length (left fresh text);
+      enough = omega arith;
+      same = none_before all ∙ ap (λ vs. parse_map (items_before vs) all) (sym none);
+    })
+    adds
+
+pub next_item : (depth : ℕ) (text : List ℕ) (old new : List Value) (mid behind rest : List ℕ)
+    → ItemsSo depth text old mid → lex between mid ≡ comma ∷ lex between behind
+    → AddsItem depth behind old new rest → ItemsSo depth text new rest
+next_item depth text old new mid behind rest so e adds =
+    let moved : left after_value mid ≡ left after_comma behind =
+    ap (punctuate after_value) e ∙ comma_next (lex between behind) in
+    item_turn depth text behind after_comma old new rest refl
+    (subst (ItemsFrom depth text old) moved (so (ap begins_colon e))) adds
+
+pub items_end : (depth : ℕ) (text : List ℕ) (found : List Value) (mid rest : List ℕ)
+    → ItemsSo depth text found mid → lex between mid ≡ token end_array ∷ lex between rest
+    → HasItems depth text (items_view found) rest
+items_end depth text found mid rest so e =
+    let here = so (ap begins_colon e) in
+    let r = left after_value rest in
+    let ts : left after_value mid ≡ end_array ∷ r = ap (punctuate after_value) e ∙ array_ends (lex between rest) in
+    here.same
+    ∙ ap (parse_map (items_before found))
+    (items_over (value depth) here.turns (left after_value mid) r here.enough (ap after_end_array ts))
+    ∙ ap (λ ds. Some (ds, r)) (items_are_before found)
+
+pub no_items_end : (depth : ℕ) (text : List ℕ) (found : List Value) (rest : List ℕ) → found ≡ []
+    → lex between text ≡ token end_array ∷ lex between rest → HasItems depth text (items_view found) rest
+no_items_end depth text found rest none e =
+    let r = left after_value rest in
+    let ts : left fresh text ≡ end_array ∷ r = ap (punctuate fresh) e ∙ array_is_empty (lex between rest) in
+    items_over (value depth) (length (left fresh text)) (left fresh text) r (omega arith) (ap after_end_array ts)
+    ∙ ap (λ vs. Some (items_view vs, r)) (sym none)
+
+-- ---- members
+
+-- what is left gives the members beside those that were found
+pub record MembersFrom (depth : ℕ) (text : List ℕ) (found : Members) (ts : List Token) : Type 0 where
+  pub turns : ℕ
+  pub enough : length ts ≤ turns
+  pub same : converted (λ ms. of_members ms no_members)
+      (members (value depth) (length (left fresh text)) (left fresh text))
+      ≡ converted (λ ms. of_members ms found) (members (value depth) turns ts)
+
+-- so it is behind a member, unless a colon is next
+abbrev pub MembersSo : ℕ → List ℕ → Members → List ℕ → Type 0
+MembersSo depth text found rest = NoColon rest → MembersFrom depth text found (left after_value rest)
+
+member_turn : (depth : ℕ) (text here : List ℕ) (p : Place) (old new : Members) (rest : List ℕ)
+    → may_begin p ≡ true → MembersFrom depth text old (left p here) → AddsMember depth here old new rest
+    → MembersSo depth text new rest
+member_turn depth text here p old new rest m so adds free =
+    let ts = left p here in
+    let s = left fresh adds.behind in
+    let r = left after_value rest in
+    let named : ts ≡ key adds.key ∷ s = ap (punctuate p) adds.named ∙ key_next p adds.key (lex between adds.behind) m in
+    let begun : read_key ts ≡ Some (Some adds.key, s) = ap read_key named in
+    let turned : converted of_json (value depth s) ≡ Some (adds.added, r) = adds.reads fresh refl free in
+    let less : length r < length s = value_shorter depth s r adds.added turned in
+    let lesser : length s < length ts = read_key-shorter ts (Some adds.key) s begun in
+    let enough = so.enough in
+    record {
+      turns = so.turns - 1;
+      enough = omega arith;
+      same = so.same
+          ∙ member_read (value depth) old so.turns adds.key ts s r adds.added (omega arith) begun turned
+          ∙ ap (λ f. converted (λ ms. of_members ms f) (members (value depth) (so.turns - 1) r)) (sym adds.grows);
+    }
+
+pub first_member : (depth : ℕ) (text : List ℕ) (old : List Entry) (new : Members) (rest : List ℕ) → old ≡ []
+    → AddsMember depth text (members_view old) new rest → MembersSo depth text new rest
+first_member depth text old new rest none adds =
+    let all = members (value depth) (length (left fresh text)) (left fresh text) in
+    member_turn depth text text fresh (members_view old) new rest refl
+    (record {
+      turns = length (left fresh text);
+      enough = omega arith;
+      same = ap (λ es. converted (λ ms. of_members ms (members_view es)) all) (sym none);
+    })
+    adds
+
+pub next_member : (depth : ℕ) (text : List ℕ) (old new : Members) (mid behind rest : List ℕ)
+    → MembersSo depth text old mid → lex between mid ≡ comma ∷ lex between behind
+    → AddsMember depth behind old new rest → MembersSo depth text new rest
+next_member depth text old new mid behind rest so e adds =
+    let moved : left after_value mid ≡ left after_comma behind =
+    ap (punctuate after_value) e ∙ comma_next (lex between behind) in
+    member_turn depth text behind after_comma old new rest refl
+    (subst (MembersFrom depth text old) moved (so (ap begins_colon e))) adds
+
+pub members_end : (depth : ℕ) (text : List ℕ) (found : Members) (mid rest : List ℕ)
+    → MembersSo depth text found mid → lex between mid ≡ token end_object ∷ lex between rest
+    → HasMembers depth text found rest
+members_end depth text found mid rest so e =
+    let here = so (ap begins_colon e) in
+    let r = left after_value rest in
+    let ts : left after_value mid ≡ end_object ∷ r = ap (punctuate after_value) e ∙ object_ends (lex between rest) in
+    here.same ∙ members_over (value depth) found here.turns (left after_value mid) r here.enough (ap read_key ts)
+
+pub no_members_end : (depth : ℕ) (text : List ℕ) (found : List Entry) (rest : List ℕ) → found ≡ []
+    → lex between text ≡ token end_object ∷ lex between rest → HasMembers depth text (members_view found) rest
+no_members_end depth text found rest none e =
+    let r = left after_value rest in
+    let ts : left fresh text ≡ end_object ∷ r = ap (punctuate fresh) e ∙ object_is_empty (lex between rest) in
+    members_over (value depth) no_members (length (left fresh text)) (left fresh text) r (omega arith) (ap read_key ts)
+    ∙ ap (λ es. Some (members_view es, r)) (sym none)
+
+pub member_added : (depth : ℕ) (text mid behind rest : List ℕ) (old new : List Entry) (k : String Global) (v : Value)
+    → lex between text ≡ token (of_token.string (string_bytes k)) ∷ lex between mid
+    → lex between mid ≡ colon ∷ lex between behind → HasValue depth behind (view v) rest
+    → new ≡ insert_entry string_cmp old k v
+    → AddsMember depth text (members_view old) (members_view new) rest
+member_added depth text mid behind rest old new k v named marked reads put = record {
+  key = string_bytes k;
+  behind = behind;
+  added = view v;
+  named = named ∙ ap (λ ls. token (of_token.string (string_bytes k)) ∷ ls) marked;
+  grows = ap members_view put ∙ members_view-insert_entry old k v;
+  reads = reads;
+}
+
+-- ---- the whole text
+
+is_empty : (xs : List ℕ) → length xs ≡ 0 → xs ≡ []
+is_empty [] h = refl
+is_empty (x ∷ xs) h = absurd (omega arith)
+
+pub text_read : (text rest behind : List ℕ) (d : Data) → HasValue 127 text d rest
+    → lex between behind ≡ lex between rest → length behind ≡ 0 → read text ≡ Some d
+unfolding lex
+text_read text rest behind d reads same none =
+    let over : lex between rest ≡ [] = sym same ∙ ap (lex between) (is_empty behind none) in
+    let nothing : left after_value rest ≡ [] = ap (punctuate after_value) over ∙ nothing_left in
+    whole_read (value 127 (tokens text)) d
+    (reads fresh refl (ap begins_colon over) ∙ ap (λ ts. Some (d, ts)) nothing)

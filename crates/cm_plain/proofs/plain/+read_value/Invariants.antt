@@ -1,0 +1,34 @@
+use Rattle.std.proofs.Common.{◌*◌, ◌+◌, ◌<◌, length}
+use Rattle.serde_json.specs.View.{members_view}
+use Rattle.cm_plain.proofs.PlainLemmas.{ItemsSo, MembersSo}
+use Rattle.cm_plain.proofs.plain.+read_value.Given as goal
+
+abbrev pub decreases-read_value : goal.decreases-read_value
+decreases-read_value l = 3 * l.depth
+
+abbrev pub decreases-read_item : goal.decreases-read_item
+decreases-read_item l = 3 * l.depth + 1
+
+abbrev pub decreases-read_member : goal.decreases-read_member
+decreases-read_member l = 3 * l.depth + 1
+
+abbrev pub decreases-read_items : goal.decreases-read_items
+decreases-read_items l = 3 * l.depth + 2
+
+abbrev pub decreases-read_members : goal.decreases-read_members
+decreases-read_members l = 3 * l.depth + 2
+
+abbrev pub invariant-read_items-items : goal.invariant-read_items-items
+invariant-read_items-items l =
+    ItemsSo l.fn.depth l.fn.text l.found.items l.left × (length l.left < length l.fn.text)
+
+abbrev pub decreases-read_items-items : goal.decreases-read_items-items
+decreases-read_items-items l = length l.left
+
+abbrev pub invariant-read_members-members : goal.invariant-read_members-members
+invariant-read_members-members l =
+    MembersSo l.fn.depth l.fn.text (members_view l.found.entries) l.left
+    × (length l.left < length l.fn.text)
+
+abbrev pub decreases-read_members-members : goal.decreases-read_members-members
+decreases-read_members-members l = length l.left

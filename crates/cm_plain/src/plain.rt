@@ -1,0 +1,318 @@
+//! Plain texts: JSON texts that have no escapes, numbers or words.
+//!
+//! Most manifests are such texts. Here they are read in one pass over their bytes, with no memory but
+//! that of the values; the reader of all JSON texts clears 16 KB for each text before it begins. A
+//! manifest that is plain itself, in the relaxed spelling, needs no JSON written for it.
+
+ghost use Rattle.std.specs.Prelude.{◌≡◌, ◌≤◌, ◌<◌, ◌∷◌, length, take_while, string_bytes, Some, IfSome};
+ghost use Rattle.std.specs.Prelude.{◌&&◌, Bool, IsTrue, false};
+ghost use Rattle.json.specs.Lex.{class, operator, operator_lexeme, lex, between, token};
+ghost use Rattle.json.specs.Token.{string};
+ghost use Rattle.serde_json.specs.Read.{read as read_text};
+ghost use Rattle.serde_json.specs.View.{view, items_view, members_view};
+ghost use Rattle.cm_text.specs.Bytes as bytes;
+ghost use Rattle.cm_text.specs.Json as json_text;
+ghost use Rattle.cm_plain.specs.Plain as spec;
+ghost use Rattle.cm_plain.specs.Plain.{HasValue, HasItems, HasMembers, AddsItem, AddsMember};
+ghost use Rattle.cm_plain.specs.Plain.{PassesPiece, ReadsAsJson};
+
+use serde_json::{Map, Value};
+use std::alloc::Global;
+
+/// How deep the arrays and objects that are read here may nest: as deep as a JSON text's may.
+const MAX_DEPTH: usize = 127;
+
+/// Whether the byte comes first.
+fn is_next(text: &[u8], byte: u8) -> bool
+    ensures { result ≡ spec.begins byte text.now }
+{
+    match text {
+        [first, ..] => *first == byte,
+        [] => false,
+    }
+}
+
+/// Whether the byte is a space, a tab, a line feed or a carriage return.
+fn is_space(byte: u8) -> bool
+    ensures { result ≡ bytes.is_space byte }
+{
+    matches!(byte, b' ' | b'\t' | b'\n' | b'\r')
+}
+
+/// Whether a space comes first.
+fn begins_space(text: &[u8]) -> bool
+    ensures { result ≡ bytes.begins_with bytes.is_space text.now }
+{
+    match text {
+        [first, ..] => is_space(*first),
+        [] => false,
+    }
+}
+
+/// What stands behind the spaces that come first.
+#[tactic(auto, using(crate::proofs::PlainLemmas::some_space, crate::proofs::PlainLemmas::space_passed))]
+fn behind_space(text: &[u8]) -> &[u8]
+    ensures lexed { lex between result.now ≡ lex between text.now }
+    ensures shorter { length result.now ≤ length text.now }
+{
+    let mut left = text;
+    while begins_space(left) {
+        left = &left[1..];
+    }
+    left
+}
+
+/// What stands behind a mark that is next.
+#[tactic(auto, using(crate::proofs::PlainLemmas::some_first, crate::proofs::PlainLemmas::mark_passed,))]
+fn behind_mark(text: &[u8], mark: u8) -> Option<&[u8]>
+    requires { class mark ≡ operator }
+    ensures lexed { IfSome result
+        (λ rest. lex between text.now ≡ operator_lexeme mark ∷ lex between rest.now) }
+    ensures shorter { IfSome result (λ rest. length rest.now < length text.now) }
+{
+    let front = behind_space(text);
+    if !is_next(front, mark) {
+        return None;
+    }
+    Some(&front[1..])
+}
+
+/// Whether the byte stands for itself in a string.
+fn is_plain(byte: u8) -> bool
+    ensures { result ≡ spec.is_plain byte }
+{
+    !(byte == b'"' || byte == b'\\' || byte < b' ')
+}
+
+/// How many bytes of the front stand for themselves in a string.
+fn plain_len(text: &[u8]) -> usize
+    ensures { result ≡ length (take_while spec.is_plain text.now) }
+{
+    text.iter().take_while(|byte| is_plain(**byte)).count()
+}
+
+/// The string that is next, if it is plain and memory allows, and what stands behind it.
+#[tactic(auto, using(crate::proofs::PlainLemmas::some_first, crate::proofs::PlainLemmas::string_passed,))]
+fn read_string(alloc: Global, text: &[u8]) -> Option<(String, &[u8])>
+    ensures lexed { IfSome result (λ read.
+        lex between text.now ≡ token (string (string_bytes read.0)) ∷ lex between read.1.now) }
+    ensures shorter { IfSome result (λ read. length read.1.now < length text.now) }
+{
+    let opened = behind_space(text);
+    if !is_next(opened, b'"') {
+        return None;
+    }
+    let inside = &opened[1..];
+    let len = plain_len(inside);
+    let closed = &inside[len..];
+    if !is_next(closed, b'"') {
+        return None;
+    }
+    let plain = std::str::from_utf8(&inside[..len]).ok()?;
+    let string = String::from_str(alloc, plain).ok()?;
+    Some((string, &closed[1..]))
+}
+
+/// The value that is next, and what stands behind it, unless there is more to it or memory runs out.
+#[cycle(read_value)]
+fn read_value(alloc: Global, text: &[u8], depth: usize) -> Option<(Value, &[u8])>
+    ensures value { IfSome result (λ read. HasValue depth text.now (view read.0) read.1.now) }
+    ensures shorter { IfSome result (λ read. length read.1.now < length text.now) }
+{
+    if let Some((string, rest)) = read_string(alloc, text) {
+        return Some((Value::String(string), rest));
+    }
+    if depth == 0 {
+        return None;
+    }
+    if let Some(inside) = behind_mark(text, b'{') {
+        let (members, rest) = read_members(alloc, inside, depth - 1)?;
+        return Some((Value::Object(members), rest));
+    }
+    let inside = behind_mark(text, b'[')?;
+    let (items, rest) = read_items(alloc, inside, depth - 1)?;
+    Some((Value::Array(items), rest))
+}
+
+/// Reads the item that is next.
+#[cycle(read_value)]
+fn read_item<'a>(
+    alloc: Global,
+    text: &'a [u8],
+    depth: usize,
+    found: &mut Vec<Value>,
+) -> Option<&'a [u8]>
+    ensures value { IfSome result
+        (λ rest. AddsItem depth text.now found.old.items found.new.items rest.now) }
+    ensures shorter { IfSome result (λ rest. length rest.now < length text.now) }
+{
+    let (item, rest) = read_value(alloc, text, depth)?;
+    found.push(item).ok()?;
+    Some(rest)
+}
+
+/// The items up to their closing bracket, and what stands behind it.
+#[cycle(read_value)]
+fn read_items(alloc: Global, text: &[u8], depth: usize) -> Option<(Vec<Value>, &[u8])>
+    ensures items { IfSome result
+        (λ read. HasItems depth text.now (items_view read.0.items) read.1.now) }
+    ensures shorter { IfSome result (λ read. length read.1.now < length text.now) }
+{
+    let mut found = Vec::new(alloc);
+    if let Some(rest) = behind_mark(text, b']') {
+        return Some((found, rest));
+    }
+    let mut left = read_item(alloc, text, depth, &mut found)?;
+    'items: while let Some(behind) = behind_mark(left, b',') {
+        left = read_item(alloc, behind, depth, &mut found)?;
+    }
+    let rest = behind_mark(left, b']')?;
+    Some((found, rest))
+}
+
+/// Reads the member that is next.
+#[cycle(read_value)]
+fn read_member<'a>(
+    alloc: Global,
+    text: &'a [u8],
+    depth: usize,
+    found: &mut Map<String, Value>,
+) -> Option<&'a [u8]>
+    ensures value { IfSome result (λ rest. AddsMember depth text.now
+        (members_view found.old.entries) (members_view found.new.entries) rest.now) }
+    ensures shorter { IfSome result (λ rest. length rest.now < length text.now) }
+{
+    let (key, behind) = read_string(alloc, text)?;
+    let behind = behind_mark(behind, b':')?;
+    let (member, rest) = read_value(alloc, behind, depth)?;
+    drop(found.insert(key, member).ok()?);
+    Some(rest)
+}
+
+/// The members up to their closing brace, and what stands behind it.
+#[cycle(read_value)]
+fn read_members(alloc: Global, text: &[u8], depth: usize) -> Option<(Map<String, Value>, &[u8])>
+    ensures members { IfSome result
+        (λ read. HasMembers depth text.now (members_view read.0.entries) read.1.now) }
+    ensures shorter { IfSome result (λ read. length read.1.now < length text.now) }
+{
+    let mut found = Map::new(alloc);
+    if let Some(rest) = behind_mark(text, b'}') {
+        return Some((found, rest));
+    }
+    let mut left = read_member(alloc, text, depth, &mut found)?;
+    'members: while let Some(behind) = behind_mark(left, b',') {
+        left = read_member(alloc, behind, depth, &mut found)?;
+    }
+    let rest = behind_mark(left, b'}')?;
+    Some((found, rest))
+}
+
+/// The value of a JSON text: where there is none, where it has an escape, a number or a word, or
+/// where memory runs out, nothing.
+#[tactic(auto, using(crate::proofs::PlainLemmas::text_read))]
+pub fn read_plain(alloc: Global, text: &str) -> Option<Value>
+    ensures { IfSome result (λ value. read_text text.now ≡ Some (view value)) }
+{
+    let (value, rest) = read_value(alloc, text.as_bytes(), MAX_DEPTH)?;
+    if !behind_space(rest).is_empty() {
+        return None;
+    }
+    Some(value)
+}
+
+/// Whether the byte is one of `{ } [ ] : ,`.
+fn is_mark(byte: u8) -> bool
+    ensures { result ≡ bytes.is_mark byte }
+{
+    matches!(byte, b'{' | b'}' | b'[' | b']' | b':' | b',')
+}
+
+/// Whether a mark comes first.
+fn begins_mark(text: &[u8]) -> bool
+    ensures { result ≡ bytes.begins_with bytes.is_mark text.now }
+{
+    match text {
+        [first, ..] => is_mark(*first),
+        [] => false,
+    }
+}
+
+/// Whether the byte is one of `} ]`.
+fn is_closing(byte: u8) -> bool
+    ensures { result ≡ json_text.is_closing byte }
+{
+    byte == b'}' || byte == b']'
+}
+
+/// Whether a closing mark comes first.
+fn begins_closing(text: &[u8]) -> bool
+    ensures { result ≡ bytes.begins_with json_text.is_closing text.now }
+{
+    match text {
+        [first, ..] => is_closing(*first),
+        [] => false,
+    }
+}
+
+/// Whether a closing mark comes first, behind a comma.
+fn closes_behind(comma: bool, text: &[u8]) -> bool
+    ensures { result ≡ (comma && bytes.begins_with json_text.is_closing text.now) }
+{
+    comma && begins_closing(text)
+}
+
+/// What stands behind a plain string that is next.
+fn behind_string(text: &[u8]) -> Option<&[u8]>
+    ensures passed { IfSome result (λ rest. (c : Bool) → PassesPiece c text.now false rest.now) }
+    ensures shorter { IfSome result (λ rest. length rest.now < length text.now) }
+{
+    if !is_next(text, b'"') {
+        return None;
+    }
+    let inside = &text[1..];
+    let len = plain_len(inside);
+    let closed = &inside[len..];
+    if !is_next(closed, b'"') {
+        return None;
+    }
+    Some(&closed[1..])
+}
+
+/// What stands behind a space, a mark or a plain string that is next, and whether a comma is then the
+/// last token, by whether one was before it. A closing mark isn't taken behind a comma.
+fn behind_piece(text: &[u8], comma: bool) -> Option<(&[u8], bool)>
+    ensures passed { IfSome result (λ read. PassesPiece comma text.now read.1 read.0.now) }
+    ensures shorter { IfSome result (λ read. length read.0.now < length text.now) }
+{
+    if begins_space(text) {
+        return Some((&text[1..], comma));
+    }
+    if begins_mark(text) {
+        if closes_behind(comma, text) {
+            return None;
+        }
+        return Some((&text[1..], is_next(text, b',')));
+    }
+    let rest = behind_string(text)?;
+    Some((rest, false))
+}
+
+/// Whether a text in the relaxed spelling is plain: it has marks, plain strings and spaces alone, and no
+/// comma before a closing mark, so that its JSON reads as it does.
+pub fn is_plain_text(text: &[u8]) -> bool
+    ensures { IsTrue result → ReadsAsJson text.now }
+{
+    let mut left = text;
+    let mut comma = false;
+    while !left.is_empty() {
+        match behind_piece(left, comma) {
+            Some((rest, behind)) => {
+                left = rest;
+                comma = behind;
+            }
+            None => return false,
+        }
+    }
+    true
+}

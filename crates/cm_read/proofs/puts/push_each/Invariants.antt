@@ -1,6 +1,0 @@
-use Rattle.std.proofs.Common.{◌≡◌, ◌++◌, map, take}
-use Rattle.serde_json.specs.View.{view}
-use Rattle.cm_read.proofs.puts.push_each.Given as goal
-
-abbrev pub invariant-loop-row : goal.invariant-loop-row
-invariant-loop-row g l = map view l.values.items ≡ map view l.fn.values.items ++ map g.T.Row.writes (take l.row-index l.rows)

@@ -1,0 +1,53 @@
+//! Storages as values.
+
+use crate::puts::{Row, plain_use, put_from, put_subdir, put_text, put_to, storage_id_word};
+use cm_decl::{Storage, StorageOffer, StorageUse};
+use cm_names::Memory;
+use serde_json::{Map, Value};
+use std::alloc::Global;
+
+impl Row for Storage {
+    ghost use Rattle.cm_write.specs.Writing.{storage_data};
+
+    ghost writes = { storage_data };
+
+    fn write(&self, alloc: Global) -> Result<Value, Memory> {
+        let mut members = Map::new(alloc);
+        put_text(alloc, &mut members, "storage", self.name.as_str())?;
+        put_from(alloc, &mut members, &self.from)?;
+        put_text(alloc, &mut members, "backing_dir", self.backing.as_str())?;
+        put_text(
+            alloc,
+            &mut members,
+            "storage_id",
+            storage_id_word(self.by_moniker),
+        )?;
+        put_subdir(alloc, &mut members, &self.subdir)?;
+        Ok(Value::from(members))
+    }
+}
+
+impl Row for StorageUse {
+    ghost use Rattle.cm_write.specs.Writing.{storage_use_data};
+
+    ghost writes = { storage_use_data };
+
+    fn write(&self, alloc: Global) -> Result<Value, Memory> {
+        plain_use(alloc, "storage", &self.name, "parent", &self.path)
+    }
+}
+
+impl Row for StorageOffer {
+    ghost use Rattle.cm_write.specs.Writing.{storage_offer_data};
+
+    ghost writes = { storage_offer_data };
+
+    fn write(&self, alloc: Global) -> Result<Value, Memory> {
+        let mut members = Map::new(alloc);
+        put_text(alloc, &mut members, "storage", self.source_name.as_str())?;
+        put_from(alloc, &mut members, &self.from)?;
+        put_to(alloc, &mut members, &self.to)?;
+        put_text(alloc, &mut members, "as", self.target_name.as_str())?;
+        Ok(Value::from(members))
+    }
+}
