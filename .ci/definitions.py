@@ -6,7 +6,7 @@
 - docs/DEFINITIONS.md: each file that it names is there, each definition that an entry is about stands in one
   of the files that its section names, and every other name in code is a name of the crates.
 - docs/PROVED.md and the README's section on what is proved: each name in code within brackets is a name of
-  the crates; in PROVED.md each crate but those of tests has its section, or is named in one's heading.
+  the crates; in PROVED.md each crate but `main` and those of tests has its section, or is in one's heading.
 - docs/ARCHITECTURE.md: each crate has its entry, which names crates that it stands on alone, and each word
   for a level that it names is a definition.
 - All documents: each file and each link that they name is there.
@@ -148,7 +148,7 @@ def unfounded(path, text, known):
 def unproved(text):
     """Crates that PROVED.md has no section of, and crates of headings that aren't there."""
     told = {it for title, _ in sections(text, 2) for it in re.findall(r"`(\w+)`", title)}
-    wanted = {it for it in crates() if not it.endswith("_tests") and it != "component_manager"}
+    wanted = {it for it in crates() if not it.endswith(("_tests", "_player")) and it != "component_manager"}
     wrong = [f"docs/PROVED.md: no section of `{it}`" for it in sorted(wanted - told)]
     return wrong + [f"docs/PROVED.md: no crate is called `{it}`" for it in sorted(told - wanted)]
 

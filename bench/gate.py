@@ -8,7 +8,9 @@ last a line `total N processor minutes`. With names of crates the copy has only 
 them, which is not the gate. `-` in the place of a time says that there is no such part.
 
 Some kits keep on the machine what earlier runs proved: there it is `rt ci --anew`. In the others
-`rt ci` proves everything from nothing by itself.
+`rt ci` proves everything from nothing by itself. It starts as many checks at once as there are
+processors, unless RT_JOBS says another number: by itself the kit plans with more memory than the
+checks take, and leaves processors idle.
 
 What edits cost has two parts: one more whole proof of their crate (for all of them together, where
 it has more than one), and a check of what each changes.
@@ -111,9 +113,10 @@ def look(root, processes):
 def watched(command, folder, log):
     """Runs the command; returns its status, the prover's processes, its processor time and the mean load."""
     processes, loads = {}, []
+    jobs = {"RT_JOBS": str(os.cpu_count()), **os.environ}
     with open(log, "w", encoding="utf-8") as out:
         streams = {"stdin": subprocess.DEVNULL, "stdout": out, "stderr": subprocess.STDOUT}
-        ran = subprocess.Popen(command, cwd=folder, **streams)
+        ran = subprocess.Popen(command, cwd=folder, env=jobs, **streams)
         try:
             while ran.poll() is None:
                 look(ran.pid, processes)

@@ -1,8 +1,3 @@
-pub mod Placing
-pub mod Reading
-pub mod Staying
-pub mod Folding
-pub mod Putting
-pub mod Caching
-pub mod Dooming
-pub mod Going
+pub mod puts
+pub mod trees
+pub mod histories

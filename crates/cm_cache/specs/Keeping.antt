@@ -88,6 +88,7 @@ comes_or_goes reply = false
 abbrev pub dooms_some : World → Entry → Bool
 dooms_some w e = list_any (λ r. dooms w e r.inc) (after w e).rows
 
+-- whether an entry empties what is kept: it resolves, brings or removes an instance, or dooms one
 abbrev pub forgets : World → Entry → Bool
 forgets w e = resolves e.event e.reply || comes_or_goes e.reply || dooms_some w e
 

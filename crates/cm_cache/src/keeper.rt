@@ -1,6 +1,6 @@
 //! Answers kept beside a history.
 
-ghost use Rattle.std.specs.Prelude.{◌≡◌, ◌+◌, ◌<◌, ◌^◌, ℕ, IsOk, IfOk, OnOk, OnErr, IsTrue};
+ghost use Rattle.std.specs.Prelude.{◌≡◌, ◌+◌, ◌<◌, ◌^◌, ℕ, IfOk, OnOk, OnErr, IsTrue};
 ghost use Rattle.cm_world.specs.declared.action.Finish.{Finish};
 ghost use Rattle.cm_cache.specs.Answers.{kept_at};
 ghost use Rattle.cm_cache.specs.Beside.{nothing_held, found_by, is_new, is_emptied, followed, finding};
@@ -46,9 +46,20 @@ pub fn found_by_walk(inc: u64, path: &CapPath, walked: &Walked) -> Result<Found,
 /// It is told of each entry of the history: [`Keeper::ask`] of those that ask for a use of an
 /// instance that isn't gone and is resolved, and for an opening is on, [`Keeper::follow`] of all
 /// others.
+///
+/// What it has stands in memory of its own, so that who has a keeper and is moved takes no more than
+/// a pointer for it.
 #[derive(Drop)]
 pub struct Keeper {
+    shelf: Box<Shelf>,
+}
+
+/// What a keeper has.
+#[derive(Drop)]
+struct Shelf {
+    /// The answers that are kept.
     cache: Cache,
+    /// How many answers were there for one who asked again.
     number: u64,
 }
 
@@ -57,27 +68,24 @@ impl Model for Keeper {
 
     ghost Value = { Held };
 
-    ghost view = { λ a. record { answers = a.cache; number = a.number } };
+    ghost view = { λ a. record { answers = a.shelf.value.cache; number = a.shelf.value.number } };
 }
 
 impl Keeper {
-    /// The keeper without an answer, beside a history without an entry. It takes no memory yet.
+    /// The keeper without an answer, beside a history without an entry. `Err` where memory runs out.
     pub fn new(alloc: Global) -> Result<Keeper, Memory>
-        ensures ok { IsOk result }
-        ensures empty { IfOk result (λ made. made ≡ nothing_held) }
+        ensures { IfOk result (λ made. made ≡ nothing_held) }
     {
-        Ok(Keeper {
-            cache: Cache::new(alloc)?,
-            number: 0,
-        })
+        let cache = Cache::new(alloc)?;
+        let shelf = Box::new(alloc, Shelf { cache, number: 0 })?;
+        Ok(Keeper { shelf })
     }
 
     /// How many answers were there for one who asked again.
     pub fn number(&self) -> u64
         ensures { result ≡ self.now.number }
     {
-        let _cache = &self.cache;
-        self.number
+        self.shelf.number
     }
 
     /// A copy of the answer that is kept for this use of an instance, or `None`. `Err` where memory
@@ -85,8 +93,7 @@ impl Keeper {
     pub fn recall(&self, inc: u64, path: &CapPath) -> Result<Option<Walked>, Memory>
         ensures { IfOk result (λ found. found ≡ kept_at self.now.answers inc path.now) }
     {
-        let _number = self.number;
-        match self.cache.get(inc, path) {
+        match self.shelf.cache.get(inc, path) {
             None => Ok(None),
             Some(walked) => Ok(Some(walked.clone()?)),
         }
@@ -104,12 +111,12 @@ impl Keeper {
     {
         match found {
             Found::Again => {
-                self.number += 1;
+                self.shelf.number += 1;
                 Ok(())
             }
             Found::New(answer) => {
                 let Answer { inc, path, walked } = answer;
-                self.cache.put(inc, path, walked)
+                self.shelf.cache.put(inc, path, walked)
             }
             Found::Passing => Ok(()),
         }
@@ -124,7 +131,7 @@ impl Keeper {
     {
         let emptied = resolves(event, reply) || comes_or_goes(reply) || doomed;
         if emptied {
-            self.cache.forget_all();
+            self.shelf.cache.forget_all();
         }
         emptied
     }

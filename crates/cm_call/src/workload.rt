@@ -175,7 +175,7 @@ fn phases_of(
     Ok(phases)
 }
 
-/// The script of a workload.
+/// The script of a workload. `Err` where memory runs out.
 #[tactic(auto, using(crate::proofs::texts::GeneratorLemmas::known_of))]
 pub fn generated(alloc: Global, workload: Workload) -> Result<Script, Memory>
     requires { IsWorkload workload }

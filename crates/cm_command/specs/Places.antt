@@ -25,8 +25,8 @@ use Rattle.cm_command.specs.declared.tokens.WordFault.TheVariants as word_fault
 use Rattle.cm_command.specs.declared.command.CommandFault.{CommandFault}
 use Rattle.cm_command.specs.declared.command.CommandFault.TheVariants as command_fault
 use Rattle.cm_command.specs.Counts.{IsWordFault}
-use Rattle.cm_command.specs.Pieces.{Wants}
-use Rattle.cm_command.specs.Words.{IsUrlText, IsTargetText, IsOriginText, IsRightsText}
+use Rattle.cm_command.specs.Pieces.{Leads, Wants}
+use Rattle.cm_command.specs.Words.{words_of, IsUrlText, IsTargetText, IsOriginText, IsRightsText}
 use Rattle.cm_command.specs.Grammar.{Text, Adds, plain_give}
 
 -- the word of a verb
@@ -146,6 +146,10 @@ Ends (place.Groups c) s = s ≡ created c
 Ends (place.Additions c g n) s = s ≡ created (with_give c g)
 Ends (place.Whole t) s = s ≡ t
 Ends _ s = ⊥
+
+-- the words of the text lead from the place to the end of that command
+abbrev pub LeadsTo : Place → Text → Command → Type 0
+LeadsTo p t c = Leads Steps Ends p (words_of t) (sentence.Command c)
 
 -- where the word leads from the place, or the fault of one that leads nowhere
 abbrev pub StepsFrom : Place → Text → Result Place WordFault → Type 0

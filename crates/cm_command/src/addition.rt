@@ -10,7 +10,7 @@ ghost use Rattle.cm_command.specs.Additions.{IsTargetWord};
 ghost use Rattle.cm_command.specs.Counts.{IsWordFault};
 
 use crate::rights::read_rights;
-use crate::tokens::{WordFault, behind, either, read_name, read_subdir, text_fronts};
+use crate::tokens::{WordFault, behind, fault_of_either, read_name, read_subdir, text_fronts};
 use crate::words::{is_same, strip};
 use cm_decl::Kind;
 use cm_names::{Name, Rights, SubDir};
@@ -100,7 +100,7 @@ fn from_same(kind: Kind, word: &[u8]) -> Result<Addition, WordFault>
         Ok(()) => Ok(Addition::SameAsTarget),
         Err(fault) => match read_literal(word, "+") {
             Ok(()) => Ok(Addition::Group),
-            Err(other) => Err(either(fault, other)),
+            Err(other) => Err(fault_of_either(fault, other)),
         },
     }
 }
@@ -115,7 +115,7 @@ fn from_transitional(kind: Kind, word: &[u8]) -> Result<Addition, WordFault>
         Ok(()) => Ok(Addition::Transitional),
         Err(fault) => match from_same(kind, word) {
             Ok(addition) => Ok(addition),
-            Err(other) => Err(either(fault, other)),
+            Err(other) => Err(fault_of_either(fault, other)),
         },
     }
 }
@@ -129,7 +129,7 @@ fn from_optional(kind: Kind, word: &[u8]) -> Result<Addition, WordFault>
         Ok(()) => Ok(Addition::Optional),
         Err(fault) => match from_transitional(kind, word) {
             Ok(addition) => Ok(addition),
-            Err(other) => Err(either(fault, other)),
+            Err(other) => Err(fault_of_either(fault, other)),
         },
     }
 }
@@ -143,7 +143,7 @@ fn from_weak(kind: Kind, word: &[u8]) -> Result<Addition, WordFault>
         Ok(()) => Ok(Addition::Weak),
         Err(fault) => match from_optional(kind, word) {
             Ok(addition) => Ok(addition),
-            Err(other) => Err(either(fault, other)),
+            Err(other) => Err(fault_of_either(fault, other)),
         },
     }
 }
@@ -159,7 +159,7 @@ fn from_subdir(alloc: Global, kind: Kind, word: &[u8]) -> Result<Addition, WordF
             Ok(subdir) => Ok(Addition::Subdir(subdir)),
             Err(fault) => match from_weak(kind, word) {
                 Ok(addition) => Ok(addition),
-                Err(other) => Err(either(fault, other)),
+                Err(other) => Err(fault_of_either(fault, other)),
             },
         },
     }
@@ -176,7 +176,7 @@ fn from_rights(alloc: Global, kind: Kind, word: &[u8]) -> Result<Addition, WordF
             Ok(rights) => Ok(Addition::Rights(rights)),
             Err(fault) => match from_subdir(alloc, kind, word) {
                 Ok(addition) => Ok(addition),
-                Err(other) => Err(either(fault, other)),
+                Err(other) => Err(fault_of_either(fault, other)),
             },
         },
     }
@@ -191,7 +191,7 @@ fn from_target(alloc: Global, kind: Kind, word: &[u8]) -> Result<Addition, WordF
         Ok(name) => Ok(Addition::Target(name)),
         Err(fault) => match from_rights(alloc, kind, word) {
             Ok(addition) => Ok(addition),
-            Err(other) => Err(either(fault, other)),
+            Err(other) => Err(fault_of_either(fault, other)),
         },
     }
 }

@@ -1,63 +1,47 @@
-//! Lines of a verb and a target, and those with a path behind: they are read without the machine of
-//! places, which judges all others, and those that ask for nothing.
+//! Lines of a verb, a target and one word more at most: they are read without the machine's loop,
+//! which judges all others, and those that ask for nothing.
 
-ghost use Rattle.std.specs.Prelude.{◌≡◌, [], ◌∷◌, List as Seq, ℕ, IfOk, IfSome};
-ghost use Rattle.cm_command.specs.Grammar.{CommandText, CommandWords};
-ghost use Rattle.cm_command.specs.Places.{verb_word};
-ghost use Rattle.cm_command.specs.Words.{IsTargetText, words_of};
+ghost use Rattle.std.specs.Prelude.{IfOk, IfSome};
+ghost use Rattle.cm_command.specs.declared.place.Place.TheVariants as place;
+ghost use Rattle.cm_command.specs.declared.place.Sentence.TheVariants as sentence;
+ghost use Rattle.cm_command.specs.Grammar.{CommandText};
+ghost use Rattle.cm_command.specs.Places.{Ends, LeadsTo};
 
 use crate::Command;
-use crate::place::Verb;
-use crate::step::verb_of;
-use crate::tokens::{WordFault, read_path, read_target};
+use crate::place::{Place, Sentence, Verb};
+use crate::step::{step, take_target, verb_of};
+use crate::tokens::WordFault;
 use crate::words::cut;
 use cm_names::Memory;
-use cm_world::Target;
 use std::alloc::Global;
 
-/// The command of a verb and a target, if these are the whole of it and it is quickly read.
-fn of_target(verb: Verb, target: Target) -> Option<Command>
-    ensures { IfSome result (λ command. (t : Seq ℕ) → IsTargetText t target
-        → CommandWords (verb_word verb ∷ t ∷ []) command) }
+/// The command of a line that ends at the place, if the words before it are the whole of one.
+fn said_at(at: Place) -> Option<Command>
+    ensures { IfSome result (λ command. Ends at (sentence.Command command)) }
 {
-    match verb {
-        Verb::Resolve => Some(Command::Resolve(target)),
-        Verb::Start => Some(Command::Start(target)),
-        Verb::Stop => Some(Command::Stop(target)),
-        Verb::Shutdown => Some(Command::Shutdown(target)),
-        Verb::Destroy => Some(Command::Destroy(target)),
-        Verb::Doctor => Some(Command::Doctor(target)),
-        Verb::Show => Some(Command::Show(target)),
-        Verb::Survey => Some(Command::Survey(target)),
-        Verb::Exited => Some(Command::Exited(target)),
-        _ => {
-            drop(target);
+    match at {
+        Place::Whole(Sentence::Command(command)) => Some(command),
+        other => {
+            drop(other);
             None
         }
     }
 }
 
-/// The command of a verb, a target and a path, if it is quickly read and the word is a path.
-fn of_path(
-    alloc: Global,
-    verb: Verb,
-    target: Target,
-    word: &[u8],
-) -> Result<Option<Command>, Memory>
-    ensures { IfOk result (λ found. IfSome found (λ command. (t : Seq ℕ) → IsTargetText t target
-        → CommandWords (verb_word verb ∷ t ∷ word.now ∷ []) command)) }
+/// The command that one word says from the place on, if it is the last one and leads to a whole
+/// command.
+fn by_last_word(alloc: Global, at: Place, rest: &[u8]) -> Result<Option<Command>, Memory>
+    ensures { IfOk result (λ found. IfSome found (LeadsTo at rest.now)) }
 {
-    let path = match read_path(alloc, word) {
-        Ok(path) => path,
-        Err(WordFault::Bad(_)) => return Ok(None),
-        Err(WordFault::Memory) => return Err(Memory),
-    };
-    match verb {
-        Verb::Route => Ok(Some(Command::RouteOf { target, path })),
-        Verb::Open => Ok(Some(Command::OpenUse { target, path })),
-        _ => {
-            drop(target);
-            drop(path);
+    let (word, further) = cut(rest, b' ');
+    match further {
+        None => match step(alloc, at, word) {
+            Ok(next) => Ok(said_at(next)),
+            Err(WordFault::Bad(_)) => Ok(None),
+            Err(WordFault::Memory) => Err(Memory),
+        },
+        Some(_more) => {
+            drop(at);
             Ok(None)
         }
     }
@@ -65,30 +49,22 @@ fn of_path(
 
 /// The command of a verb and what stands behind the space behind it, if it is quickly read.
 fn behind_verb(alloc: Global, verb: Verb, rest: &[u8]) -> Result<Option<Command>, Memory>
-    ensures { IfOk result (λ found. IfSome found (λ command.
-        CommandWords (verb_word verb ∷ words_of rest.now) command)) }
+    ensures { IfOk result (λ found. IfSome found (LeadsTo (place.Verb verb) rest.now)) }
 {
     let (word, further) = cut(rest, b' ');
-    let target = match read_target(alloc, word) {
-        Ok(target) => target,
+    let next = match take_target(alloc, verb, word) {
+        Ok(next) => next,
         Err(WordFault::Bad(_)) => return Ok(None),
         Err(WordFault::Memory) => return Err(Memory),
     };
-    let Some(more) = further else {
-        return Ok(of_target(verb, target));
-    };
-    let (last, none) = cut(more, b' ');
-    match none {
-        None => of_path(alloc, verb, target, last),
-        Some(_more) => {
-            drop(target);
-            Ok(None)
-        }
+    match further {
+        None => Ok(said_at(next)),
+        Some(more) => by_last_word(alloc, next, more),
     }
 }
 
-/// The command that the line asks for, where it is a verb and a target, or `open` or `route` with a
-/// path. `None` says nothing of the line.
+/// The command that the line asks for, where it is a verb, a target and one word more at most.
+/// `None` says nothing of the line.
 pub fn quick_command(alloc: Global, line: &[u8]) -> Result<Option<Command>, Memory>
     ensures { IfOk result (λ found. IfSome found (CommandText line.now)) }
 {
@@ -97,7 +73,7 @@ pub fn quick_command(alloc: Global, line: &[u8]) -> Result<Option<Command>, Memo
         return Ok(None);
     };
     match verb_of(word) {
-        None | Some(Verb::Create | Verb::List | Verb::OpenExposed) => Ok(None),
+        None | Some(Verb::Create) => Ok(None),
         Some(verb) => behind_verb(alloc, verb, rest),
     }
 }

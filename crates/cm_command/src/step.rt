@@ -69,7 +69,7 @@ fn take_verb(word: &[u8]) -> Result<Place, WordFault>
 }
 
 /// The place behind a target.
-fn take_target(alloc: Global, verb: Verb, word: &[u8]) -> Result<Place, WordFault>
+pub fn take_target(alloc: Global, verb: Verb, word: &[u8]) -> Result<Place, WordFault>
     ensures { StepsFrom (place.Verb verb) word.now result }
 {
     match read_target(alloc, word) {

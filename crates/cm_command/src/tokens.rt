@@ -166,7 +166,7 @@ pub fn behind(len: usize, fault: WordFault) -> WordFault
 }
 
 /// The fault of a word that is neither of two kinds, from those that it has as either.
-pub fn either(first: WordFault, second: WordFault) -> WordFault
+pub fn fault_of_either(first: WordFault, second: WordFault) -> WordFault
     ensures { result ≡ either_fault first second }
 {
     match first {
@@ -496,7 +496,7 @@ pub fn read_target(alloc: Global, word: &[u8]) -> Result<Target, WordFault>
         Ok(number) => Ok(Target::Inc(number)),
         Err(fault) => match read_moniker(alloc, word) {
             Ok(moniker) => Ok(Target::Named(moniker)),
-            Err(other) => Err(either(fault, other)),
+            Err(other) => Err(fault_of_either(fault, other)),
         },
     }
 }
@@ -571,7 +571,7 @@ pub fn read_origin(alloc: Global, word: &[u8]) -> Result<Origin, WordFault>
         Ok(origin) => Ok(origin),
         Err(fault) => match read_child_origin(alloc, word) {
             Ok(child) => Ok(Origin::Child(child)),
-            Err(other) => Err(either(fault, other)),
+            Err(other) => Err(fault_of_either(fault, other)),
         },
     }
 }

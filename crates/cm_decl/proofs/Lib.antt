@@ -1,10 +1,4 @@
 pub mod Sameness
-pub mod Reaching
-pub mod TextOrder
-pub mod Comparing
-pub mod Loops
-pub mod Picking
-pub mod Orders
-pub mod Ring
-pub mod Computed
-pub mod FirstFaults
+pub mod orders
+pub mod cycles
+pub mod faults

@@ -15,7 +15,7 @@ use std::alloc::AllocError;
 ///
 /// This is the component declaration of Fuchsia's component framework documentation
 /// (fuchsia.dev), with the sections that this project serves.
-#[derive(Debug, Drop, PartialEq, Eq)]
+#[derive(Debug, PartialEq, Eq)]
 pub struct Decl {
     /// The runner of the component's program, if it has a program.
     pub runner: Option<Name>,
@@ -41,6 +41,25 @@ pub struct Decl {
     pub storage_uses: List<StorageUse>,
     /// The storages that it passes on to its children and collections.
     pub storage_offers: List<StorageOffer>,
+}
+
+impl Drop for Decl {
+    fn drop(self) {
+        let Decl {
+            runner: _,
+            children: _,
+            collections: _,
+            capabilities: _,
+            uses: _,
+            offers: _,
+            exposes: _,
+            environments: _,
+            debug_uses: _,
+            storages: _,
+            storage_uses: _,
+            storage_offers: _,
+        } = self;
+    }
 }
 
 impl Clone for Decl {

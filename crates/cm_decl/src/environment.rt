@@ -6,7 +6,7 @@ use cm_names::{CapPath, List, Name, Plain};
 use std::alloc::AllocError;
 
 /// A runner or a debug protocol that an environment knows: an item of `runners` or of `debug`.
-#[derive(Debug, Drop, PartialEq, Eq)]
+#[derive(Debug, PartialEq, Eq)]
 pub struct Registration {
     /// The name that it has at its source.
     pub name: Name,
@@ -15,6 +15,16 @@ pub struct Registration {
     pub from: Origin,
     /// The name by which it is known in the environment.
     pub target: Name,
+}
+
+impl Drop for Registration {
+    fn drop(self) {
+        let Registration {
+            name: _,
+            from: _,
+            target: _,
+        } = self;
+    }
 }
 
 impl Clone for Registration {
@@ -33,7 +43,7 @@ impl Plain for Registration {
 }
 
 /// What children and the instances of collections find registered: a row of `environments`.
-#[derive(Debug, Drop, PartialEq, Eq)]
+#[derive(Debug, PartialEq, Eq)]
 pub struct Environment {
     /// Its name among the environments of this component.
     pub name: Name,
@@ -44,6 +54,17 @@ pub struct Environment {
     pub runners: List<Registration>,
     /// The debug protocols, in order, with one registration for each name.
     pub debug: List<Registration>,
+}
+
+impl Drop for Environment {
+    fn drop(self) {
+        let Environment {
+            name: _,
+            extends: _,
+            runners: _,
+            debug: _,
+        } = self;
+    }
 }
 
 impl Clone for Environment {
@@ -68,12 +89,18 @@ impl Plain for Environment {
 
 /// A protocol that the component uses from the debug registrations of its environment: a row of
 /// `use` from `debug`.
-#[derive(Debug, Drop, Clone, PartialEq, Eq)]
+#[derive(Debug, Clone, PartialEq, Eq)]
 pub struct DebugUse {
     /// The name by which it is known in the environment.
     pub name: Name,
     /// Where it stands in the namespace of the component.
     pub path: CapPath,
+}
+
+impl Drop for DebugUse {
+    fn drop(self) {
+        let DebugUse { name: _, path: _ } = self;
+    }
 }
 
 impl Plain for DebugUse {

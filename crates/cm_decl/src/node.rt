@@ -14,12 +14,18 @@ use std::fmt;
 /// A child that was created in a collection, and the offers that were made to it alone.
 ///
 /// This is what `CreateChild` of `fuchsia.component.Realm` takes.
-#[derive(Debug, Drop, Clone, PartialEq, Eq)]
+#[derive(Debug, Clone, PartialEq, Eq)]
 pub struct DynChild {
     /// Its collection and its name there.
     pub name: ChildName,
     /// What it was offered when it was created.
     pub gives: List<Give>,
+}
+
+impl Drop for DynChild {
+    fn drop(self) {
+        let DynChild { name: _, gives: _ } = self;
+    }
 }
 
 impl Plain for DynChild {
@@ -35,12 +41,21 @@ impl Plain for DynChild {
 ///
 /// That a component stops before what it strongly depends on is the rule of Fuchsia's component
 /// lifecycle documentation (fuchsia.dev). How nodes are written and ordered is this project's own.
-#[derive(Debug, Drop, Clone)]
+#[derive(Debug, Clone)]
 pub enum Node {
     /// The component itself.
     Own,
     /// One of its children.
     Child(ChildName),
+}
+
+impl Drop for Node {
+    fn drop(self) {
+        match self {
+            Node::Own => {}
+            Node::Child(_) => {}
+        }
+    }
 }
 
 impl Plain for Node {

@@ -5,7 +5,7 @@ use cm_names::{ChildName, Plain};
 /// Where a row of a declaration says that its capability comes from.
 ///
 /// This is `from` of Fuchsia's component manifest reference (fuchsia.dev).
-#[derive(Debug, Drop, Clone, PartialEq, Eq)]
+#[derive(Debug, Clone, PartialEq, Eq)]
 pub enum Origin {
     /// The parent, written `parent`.
     Parent,
@@ -18,6 +18,15 @@ pub enum Origin {
     Child(ChildName),
     /// Nowhere, written `void`: the capability is left out on purpose.
     Void,
+}
+
+impl Drop for Origin {
+    fn drop(self) {
+        match self {
+            Origin::Child(_) => {}
+            Origin::Parent | Origin::Own | Origin::Framework | Origin::Void => {}
+        }
+    }
 }
 
 impl Plain for Origin {

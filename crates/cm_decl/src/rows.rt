@@ -9,7 +9,7 @@ use cm_names::{Availability, CapPath, Dependency, Name, Plain, Rights, SubDir, T
 use std::alloc::AllocError;
 
 /// A child that the manifest declares: a row of `children`.
-#[derive(Debug, Drop, PartialEq, Eq)]
+#[derive(Debug, PartialEq, Eq)]
 pub struct Child {
     /// Its name among the children and collections of this component.
     pub name: Name,
@@ -20,6 +20,17 @@ pub struct Child {
     pub eager: bool,
     /// The environment that it is given; `None` for that of its parent.
     pub environment: Option<Name>,
+}
+
+impl Drop for Child {
+    fn drop(self) {
+        let Child {
+            name: _,
+            url: _,
+            eager: _,
+            environment: _,
+        } = self;
+    }
 }
 
 impl Clone for Child {
@@ -58,7 +69,7 @@ impl Plain for Durability {
 }
 
 /// A place for children that are created while the component runs: a row of `collections`.
-#[derive(Debug, Drop, PartialEq, Eq)]
+#[derive(Debug, PartialEq, Eq)]
 pub struct Collection {
     /// Its name among the children and collections of this component.
     pub name: Name,
@@ -69,6 +80,17 @@ pub struct Collection {
     pub dynamic_offers: bool,
     /// The environment that its instances are given; `None` for that of their parent.
     pub environment: Option<Name>,
+}
+
+impl Drop for Collection {
+    fn drop(self) {
+        let Collection {
+            name: _,
+            durability: _,
+            dynamic_offers: _,
+            environment: _,
+        } = self;
+    }
 }
 
 impl Clone for Collection {
@@ -92,7 +114,7 @@ impl Plain for Collection {
 }
 
 /// A capability that the component itself provides: a row of `capabilities`.
-#[derive(Debug, Drop, PartialEq, Eq)]
+#[derive(Debug, PartialEq, Eq)]
 pub struct Capability {
     /// What it is.
     pub kind: Kind,
@@ -102,6 +124,17 @@ pub struct Capability {
     pub path: CapPath,
     /// The rights that a directory is provided with; `None` for a protocol.
     pub rights: Option<Rights>,
+}
+
+impl Drop for Capability {
+    fn drop(self) {
+        let Capability {
+            kind: _,
+            name: _,
+            path: _,
+            rights: _,
+        } = self;
+    }
 }
 
 impl Clone for Capability {
@@ -125,7 +158,7 @@ impl Plain for Capability {
 }
 
 /// A capability that the component uses: a row of `use`. A valid declaration has none from `void`.
-#[derive(Debug, Drop, PartialEq, Eq)]
+#[derive(Debug, PartialEq, Eq)]
 pub struct Usage {
     /// What is used.
     pub kind: Kind,
@@ -143,6 +176,21 @@ pub struct Usage {
     pub dependency: Dependency,
     /// How much the component needs it.
     pub availability: Availability,
+}
+
+impl Drop for Usage {
+    fn drop(self) {
+        let Usage {
+            kind: _,
+            name: _,
+            from: _,
+            path: _,
+            rights: _,
+            subdir: _,
+            dependency: _,
+            availability: _,
+        } = self;
+    }
 }
 
 impl Clone for Usage {
@@ -171,7 +219,7 @@ impl Plain for Usage {
 
 /// A capability that is passed on: what a row of `offer` and a row of `expose` have in common,
 /// and what a child that is created is offered.
-#[derive(Debug, Drop, PartialEq, Eq)]
+#[derive(Debug, PartialEq, Eq)]
 pub struct Give {
     /// What is given.
     pub kind: Kind,
@@ -190,6 +238,21 @@ pub struct Give {
     pub dependency: Dependency,
     /// How surely it is given.
     pub availability: Availability,
+}
+
+impl Drop for Give {
+    fn drop(self) {
+        let Give {
+            kind: _,
+            source_name: _,
+            from: _,
+            target_name: _,
+            rights: _,
+            subdir: _,
+            dependency: _,
+            availability: _,
+        } = self;
+    }
 }
 
 impl Clone for Give {
@@ -223,12 +286,18 @@ impl Plain for Give {
 
 /// A capability that is passed on to a child or to all children in a collection: a row of
 /// `offer`.
-#[derive(Debug, Drop, Clone, PartialEq, Eq)]
+#[derive(Debug, Clone, PartialEq, Eq)]
 pub struct Offer {
     /// The name of the child or the collection.
     pub to: Name,
     /// What is offered.
     pub give: Give,
+}
+
+impl Drop for Offer {
+    fn drop(self) {
+        let Offer { to: _, give: _ } = self;
+    }
 }
 
 impl Plain for Offer {

@@ -6,7 +6,7 @@ use cm_names::{CapPath, Name, Plain, SubDir};
 use std::alloc::AllocError;
 
 /// A storage that the component provides from a directory: a row of `capabilities`.
-#[derive(Debug, Drop, PartialEq, Eq)]
+#[derive(Debug, PartialEq, Eq)]
 pub struct Storage {
     /// Its name among the storages of this component.
     pub name: Name,
@@ -20,6 +20,18 @@ pub struct Storage {
     /// Whether an instance without an id gets a place by its moniker (`storage_id`:
     /// `static_instance_id_or_moniker`), and not none (`static_instance_id`).
     pub by_moniker: bool,
+}
+
+impl Drop for Storage {
+    fn drop(self) {
+        let Storage {
+            name: _,
+            from: _,
+            backing: _,
+            subdir: _,
+            by_moniker: _,
+        } = self;
+    }
 }
 
 impl Clone for Storage {
@@ -49,12 +61,18 @@ impl Plain for Storage {
 }
 
 /// A storage that the component uses, always from its parent: a row of `use`.
-#[derive(Debug, Drop, Clone, PartialEq, Eq)]
+#[derive(Debug, Clone, PartialEq, Eq)]
 pub struct StorageUse {
     /// The name that the storage has at its source.
     pub name: Name,
     /// Where it stands in the namespace of the component.
     pub path: CapPath,
+}
+
+impl Drop for StorageUse {
+    fn drop(self) {
+        let StorageUse { name: _, path: _ } = self;
+    }
 }
 
 impl Plain for StorageUse {
@@ -64,7 +82,7 @@ impl Plain for StorageUse {
 }
 
 /// A storage that is passed on to a child or to all children in a collection: a row of `offer`.
-#[derive(Debug, Drop, PartialEq, Eq)]
+#[derive(Debug, PartialEq, Eq)]
 pub struct StorageOffer {
     /// The name of the child or the collection.
     pub to: Name,
@@ -74,6 +92,17 @@ pub struct StorageOffer {
     pub from: Origin,
     /// The name that the storage has at its target.
     pub target_name: Name,
+}
+
+impl Drop for StorageOffer {
+    fn drop(self) {
+        let StorageOffer {
+            to: _,
+            source_name: _,
+            from: _,
+            target_name: _,
+        } = self;
+    }
 }
 
 impl Clone for StorageOffer {

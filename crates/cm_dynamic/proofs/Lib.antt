@@ -1,7 +1,2 @@
-pub mod Following
-pub mod Bad
-pub mod Graphs
-pub mod Refusing
-pub mod Taking
-pub mod Rings
-pub mod Further
+pub mod children
+pub mod graphs

@@ -16,7 +16,7 @@ use crate::siblings::siblings_with;
 use cm_decl::{Collection, Decl, DynChild, Give, Node};
 use cm_deps::{Order, order_of};
 use cm_names::{ChildName, List, Memory, Name};
-use cm_walk::above::{closed, gone};
+use cm_walk::above::{is_closed, is_gone};
 use cm_world::View;
 use std::alloc::Global;
 
@@ -127,10 +127,10 @@ fn refusal<V: View>(
     ensures { let refused = spec.refused_create (V.rows view.now) parent coll.now child.now in
         IfOk result (λ refusal. Refuses refusal (refused gives.now)) }
 {
-    if gone(view, parent) {
+    if is_gone(view, parent) {
         return Ok(Some(MayCreate::Gone(parent)));
     }
-    if closed(view, parent) {
+    if is_closed(view, parent) {
         return Ok(Some(MayCreate::Closing(parent)));
     }
     match view.decl(parent) {

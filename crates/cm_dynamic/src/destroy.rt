@@ -6,7 +6,7 @@ ghost use Rattle.cm_world.specs.Rows.{row_of};
 ghost use Rattle.cm_world.specs.Marks as spec;
 ghost use Rattle.cm_dynamic.specs.Replies.{destroy_reply};
 
-use cm_walk::above::gone;
+use cm_walk::above::is_gone;
 use cm_world::View;
 
 /// Whether an instance may be destroyed, and else the first thing that refuses it. A number is the
@@ -39,7 +39,7 @@ pub fn may_destroy<V: View>(view: &V, inc: u64) -> MayDestroy
     if facts.doomed {
         return MayDestroy::Already;
     }
-    if gone(view, inc) {
+    if is_gone(view, inc) {
         return MayDestroy::Gone(inc);
     }
     if is_dynamic(view, inc) {

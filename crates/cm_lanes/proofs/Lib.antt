@@ -1,9 +1,4 @@
-pub mod Performing
-pub mod Rounds
-pub mod Passing
-pub mod Weaving
-pub mod Advancing
-pub mod Queues
-pub mod Making
-pub mod Ending
-pub mod Parting
+pub mod lines
+pub mod phases
+pub mod woven
+pub mod ends

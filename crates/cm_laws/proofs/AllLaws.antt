@@ -1,11 +1,11 @@
 -- Every legal history keeps all laws.
 use Rattle.cm_order.proofs.trees.Ending.{no_dead_end}
 use Rattle.cm_laws.specs.Histories.{HistoriesKeepLaws}
-use Rattle.cm_laws.proofs.Stable.{routes_are_stable}
+use Rattle.cm_laws.proofs.lasting.Stable.{routes_are_stable}
 use Rattle.cm_laws.proofs.actions.Outcomes.{outcomes_are_one}
 use Rattle.cm_laws.proofs.sound.Healthy.{trees_stay_sound}
 use Rattle.cm_laws.proofs.clients.First.{clients_stop_first}
-use Rattle.cm_laws.proofs.MarksLast.{marks_hold, done_stays_shut, goes_on}
+use Rattle.cm_laws.proofs.lasting.MarksLast.{marks_hold, done_stays_shut, goes_on}
 use Rattle.cm_laws.proofs.destroyed.Gone.{doomed_are_destroyed, destroyed_stay_gone, leaves_gone}
 
 pub histories_keep_laws : HistoriesKeepLaws

@@ -1,10 +1,8 @@
-pub mod Answered
-pub mod Entries
+pub mod entries
 pub mod actions
 pub mod levels
 pub mod sound
-pub mod MarksLast
-pub mod Stable
+pub mod lasting
 pub mod clients
 pub mod destroyed
 pub mod AllLaws

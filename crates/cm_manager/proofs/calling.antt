@@ -1,5 +1,4 @@
 pub mod Calling
-pub mod Composing
 pub mod Counting
 pub mod Doings
 pub mod Followings

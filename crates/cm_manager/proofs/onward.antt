@@ -4,4 +4,3 @@ pub mod Turning
 pub mod Tryings
 pub mod Onward
 pub mod Readings
-pub mod Ends

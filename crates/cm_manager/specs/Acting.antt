@@ -1,5 +1,5 @@
 -- What the begin of an action, and a pick, came to, in the turns of one caller.
-use Rattle.std.specs.Prelude.{◌≡◌, ◌≢◌, ℕ, List, Bool, true, false, Option, Some, None, Result, Ok, Err}
+use Rattle.std.specs.Prelude.{◌≡◌, ◌≢◌, ℕ, List, Option, Some, None, Result, Ok, Err}
 use Rattle.std.specs.Prelude.{IsTrue, IsFalse}
 use Rattle.cm_world.specs.declared.action.ActKind.{ActKind}
 use Rattle.cm_world.specs.declared.action.ActKind.TheVariants as kind
@@ -15,10 +15,10 @@ use Rattle.cm_world.specs.declared.reply.Reply.TheVariants as reply
 use Rattle.cm_world.specs.declared.answer.Refusal.{Refusal}
 use Rattle.cm_world.specs.Expiring.{is_stopped}
 use Rattle.cm_manager.specs.Turns.{Makes, Asks, IsCut}
-use Rattle.cm_manager.specs.Runs.{Acts, Eagers, is_quiet, is_started, needed, ends_call}
+use Rattle.cm_manager.specs.Runs.{Acts, Eagers, is_quiet, is_started, needed}
 use Rattle.cm_manager.specs.Sweeps.{Stops}
-use Rattle.cm_manager.specs.declared.acted.Acted.{Acted}
-use Rattle.cm_manager.specs.declared.acted.Acted.TheVariants as acted
+use Rattle.cm_answers.specs.declared.acted.Acted.{Acted}
+use Rattle.cm_answers.specs.declared.acted.Acted.TheVariants as acted
 use Rattle.cm_manager.specs.declared.began.Began.{Began}
 use Rattle.cm_manager.specs.declared.began.Began.TheVariants as began
 use Rattle.cm_manager.specs.declared.began.Launch.{Launch}
@@ -56,19 +56,6 @@ BeginsBy f c k i (Ok (began.Quiet r)) h₀ h₁ = Asks f c h₀ (event.Begin k i
 BeginsBy f c k i (Ok (began.Needs j)) h₀ h₁ =
     Asks f c h₀ (event.Begin k i) (reply.Need j) h₁ × (k ≡ kind.Start)
 BeginsBy f c k i (Err x) h₀ h₁ = IsCut f c h₀ (event.Begin k i) h₁ x
-
--- whether an action went well
-abbrev pub is_well : Outcome → Bool
-is_well outcome.Resolved = true
-is_well outcome.Started = true
-is_well outcome.Stopped = true
-is_well outcome.Killed = true
-is_well _ = false
-
--- what came of an action ends a call that needed it, or the call goes on
-abbrev pub FailsBy : Result Acted Refusal → Option (Result Acted Refusal) → Type 0
-FailsBy went (Some same) = (x : Refusal) × (same ≡ went) × (ends_call went ≡ Some x)
-FailsBy went None = ends_call went ≡ None
 
 -- how a start ends behind its eager children, which this may have ended
 abbrev pub behind_eager : ℕ → Option Refusal → Result Acted Refusal

@@ -19,13 +19,13 @@ use Rattle.cm_world.specs.World.{start}
 use Rattle.cm_world.specs.Legal.{Legal}
 use Rattle.cm_command.specs.declared.command.Command.{Command}
 use Rattle.cm_command.specs.declared.command.Command.TheVariants as command
-use Rattle.cm_manager.specs.declared.acted.Acted.{Acted}
+use Rattle.cm_answers.specs.declared.acted.Acted.{Acted}
 use Rattle.cm_manager.specs.Turns.{own_entries}
 use Rattle.cm_manager.specs.Runs.{Acts, Tries, Onces}
 use Rattle.cm_manager.specs.Sweeps.{Sweeps}
 use Rattle.cm_manager.specs.Doctor.{Doctors}
-use Rattle.cm_manager.specs.Answers.{answer_unless, unless_ended, decided_by, found_by, resolved_answer}
-use Rattle.cm_manager.specs.Answers.{started_answer, stopped_answer}
+use Rattle.cm_answers.specs.Answers.{answer_unless, unless_ended, decided_by, found_by, resolved_answer}
+use Rattle.cm_answers.specs.Answers.{started_answer, stopped_answer}
 use Rattle.cm_manager.specs.Shutdowns.{Shuts, Destroys}
 
 -- a way from one history to a later one, with what it ends in

@@ -1,7 +1,6 @@
 pub mod Turns
 pub mod Sweeps
 pub mod Runs
-pub mod Answers
 pub mod Shutdowns
 pub mod Calls
 pub mod Closed

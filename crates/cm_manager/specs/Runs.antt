@@ -15,34 +15,12 @@ use Rattle.cm_world.specs.declared.reply.Entry.{Entry}
 use Rattle.cm_world.specs.declared.reply.Reply.{Reply}
 use Rattle.cm_world.specs.declared.reply.Reply.TheVariants as reply
 use Rattle.cm_world.specs.declared.answer.Refusal.{Refusal}
-use Rattle.cm_world.specs.declared.answer.Refusal.TheVariants as refusal
-use Rattle.cm_manager.specs.declared.acted.Acted.{Acted}
-use Rattle.cm_manager.specs.declared.acted.Acted.TheVariants as acted
+use Rattle.cm_answers.specs.declared.acted.Acted.{Acted}
+use Rattle.cm_answers.specs.declared.acted.Acted.TheVariants as acted
 use Rattle.cm_world.specs.Expiring.{is_stopped, runs_once}
 use Rattle.cm_manager.specs.Turns.{Later, Makes, Asks, IsCut, world_after}
+use Rattle.cm_answers.specs.Answers.{ends_call, ends_eager}
 use Rattle.cm_manager.specs.Sweeps.{Sweeps}
-
--- the refusal that a failed action makes, and none where it went well
-abbrev pub failure : ActKind → ℕ → Outcome → Option Refusal
-failure k a outcome.Resolved = None
-failure k a outcome.Started = None
-failure k a outcome.Stopped = None
-failure k a outcome.Killed = None
-failure k a outcome.NoMemory = Some refusal.Memory
-failure kind.Resolve a o = Some (refusal.CannotResolve a o)
-failure _ a o = Some (refusal.CannotStart a o)
-
--- what ends a call that needed this action
-abbrev pub ends_call : Result Acted Refusal → Option Refusal
-ends_call (Ok (acted.Ended k a o)) = failure k a o
-ends_call (Ok (acted.Quiet r)) = None
-ends_call (Err x) = Some x
-
--- what ends a call that only starts a row beside its answer: an eager child, or a child that runs once
-abbrev pub ends_eager : Result Acted Refusal → Option Refusal
-ends_eager (Ok (acted.Ended k a outcome.NoMemory)) = Some refusal.Memory
-ends_eager (Ok _) = None
-ends_eager (Err x) = Some x
 
 -- the action that a reply asks for before its event can be decided
 abbrev pub needed : Reply → Option (ActKind × ℕ)

@@ -1,26 +1,14 @@
 -- What a call does that shuts an instance down or destroys it, as rules. Each tells from which history to
 -- which later one it goes, and what ended the call there, if anything did.
-use Rattle.std.specs.Prelude.{◌≡◌, ℕ, List, Bool, true, Option, Some, None, Result, Ok, Err}
+use Rattle.std.specs.Prelude.{◌≡◌, ℕ, List, Bool, true, Option, Some, None}
 use Rattle.cm_world.specs.declared.frame.Frame.{Frame}
 use Rattle.cm_world.specs.declared.event.Event.TheVariants as event
 use Rattle.cm_world.specs.declared.reply.Entry.{Entry}
 use Rattle.cm_world.specs.declared.reply.Reply.{Reply}
-use Rattle.cm_world.specs.declared.reply.Reply.TheVariants as reply
 use Rattle.cm_world.specs.declared.answer.Refusal.{Refusal}
 use Rattle.cm_manager.specs.Turns.{Asks, IsCut}
-use Rattle.cm_manager.specs.Answers.{refusal_of}
+use Rattle.cm_answers.specs.Answers.{unmarked}
 use Rattle.cm_manager.specs.Sweeps.{Stops}
-
--- the refusal that the reply to a mark makes, and none where the row is marked, now or before
-abbrev pub unmarked : Reply → Option Refusal
-unmarked reply.Marked = None
-unmarked reply.Already = None
-unmarked r = Some (refusal_of r)
-
--- what ends a call that marks a row
-abbrev pub unmarked_by : Result Reply Refusal → Option Refusal
-unmarked_by (Ok r) = unmarked r
-unmarked_by (Err x) = Some x
 
 -- a row is marked, to be destroyed or only shut down, and then stopped with all below it
 pub data Shuts (f : Frame) (c : ℕ) (doom : Bool) (i : ℕ)

@@ -5,9 +5,9 @@ ghost use Rattle.cm_manager.specs.Acting.{BeginsBy};
 ghost use Rattle.cm_manager.specs.Runs.{Acts};
 ghost use Rattle.cm_manager.specs.Gated.{HelpsWith};
 
+use crate::Manager;
 use crate::began::Began;
-use crate::question::Wish;
-use crate::{Acted, Manager};
+use cm_answers::{Acted, Wish};
 use cm_gate::Gates;
 use cm_turn::Pass;
 use cm_world::{ActKind, Entry, Frame, Refusal, Reply};

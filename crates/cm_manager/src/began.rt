@@ -1,6 +1,6 @@
 //! What became of a begin, of a start, of a pick and of an event, before what follows from it.
 
-use crate::Acted;
+use cm_answers::Acted;
 use cm_names::List;
 use cm_world::{ActKind, Outcome, Refusal, Reply};
 

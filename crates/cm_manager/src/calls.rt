@@ -25,13 +25,13 @@ ghost use Rattle.cm_laws.specs.Shutdowns.{IsOver};
 ghost use Rattle.cm_manager.specs.Asking.{frame_of};
 ghost use Rattle.cm_manager.specs.Gated.{HelpsWith, PerformsWith};
 ghost use Rattle.cm_manager.specs.Laws.{IsRemoved, Leaves};
-ghost use Rattle.cm_manager.specs.Questions.{AnswersTo, asked_by};
+ghost use Rattle.cm_answers.specs.Questions.{asked_by};
+ghost use Rattle.cm_manager.specs.Questions.{AnswersTo};
 
 use crate::Manager;
-use crate::answers::unless_ended;
-use crate::ended::acted;
 use crate::laws::answers_hold;
-use crate::question::{Question, Request, question_of};
+use cm_answers::ended::acted;
+use cm_answers::{Question, Request, question_of, unless_ended};
 use cm_command::Command;
 use cm_decl::Give;
 use cm_gate::Gates;

@@ -5,17 +5,13 @@
 //! one history of the realm.
 #![tactic(auto)]
 
-pub mod acted;
 mod acts;
-mod answers;
 mod began;
 mod calls;
 mod doctor;
-mod ended;
 pub mod laws;
 pub mod manager;
 mod parts;
-mod question;
 mod shutting;
 mod starting;
 mod sweeping;
@@ -23,5 +19,4 @@ mod trying;
 mod turns;
 mod work;
 
-pub use acted::Acted;
 pub use manager::Manager;

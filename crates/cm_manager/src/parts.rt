@@ -3,13 +3,13 @@
 ghost use Rattle.std.specs.Prelude.{◌≡◌};
 ghost use Rattle.cm_world.specs.declared.event.Target.TheVariants as target;
 ghost use Rattle.cm_manager.specs.Calls.{Finding};
-ghost use Rattle.cm_manager.specs.Questions.{event_for, Requested};
+ghost use Rattle.cm_answers.specs.Questions.{event_for};
+ghost use Rattle.cm_manager.specs.Questions.{Requested};
 ghost use Rattle.cm_manager.specs.Runs.{Tries};
 ghost use Rattle.cm_manager.specs.Gated.{HelpsWith, FindsWith};
 
 use crate::Manager;
-use crate::answers::{behind, decided, found};
-use crate::question::{Follow, Request, Wish, following};
+use cm_answers::{Follow, Request, Wish, behind, decided, following, found};
 use cm_gate::Gates;
 use cm_names::Moniker;
 use cm_turn::Pass;

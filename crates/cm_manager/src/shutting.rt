@@ -11,15 +11,13 @@ ghost use Rattle.cm_manager.specs.Turns.{world_after};
 ghost use Rattle.cm_manager.specs.Asking.{Purged, frame_of};
 ghost use Rattle.cm_manager.specs.Contract.{IsSamePass};
 ghost use Rattle.cm_manager.specs.Acting.{PicksBy};
-ghost use Rattle.cm_manager.specs.Shutdowns as spec;
 ghost use Rattle.cm_manager.specs.Shutdowns.{Shuts, Destroys};
 ghost use Rattle.cm_manager.specs.Sweeps.{Stops};
 ghost use Rattle.cm_manager.specs.Gated.{HelpsWith};
 
 use crate::Manager;
-use crate::answers::refusing;
 use crate::began::Picked;
-use crate::question::Wish;
+use cm_answers::{Wish, unmarked};
 use cm_gate::Gates;
 use cm_laws::{marks_stay, pickers_end, shutdowns_last};
 use cm_turn::Pass;
@@ -27,18 +25,6 @@ use cm_world::{ActKind, Entry, Frame, Refusal, Reply};
 use std::alloc::Global;
 use std::sync::Wait;
 use std::thread::Threads;
-
-/// What ends a call that marks an instance: the mark was refused, or wasn't made.
-fn unmarked(asked: Result<Reply, Refusal>) -> Option<Refusal>
-    ensures { result ≡ spec.unmarked_by asked }
-{
-    match asked {
-        Ok(Reply::Marked) => None,
-        Ok(Reply::Already) => None,
-        Ok(other) => Some(refusing(other)),
-        Err(refusal) => Some(refusal),
-    }
-}
 
 impl Manager {
     /// Makes one pick, and stops the instance where the pick asks for it, however that ends.

@@ -4,13 +4,14 @@ ghost use Rattle.std.specs.Prelude.{◌≡◌, ◌≢◌, ◌++◌, ℕ, List as
 ghost use Rattle.cm_world.specs.declared.frame.Frame.{Frame as TheFrame};
 ghost use Rattle.cm_world.specs.declared.reply.Entry.{Entry as TheEntry};
 ghost use Rattle.cm_manager.specs.Asking.{frame_of};
-ghost use Rattle.cm_manager.specs.Acting.{BeginsBy, StartsBy, LaunchesBy, FailsBy, is_well};
+ghost use Rattle.cm_manager.specs.Acting.{BeginsBy, StartsBy, LaunchesBy};
 ghost use Rattle.cm_manager.specs.Contract.{IsSamePass};
-ghost use Rattle.cm_manager.specs.Runs.{Acts, Eagers, ends_eager};
+ghost use Rattle.cm_manager.specs.Runs.{Acts, Eagers};
 ghost use Rattle.cm_manager.specs.Gated.{HelpsWith};
 
+use crate::Manager;
 use crate::began::{Began, Launch};
-use crate::{Acted, Manager};
+use cm_answers::{Acted, ending_of_eager, if_failed};
 use cm_gate::Gates;
 use cm_names::List;
 use cm_turn::Pass;
@@ -19,50 +20,6 @@ use std::alloc::{AllocError, Global};
 use std::collections::VecDeque;
 use std::sync::Wait;
 use std::thread::Threads;
-
-/// Whether an action went well.
-fn went_well(outcome: Outcome) -> bool
-    ensures { result ≡ is_well outcome }
-{
-    matches!(
-        outcome,
-        Outcome::Resolved | Outcome::Started | Outcome::Stopped | Outcome::Killed
-    )
-}
-
-/// The same again where it ends a call that needed it, and `None` where the call goes on.
-fn if_failed(went: Result<Acted, Refusal>) -> Option<Result<Acted, Refusal>>
-    ensures { FailsBy went result }
-{
-    match went {
-        Ok(Acted::Ended(kind, action, outcome)) => {
-            if went_well(outcome) {
-                None
-            } else {
-                Some(Ok(Acted::Ended(kind, action, outcome)))
-            }
-        }
-        Ok(Acted::Quiet(reply)) => {
-            drop(reply);
-            None
-        }
-        Err(refusal) => Some(Err(refusal)),
-    }
-}
-
-/// What ends the call where the start of an eager child came to this.
-pub(crate) fn ending_of_eager(went: Result<Acted, Refusal>) -> Option<Refusal>
-    ensures { result ≡ ends_eager went }
-{
-    match went {
-        Ok(Acted::Ended(_, _, Outcome::NoMemory)) => Some(Refusal::Memory),
-        Ok(acted) => {
-            drop(acted);
-            None
-        }
-        Err(refusal) => Some(refusal),
-    }
-}
 
 /// What a start came to by its begin; `Err` with the instance that has to be resolved first.
 fn launch_of(began: Result<Began, Refusal>) -> Result<Launch, u64>

@@ -16,11 +16,10 @@ ghost use Rattle.cm_manager.specs.Runs.{Acts, Onces};
 ghost use Rattle.cm_manager.specs.Sweeps.{Removes, Clears, Sweeps};
 ghost use Rattle.cm_manager.specs.Gated.{HelpsWith};
 
+use crate::Manager;
 use crate::began::Began;
 use crate::manager::check_history;
-use crate::question::Wish;
-use crate::starting::ending_of_eager;
-use crate::{Acted, Manager};
+use cm_answers::{Acted, Wish, ending_of_eager};
 use cm_gate::Gates;
 use cm_laws::{marks_stay, reaps_marked};
 use cm_names::List;
@@ -32,7 +31,7 @@ use std::sync::Wait;
 use std::thread::Threads;
 
 /// Whether an instance lives in a collection that runs each child once, as the realm is now.
-fn once_in(realm: &Realm, inc: u64) -> bool
+fn runs_once_in(realm: &Realm, inc: u64) -> bool
     ensures legal { IsLegal realm.now }
     ensures once { result ≡ runs_once (world_of realm.now).rows inc }
 {
@@ -167,7 +166,7 @@ impl Manager {
         ensures once { result.1 ≡ runs_once (world_after (frame_of pass) result.0.seen).rows inc }
     {
         let mut held = self.turn.enter(rt, pass);
-        let once = once_in(held.state(), inc);
+        let once = runs_once_in(held.state(), inc);
         (self.turn.leave(held), once)
     }
 

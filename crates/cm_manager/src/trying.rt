@@ -3,14 +3,13 @@
 ghost use Rattle.std.specs.Prelude.{◌≡◌, IsTrue};
 ghost use Rattle.cm_manager.specs.Asking.{is_asked, is_plain};
 ghost use Rattle.cm_manager.specs.Acting.{ReadsBy};
-ghost use Rattle.cm_manager.specs.Questions.{event_of};
+ghost use Rattle.cm_answers.specs.Questions.{event_of};
 ghost use Rattle.cm_manager.specs.Runs.{Tries};
 ghost use Rattle.cm_manager.specs.Gated.{HelpsWith};
 
 use crate::Manager;
-use crate::answers::ending;
 use crate::began::Demand;
-use crate::question::Wish;
+use cm_answers::{Wish, ending};
 use cm_gate::Gates;
 use cm_turn::Pass;
 use cm_world::{ActKind, Entry, Frame, Refusal, Reply};

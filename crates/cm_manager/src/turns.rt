@@ -14,11 +14,11 @@ ghost use Rattle.cm_manager.specs.Contract.{IsSamePass};
 ghost use Rattle.cm_manager.specs.Asking as asking;
 ghost use Rattle.cm_manager.specs.Asking.{StepsBy, AwaitsBy, Turned, Awaited, Told, frame_of};
 ghost use Rattle.cm_manager.specs.Asking.{DueStays, DueIsOpen, IsDue, IsOpen, IsBusy};
-ghost use Rattle.cm_manager.specs.Questions.{event_for, event_of};
+ghost use Rattle.cm_answers.specs.Questions.{event_for, event_of};
 
 use crate::Manager;
 use crate::manager::check_history;
-use crate::question::{Request, Wish};
+use cm_answers::{Request, Wish};
 use cm_decl::Give;
 use cm_decl::copies::four;
 use cm_laws::{marks_stay, shutdowns_last};

@@ -1,11 +1,3 @@
-pub mod NameLemmas
-pub mod PathLemmas
-pub mod BitLemmas
-pub mod Fronts
-pub mod JoinLemmas
-pub mod MonikerFronts
-pub mod MonikerGrammar
-pub mod MonikerParts
-pub mod RightsLemmas
-pub mod WordLemmas
-mod ShortLemmas
+pub mod fronts
+pub mod texts
+pub mod sets

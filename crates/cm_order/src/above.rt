@@ -49,7 +49,7 @@ pub(crate) fn outermost<V: View>(view: &V, inc: u64) -> Option<u64>
 }
 
 /// Whether the instance lives and isn't shut itself.
-pub(crate) fn unshut<V: View>(view: &V, inc: u64) -> bool
+pub(crate) fn is_unshut<V: View>(view: &V, inc: u64) -> bool
     ensures unshut { result
         ≡ option_map_or (λ r. not r.shut) (row_of (V.rows view.now) inc) false }
     ensures orderly { IsOrderly (V.rows view.now) (V.next_inc view.now) }
@@ -61,7 +61,7 @@ pub(crate) fn unshut<V: View>(view: &V, inc: u64) -> bool
 }
 
 /// Whether the instance lives and is being shut down itself.
-pub(crate) fn closing<V: View>(view: &V, inc: u64) -> bool
+pub(crate) fn is_closing<V: View>(view: &V, inc: u64) -> bool
     ensures closing { result ≡ has_closing (V.rows view.now) inc }
     ensures orderly { IsOrderly (V.rows view.now) (V.next_inc view.now) }
 {

@@ -5,7 +5,7 @@ ghost use Rattle.std.specs.Option.{option_map_or};
 ghost use Rattle.cm_world.specs.Rows.{row_of, is_subtree_shut};
 ghost use Rattle.cm_order.specs.Spots.{further};
 
-use crate::above::unshut;
+use crate::above::is_unshut;
 use cm_names::Memory;
 use cm_world::View;
 use std::alloc::Global;
@@ -39,13 +39,13 @@ pub(crate) fn go_on(left: &mut Vec<Spot>, inc: u64, child: Option<u64>) -> Resul
 }
 
 /// Whether there is an instance that isn't shut itself.
-fn some_unshut<V: View>(view: &V, inc: Option<u64>) -> bool
+fn is_some_unshut<V: View>(view: &V, inc: Option<u64>) -> bool
     ensures { result ≡ option_map_or (λ r. not r.shut)
         (option_and_then (row_of (V.rows view.now)) inc) false }
 {
     match inc {
         None => false,
-        Some(inc) => unshut(view, inc),
+        Some(inc) => is_unshut(view, inc),
     }
 }
 
@@ -53,7 +53,7 @@ fn some_unshut<V: View>(view: &V, inc: Option<u64>) -> bool
 pub(crate) fn all_shut<V: View>(alloc: Global, view: &V, top: u64) -> Result<bool, Memory>
     ensures { IfOk result (λ shut. shut ≡ is_subtree_shut (V.rows view.now) top) }
 {
-    if unshut(view, top) {
+    if is_unshut(view, top) {
         return Ok(false);
     }
     let mut left = Vec::new(alloc);
@@ -63,7 +63,7 @@ pub(crate) fn all_shut<V: View>(alloc: Global, view: &V, top: u64) -> Result<boo
     })?;
     while let Some(spot) = left.pop() {
         let child = view.next_child(spot.inc, spot.behind);
-        if some_unshut(view, child) {
+        if is_some_unshut(view, child) {
             return Ok(false);
         }
         go_on(&mut left, spot.inc, child)?;

@@ -16,7 +16,7 @@ ghost use Rattle.cm_order.specs.Plans.{IsKnown, AreShutSoFar};
 ghost use Rattle.cm_order.specs.Search.{IsHere};
 ghost use Rattle.cm_order.specs.declared.search.Wanted.TheVariants as wanted;
 
-use crate::above::unshut;
+use crate::above::is_unshut;
 use crate::below::all_shut;
 use crate::named::{Look, is_from_child as of_child, is_strong as of_strong, named_at};
 use crate::search::Visit;
@@ -130,7 +130,7 @@ fn learn<V: View>(alloc: Global, view: &V, stand: &mut Stand, look: Look) -> Res
     ensures known { IsKnown (V.rows view.now) stand.new }
     ensures same { stand.new.inc ≡ stand.old.inc }
 {
-    if !unshut(view, stand.inc) {
+    if !is_unshut(view, stand.inc) {
         return Ok(());
     }
     let found = named_at(alloc, view, stand.inc, look)?;
@@ -209,7 +209,7 @@ fn is_free<V: View>(
 fn is_left<V: View>(alloc: Global, view: &V, inc: u64) -> Result<bool, Memory>
     ensures { IfOk result (λ left. IsTrue left → is_subtree_shut (V.rows view.now) inc ≡ false) }
 {
-    if unshut(view, inc) {
+    if is_unshut(view, inc) {
         return Ok(true);
     }
     if uses_child(view, inc) {

@@ -10,7 +10,7 @@ ghost use Rattle.cm_order.specs.Levels.{AreMembers};
 use crate::below::all_shut;
 use cm_decl::{DynChild, Node};
 use cm_names::Memory;
-use cm_walk::above::shut;
+use cm_walk::above::is_shut;
 use cm_world::View;
 use std::alloc::Global;
 
@@ -34,7 +34,7 @@ pub(crate) fn members_of<V: View>(alloc: Global, view: &V, inc: u64) -> Result<V
     members.push(Member {
         inc,
         node: Some(Node::Own),
-        shut: shut(view, inc),
+        shut: is_shut(view, inc),
     })?;
     let mut behind = None;
     while let Some(child) = view.next_child(inc, behind) {
@@ -65,7 +65,7 @@ fn node_of<V: View>(view: &V, inc: u64) -> Result<Option<Node>, Memory>
         ≡ option_and_then child_node (row_of (V.rows view.now) inc)) }
     ensures orderly { IsOrderly (V.rows view.now) (V.next_inc view.now) }
 {
-    if doomed(view, inc) {
+    if is_doomed(view, inc) {
         return Ok(None);
     }
     match view.name(inc) {
@@ -75,7 +75,7 @@ fn node_of<V: View>(view: &V, inc: u64) -> Result<Option<Node>, Memory>
 }
 
 /// Whether the instance itself is being destroyed.
-fn doomed<V: View>(view: &V, inc: u64) -> bool
+fn is_doomed<V: View>(view: &V, inc: u64) -> bool
     ensures doomed { result ≡ has_doomed (V.rows view.now) inc }
     ensures orderly { IsOrderly (V.rows view.now) (V.next_inc view.now) }
 {
@@ -106,7 +106,7 @@ fn push_dynamic<V: View>(view: &V, children: &mut Vec<DynChild>, inc: u64) -> Re
         ++ option_map_or dynamic_child (row_of (V.rows view.now) inc) []) }
     ensures orderly { IsOrderly (V.rows view.now) (V.next_inc view.now) }
 {
-    if doomed(view, inc) {
+    if is_doomed(view, inc) {
         return Ok(());
     }
     let (Some(name), Some(gives)) = (view.name(inc), view.gives(inc)) else {

@@ -11,13 +11,13 @@ ghost use Rattle.cm_order.specs.Search.{NoneIs};
 ghost use Rattle.cm_order.specs.Picking.{IsPicked, WaitsFor};
 ghost use Rattle.cm_order.specs.Plans.{IsPlan};
 
-use crate::above::{outermost, unshut};
+use crate::above::{is_unshut, outermost};
 use crate::below::all_shut;
 use crate::plan::Plan;
 use crate::quick::quick;
 use crate::search::{Wanted, search};
 use cm_names::Memory;
-use cm_walk::above::on;
+use cm_walk::above::is_on;
 use cm_world::View;
 use std::alloc::Global;
 
@@ -115,7 +115,7 @@ fn is_done<V: View>(alloc: Global, view: &V, plan: &Plan, target: u64) -> Result
     ensures { IfOk result (λ done. done ≡ is_subtree_shut (V.rows view.now) target) }
 {
     if plan.knows_below(target) {
-        if !unshut(view, target) {
+        if !is_unshut(view, target) {
             return Ok(true);
         }
     }
@@ -127,7 +127,7 @@ fn stop_or_shut<V: View>(view: &V, inc: u64) -> Picked
     ensures { result ≡ (if is_on (V.rows view.now) inc then Picked.StopNow inc
         else Picked.ShutNow inc) }
 {
-    if on(view, inc) {
+    if is_on(view, inc) {
         Picked::StopNow(inc)
     } else {
         Picked::ShutNow(inc)

@@ -6,7 +6,7 @@ ghost use Rattle.cm_world.specs.Rows.{is_closing};
 ghost use Rattle.cm_order.specs.Glances.{AreKidsShut};
 ghost use Rattle.cm_order.specs.Plans.{IsPlan, KnowsNone};
 
-use crate::above::closing;
+use crate::above::is_closing;
 use crate::stand::Stand;
 use cm_names::Memory;
 use cm_world::View;
@@ -63,7 +63,7 @@ impl Plan {
         }
         let stand = &self.way[count - 1];
         if stand.inc == inc {
-            return closing(view, self.top);
+            return is_closing(view, self.top);
         }
         false
     }

@@ -9,7 +9,7 @@ ghost use Rattle.cm_world.specs.Stopping as spec;
 ghost use Rattle.cm_order.specs.Glances.{IsQuick, IsGlance};
 ghost use Rattle.cm_order.specs.Plans.{IsPlan, IsReached, IsKnown, IsWay};
 
-use crate::above::unshut;
+use crate::above::is_unshut;
 use crate::below::Spot;
 use crate::glance::glance;
 use crate::plan::Plan;
@@ -101,7 +101,7 @@ fn go_back<V: View>(view: &V, way: &mut Vec<Stand>, top: u64) -> Result<Option<S
     let mut closed = None;
     while let Some(mut stand) = way.pop() {
         let inc = stand.inc;
-        if unshut(view, inc) {
+        if is_unshut(view, inc) {
             count_done(view, &mut stand, closed);
             way.push(stand)?;
             return Ok(Some(Spot { inc, behind }));

@@ -87,6 +87,7 @@ IsRefusal status = (status ≡ 7) ⊎ ((status ≡ 3) ⊎ (status ≡ 6))
 abbrev pub IsScriptRun : ℕ → Type 0
 IsScriptRun status = (status ≡ 0) ⊎ ((status ≡ 4) ⊎ (status ≡ 6))
 
+-- the status of words of `run`
 abbrev pub IsScriptStatus : ℕ → Type 0
 IsScriptStatus status = IsScriptRun status ⊎ ((status ≡ 3) ⊎ (status ≡ 7))
 
@@ -95,6 +96,7 @@ IsScriptStatus status = IsScriptRun status ⊎ ((status ≡ 3) ⊎ (status ≡ 7
 abbrev pub IsServeStatus : ℕ → Type 0
 IsServeStatus status = (status ≡ 0) ⊎ ((status ≡ 5) ⊎ (status ≡ 6))
 
+-- the status of words of `check`
 abbrev pub IsCheckStatus : ℕ → Type 0
 IsCheckStatus status =
     (status ≡ 0) ⊎ ((status ≡ 1) ⊎ ((status ≡ 3) ⊎ ((status ≡ 4) ⊎ (status ≡ 6))))

@@ -1,10 +1,12 @@
 -- The headline of `serve`: what is promised of the sessions of a run, whoever comes.
-use Rattle.std.specs.Prelude.{◌≡◌, ◌≢◌, ◌⊎◌, ℕ, ◌<◌, ◌≤◌, nat_eq, cond, List, [], ◌∷◌, All, Contains}
-use Rattle.std.specs.Prelude.{length, take, ⊤, Option, Some}
+use Rattle.std.specs.Prelude.{◌≡◌, ◌≢◌, ◌⊎◌, ℕ, ◌+◌, ◌<◌, ◌≤◌, nat_eq, cond, List, [], ◌∷◌, All, Contains}
+use Rattle.std.specs.Prelude.{length, map, take, ⊤, Option, Some}
 use Rattle.std.specs.List.{AllZip}
 use Rattle.std.specs.Str.{bytes_eq}
 use Rattle.std.specs.Io.KnownBytes.{Appends, IsAtEnd}
+use Rattle.cm_io.specs.declared.door.DoorCounts.{DoorCounts}
 use Rattle.cm_io.specs.Lines.{lines, Moves}
+use Rattle.cm_io.specs.Outside.{Rose}
 use Rattle.cm_world.specs.declared.frame.Frame.{Frame}
 use Rattle.cm_world.specs.declared.reply.Entry.{Entry}
 use Rattle.cm_world.specs.World.{start}
@@ -18,10 +20,12 @@ use Rattle.cm_session.specs.declared.served.Back.{Back}
 use Rattle.cm_session.specs.declared.served.Cause.{Cause}
 use Rattle.cm_session.specs.declared.served.Cause.TheVariants as cause
 use Rattle.cm_session.specs.Links.{Begins, LinkView, whole_lines}
-use Rattle.cm_session.specs.Serving.{IsNewLink}
-use Rattle.cm_session.specs.Session.{AreEnded, WroteFront, most_lines, quit}
+use Rattle.cm_session.specs.Serving.{IsNewLink, back_view}
+use Rattle.cm_session.specs.Session.{AreEnded, WantsLast, WroteFront, most_lines, quit}
 use Rattle.cm_session.specs.Told.{Told, Reads, replies, done_of, IsNoWant}
 use Rattle.cm_program.specs.Headline.{EndsWell, WorksEach}
+use Rattle.cm_program.specs.declared.ran.Ran.{Ran}
+use Rattle.cm_program.specs.Run.{IsServeStatus}
 use Rattle.cm_program.specs.Stock.{limits}
 use Rattle.cm_call.specs.declared.call.ServeOptions.{ServeOptions}
 
@@ -84,6 +88,8 @@ module _ {L : Type 0} (view : L → LinkView) where
         → Appends (view came).sink.written now.sink.written (replies sat.told)
     pub front : WroteFront (view came).sink.written now.sink.written sat.told
     pub no_want : status ≢ 6 → All IsNoWant sat.told
+    -- whatever the status, no line but a link's last was answered for want of memory
+    pub wants_last : WantsLast sat.told
 
 -- ---- all links
 
@@ -121,6 +127,26 @@ module _ {G L : Type 0} (log_of : G → Option (List Asked)) (faults_of : G → 
     pub callers : All (λ (e : Entry). e.caller < 16) history
     pub laws : EndsWell f history
     pub work : WorksEach log_of faults_of shelf history gates₀ gates₁
+
+  -- ---- a door
+
+  -- what came of a door whose links were served: the sessions of the links, and what its own counts say of
+  -- them, from before to now. As many links come back as it gave, and no more than were asked for
+  pub record Attended {D : Type 0} (counts_of : D → DoorCounts)
+      (f : Frame) (shelf : Shelf) (sessions workers : ℕ) (gates : List G) (before : DoorCounts)
+      (ran : Ran D L G) : Type 0 where
+    pub sixteen : length ran.gates ≡ 16
+    pub runs : RunsSessions f shelf workers gates ran.gates ran.book.entries
+        (map (back_view view) ran.links) ran.status
+    pub given : (counts_of ran.door).links ≡ before.links + length ran.links
+    pub few : length ran.links ≤ sessions
+    -- at 0 as many came as were asked for, or the door closed; and it never failed
+    pub done : ran.status ≡ 0 → (length ran.links ≡ sessions)
+        ⊎ Rose before.closings (counts_of ran.door).closings
+    pub sound : ran.status ≡ 0 → (counts_of ran.door).faults ≡ before.faults
+    -- at 5 it failed; and there is no status but these and 6
+    pub failed : ran.status ≡ 5 → Rose before.faults (counts_of ran.door).faults
+    pub others : IsServeStatus ran.status
 
 -- why no more links were served, as a status
 abbrev pub status_of : Cause → ℕ

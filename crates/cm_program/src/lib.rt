@@ -2,7 +2,7 @@
 //! that it generates or of links that come at a door, and says whether a manifest is valid.
 //!
 //! [`run::run`] is the top call. What it sees of the outside are a source, two sinks, a door and
-//! sixteen gates; the crate above this one makes the real ones, or for tests those in memory.
+//! sixteen gates. The program above this crate makes the real ones, its tests those in memory.
 //!
 //! | file of `specs/` | says |
 //! |---|---|

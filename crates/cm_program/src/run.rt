@@ -18,12 +18,12 @@ ghost use Rattle.cm_program.specs.Sessions.{RunsSessions, served_frame, served_s
 ghost use Rattle.cm_program.specs.declared.stock.Served.{Served as TheServed};
 ghost use Rattle.cm_program.specs.Stock.{served_script};
 ghost use Rattle.cm_program.specs.Written.{AppendsFront, OfKnown, OfSome, Says};
-ghost use Rattle.cm_session.specs.Links.{link_view};
+ghost use Rattle.cm_session.specs.Links.{view_of};
 ghost use Rattle.cm_session.specs.Serving.{back_view};
 
 use crate::check::run_check;
 use crate::generate::run_generated;
-use crate::ran::{Finished, Ran, stopped, tell, want_of_memory};
+use crate::ran::{Ran, stopped, tell, want_of_memory};
 use crate::scripts::run_script;
 use crate::serving::run_sessions;
 use crate::wanted::Wanted;
@@ -169,8 +169,7 @@ where
     // own counts of faults say that it never failed. 0 comes only where as many links came as were
     // asked for, or the door closed; and the input and `out` are as they were.
     ensures sessions { (o : TheServing) → words_of words.now ≡ Ok (Call.Serve o) →
-        let view = link_view D.Link.left D.Link.given D.Link.written D.Link.Source.faults
-        D.Link.Sink.faults in
+        let view = view_of D.Link.Source D.Link.Sink in
         RunsSessions G.log G.faults view (served_frame o) (served_shelf o) o.workers gates
         result.gates result.book.entries (map (back_view view) result.links) result.status }
     ensures few { (o : TheServing) → words_of words.now ≡ Ok (Call.Serve o) →
@@ -199,31 +198,23 @@ where
             let journal = options.journal;
             let wanted = Wanted::Answers { journal };
             let folder = options.repository;
-            let Finished {
-                status,
-                book,
-                gates,
-            } = run_script(rt, alloc, wanted, folder, input, out, err, gates);
+            let ran = run_script(rt, alloc, wanted, folder, input, out, err, gates);
             Ran {
-                status,
-                book,
+                status: ran.status,
+                book: ran.book,
                 links: List::new(alloc),
-                gates,
+                gates: ran.gates,
                 door,
             }
         }
         Ok(Call::Check) => stopped(alloc, run_check(rt, alloc, input, out, err), gates, door),
         Ok(Call::Generate(workload)) => {
-            let Finished {
-                status,
-                book,
-                gates,
-            } = run_generated(rt, alloc, workload, out, err, gates);
+            let ran = run_generated(rt, alloc, workload, out, err, gates);
             Ran {
-                status,
-                book,
+                status: ran.status,
+                book: ran.book,
                 links: List::new(alloc),
-                gates,
+                gates: ran.gates,
                 door,
             }
         }

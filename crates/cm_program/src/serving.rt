@@ -1,14 +1,11 @@
 //! The command `serve`: sessions over the links of a door.
 
-ghost use Rattle.std.specs.Prelude.{◌≡◌, ◌⊎◌, ◌+◌, ◌≤◌, [], IfOk, length, map};
-ghost use Rattle.cm_io.specs.Outside.{Rose};
+ghost use Rattle.std.specs.Prelude.{◌≡◌, [], IfOk, length};
 ghost use Rattle.cm_call.specs.Calls.{IsServing};
 ghost use Rattle.cm_program.specs.Headline.{IsHistory};
-ghost use Rattle.cm_program.specs.Run.{IsServeStatus};
-ghost use Rattle.cm_program.specs.Sessions.{RunsSessions, served_frame, served_shelf};
+ghost use Rattle.cm_program.specs.Sessions.{Attended, served_frame, served_shelf};
 ghost use Rattle.cm_program.specs.Written.{Says};
-ghost use Rattle.cm_session.specs.Links.{link_view};
-ghost use Rattle.cm_session.specs.Serving.{back_view};
+ghost use Rattle.cm_session.specs.Links.{view_of};
 
 use crate::ran::{Ran, door_fault, stopped, want_of_memory};
 use crate::sessions::{Service, attend};
@@ -61,23 +58,11 @@ where
     D::Link: Send,
     requires gates { length gates ≡ 16 }
     requires options { IsServing options }
-    ensures gates { length result.gates ≡ 16 }
-    ensures runs { let view = link_view D.Link.left D.Link.given D.Link.written
-        D.Link.Source.faults D.Link.Sink.faults in
-        RunsSessions G.log G.faults view (served_frame options) (served_shelf options)
-        options.workers gates result.gates result.book.entries
-        (map (back_view view) result.links) result.status }
+    ensures attended { Attended G.log G.faults (view_of D.Link.Source D.Link.Sink) D.counts
+        (served_frame options) (served_shelf options) options.sessions options.workers gates
+        (D.counts door) result }
     ensures history { IsHistory result.book.entries }
-    ensures given { (D.counts result.door).links ≡ (D.counts door).links + length result.links }
-    ensures few { length result.links ≤ options.sessions }
-    ensures done { result.status ≡ 0 → (length result.links ≡ options.sessions)
-        ⊎ Rose (D.counts door).closings (D.counts result.door).closings }
-    ensures door { result.status ≡ 5 →
-        Rose (D.counts door).faults (D.counts result.door).faults }
-    ensures sound { result.status ≡ 0 →
-        (D.counts result.door).faults ≡ (D.counts door).faults }
     ensures err { Says E.written E.faults err.old err.new result.status }
-    ensures others { IsServeStatus result.status }
 {
     let Ok((socket, service)) = service_of(alloc, options) else {
         return stopped(alloc, want_of_memory(rt, err), gates, door);

@@ -1,15 +1,12 @@
 //! The sessions of a run, over one realm.
 
-ghost use Rattle.std.specs.Prelude.{◌≡◌, ◌⊎◌, ◌+◌, ◌<◌, ◌≤◌, [], Some, length, map};
-ghost use Rattle.cm_io.specs.Outside.{Rose};
+ghost use Rattle.std.specs.Prelude.{◌≡◌, ◌<◌, ◌≤◌, [], Some, length};
 ghost use Rattle.cm_world.specs.declared.frame.Frame.{Frame as TheFrame};
 ghost use Rattle.cm_turn.specs.Passes.{new_passes};
 ghost use Rattle.cm_manager.specs.Work.{Shelf};
-ghost use Rattle.cm_program.specs.Run.{IsServeStatus};
-ghost use Rattle.cm_program.specs.Sessions.{RunsSessions, status_of};
+ghost use Rattle.cm_program.specs.Sessions.{Attended, status_of};
 ghost use Rattle.cm_program.specs.Written.{Says};
-ghost use Rattle.cm_session.specs.Links.{link_view};
-ghost use Rattle.cm_session.specs.Serving.{back_view};
+ghost use Rattle.cm_session.specs.Links.{view_of};
 
 use crate::ran::{Ran, door_fault, stopped, want_of_memory};
 use cm_gate::Gates;
@@ -71,22 +68,10 @@ where
     requires gates { length gates ≡ 16 }
     requires sessions { (0 < sessions) × (sessions ≤ 4096) }
     requires workers { (0 < workers) × (workers ≤ 16) }
-    ensures gates { length result.gates ≡ 16 }
-    ensures runs { (f : TheFrame) → passes ≡ new_passes manager.turn.lock f 16 →
-        let view = link_view D.Link.left D.Link.given D.Link.written D.Link.Source.faults
-        D.Link.Sink.faults in
-        RunsSessions G.log G.faults view f manager.shelf workers gates result.gates
-        result.book.entries (map (back_view view) result.links) result.status }
-    ensures given { (D.counts result.door).links ≡ (D.counts door).links + length result.links }
-    ensures few { length result.links ≤ sessions }
-    ensures done { result.status ≡ 0 → (length result.links ≡ sessions)
-        ⊎ Rose (D.counts door).closings (D.counts result.door).closings }
-    ensures door { result.status ≡ 5 →
-        Rose (D.counts door).faults (D.counts result.door).faults }
-    ensures sound { result.status ≡ 0 →
-        (D.counts result.door).faults ≡ (D.counts door).faults }
+    ensures attended { (f : TheFrame) → passes ≡ new_passes manager.turn.lock f 16 →
+        Attended G.log G.faults (view_of D.Link.Source D.Link.Sink) D.counts
+        f manager.shelf sessions workers gates (D.counts door) result }
     ensures err { Says E.written E.faults err.old err.new result.status }
-    ensures others { IsServeStatus result.status }
 {
     let Served {
         passes,
@@ -123,22 +108,10 @@ where
     requires gates { length gates ≡ 16 }
     requires sessions { (0 < service.sessions) × (service.sessions ≤ 4096) }
     requires workers { (0 < service.workers) × (service.workers ≤ 16) }
-    ensures gates { length result.gates ≡ 16 }
-    ensures runs { let shelf : Shelf = record { repo = Some service.folder; blocks = [] } in
-        let view = link_view D.Link.left D.Link.given D.Link.written D.Link.Source.faults
-        D.Link.Sink.faults in
-        RunsSessions G.log G.faults view service.realm.frame shelf service.workers gates
-        result.gates result.book.entries (map (back_view view) result.links) result.status }
-    ensures given { (D.counts result.door).links ≡ (D.counts door).links + length result.links }
-    ensures few { length result.links ≤ service.sessions }
-    ensures done { result.status ≡ 0 → (length result.links ≡ service.sessions)
-        ⊎ Rose (D.counts door).closings (D.counts result.door).closings }
-    ensures door { result.status ≡ 5 →
-        Rose (D.counts door).faults (D.counts result.door).faults }
-    ensures sound { result.status ≡ 0 →
-        (D.counts result.door).faults ≡ (D.counts door).faults }
+    ensures attended { let shelf : Shelf = record { repo = Some service.folder; blocks = [] } in
+        Attended G.log G.faults (view_of D.Link.Source D.Link.Sink) D.counts
+        service.realm.frame shelf service.sessions service.workers gates (D.counts door) result }
     ensures err { Says E.written E.faults err.old err.new result.status }
-    ensures others { IsServeStatus result.status }
 {
     let Service {
         realm,

@@ -73,69 +73,33 @@ fn children_of(alloc: Global, value: &Value) -> Result<List<Child>, ReadFault>
     )
 }
 
-/// Reads the rows of a section beside these declared children.
-fn read_rows<T: Item>(
-    alloc: Global,
-    value: &Value,
-    section: Section,
-    key: &str,
-    children: &List<Child>,
-    rows: &mut List<T>,
-) -> Result<(), ReadFault>
-    ensures { GivesBy (λ _. rows.new) result
-        (section_at (T.reads children.now) section (get key.now (view value.now))) }
-{
-    *rows = section_of::<T>(alloc, section, children.as_slice(), value.get(key))?;
-    Ok(())
-}
-
 /// Reads the rows of all sections that list them, in the order of the sections.
 #[tactic(auto, unfolding(crate::specs::Manifest::section_rows_at))]
 fn read_sections(alloc: Global, value: &Value, rows: &mut SectionRows) -> Result<(), ReadFault>
     ensures { GivesBy (λ _. rows.new) result (spec.section_rows_at (view value.now)) }
 {
     rows.children = children_of(alloc, value)?;
-    let children = &rows.children;
-    read_rows(
+    let children = rows.children.as_slice();
+    rows.collections = section_of(
         alloc,
-        value,
         Section::Collections,
-        "collections",
         children,
-        &mut rows.collections,
+        value.get("collections"),
     )?;
-    read_rows(
+    rows.capabilities = section_of(
         alloc,
-        value,
         Section::Capabilities,
-        "capabilities",
         children,
-        &mut rows.capabilities,
+        value.get("capabilities"),
     )?;
-    read_rows(alloc, value, Section::Uses, "use", children, &mut rows.uses)?;
-    read_rows(
+    rows.uses = section_of(alloc, Section::Uses, children, value.get("use"))?;
+    rows.offers = section_of(alloc, Section::Offers, children, value.get("offer"))?;
+    rows.exposes = section_of(alloc, Section::Exposes, children, value.get("expose"))?;
+    rows.environments = section_of(
         alloc,
-        value,
-        Section::Offers,
-        "offer",
-        children,
-        &mut rows.offers,
-    )?;
-    read_rows(
-        alloc,
-        value,
-        Section::Exposes,
-        "expose",
-        children,
-        &mut rows.exposes,
-    )?;
-    read_rows(
-        alloc,
-        value,
         Section::Environments,
-        "environments",
         children,
-        &mut rows.environments,
+        value.get("environments"),
     )?;
     Ok(())
 }

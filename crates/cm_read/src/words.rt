@@ -309,19 +309,11 @@ fn is_declared(children: &[Child], name: &ChildName) -> bool
 pub fn settle(from: Origin, unknown: bool, children: &[Child]) -> Origin
     ensures { result ≡ spec.settled children.now unknown from }
 {
-    match from {
-        Origin::Child(name) => {
-            if unknown && !is_declared(children, &name) {
-                Origin::Void
-            } else {
-                Origin::Child(name)
-            }
-        }
-        Origin::Parent => Origin::Parent,
-        Origin::Own => Origin::Own,
-        Origin::Framework => Origin::Framework,
-        Origin::Void => Origin::Void,
-    }
+    let gone = match &from {
+        Origin::Child(name) => unknown && !is_declared(children, name),
+        Origin::Parent | Origin::Own | Origin::Framework | Origin::Void => false,
+    };
+    if gone { Origin::Void } else { from }
 }
 
 /// The child that a reference names, or what the listed word means.

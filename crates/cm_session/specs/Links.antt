@@ -2,6 +2,8 @@
 use Rattle.std.specs.Prelude.{◌≡◌, ℕ, List, [], ◌∷◌, ◌++◌, cond, nat_eq, take, Option}
 use Rattle.std.specs.Io.KnownBytes.{Appends}
 use Rattle.cm_io.specs.Outside.{AsSink, AsSource}
+use Rattle.cm_io.specs.declared.sink.Sink as sink
+use Rattle.cm_io.specs.declared.source.Source as source
 use Rattle.cm_reply.specs.Lists.{Text}
 
 -- a link as contracts see it: what it tells as a source, and what it tells as a sink
@@ -9,18 +11,21 @@ pub record LinkView : Type 0 where
   pub source : AsSource
   pub sink : AsSink
 
-module _ {L : Type 0} (left given written : L → Option Text) (read_faults write_faults : L → ℕ) where
-  -- what a link tells as a source
-  abbrev pub source_view : L → AsSource
-  source_view l = record { left = left l; given = given l; faults = read_faults l }
+-- what a link tells as a source
+abbrev pub source_view : {L : Type 0} → source.Ghosts L → L → AsSource
+source_view as_source l = record {
+  left = as_source.left l;
+  given = as_source.given l;
+  faults = as_source.faults l;
+}
 
-  -- what a link tells as a sink
-  abbrev pub sink_view : L → AsSink
-  sink_view l = record { written = written l; faults = write_faults l }
+-- what a link tells as a sink
+abbrev pub sink_view : {L : Type 0} → sink.Ghosts L → L → AsSink
+sink_view as_sink l = record { written = as_sink.written l; faults = as_sink.faults l }
 
-  -- all that a link tells
-  abbrev pub link_view : L → LinkView
-  link_view l = record { source = source_view l; sink = sink_view l }
+-- all that a link tells
+abbrev pub view_of : {L : Type 0} → source.Ghosts L → sink.Ghosts L → L → LinkView
+view_of as_source as_sink l = record { source = source_view as_source l; sink = sink_view as_sink l }
 
 -- the second list is a front of the first
 abbrev pub Begins : {A : Type 0} → List A → List A → Type 0

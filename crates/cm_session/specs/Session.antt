@@ -5,9 +5,11 @@ use Rattle.std.specs.List.{AllZip}
 use Rattle.std.specs.Io.KnownBytes.{Appends, IsAtEnd}
 use Rattle.cm_io.specs.Lines.{lines, Moves}
 use Rattle.cm_io.specs.Outside.{AsSink, Rose}
+use Rattle.cm_gate.specs.declared.asked.Asked.{Asked}
 use Rattle.cm_reply.specs.Lists.{Text}
 use Rattle.cm_manager.specs.Done.{Follows}
 use Rattle.cm_manager.specs.Asking.{frame_of}
+use Rattle.cm_manager.specs.Gated.{gates_view}
 use Rattle.cm_manager.specs.Kept.{Keeps}
 use Rattle.cm_manager.specs.Work.{Shelf}
 use Rattle.cm_manager.specs.Contract.{RealmPass, GatesView}
@@ -62,6 +64,14 @@ Wrote end old new told = Appends old.written new.written (replies told)
 abbrev pub KeepsOrNot : Shelf → RealmPass → RealmPass → GatesView → GatesView → Type 0
 KeepsOrNot shelf p q g h = ((q ≡ p) × (h ≡ g)) ⊎ Keeps shelf p q g h
 
+-- no line but the last of these was answered for want of memory: a session ends with such an answer
+pub record WantsLast (told : List Told) : Type 0 where
+  pub before : List Told
+  pub last : List Told
+  pub told_are : told ≡ before ++ last
+  pub one : length last ≤ 1
+  pub no_want : All IsNoWant before
+
 -- a session over a link, by what the pass, the gates and the link were and are
 pub record Session (shelf : Shelf) (p q : RealmPass) (g h : GatesView) (old new : LinkView) (end : Ended)
     : Type 0 where
@@ -83,4 +93,12 @@ pub record Session (shelf : Shelf) (p q : RealmPass) (g h : GatesView) (old new 
   -- what was written of the replies, and why the session ended
   pub wrote : Wrote end old.sink new.sink told
   pub no_want : end ≢ ended.Memory → All IsNoWant told
+  pub wants_last : WantsLast told
   pub read_fault : end ≡ ended.ReadFault → Rose old.source.faults new.source.faults
+
+module _ {G L : Type 0} (log_of : G → Option (List Asked)) (faults_of : G → ℕ) (view : L → LinkView) where
+  -- a session over this link, with these gates
+  abbrev pub SessionWith : Shelf → RealmPass → RealmPass → G → G → L → L → Ended → Type 0
+  SessionWith shelf p q gates₀ gates₁ old new end =
+      Session shelf p q (gates_view log_of faults_of gates₀) (gates_view log_of faults_of gates₁)
+      (view old) (view new) end

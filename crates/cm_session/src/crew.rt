@@ -177,11 +177,11 @@ fn put_parts<G: Drop, L: Drop>(worker: Worker<G, L>, parts: &mut Parts<G, L>)
     parts.at_door.push_reserved(at_door);
     parts.gates.push_reserved(gates);
     parts.links.push_reserved(links);
-    parts.lost = either(parts.lost, lost);
+    parts.lost = is_either(parts.lost, lost);
 }
 
 /// Whether one of the two holds.
-fn either(one: bool, other: bool) -> bool
+fn is_either(one: bool, other: bool) -> bool
     ensures neither { result ≡ false → (one ≡ false) × (other ≡ false) }
     ensures other { result ≡ true → one ≡ false → other ≡ true }
 {

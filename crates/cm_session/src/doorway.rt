@@ -1,9 +1,10 @@
 //! A door with the accepts that were made at it, which workers share by turns.
 
 ghost use Rattle.std.specs.Prelude.{◌≡◌, ◌<◌, ◌≤◌, [], IfErr, IfOk, true, false};
-ghost use Rattle.cm_io.specs.Doors.{IsNew};
 ghost use Rattle.cm_session.specs.Doorway.{DoorwayView, IsCounted, OnGiven, TurnedBy, came_of};
 ghost use Rattle.cm_session.specs.Doorway.{failures_of, links_of};
+ghost use Rattle.cm_session.specs.Links.{view_of};
+ghost use Rattle.cm_session.specs.Serving.{IsNewLink};
 
 use cm_io::{Accept, Door, DoorCounts};
 use cm_turn::Storied;
@@ -130,13 +131,7 @@ impl<D: Door> Doorway<D> {
         ensures opening { self.new.opening ≡ self.old.opening }
         ensures few { links_of self.new.entries ≤ self.new.opening.sessions }
         ensures turned { TurnedBy worker self.old.opening.sessions self.old.entries self.new.entries result }
-        ensures new { OnGiven result (λ l. IsNew
-            (record {
-              left = D.Link.left l;
-              given = D.Link.given l;
-              faults = D.Link.Source.faults l;
-            })
-            (record { written = D.Link.written l; faults = D.Link.Sink.faults l })) }
+        ensures new { OnGiven result (λ l. IsNewLink (view_of D.Link.Source D.Link.Sink l)) }
     {
         if self.closings > 0 || self.failures > 0 || self.links >= self.sessions {
             return None;

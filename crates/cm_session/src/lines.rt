@@ -4,8 +4,8 @@ ghost use Rattle.std.specs.Prelude.{◌≡◌, ◌≢◌, ◌≤◌, ◌++◌, [
 ghost use Rattle.cm_reply.specs.Journal.{line as line_of};
 ghost use Rattle.cm_reply.specs.Answers as answers;
 ghost use Rattle.cm_manager.specs.Gated.{gates_view};
-ghost use Rattle.cm_session.specs.Links.{link_view, sink_view, source_view};
-ghost use Rattle.cm_session.specs.Session.{Session};
+ghost use Rattle.cm_session.specs.Links.{sink_view, source_view, view_of};
+ghost use Rattle.cm_session.specs.Session.{SessionWith};
 ghost use Rattle.cm_session.specs.Steps.{LineWrote, ServedCommand, ServedOrNot, Stepped};
 
 use crate::Ended;
@@ -70,12 +70,9 @@ fn put_reply<R: Threads + Wait + Sync, L: Link>(
     text: &[u8],
     wanting: bool,
 ) -> Option<Ended>
-    ensures wrote { LineWrote result
-        (sink_view L.left L.given L.written L.Source.faults L.Sink.faults link.old)
-        (sink_view L.left L.given L.written L.Source.faults L.Sink.faults link.new)
+    ensures wrote { LineWrote result (sink_view L.Sink link.old) (sink_view L.Sink link.new)
         text.now (wanting ≡ false) }
-    ensures source { source_view L.left L.given L.written L.Source.faults L.Sink.faults link.new
-        ≡ source_view L.left L.given L.written L.Source.faults L.Sink.faults link.old }
+    ensures source { source_view L.Source link.new ≡ source_view L.Source link.old }
 {
     let put = put_all(rt, link, text);
     if wanting {
@@ -94,12 +91,9 @@ fn refuse<R: Threads + Wait + Sync, L: Link>(
     link: &mut L,
     at: u32,
 ) -> Option<Ended>
-    ensures wrote { LineWrote result
-        (sink_view L.left L.given L.written L.Source.faults L.Sink.faults link.old)
-        (sink_view L.left L.given L.written L.Source.faults L.Sink.faults link.new)
+    ensures wrote { LineWrote result (sink_view L.Sink link.old) (sink_view L.Sink link.new)
         (line_of (codes "refused 70 bad-command at " ++ decimal at)) (false ≡ false) }
-    ensures source { source_view L.left L.given L.written L.Source.faults L.Sink.faults link.new
-        ≡ source_view L.left L.given L.written L.Source.faults L.Sink.faults link.old }
+    ensures source { source_view L.Source link.new ≡ source_view L.Source link.old }
 {
     match refusal_line(alloc, at) {
         Ok(text) => put_reply(rt, link, text.as_str().as_bytes(), false),
@@ -120,11 +114,8 @@ fn serve_command<R: Threads + Wait + Sync, G: Gates, L: Link>(
     requires lock { pass.lock ≡ manager.now.turn.lock }
     ensures served { ServedCommand manager.now.shelf pass result.0
         (gates_view G.log G.faults gates.old) (gates_view G.log G.faults gates.new)
-        command.now
-        (sink_view L.left L.given L.written L.Source.faults L.Sink.faults link.old)
-        (sink_view L.left L.given L.written L.Source.faults L.Sink.faults link.new) result.1 }
-    ensures source { source_view L.left L.given L.written L.Source.faults L.Sink.faults link.new
-        ≡ source_view L.left L.given L.written L.Source.faults L.Sink.faults link.old }
+        command.now (sink_view L.Sink link.old) (sink_view L.Sink link.new) result.1 }
+    ensures source { source_view L.Source link.new ≡ source_view L.Source link.old }
 {
     let (pass, answer) = manager.perform(rt, alloc, pass, gates, command);
     let wanting = is_wanting(&answer);
@@ -150,11 +141,8 @@ fn serve_line<R: Threads + Wait + Sync, G: Gates, L: Link>(
     requires short { length line.now ≤ 65536 }
     ensures served { ServedOrNot manager.now.shelf pass result.0
         (gates_view G.log G.faults gates.old) (gates_view G.log G.faults gates.new)
-        line.now
-        (sink_view L.left L.given L.written L.Source.faults L.Sink.faults link.old)
-        (sink_view L.left L.given L.written L.Source.faults L.Sink.faults link.new) result.1 }
-    ensures source { source_view L.left L.given L.written L.Source.faults L.Sink.faults link.new
-        ≡ source_view L.left L.given L.written L.Source.faults L.Sink.faults link.old }
+        line.now (sink_view L.Sink link.old) (sink_view L.Sink link.new) result.1 }
+    ensures source { source_view L.Source link.new ≡ source_view L.Source link.old }
 {
     match read_command(alloc, line) {
         Ok(command) => {
@@ -184,8 +172,7 @@ fn serve_next<R: Threads + Wait + Sync, G: Gates, L: Link>(
     ensures stepped { Stepped manager.now.shelf pass result.0
         (gates_view G.log G.faults gates.old) (gates_view G.log G.faults gates.new)
         reader.old reader.new
-        (link_view L.left L.given L.written L.Source.faults L.Sink.faults link.old)
-        (link_view L.left L.given L.written L.Source.faults L.Sink.faults link.new) result.1 }
+        (view_of L.Source L.Sink link.old) (view_of L.Source L.Sink link.new) result.1 }
 {
     match reader.next(rt, link) {
         Next::Line(line) => {
@@ -216,10 +203,8 @@ fn serve_lines<R: Threads + Wait + Sync, G: Gates, L: Link>(
 ) -> (Pass<Entry, Frame>, Ended)
     requires lock { pass.lock ≡ manager.now.turn.lock }
     requires fresh { reader.old ≡ record { held = []; over = false } }
-    ensures session { Session manager.now.shelf pass result.0
-        (gates_view G.log G.faults gates.old) (gates_view G.log G.faults gates.new)
-        (link_view L.left L.given L.written L.Source.faults L.Sink.faults link.old)
-        (link_view L.left L.given L.written L.Source.faults L.Sink.faults link.new) result.1 }
+    ensures session { SessionWith G.log G.faults (view_of L.Source L.Sink) manager.now.shelf
+        pass result.0 gates.old gates.new link.old link.new result.1 }
 {
     let mut pass = pass;
     for line in 0..LINES {
@@ -231,27 +216,6 @@ fn serve_lines<R: Threads + Wait + Sync, G: Gates, L: Link>(
         }
     }
     (pass, Ended::LinesSpent)
-}
-
-/// Serves line after line with a new reader.
-fn serve_link<R: Threads + Wait + Sync, G: Gates, L: Link>(
-    rt: &R,
-    alloc: Global,
-    manager: &Manager,
-    pass: Pass<Entry, Frame>,
-    gates: &mut G,
-    link: &mut L,
-) -> (Pass<Entry, Frame>, Ended)
-    requires lock { pass.lock ≡ manager.now.turn.lock }
-    ensures session { Session manager.now.shelf pass result.0
-        (gates_view G.log G.faults gates.old) (gates_view G.log G.faults gates.new)
-        (link_view L.left L.given L.written L.Source.faults L.Sink.faults link.old)
-        (link_view L.left L.given L.written L.Source.faults L.Sink.faults link.new) result.1 }
-{
-    match LineReader::new(alloc) {
-        Ok(mut reader) => serve_lines(rt, alloc, manager, pass, gates, link, &mut reader),
-        Err(Memory) => (pass, Ended::Memory),
-    }
 }
 
 /// Serves one link to its end.
@@ -275,12 +239,13 @@ pub fn session<R: Threads + Wait + Sync, G: Gates, L: Link>(
     link: &mut L,
 ) -> (Pass<Entry, Frame>, Ended)
     requires lock { pass.lock ≡ manager.now.turn.lock }
-    ensures session { Session manager.now.shelf pass result.0
-        (gates_view G.log G.faults gates.old) (gates_view G.log G.faults gates.new)
-        (link_view L.left L.given L.written L.Source.faults L.Sink.faults link.old)
-        (link_view L.left L.given L.written L.Source.faults L.Sink.faults link.new) result.1 }
+    ensures session { SessionWith G.log G.faults (view_of L.Source L.Sink) manager.now.shelf
+        pass result.0 gates.old gates.new link.old link.new result.1 }
 {
-    let (pass, ended) = serve_link(rt, alloc, manager, pass, gates, link);
+    let (pass, ended) = match LineReader::new(alloc) {
+        Ok(mut reader) => serve_lines(rt, alloc, manager, pass, gates, link, &mut reader),
+        Err(Memory) => (pass, Ended::Memory),
+    };
     link.hang_up(rt);
     (pass, ended)
 }

@@ -6,7 +6,7 @@ ghost use Rattle.cm_io.specs.Outside.{Rose};
 ghost use Rattle.cm_manager.specs.Closed.{HasEnds};
 ghost use Rattle.cm_manager.specs.Kept.{AreSixteen, IsOwnPass, KeepsEach};
 ghost use Rattle.cm_session.specs.Closing.{ClosesDoor, CountsLinks, backs_of, cause_of, links_from};
-ghost use Rattle.cm_session.specs.Links.{link_view};
+ghost use Rattle.cm_session.specs.Links.{view_of};
 ghost use Rattle.cm_session.specs.Serving.{IsUnserved, ServedOrNot};
 ghost use Rattle.cm_session.specs.declared.served.Cause.TheVariants as cause;
 ghost use Rattle.cm_turn.specs.Passes.{AreAll, new_passes};
@@ -57,8 +57,7 @@ where
     requires gates { length gates ≡ 16 }
     requires sessions { (0 < sessions) × (sessions ≤ 4096) }
     requires workers { (0 < workers) × (workers ≤ 16) }
-    ensures served { ServedOrNot G.log G.faults
-        (link_view D.Link.left D.Link.given D.Link.written D.Link.Source.faults D.Link.Sink.faults)
+    ensures served { ServedOrNot G.log G.faults (view_of D.Link.Source D.Link.Sink)
         manager.now.shelf workers passes gates door result }
     ensures passes { AreSixteen manager.now.turn result.passes }
     ensures gates { length result.gates ≡ 16 }

@@ -6,7 +6,7 @@ ghost use Rattle.cm_manager.specs.Gated.{gates_view};
 ghost use Rattle.cm_session.specs.declared.workers.Worker.{Worker as WorkerOf};
 ghost use Rattle.cm_session.specs.Crew.{CrewWorked, DidWork, IsReady, ServesLink, ServesLinks};
 ghost use Rattle.cm_session.specs.Doorway.{OnGiven, TakesTurn, sessions_of};
-ghost use Rattle.cm_session.specs.Links.{link_view};
+ghost use Rattle.cm_session.specs.Links.{view_of};
 ghost use Rattle.cm_session.specs.Serving.{IsNewLink};
 
 use crate::doorway::{Accepted, Doorway, Opening};
@@ -47,8 +47,7 @@ fn take_turn<R: Threads + Wait + Sync, D: Door>(
 ) -> (Pass<Accepted, Opening>, Option<Accept<D::Link>>)
     requires lock { pass.lock ≡ door.now.lock }
     ensures turn { TakesTurn pass result.0 result.1 }
-    ensures new { OnGiven result.1 (λ l. IsNewLink
-        (link_view D.Link.left D.Link.given D.Link.written D.Link.Source.faults D.Link.Sink.faults l)) }
+    ensures new { OnGiven result.1 (λ l. IsNewLink (view_of D.Link.Source D.Link.Sink l)) }
 {
     let worker = pass.caller();
     let mut held = door.enter(rt, pass);
@@ -68,9 +67,8 @@ fn serve_link<R: Threads + Wait + Sync, G: Gates, L: Link>(
 ) -> (Pass<Entry, Frame>, Ended)
     requires lock { pass.lock ≡ manager.now.turn.lock }
     requires room { length links.old.items < vec_capacity links.old }
-    ensures served { ServesLink
-        (link_view L.left L.given L.written L.Source.faults L.Sink.faults) manager.now.shelf
-        pass result.0 (gates_view G.log G.faults gates.old) (gates_view G.log G.faults gates.new)
+    ensures served { ServesLink (view_of L.Source L.Sink) manager.now.shelf pass result.0
+        (gates_view G.log G.faults gates.old) (gates_view G.log G.faults gates.new)
         link links.old.items links.new.items result.1 }
     ensures room { vec_capacity links.new ≡ vec_capacity links.old }
 {
@@ -108,9 +106,7 @@ fn serve_links<R: Threads + Wait + Sync, G: Gates, D: Door>(
     requires new { at_door.mine ≡ [] }
     requires none { links.old.items ≡ [] }
     requires room { sessions_of at_door ≤ vec_capacity links.old }
-    ensures served { ServesLinks
-        (link_view D.Link.left D.Link.given D.Link.written D.Link.Source.faults D.Link.Sink.faults)
-        manager.now.shelf pass result.0
+    ensures served { ServesLinks (view_of D.Link.Source D.Link.Sink) manager.now.shelf pass result.0
         (gates_view G.log G.faults gates.old) (gates_view G.log G.faults gates.new)
         at_door result.1 links.new.items result.2 }
 {
@@ -156,8 +152,7 @@ fn work<R: Threads + Wait + Sync, G: Gates, D: Door>(
     worker: &mut Worker<G, D::Link>,
 )
     requires ready { IsReady manager.now.turn door.now workers worker.old }
-    ensures worked { DidWork G.log G.faults
-        (link_view D.Link.left D.Link.given D.Link.written D.Link.Source.faults D.Link.Sink.faults)
+    ensures worked { DidWork G.log G.faults (view_of D.Link.Source D.Link.Sink)
         manager.now.shelf workers worker.old worker.new }
 {
     let Some(at_door) = worker.at_door.take() else {
@@ -197,8 +192,8 @@ fn work_all<R: Threads + Wait + Sync, G: Gates + Send, D: Door + Send>(
 where
     D::Link: Send,
     requires ready { All (IsReady manager.now.turn door.now workers) crew.old }
-    ensures worked { (k : ℕ) (d : WorkerOf G D.Link) → k < length crew.old → DidWork G.log G.faults
-        (link_view D.Link.left D.Link.given D.Link.written D.Link.Source.faults D.Link.Sink.faults)
+    ensures worked { (k : ℕ) (d : WorkerOf G D.Link) → k < length crew.old →
+        DidWork G.log G.faults (view_of D.Link.Source D.Link.Sink)
         manager.now.shelf workers (slice_index_or crew.old k d) (slice_index_or crew.new k d) }
 {
     thread::for_each_mut(
@@ -223,8 +218,7 @@ pub(crate) fn run_all<R: Threads + Wait + Sync, G: Gates + Send, D: Door + Send>
 where
     D::Link: Send,
     requires ready { All (IsReady manager.now.turn door.now workers) crew.items }
-    ensures worked { CrewWorked G.log G.faults
-        (link_view D.Link.left D.Link.given D.Link.written D.Link.Source.faults D.Link.Sink.faults)
+    ensures worked { CrewWorked G.log G.faults (view_of D.Link.Source D.Link.Sink)
         manager.now.shelf workers crew.items result.items }
 {
     let mut crew = crew;

@@ -34,11 +34,11 @@ use Rattle.cm_order.proofs.names.Listing.{any_same}
 use Rattle.cm_cache.specs.Right.{bare}
 use Rattle.cm_cache.specs.Keeping.{forgets}
 use Rattle.cm_cache.specs.Beside.{is_emptied, IsTold}
-use Rattle.cm_cache.proofs.Reading.{ReadsSame, reads_same}
-use Rattle.cm_cache.proofs.Staying.{bare_rows_stay}
+use Rattle.cm_cache.proofs.trees.Reading.{ReadsSame, reads_same}
+use Rattle.cm_cache.proofs.trees.Staying.{bare_rows_stay}
 use Rattle.cm_laws.proofs.sound.Rows.{Follows}
 use Rattle.cm_laws.proofs.sound.Healthy.{IsHealthy, Leads, leads_after}
-use Rattle.cm_laws.proofs.MarksLast.{Goes, goes_after, healthy_of}
+use Rattle.cm_laws.proofs.lasting.MarksLast.{Goes, goes_after, healthy_of}
 use Rattle.cm_steps.specs.declared.realm.Realm.TheInside.{Inside}
 use Rattle.cm_steps.specs.Planned.{IsPlannedBy}
 use Rattle.cm_steps.specs.Inside.{story_of, world_in, Stands}
@@ -274,7 +274,7 @@ planned_by w e false old new healthy step told it by =
     (sym (bare_rows_stay w e healthy.sound.orderly.rising (sym told))) goes.follows old it)
 
 -- behind any entry that the tree allows
-pub planned_after : (a : Inside) (e : Entry) (doomed : Bool) (rows : List Row) (plan : Plan) → Stands (story_of a) (world_in a) → IsStep (world_in a) e → (after (world_in a) e).rows ≡ rows → IsTold (world_in a) e doomed → IsPlan a.table.rows a.plan → IsPlannedBy (is_emptied e.event e.reply doomed) a.plan plan → IsPlan rows plan
+pub planned_after : (a : Inside) (e : Entry) (doomed : Bool) (rows : List Row) (plan : Plan) → Stands (story_of a) (world_in a) → IsStep (world_in a) e → (after (world_in a) e).rows ≡ rows → IsTold (world_in a) e doomed → IsPlan a.table.rows a.records.plan → IsPlannedBy (is_emptied e.event e.reply doomed) a.records.plan plan → IsPlan rows plan
 planned_after a e doomed rows plan stands step moves told it by =
     subst (λ rs. IsPlan rs plan) moves
-    (planned_by (world_in a) e (is_emptied e.event e.reply doomed) a.plan plan (subst IsHealthy stands.world (healthy_of (story_of a) stands.legal)) step told it by)
+    (planned_by (world_in a) e (is_emptied e.event e.reply doomed) a.records.plan plan (subst IsHealthy stands.world (healthy_of (story_of a) stands.legal)) step told it by)

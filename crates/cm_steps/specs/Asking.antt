@@ -1,5 +1,5 @@
 -- Who asks for a use of an instance, and what is answered.
-use Rattle.std.specs.Prelude.{◌≡◌, ℕ, List, Bool, not, ◌&&◌, Some}
+use Rattle.std.specs.Prelude.{◌≡◌, ℕ, List, Bool, not, ◌&&◌, Option, Some}
 use Rattle.cm_world.specs.declared.event.Event.{Event}
 use Rattle.cm_world.specs.declared.event.Event.TheVariants as event
 use Rattle.cm_world.specs.declared.reply.Reply.{Reply}
@@ -7,7 +7,7 @@ use Rattle.cm_world.specs.declared.frame.Builtin.{Builtin}
 use Rattle.cm_world.specs.declared.route.Start.TheVariants.{UseAt}
 use Rattle.cm_world.specs.declared.route.Walked.{Walked}
 use Rattle.cm_world.specs.declared.row.Row.{Row}
-use Rattle.cm_world.specs.Openings.{routed, opened}
+use Rattle.cm_world.specs.Openings.{unready, unopened, routed, opened}
 use Rattle.cm_world.specs.Route.{IsWalked}
 use Rattle.cm_world.specs.Rows.{is_gone, is_resolved, is_on}
 use Rattle.cm_cache.specs.declared.answer.Answer.{Answer}
@@ -23,6 +23,11 @@ is_ready rows i = not (is_gone rows i) && is_resolved rows i
 abbrev pub may_ask : Asking → List Row → ℕ → Bool
 may_ask asking.Route rows i = is_ready rows i
 may_ask asking.Opening rows i = is_ready rows i && is_on rows i
+
+-- what refuses one who asks
+abbrev pub refusal_of : Asking → List Row → ℕ → Option Reply
+refusal_of asking.Route rows i = unready rows i
+refusal_of asking.Opening rows i = unopened rows i
 
 -- the event by which the history keeps it
 abbrev pub event_of : Asking → ℕ → List ℕ → Event

@@ -10,7 +10,7 @@ use Rattle.cm_steps.specs.declared.realm.Realm.TheInside.{Inside}
 
 -- the story that the fields keep
 abbrev pub story_of : Inside → Story
-story_of a = record { frame = a.frame; entries = a.book.entries }
+story_of a = record { frame = a.frame; entries = a.records.book.entries }
 
 -- the tree that the fields are; the next action has the number behind the last
 abbrev pub world_in : Inside → World
@@ -21,7 +21,7 @@ world_in a = record {
   next_action = length a.acts.items + 1;
   acts = a.acts.items;
   joins = a.joins.items;
-  entries = length a.book.entries;
+  entries = length a.records.book.entries;
 }
 
 -- the history is legal, and leaves this tree
@@ -34,13 +34,13 @@ pub record Stands (s : Story) (w : World) : Type 0 where
 -- ways down holds in this tree
 pub record IsKept (a : Inside) : Type 0 where
   pub stands : Stands (story_of a) (world_in a)
-  pub owes : a.book.reserved ≡ owed a.acts.items a.joins.items
+  pub owes : a.records.book.reserved ≡ owed a.acts.items a.joins.items
   pub counted : a.resolves ≡ count_by is_open_resolve a.acts.items
   pub spare : count_by is_open_resolve a.acts.items ≤ a.table.spare
   pub rows : a.table.limit ≡ a.frame.limits.rows
-  pub entries : a.book.limit ≡ a.frame.limits.entries
+  pub entries : a.records.book.limit ≡ a.frame.limits.entries
   pub builtins : a.table.builtins ≡ a.frame.builtins
   pub numbers : IsNumbered 1 a.acts.items
   pub tasks : IsTasked a.table.rows a.acts.items
-  pub beside : IsBeside a.frame a.book.entries a.keeper
-  pub planned : IsPlan a.table.rows a.plan
+  pub beside : IsBeside a.frame a.records.book.entries a.records.keeper
+  pub planned : IsPlan a.table.rows a.records.plan

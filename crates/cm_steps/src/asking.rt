@@ -5,18 +5,18 @@ ghost use Rattle.std.specs.Prelude.{◌≡◌, ◌≤◌, ◌++◌, ◌∷◌, [
 ghost use Rattle.cm_book.specs.Refusal.{Fits};
 ghost use Rattle.cm_cache.specs.Beside.{asked_for, finding, found_by};
 ghost use Rattle.cm_laws.specs.Story.{entry_of};
+ghost use Rattle.cm_world.specs.Openings.{WalksUnless};
 ghost use Rattle.cm_world.specs.Route.{IsWalked};
 ghost use Rattle.cm_steps.specs.Asking as spec;
 ghost use Rattle.cm_steps.specs.Rooms.{Lacks};
 
-use crate::aside::Aside;
 use crate::nostep::NoStep;
-use crate::replies::opening::{opened, routed, walk_use};
+use crate::replies::opening::{opened, routed, unopened, unready, walk_use};
 use crate::rooms::copy_in_room;
 use cm_book::Book;
-use cm_cache::{Found, found_by_walk};
+use cm_cache::{Found, Keeper, found_by_walk};
 use cm_names::{CapPath, Memory};
-use cm_walk::above::{gone, on, resolved};
+use cm_walk::above::{is_gone, is_on, is_resolved};
 use cm_world::{Entry, Event, Reply, Start, View, Walked};
 use std::alloc::Global;
 
@@ -41,10 +41,10 @@ pub(crate) struct Answered {
 pub(crate) fn asks<V: View>(view: &V, asking: Asking, inc: u64) -> bool
     ensures { result ≡ spec.may_ask asking (V.rows view.now) inc }
 {
-    let ready = !gone(view, inc) && resolved(view, inc);
+    let ready = !is_gone(view, inc) && is_resolved(view, inc);
     match asking {
         Asking::Route => ready,
-        Asking::Opening => ready && on(view, inc),
+        Asking::Opening => ready && is_on(view, inc),
     }
 }
 
@@ -68,11 +68,42 @@ pub(crate) fn reply_of<V: View>(view: &V, asking: Asking, walked: Walked) -> Rep
     }
 }
 
+/// What refuses one who asks, whatever the use comes to.
+fn refusal_of<V: View>(view: &V, asking: Asking, inc: u64) -> Option<Reply>
+    ensures { result ≡ spec.refusal_of asking (V.rows view.now) inc }
+{
+    match asking {
+        Asking::Route => unready(view, inc),
+        Asking::Opening => unopened(view, inc),
+    }
+}
+
+/// The reply to one who asks, by a walk, whatever is kept.
+pub(crate) fn use_reply<V: View>(
+    alloc: Global,
+    view: &V,
+    asking: Asking,
+    inc: u64,
+    path: &CapPath,
+) -> Result<Reply, Memory>
+    ensures { let rows = V.rows view.now in
+        IfOk result (WalksUnless rows (V.builtins view.now) (Start.UseAt inc path.now)
+        (spec.reply_of asking rows) (spec.refusal_of asking rows inc)) }
+{
+    match refusal_of(view, asking, inc) {
+        Some(refusal) => Ok(refusal),
+        None => {
+            let walked = walk_use(alloc, view, inc, path)?;
+            Ok(reply_of(view, asking, walked))
+        }
+    }
+}
+
 /// What the walk from a use comes to: the answer that is kept for it, and else that of a walk.
 pub(crate) fn answer<V: View>(
     alloc: Global,
     view: &V,
-    keeper: &Aside,
+    keeper: &Keeper,
     inc: u64,
     path: &CapPath,
 ) -> Result<Answered, Memory>
@@ -117,7 +148,7 @@ fn answer_anew<V: View>(
 /// else that may want memory.
 pub(crate) fn tell_found(
     book: &mut Book,
-    keeper: &mut Aside,
+    keeper: &mut Keeper,
     caller: u32,
     event: Event,
     reply: Reply,

@@ -21,7 +21,7 @@ use crate::replies::listing::collection;
 use cm_decl::{Decl, Durability};
 use cm_names::ChildName;
 use cm_table::Table;
-use cm_walk::above::closed;
+use cm_walk::above::is_closed;
 use cm_walk::hop::parent;
 use cm_world::{Outcome, View};
 
@@ -70,7 +70,7 @@ fn is_single_run(durability: Durability) -> bool
 fn goes_some<V: View>(view: &V, inc: u64) -> bool
     ensures { result ≡ beside.goes_some (V.rows view.now) inc }
 {
-    if closed(view, inc) {
+    if is_closed(view, inc) {
         return false;
     }
     if runs_once(view, inc) {
@@ -132,7 +132,7 @@ pub(crate) fn expire(table: &mut Table, inc: u64) -> bool
 fn doom_goers(table: &mut Table, inc: u64)
     ensures { table.new ≡ record table.old { rows = spec.expired inc table.old.rows } }
 {
-    if closed(table, inc) {
+    if is_closed(table, inc) {
         return;
     }
     if runs_once(table, inc) {
@@ -170,12 +170,12 @@ fn may_go<V: View>(view: &V, inc: u64) -> bool
 {
     match view.facts(inc) {
         None => false,
-        Some(facts) => in_collection(view, inc) && !facts.doomed,
+        Some(facts) => is_in_collection(view, inc) && !facts.doomed,
     }
 }
 
 /// Whether an instance lives in a collection.
-fn in_collection<V: View>(view: &V, inc: u64) -> bool
+fn is_in_collection<V: View>(view: &V, inc: u64) -> bool
     ensures { result ≡ option_map_or is_dynamic (row_of (V.rows view.now) inc) false }
 {
     match view.name(inc) {

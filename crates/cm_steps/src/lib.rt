@@ -11,7 +11,6 @@
 //! legal history is said by `cm_laws`.
 #![tactic(auto)]
 
-mod aside;
 mod asking;
 mod copies;
 pub mod ending;
@@ -19,6 +18,7 @@ mod expiring;
 pub mod nostep;
 mod pending;
 pub mod realm;
+mod records;
 mod replies;
 mod rooms;
 mod standing;

@@ -21,19 +21,20 @@ mod ends;
 mod marks;
 mod picking;
 
-use crate::aside::Aside;
-use crate::asking::{Answered, Asking, answer, asks, event_of, reply_of, tell_found};
+use crate::asking::{Answered, Asking, answer, asks, event_of, reply_of, tell_found, use_reply};
 use crate::copies::copied;
 use crate::expiring::expire;
 use crate::nostep::NoStep;
+use crate::records::Records;
 use crate::replies::beginning::{BeginAnswer, begin_answer};
 use crate::replies::finding::found;
 use crate::replies::listing::listed;
-use crate::replies::opening::{open_exposed_reply, open_use_reply, route_reply};
+use crate::replies::opening::open_exposed_reply;
 use crate::replies::showing::{ExitAnswer, exit_answer, shown, tailed};
 use crate::replies::surveying::surveyed;
-use crate::rooms::{add_join, copy_in_room, make_room, next_action, put_down};
+use crate::rooms::{add_join, copy_in_room, make_room, next_action};
 use cm_book::Book;
+use cm_cache::Keeper;
 use cm_laws::trees_stay_sound;
 use cm_names::{Boxed, CapPath, List, Memory, Moniker, Name, Text};
 use cm_order::Plan;
@@ -51,9 +52,7 @@ pub struct Realm {
     acts: Vec<Act>,
     resolves: u32,
     joins: Vec<Join>,
-    book: Book,
-    keeper: Aside,
-    plan: Plan,
+    records: Records,
 }
 
 impl Drop for Realm {
@@ -64,9 +63,7 @@ impl Drop for Realm {
             acts: _,
             resolves: _,
             joins: _,
-            book: _,
-            keeper: _,
-            plan: _,
+            records: _,
         } = self;
     }
 }
@@ -110,7 +107,7 @@ impl Realm {
         }) }
     {
         let table = first_table(alloc, &root, &builtins, limits.rows)?;
-        let keeper = Aside::new(alloc)?;
+        let keeper = Keeper::new(alloc)?;
         let frame = Boxed::new(
             alloc,
             Frame {
@@ -125,9 +122,11 @@ impl Realm {
             acts: Vec::new(alloc),
             resolves: 0,
             joins: Vec::new(alloc),
-            book: Book::new(alloc, limits.entries),
-            keeper,
-            plan: Plan::new(alloc),
+            records: Records {
+                book: Book::new(alloc, limits.entries),
+                keeper,
+                plan: Plan::new(alloc),
+            },
         })
     }
 
@@ -137,7 +136,7 @@ impl Realm {
         ensures legal { Legal (start self.now.frame) self.now.entries }
     {
         let _table = &self.table;
-        self.book.entries()
+        self.records.book.entries()
     }
 
     /// The history as a book, which takes as many entries as the realm does and keeps room for those
@@ -153,10 +152,13 @@ impl Realm {
             acts: _,
             resolves: _,
             joins: _,
+            records,
+        } = self;
+        let Records {
             book,
             keeper: _,
             plan: _,
-        } = self;
+        } = records;
         book
     }
 
@@ -168,7 +170,7 @@ impl Realm {
         ensures { IsKeptNumber self.now.frame self.now.entries result }
     {
         let _table = &self.table;
-        self.keeper.number()
+        self.records.keeper.number()
     }
 
     /// Whether the history takes so many entries more, besides those that are owed.
@@ -176,11 +178,12 @@ impl Realm {
         ensures { IsTrue result ↔ HasRoom self.now need }
     {
         let _acts = &self.acts;
-        self.book.fits(need)
+        self.records.book.fits(need)
     }
 
     /// Puts down an event that changes no row, no action and no join, and is no route or opening
-    /// that a walk answers, and hands its reply back.
+    /// that a walk answers, and hands its reply back. The history keeps a copy, which takes no more
+    /// than it needs.
     fn tell(&mut self, caller: u32, event: Event, reply: Reply) -> Result<Reply, NoStep>
         requires quiet { moves event reply ≡ false }
         requires unasked { asked_by (world_of self.old) event ≡ None }
@@ -190,21 +193,10 @@ impl Realm {
         ensures refused { IfErr result (RefusesQuiet self.old) }
         ensures err { OnErr result (self.new ≡ self.old) }
     {
-        match copy_in_room(&mut self.book, &reply) {
-            Ok(told) => {
-                let entry = Entry {
-                    caller,
-                    event,
-                    reply,
-                };
-                put_down(
-                    &mut self.book,
-                    &mut self.keeper,
-                    &mut self.plan,
-                    entry,
-                    false,
-                );
-                Ok(told)
+        match copy_in_room(&mut self.records.book, &reply) {
+            Ok(kept) => {
+                self.records.put_down(caller, event, kept, false);
+                Ok(reply)
             }
             Err(fault) => {
                 drop(event);
@@ -214,9 +206,33 @@ impl Realm {
         }
     }
 
+    /// Answers who asks for a use of an instance: by what is kept, if the instance isn't gone and is
+    /// resolved, and for an opening is on.
+    fn ask(
+        &mut self,
+        alloc: Global,
+        caller: u32,
+        asking: Asking,
+        inc: u64,
+        path: CapPath,
+    ) -> Result<Reply, NoStep>
+        ensures step { IfOk result (λ reply.
+            Tells self.old self.new caller (event_by asking inc path) reply) }
+        ensures room { OnOk result (HasRoom self.old 1) }
+        ensures refused { IfErr result (RefusesQuiet self.old) }
+        ensures err { OnErr result (self.new ≡ self.old) }
+    {
+        if asks(&self.table, asking, inc) {
+            return self.answer(alloc, caller, asking, inc, path);
+        }
+        let reply = use_reply(alloc, &self.table, asking, inc, &path)?;
+        let event = event_of(asking, inc, path);
+        self.tell(caller, event, reply)
+    }
+
     /// Answers who asks for a use of an instance that isn't gone and is resolved, and for an opening
     /// is on, by the answer that is kept, and else by a walk.
-    fn ask(
+    fn answer(
         &mut self,
         alloc: Global,
         caller: u32,
@@ -231,13 +247,13 @@ impl Realm {
         ensures refused { IfErr result (RefusesQuiet self.old) }
         ensures err { OnErr result (self.new ≡ self.old) }
     {
-        let answered = answer(alloc, &self.table, &self.keeper, inc, &path)?;
+        let answered = answer(alloc, &self.table, &self.records.keeper, inc, &path)?;
         let Answered { walked, found } = answered;
         let reply = reply_of(&self.table, asking, walked);
         let event = event_of(asking, inc, path);
         let told = tell_found(
-            &mut self.book,
-            &mut self.keeper,
+            &mut self.records.book,
+            &mut self.records.keeper,
             caller,
             event,
             reply,
@@ -333,7 +349,7 @@ impl Realm {
         ensures refused { IfErr result (RefusesQuiet self.old) }
         ensures err { OnErr result (self.new ≡ self.old) }
     {
-        let entries = self.book.entries().len() as u64;
+        let entries = self.records.book.entries().len() as u64;
         let reply = tailed(&self.table, inc, entries);
         self.tell(caller, Event::Tail(inc, from), reply)
     }
@@ -357,11 +373,7 @@ impl Realm {
         ensures refused { IfErr result (RefusesQuiet self.old) }
         ensures err { OnErr result (self.new ≡ self.old) }
     {
-        if asks(&self.table, Asking::Route, inc) {
-            return self.ask(alloc, caller, Asking::Route, inc, path);
-        }
-        let reply = route_reply(alloc, &self.table, inc, &path)?;
-        self.tell(caller, Event::Route(inc, path), reply)
+        self.ask(alloc, caller, Asking::Route, inc, path)
     }
 
     /// Opens what an instance uses at the path: `Opened` with the route where the provider is
@@ -383,11 +395,7 @@ impl Realm {
         ensures refused { IfErr result (RefusesQuiet self.old) }
         ensures err { OnErr result (self.new ≡ self.old) }
     {
-        if asks(&self.table, Asking::Opening, inc) {
-            return self.ask(alloc, caller, Asking::Opening, inc, path);
-        }
-        let reply = open_use_reply(alloc, &self.table, inc, &path)?;
-        self.tell(caller, Event::OpenUse(inc, path), reply)
+        self.ask(alloc, caller, Asking::Opening, inc, path)
     }
 
     /// Opens what an instance exposes by the name, as `open_use`, but the instance needn't be
@@ -485,17 +493,11 @@ impl Realm {
         ensures refused { IfErr result (Refuses self.old 2 (λ a. ⊥)) }
         ensures err { OnErr result (self.new ≡ self.old) }
     {
-        add_join(&mut self.joins, &mut self.book, caller, action)?;
-        let entry = Entry {
+        add_join(&mut self.joins, &mut self.records.book, caller, action)?;
+        self.records.put_down(
             caller,
-            event: Event::Begin(kind, inc),
-            reply: Reply::Joined(action),
-        };
-        put_down(
-            &mut self.book,
-            &mut self.keeper,
-            &mut self.plan,
-            entry,
+            Event::Begin(kind, inc),
+            Reply::Joined(action),
             false,
         );
         Ok(Reply::Joined(action))
@@ -530,7 +532,7 @@ impl Realm {
             &mut self.acts,
             self.resolves,
             &mut self.table,
-            &mut self.book,
+            &mut self.records.book,
             kind,
         );
         match room {
@@ -545,18 +547,7 @@ impl Realm {
                     by: caller,
                     outcome: None,
                 });
-                let entry = Entry {
-                    caller,
-                    event,
-                    reply: kept,
-                };
-                put_down(
-                    &mut self.book,
-                    &mut self.keeper,
-                    &mut self.plan,
-                    entry,
-                    false,
-                );
+                self.records.put_down(caller, event, kept, false);
                 Ok(reply)
             }
             Err(fault) => {
@@ -609,7 +600,8 @@ impl Realm {
         }
     }
 
-    /// Puts down that the program of an instance has ended by itself.
+    /// Puts down that the program of an instance has ended by itself. The history keeps a copy of
+    /// where it stands, which takes no more than it needs.
     fn leave(&mut self, caller: u32, inc: u64, moniker: Moniker) -> Result<Reply, NoStep>
         requires { exit_reply (world_of self.old).rows inc ≡ Some (Reply.Left moniker) }
         ensures step { IfOk result (λ reply.
@@ -617,22 +609,12 @@ impl Realm {
         ensures refused { IfErr result (RefusesQuiet self.old) }
         ensures err { OnErr result (self.new ≡ self.old) }
     {
-        let told = copy_in_room(&mut self.book, &moniker)?;
+        let kept = copy_in_room(&mut self.records.book, &moniker)?;
         self.table.set_on(inc, false);
         let doomed = expire(&mut self.table, inc);
-        let entry = Entry {
-            caller,
-            event: Event::Exited(inc),
-            reply: Reply::Left(moniker),
-        };
-        put_down(
-            &mut self.book,
-            &mut self.keeper,
-            &mut self.plan,
-            entry,
-            doomed,
-        );
-        Ok(Reply::Left(told))
+        self.records
+            .put_down(caller, Event::Exited(inc), Reply::Left(kept), doomed);
+        Ok(Reply::Left(moniker))
     }
 }
 

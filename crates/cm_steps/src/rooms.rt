@@ -1,6 +1,6 @@
 //! Room for what a step needs and leaves to come: entries, also those of ends and awaits, and rows.
 
-ghost use Rattle.std.specs.Prelude.{◌≡◌, ◌+◌, ◌-◌, ◌≤◌, ◌<◌, ◌^◌, [], ◌∷◌, ◌++◌, length, cond};
+ghost use Rattle.std.specs.Prelude.{◌≡◌, ◌+◌, ◌-◌, ◌≤◌, ◌<◌, ◌^◌, length, cond};
 ghost use Rattle.std.specs.Prelude.{IsTrue, IfOk, OnOk, OnErr, IfErr, false, count_by};
 ghost use Rattle.std.specs.Option.{option_map_or};
 ghost use Rattle.std.specs.List.{list_any};
@@ -16,13 +16,10 @@ ghost use Rattle.cm_world.specs.After.{joined};
 ghost use Rattle.cm_book.specs.Refusal.{Fits};
 ghost use Rattle.cm_table.specs.Change.{with_row};
 ghost use Rattle.cm_table.specs.Tree.{fit};
-ghost use Rattle.cm_cache.specs.Beside.{followed, is_emptied};
 ghost use Rattle.cm_dynamic.specs.Laws.{CanTake};
 ghost use Rattle.cm_steps.specs.Tasks as tasks;
 ghost use Rattle.cm_steps.specs.Rooms.{Lacks};
-ghost use Rattle.cm_steps.specs.Planned.{IsPlannedBy};
 
-use crate::aside::Aside;
 use crate::copies::copied;
 use crate::nostep::NoStep;
 use crate::pending::{act_at, join_place};
@@ -30,9 +27,8 @@ use crate::replies::creating::child_name;
 use cm_book::Book;
 use cm_decl::Give;
 use cm_names::{List, Memory, Name, Plain, Text};
-use cm_order::Plan;
 use cm_table::{Table, TableFault};
-use cm_world::{Act, ActKind, Entry, Join};
+use cm_world::{Act, ActKind, Join};
 use std::alloc::Global;
 
 /// The number of the next action.
@@ -55,23 +51,6 @@ pub fn copy_in_room<T: Plain>(book: &mut Book, value: &T) -> Result<T, NoStep>
     let copy = copied(value)?;
     book.reserve(1)?;
     Ok(copy)
-}
-
-/// Puts down an entry that asks for no use, in room that is reserved, and forgets the answers that
-/// are kept, and what is known of ways down, where it changes what walks read; whether it dooms an
-/// instance is told.
-pub fn put_down(book: &mut Book, keeper: &mut Aside, plan: &mut Plan, entry: Entry, doomed: bool)
-    requires { 0 < book.old.reserved }
-    ensures book { let entries = book.old.entries ++ entry ∷ [] in
-        book.new ≡ record book.old { entries = entries; reserved = book.old.reserved - 1 } }
-    ensures keeper { keeper.new ≡ followed entry.event entry.reply doomed keeper.old }
-    ensures plan { let emptied = is_emptied entry.event entry.reply doomed in
-        IsPlannedBy emptied plan.old plan.new }
-{
-    if keeper.follow(&entry.event, &entry.reply, doomed) {
-        plan.forget();
-    }
-    book.push_reserved(entry);
 }
 
 /// Makes room for an action more: for itself, for the entries of its begin and its end, and,

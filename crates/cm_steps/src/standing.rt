@@ -26,7 +26,7 @@ struct Marks {
 }
 
 /// Whether one of the two is so.
-fn either(one: bool, other: bool) -> bool
+fn is_either(one: bool, other: bool) -> bool
     ensures { result ≡ (one || other) }
 {
     one || other
@@ -38,8 +38,8 @@ fn with_marks(marks: Marks, facts: Facts) -> Marks
     ensures closing { result.closing ≡ (marks.closing || facts.closing) }
 {
     Marks {
-        doomed: either(marks.doomed, facts.doomed),
-        closing: either(marks.closing, facts.closing),
+        doomed: is_either(marks.doomed, facts.doomed),
+        closing: is_either(marks.closing, facts.closing),
     }
 }
 
@@ -82,7 +82,7 @@ pub(crate) fn standing_of<V: View>(view: &V, inc: u64) -> Standing
             Standing {
                 facts: Some(own),
                 gone: above.doomed,
-                closed: either(above.closing, own.shut),
+                closed: is_either(above.closing, own.shut),
             }
         }
     }

@@ -12,7 +12,7 @@ impl Store for Table {
 
     ghost next_inc = { λ (t : Tree). t.next_inc };
 
-    fn resolved<L: Ledger>(&self, inc: u64, steps: &mut Steps<L>) -> bool {
+    fn is_resolved<L: Ledger>(&self, inc: u64, steps: &mut Steps<L>) -> bool {
         steps.tick();
         self.decl(inc).is_some()
     }

@@ -2,8 +2,8 @@ use Rattle.std.proofs.Common.{◌≡◌, [], Option, Some, None, refl, IsTrue, i
 use Rattle.cm_decl.specs.declared.decl.Decl.{Decl}
 use Rattle.cm_decl.specs.Faults.{Fault, IsFaultless}
 use Rattle.cm_decl.specs.Valid.{IsValid, IsFaultOf, is_well_formed, cycle_fault}
-use Rattle.cm_decl.proofs.Computed.{first_fault}
-use Rattle.cm_decl.proofs.FirstFaults.{computes_some, computes_none}
+use Rattle.cm_decl.proofs.faults.Computed.{first_fault}
+use Rattle.cm_decl.proofs.faults.FirstFaults.{computes_some, computes_none}
 use Rattle.cm_deps.proofs.given.Picked.{acyclic_or_picked}
 
 -- a well-formed declaration without a fault at a row is valid, or has the fault of a cycle

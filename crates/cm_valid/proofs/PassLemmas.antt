@@ -5,8 +5,8 @@ use Rattle.cm_decl.specs.declared.decl.Decl.{Decl}
 use Rattle.cm_decl.specs.declared.section.Section.{Section}
 use Rattle.cm_decl.specs.declared.section.Section.TheVariants.{Manifest, Program, Children, Collections, Capabilities, Uses, Offers, Exposes, Environments, Graph}
 use Rattle.cm_decl.specs.Faults.{Fault, IsFirst, IsFirstIn, IsFaultless, section_rank}
-use Rattle.cm_decl.proofs.FirstFaults as faults
-use Rattle.cm_decl.proofs.FirstFaults.{same_section, first_below_more, first_in_section}
+use Rattle.cm_decl.proofs.faults.FirstFaults as faults
+use Rattle.cm_decl.proofs.faults.FirstFaults.{same_section, first_below_more, first_in_section}
 use Rattle.cm_valid.specs.declared.found.Found.{Found}
 use Rattle.cm_valid.specs.Parts.{Finds, fault_of, At, Below, In, Before, Anywhere, rows_of}
 

@@ -13,8 +13,8 @@ use Rattle.cm_decl.specs.Rules.{Rule, RepeatedName, rules, number_of}
 use Rattle.cm_decl.specs.Clashes.{Place, place, clash, or_else, first_row, first_before, same_collection_name}
 use Rattle.cm_decl.specs.Breaks.{breaks, passes_at}
 use Rattle.cm_decl.specs.Faults.{IsFirstIn}
-use Rattle.cm_decl.proofs.Computed.{fault_by}
-use Rattle.cm_decl.proofs.FirstFaults.{first_at_row}
+use Rattle.cm_decl.proofs.faults.Computed.{fault_by}
+use Rattle.cm_decl.proofs.faults.FirstFaults.{first_at_row}
 use Rattle.cm_valid.specs.declared.found.Found.{Found}
 use Rattle.cm_valid.specs.Lookup.{is_child_name}
 use Rattle.cm_valid.specs.Near.{near, StandApart}

@@ -1,6 +1,6 @@
 //! The fault of a row, before it is reported.
 
-ghost use Rattle.std.specs.Prelude.{◌≡◌, Some, None};
+ghost use Rattle.std.specs.Prelude.{◌≡◌, Some, None, option_map};
 ghost use Rattle.cm_names.specs.Rights as rights;
 ghost use Rattle.cm_valid.specs.Parts.{fault_of};
 ghost use Rattle.cm_valid.specs.Reports.{reported};
@@ -63,6 +63,28 @@ impl Found {
             against: Some((other, first)),
         }
     }
+
+    /// The fault of a row that clashes with an earlier one of its own section: the first such, if
+    /// there is one.
+    pub(crate) fn earlier(
+        number: u8,
+        section: Section,
+        index: usize,
+        first: Option<usize>,
+    ) -> Option<Found>
+        ensures { result ≡ option_map (λ at. record {
+          number = number;
+          section = section;
+          index = index;
+          against = Some (section, at);
+        }) first }
+    {
+        match first {
+            Some(first) => Some(Found::clash(number, section, index, section, first)),
+            None => None,
+        }
+    }
+
     /// The fault as it is reported.
     pub(crate) fn report(self, alloc: Global) -> ValidFault
         ensures { result ≡ reported (fault_of self) }

@@ -44,10 +44,8 @@ fn child_fault(index: &Index, row: usize, apart: usize) -> Option<Found>
     }
     let children = index.decl().children.as_slice();
     let child = &children[row];
-    let Some(first) = clash::child_named(&children[..row], &child.name) else {
-        return None;
-    };
-    Some(Found::clash(50, Section::Children, row, Section::Children, first))
+    let first = clash::child_named(&children[..row], &child.name);
+    Found::earlier(50, Section::Children, row, first)
 }
 
 /// The first fault of a collection: 50 where a child or an earlier collection has its name.
@@ -68,10 +66,8 @@ fn collection_fault(index: &Index, row: usize, apart: usize) -> Option<Found>
     if row < apart {
         return None;
     }
-    let Some(first) = clash::collection_named(&collections[..row], &collection.name) else {
-        return None;
-    };
-    Some(Found::clash(50, Section::Collections, row, Section::Collections, first))
+    let first = clash::collection_named(&collections[..row], &collection.name);
+    Found::earlier(50, Section::Collections, row, first)
 }
 
 /// The first fault of a capability: 50 where an earlier one, of either kind, has its name.
@@ -85,10 +81,8 @@ fn capability_fault(index: &Index, row: usize, apart: usize) -> Option<Found>
     }
     let capabilities = index.decl().capabilities.as_slice();
     let capability = &capabilities[row];
-    let Some(first) = clash::capability_named(&capabilities[..row], &capability.name) else {
-        return None;
-    };
-    Some(Found::clash(50, Section::Capabilities, row, Section::Capabilities, first))
+    let first = clash::capability_named(&capabilities[..row], &capability.name);
+    Found::earlier(50, Section::Capabilities, row, first)
 }
 
 /// The first fault of a use:
@@ -118,10 +112,8 @@ fn use_fault(index: &Index, row: usize, apart: usize) -> Option<Found>
     if let Some(first) = clash::same_path(earlier, &usage.path) {
         return Some(Found::clash(55, Section::Uses, row, Section::Uses, first));
     }
-    let Some(first) = clash::nested_path(earlier, &usage.path) else {
-        return None;
-    };
-    Some(Found::clash(56, Section::Uses, row, Section::Uses, first))
+    let first = clash::nested_path(earlier, &usage.path);
+    Found::earlier(56, Section::Uses, row, first)
 }
 
 /// The first fault of an offer:

@@ -1,13 +1,3 @@
-pub mod Monikers
-pub mod Placed
-pub mod Up
-pub mod Behind
-pub mod Standing
-pub mod Adding
-pub mod Descending
-pub mod NoUse
-pub mod Sources
-pub mod Offers
-pub mod Steps
-pub mod Trails
-pub mod Leading
+pub mod ways
+pub mod descents
+pub mod routes

@@ -19,7 +19,7 @@ pub enum Mark {
 }
 
 /// Whether the instance of these facts itself has the mark.
-fn has(mark: Mark, inc: u64, facts: Facts) -> bool
+fn is_marked(mark: Mark, inc: u64, facts: Facts) -> bool
     ensures { result ≡ is_told mark inc facts }
 {
     match mark {
@@ -30,7 +30,7 @@ fn has(mark: Mark, inc: u64, facts: Facts) -> bool
 }
 
 /// Whether the instance, if there is one, or one above it has the mark.
-#[tactic(auto, using(crate::proofs::Up::no_mark))]
+#[tactic(auto, using(crate::proofs::ways::Up::no_mark))]
 fn has_above<V: View>(view: &V, mark: Mark, from: Option<u64>) -> bool
     ensures { let rows = V.rows view.now in
         result ≡ at_or_above (length rows) (has_mark mark) rows from }
@@ -40,7 +40,7 @@ fn has_above<V: View>(view: &V, mark: Mark, from: Option<u64>) -> bool
         let Some(facts) = view.facts(here) else {
             return false;
         };
-        if has(mark, here, facts) {
+        if is_marked(mark, here, facts) {
             return true;
         }
         at = facts.parent;
@@ -49,14 +49,14 @@ fn has_above<V: View>(view: &V, mark: Mark, from: Option<u64>) -> bool
 }
 
 /// Whether an instance is the given one or below it.
-pub fn below<V: View>(view: &V, top: u64, inc: u64) -> bool
+pub fn is_below<V: View>(view: &V, top: u64, inc: u64) -> bool
     ensures { result ≡ is_below (V.rows view.now) top inc }
 {
     has_above(view, Mark::Number(top), Some(inc))
 }
 
 /// Whether an instance doesn't live, or it or one above it is being destroyed.
-pub fn gone<V: View>(view: &V, inc: u64) -> bool
+pub fn is_gone<V: View>(view: &V, inc: u64) -> bool
     ensures { result ≡ is_gone (V.rows view.now) inc }
 {
     let Some(facts) = view.facts(inc) else {
@@ -69,7 +69,7 @@ pub fn gone<V: View>(view: &V, inc: u64) -> bool
 }
 
 /// Whether an instance is shut, or it or one above it is being shut down.
-pub fn closed<V: View>(view: &V, inc: u64) -> bool
+pub fn is_closed<V: View>(view: &V, inc: u64) -> bool
     ensures { result ≡ is_closed (V.rows view.now) inc }
 {
     let Some(facts) = view.facts(inc) else {
@@ -85,7 +85,7 @@ pub fn closed<V: View>(view: &V, inc: u64) -> bool
 }
 
 /// Whether an instance is shut.
-pub fn shut<V: View>(view: &V, inc: u64) -> bool
+pub fn is_shut<V: View>(view: &V, inc: u64) -> bool
     ensures { result ≡ is_shut (V.rows view.now) inc }
 {
     match view.facts(inc) {
@@ -95,7 +95,7 @@ pub fn shut<V: View>(view: &V, inc: u64) -> bool
 }
 
 /// Whether the program of an instance runs.
-pub fn on<V: View>(view: &V, inc: u64) -> bool
+pub fn is_on<V: View>(view: &V, inc: u64) -> bool
     ensures { result ≡ is_on (V.rows view.now) inc }
 {
     match view.facts(inc) {
@@ -105,7 +105,7 @@ pub fn on<V: View>(view: &V, inc: u64) -> bool
 }
 
 /// Whether an instance lives and is resolved.
-pub fn resolved<V: View>(view: &V, inc: u64) -> bool
+pub fn is_resolved<V: View>(view: &V, inc: u64) -> bool
     ensures { result ≡ is_resolved (V.rows view.now) inc }
 {
     view.decl(inc).is_some()

@@ -66,15 +66,15 @@ pub(crate) fn moniker_above<V: View>(
 /// A hop at the instance, which stands there, that no row of a declaration states: it states no
 /// rights and no availability, and counts as strong.
 pub(crate) fn bare_hop<V: View>(
-    _view: &V,
+    view: &V,
     step: StepKind,
     inc: u64,
     moniker: Moniker,
     kind: Kind,
     name: &Name,
 ) -> Result<Hop, Memory>
-    requires { moniker ≡ moniker_of (V.rows _view.now) inc }
-    ensures { IfOk result (λ hop. hop ≡ spec.bare_hop (V.rows _view.now) step inc kind name.now) }
+    requires { moniker ≡ moniker_of (V.rows view.now) inc }
+    ensures { IfOk result (λ hop. hop ≡ spec.bare_hop (V.rows view.now) step inc kind name.now) }
 {
     let name = name.clone()?;
     Ok(Hop {

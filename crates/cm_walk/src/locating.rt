@@ -22,7 +22,7 @@ pub fn locate<S: Store, L: Ledger>(store: &S, moniker: &Moniker, steps: &mut Ste
 {
     let mut at = 0;
     for (depth, name) in moniker.parts.as_slice().iter().enumerate() {
-        if !store.resolved(at, steps) {
+        if !store.is_resolved(at, steps) {
             return Located::Unresolved(at);
         }
         match store.child(at, name.get(), steps) {

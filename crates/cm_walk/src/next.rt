@@ -198,11 +198,11 @@ fn offered_by<'a, V: View>(
 }
 
 /// The name of the hop's instance among the children of this parent, the last one of the hop.
-fn name_at<'a, V: View>(view: &'a V, _parent: u64, here: &'a Hop) -> Option<&'a ChildName>
+fn name_at<'a, V: View>(view: &'a V, parent: u64, here: &'a Hop) -> Option<&'a ChildName>
     requires orderly { IsOrderly (V.rows view.now) (V.next_inc view.now) }
     requires placed { IsPlaced (V.rows view.now) here.now }
     requires parent { let row = row_of (V.rows view.now) here.now.inc in
-        option_and_then (λ r. r.parent) row ≡ Some _parent }
+        option_and_then (λ r. r.parent) row ≡ Some parent }
     ensures { option_copied result ≡ name_of (V.rows view.now) here.now.inc }
 {
     match here.moniker.parts.as_slice().last() {

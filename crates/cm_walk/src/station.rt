@@ -73,12 +73,11 @@ fn stating(bare: Hop, rights: Option<Rights>, availability: Availability, strong
       strong = strong;
     } }
 {
-    Hop {
-        rights,
-        availability: Some(availability),
-        strong,
-        ..bare
-    }
+    let mut hop = bare;
+    hop.rights = rights;
+    hop.availability = Some(availability);
+    hop.strong = strong;
+    hop
 }
 
 /// Whether the dependency is strong.
@@ -157,8 +156,10 @@ fn end_station<'a>(
         ≡ spec.end_station (record bare { rights = rights }) path.now) }
 {
     let path = path.clone()?;
+    let mut hop = bare;
+    hop.rights = rights;
     Ok(Station {
-        hop: Hop { rights, ..bare },
+        hop,
         source: Source::End(path),
     })
 }

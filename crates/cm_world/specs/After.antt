@@ -47,6 +47,7 @@ with_end_of w a finish o (Some x) = record w {
   acts = ended a o w.acts;
 }
 
+-- the tree behind the end of an action, which is looked up by its number
 abbrev pub with_end : World → ℕ → Finish → Outcome → World
 with_end w a finish o = with_end_of w a finish o (act_of w.acts a)
 

@@ -8,6 +8,7 @@ use Rattle.cm_world.specs.declared.reply.Reply.TheVariants.{Gone, Already, Marke
 use Rattle.cm_world.specs.declared.reply.Reply.TheVariants.{Purged}
 use Rattle.cm_world.specs.Rows.{row_of, has_closing, is_live, is_gone, subtree, moniker_of}
 
+-- the reply to a mark to be shut down
 abbrev pub close_reply : List Row → ℕ → Reply
 close_reply rows i =
     if is_gone rows i then Gone i
@@ -27,11 +28,14 @@ doom_reply rows i =
           else if is_dynamic r then Marked else NotDynamic
     ]
 
+-- the reply to a mark, to be destroyed or only shut down
 abbrev pub mark_reply : List Row → Bool → ℕ → Reply
 mark_reply rows doom i = if doom then doom_reply rows i else close_reply rows i
 
+-- a row as a purge names it
 abbrev pub lost_of : List Row → Row → Lost
 lost_of rows r = record { inc = r.inc; moniker = moniker_of rows r.inc }
 
+-- the reply to a purge: all at and below the row, or that it went before
 abbrev pub purge_reply : List Row → ℕ → Reply
 purge_reply rows i = if is_live rows i then Purged (map (lost_of rows) (subtree rows i)) else PurgedBefore

@@ -35,6 +35,7 @@ abbrev pub list_by : List Row → ℕ → List ℕ → Reply
 list_by rows i coll =
     if has_collection rows i coll then Listed (filter_map (kid_of i coll) rows) else NoCollection
 
+-- the reply to who asks for the children in a collection
 abbrev pub list_reply : List Row → ℕ → List ℕ → Reply
 list_reply rows i coll =
     elim (unready rows i) as (λ _. Reply) [ Some refusal ↦ refusal | None ↦ list_by rows i coll ]
@@ -53,6 +54,7 @@ look_at r = record {
   pending = option_map (λ p. p.0) r.pending;
 }
 
+-- the reply to who asks how an instance is
 abbrev pub show_reply : List Row → ℕ → Reply
 show_reply rows i =
     if is_gone rows i then Gone i else

@@ -29,6 +29,8 @@ pub record IsParent (rows : List Row) (p i : ℕ) : Type 0 where
   pub resolved : IsSome row.decl
   pub lower : p < i
 
+-- incarnations rise, there is one root, parents live and come first, names are apart, and declarations
+-- are valid
 pub record IsOrderly (rows : List Row) (next : ℕ) : Type 0 where
   pub rising : IsRising next rows
   -- a row without a parent is the root
@@ -61,6 +63,8 @@ pub record HasStatic (rows : List Row) (p : ℕ) (d : Decl) : Type 0 where
   pub kept : (i : ℕ) (r : Row) → Lives rows i r → IsTrue (is_static_child p r)
       → (r.doomed ≡ false) × (r.gives ≡ [])
 
+-- an orderly tree without cycles, in which what is doomed is closing, what is shut is well shut, and
+-- declared children stand as declared
 pub record IsSound (rows : List Row) (next : ℕ) : Type 0 where
   pub orderly : IsOrderly rows next
   -- no level has a cycle of strong edges

@@ -84,6 +84,7 @@ pub record PicksOff (rows : List Row) (target inc : ℕ) : Type 0 where
   pub may : MayPick rows target inc row
   pub off : row.on ≡ false
 
+-- the reply to a pick: done, the stop of an instance that may stop, or that one which is off is shut
 abbrev pub IsPickReply : List Row → ℕ → ℕ → Reply → Type 0
 IsPickReply rows next_action t reply.Done = IsTrue (is_subtree_shut rows t)
 IsPickReply rows next_action t (reply.Stopping work) = PicksOn rows next_action t work

@@ -10,7 +10,6 @@ use cm_names::{CapPath, List, Moniker, Shared};
 /// Five of them stand for errors of `fuchsia.component.Error`: 60 for `COLLECTION_NOT_FOUND`,
 /// 61 for `INSTANCE_ALREADY_EXISTS`, 80 for `INSTANCE_NOT_FOUND`, 83 for
 /// `INSTANCE_CANNOT_RESOLVE` and 84 for `INSTANCE_CANNOT_START`.
-#[derive(Drop)]
 pub enum Refusal {
     /// 60: the instance has no such collection.
     CollectionNotFound,
@@ -56,8 +55,34 @@ pub enum Refusal {
     Memory,
 }
 
+impl Drop for Refusal {
+    fn drop(self) {
+        match self {
+            Refusal::OfferCycle(_) => {}
+            Refusal::NotFound(_) => {}
+            Refusal::NoRoute(_, _) => {}
+            Refusal::VoidSource(_) => {}
+            Refusal::CollectionNotFound
+            | Refusal::AlreadyExists(_)
+            | Refusal::DynamicOffersRefused
+            | Refusal::BadOffer(_, _)
+            | Refusal::ParentClosing(_)
+            | Refusal::Full
+            | Refusal::NotDynamic
+            | Refusal::HistoryFull
+            | Refusal::Gone(_)
+            | Refusal::Shut(_)
+            | Refusal::CannotResolve(_, _)
+            | Refusal::CannotStart(_, _)
+            | Refusal::ClientOff
+            | Refusal::NoSuchUse
+            | Refusal::SourceShut(_)
+            | Refusal::Memory => {}
+        }
+    }
+}
+
 /// What a check of all routes found out of one use, or of an instance that isn't resolved.
-#[derive(Drop)]
 pub struct Checked {
     /// Where the instance stands.
     pub moniker: Moniker,
@@ -68,8 +93,17 @@ pub struct Checked {
     pub result: Result<Shared<Route>, Refusal>,
 }
 
+impl Drop for Checked {
+    fn drop(self) {
+        let Checked {
+            moniker: _,
+            path: _,
+            result: _,
+        } = self;
+    }
+}
+
 /// What a command is answered where it isn't refused.
-#[derive(Drop)]
 pub enum Answer {
     /// The instance is resolved: by the action of this number, or since before.
     Resolved(Option<u64>),
@@ -98,4 +132,24 @@ pub enum Answer {
     Doctored(List<Checked>),
     /// The program is off, and whether it was on before.
     Left(bool),
+}
+
+impl Drop for Answer {
+    fn drop(self) {
+        match self {
+            Answer::Children(_) => {}
+            Answer::Opened(_) => {}
+            Answer::Routed(_) => {}
+            Answer::Shown(_) => {}
+            Answer::Surveyed(_) => {}
+            Answer::Doctored(_) => {}
+            Answer::Resolved(_)
+            | Answer::Started(_)
+            | Answer::Stopped(_, _)
+            | Answer::Shut
+            | Answer::Created(_)
+            | Answer::Destroyed
+            | Answer::Left(_) => {}
+        }
+    }
 }

@@ -5,7 +5,6 @@ use cm_decl::Give;
 use cm_names::{CapPath, List, Moniker, Name, Text};
 
 /// Which instance a command means.
-#[derive(Drop)]
 pub enum Target {
     /// The one that stands there.
     Named(Moniker),
@@ -13,9 +12,17 @@ pub enum Target {
     Inc(u64),
 }
 
+impl Drop for Target {
+    fn drop(self) {
+        match self {
+            Target::Named(_) => {}
+            Target::Inc(_) => {}
+        }
+    }
+}
+
 /// One event of a realm tree, which is made as a whole or not at all. A number is the
 /// incarnation of an instance, unless the variant says otherwise.
-#[derive(Drop)]
 pub enum Event {
     /// Which instance stands there?
     Find(Moniker),
@@ -55,4 +62,28 @@ pub enum Event {
     Tail(u64, u64),
     /// What is left to be removed of an instance that stopped: it itself, or children of it?
     Reap(u64),
+}
+
+impl Drop for Event {
+    fn drop(self) {
+        match self {
+            Event::Find(_) => {}
+            Event::End(_, _) => {}
+            Event::Create(_, _, _, _, _) => {}
+            Event::Route(_, _) => {}
+            Event::OpenUse(_, _) => {}
+            Event::OpenExposed(_, _) => {}
+            Event::Listing(_, _) => {}
+            Event::Begin(_, _)
+            | Event::Await(_)
+            | Event::Mark(_, _)
+            | Event::Pick(_)
+            | Event::Purge(_)
+            | Event::Show(_)
+            | Event::Survey(_)
+            | Event::Exited(_)
+            | Event::Tail(_, _)
+            | Event::Reap(_) => {}
+        }
+    }
 }

@@ -8,7 +8,7 @@ use cm_names::{CapPath, List, Name, Plain, Rights, Text};
 ///
 /// Fuchsia's component manager has such capabilities from its own namespace ("Component manager
 /// configuration", fuchsia.dev).
-#[derive(Drop, Clone)]
+#[derive(Clone)]
 pub struct Builtin {
     /// What it is.
     pub kind: Kind,
@@ -18,6 +18,17 @@ pub struct Builtin {
     pub path: CapPath,
     /// The rights that a directory is provided with; `None` for a protocol.
     pub rights: Option<Rights>,
+}
+
+impl Drop for Builtin {
+    fn drop(self) {
+        let Builtin {
+            kind: _,
+            name: _,
+            path: _,
+            rights: _,
+        } = self;
+    }
 }
 
 impl Plain for Builtin {

@@ -93,7 +93,6 @@ impl Plain for Reply {
 }
 
 /// One entry of a history: who made which event, and what it was replied.
-#[derive(Drop)]
 pub struct Entry {
     /// The number of the caller.
     pub caller: u32,
@@ -101,4 +100,14 @@ pub struct Entry {
     pub event: Event,
     /// Its reply.
     pub reply: Reply,
+}
+
+impl Drop for Entry {
+    fn drop(self) {
+        let Entry {
+            caller: _,
+            event: _,
+            reply: _,
+        } = self;
+    }
 }

@@ -4,12 +4,18 @@ use crate::ActKind;
 use cm_names::{CapPath, List, Moniker, Name, Plain, Text};
 
 /// A child in a collection.
-#[derive(Drop, Clone)]
+#[derive(Clone)]
 pub struct Kid {
     /// Its name in the collection.
     pub name: Name,
     /// Its incarnation.
     pub inc: u64,
+}
+
+impl Drop for Kid {
+    fn drop(self) {
+        let Kid { name: _, inc: _ } = self;
+    }
 }
 
 impl Plain for Kid {
@@ -19,7 +25,7 @@ impl Plain for Kid {
 }
 
 /// How an instance is.
-#[derive(Drop, Clone)]
+#[derive(Clone)]
 pub struct Look {
     /// Its incarnation.
     pub inc: u64,
@@ -37,6 +43,20 @@ pub struct Look {
     pub pending: Option<ActKind>,
 }
 
+impl Drop for Look {
+    fn drop(self) {
+        let Look {
+            inc: _,
+            url: _,
+            resolved: _,
+            on: _,
+            closing: _,
+            shut: _,
+            pending: _,
+        } = self;
+    }
+}
+
 impl Plain for Look {
     ghost use Rattle.std.proofs.Common.{rules};
 
@@ -44,7 +64,7 @@ impl Plain for Look {
 }
 
 /// How one instance of a survey is.
-#[derive(Drop, Clone)]
+#[derive(Clone)]
 pub struct SurveyRow {
     /// Its incarnation.
     pub inc: u64,
@@ -60,6 +80,19 @@ pub struct SurveyRow {
     pub paths: List<CapPath>,
 }
 
+impl Drop for SurveyRow {
+    fn drop(self) {
+        let SurveyRow {
+            inc: _,
+            moniker: _,
+            resolved: _,
+            on: _,
+            shut: _,
+            paths: _,
+        } = self;
+    }
+}
+
 impl Plain for SurveyRow {
     ghost use Rattle.std.proofs.Common.{rules};
 
@@ -67,12 +100,18 @@ impl Plain for SurveyRow {
 }
 
 /// An instance that was removed.
-#[derive(Drop, Clone)]
+#[derive(Clone)]
 pub struct Lost {
     /// Its incarnation.
     pub inc: u64,
     /// Where it stood.
     pub moniker: Moniker,
+}
+
+impl Drop for Lost {
+    fn drop(self) {
+        let Lost { inc: _, moniker: _ } = self;
+    }
 }
 
 impl Plain for Lost {

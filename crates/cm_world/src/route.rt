@@ -30,7 +30,7 @@ impl Plain for StepKind {
 }
 
 /// A hop of a route: one row of one declaration, or what stands in the place of one.
-#[derive(Drop, Clone)]
+#[derive(Clone)]
 pub struct Hop {
     /// What it is.
     pub step: StepKind,
@@ -50,6 +50,21 @@ pub struct Hop {
     pub strong: bool,
 }
 
+impl Drop for Hop {
+    fn drop(self) {
+        let Hop {
+            step: _,
+            inc: _,
+            moniker: _,
+            kind: _,
+            name: _,
+            rights: _,
+            availability: _,
+            strong: _,
+        } = self;
+    }
+}
+
 impl Plain for Hop {
     ghost use Rattle.std.proofs.Common.{rules};
 
@@ -57,7 +72,7 @@ impl Plain for Hop {
 }
 
 /// Who provides the capability at the end of a route.
-#[derive(Drop, Clone)]
+#[derive(Clone)]
 pub enum Provider {
     /// An instance: its incarnation, and where it stands.
     Instance(u64, Moniker),
@@ -67,6 +82,15 @@ pub enum Provider {
     Builtin,
 }
 
+impl Drop for Provider {
+    fn drop(self) {
+        match self {
+            Provider::Instance(_, _) => {}
+            Provider::Framework | Provider::Builtin => {}
+        }
+    }
+}
+
 impl Plain for Provider {
     ghost use Rattle.std.proofs.Common.{rules};
 
@@ -74,7 +98,7 @@ impl Plain for Provider {
 }
 
 /// A whole route, from the client to the provider.
-#[derive(Drop, Clone)]
+#[derive(Clone)]
 pub struct Route {
     /// Its hops, from the use, the expose or the offer that it begins with to the provider's.
     pub hops: List<Hop>,
@@ -85,6 +109,17 @@ pub struct Route {
     pub rights: Option<Rights>,
     /// Who provides it.
     pub provider: Provider,
+}
+
+impl Drop for Route {
+    fn drop(self) {
+        let Route {
+            hops: _,
+            path: _,
+            rights: _,
+            provider: _,
+        } = self;
+    }
 }
 
 impl Plain for Route {
@@ -117,7 +152,6 @@ impl Plain for Why {
 }
 
 /// Where a route begins.
-#[derive(Drop)]
 pub enum Start {
     /// At the use of an instance that has this path.
     UseAt(u64, CapPath),
@@ -125,6 +159,16 @@ pub enum Start {
     ExposeAt(u64, Name),
     /// At the offer of an instance that stands at this index in its declaration.
     OfferAt(u64, u32),
+}
+
+impl Drop for Start {
+    fn drop(self) {
+        match self {
+            Start::UseAt(_, _) => {}
+            Start::ExposeAt(_, _) => {}
+            Start::OfferAt(_, _) => {}
+        }
+    }
 }
 
 /// What a walk along a route comes to.

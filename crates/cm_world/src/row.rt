@@ -9,7 +9,6 @@ use cm_names::{ChildName, List, Shared, Text};
 /// The life of an instance is that of Fuchsia's component framework ("Component lifecycle",
 /// fuchsia.dev): it is created, resolved, started, stopped and destroyed. Before it is destroyed
 /// it is shut down: from then on it never runs again.
-#[derive(Drop)]
 pub struct Row {
     /// Its incarnation, which no other instance of the history has, before or after.
     pub inc: u64,
@@ -35,4 +34,23 @@ pub struct Row {
     pub shut: bool,
     /// What it alone was offered when it was created in a collection.
     pub gives: List<Give>,
+}
+
+impl Drop for Row {
+    fn drop(self) {
+        let Row {
+            inc: _,
+            parent: _,
+            name: _,
+            url: _,
+            absolute: _,
+            decl: _,
+            on: _,
+            pending: _,
+            closing: _,
+            doomed: _,
+            shut: _,
+            gives: _,
+        } = self;
+    }
 }

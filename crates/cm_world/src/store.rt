@@ -29,7 +29,7 @@ pub trait Store: Drop {
     ghost next_inc: { Self → ℕ };
 
     /// Whether the instance is resolved. This is one step.
-    fn resolved<L: Ledger>(&self, inc: u64, steps: &mut Steps<L>) -> bool
+    fn is_resolved<L: Ledger>(&self, inc: u64, steps: &mut Steps<L>) -> bool
         requires lives { IsTrue (is_live (rows self.now) inc) }
         ensures resolved { result ≡ is_resolved (rows self.now) inc }
         ensures cost { steps.new ≡ steps.old + 1 };

@@ -5,9 +5,6 @@
 //! for it, and has no need of what it promises ([`perform`](cm_program::run::perform)).
 #![tactic(auto)]
 
-#[cfg(test)]
-mod tests;
-
 ghost use Rattle.std.specs.Prelude.{◌≡◌, IfOk, length};
 
 use cm_gate::FolderGates;

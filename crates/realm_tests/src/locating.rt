@@ -34,9 +34,9 @@ impl Store for Counted {
 
     ghost next_inc = { λ c. c.table.next_inc };
 
-    fn resolved<L: Ledger>(&self, inc: u64, steps: &mut Steps<L>) -> bool {
+    fn is_resolved<L: Ledger>(&self, inc: u64, steps: &mut Steps<L>) -> bool {
         self.count();
-        self.table.resolved(inc, steps)
+        self.table.is_resolved(inc, steps)
     }
 
     fn child<L: Ledger>(&self, parent: u64, name: &ChildName, steps: &mut Steps<L>) -> Option<u64> {

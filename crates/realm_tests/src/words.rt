@@ -5,14 +5,17 @@ use cm_reply::entry_text;
 use cm_world::Entry;
 use std::alloc::Global;
 
+/// The moniker that the word is, if it is one.
 pub fn moniker_of(alloc: Global, word: &str) -> Option<Moniker> {
     Moniker::read(alloc, word).ok()
 }
 
+/// The name that the word is, if it is one.
 pub fn name_of(alloc: Global, word: &str) -> Option<Name> {
     Name::read(alloc, word).ok()
 }
 
+/// The path that the word is, if it is one.
 pub fn path_of(alloc: Global, word: &str) -> Option<CapPath> {
     CapPath::read(alloc, word).ok()
 }

@@ -144,9 +144,6 @@ pub map_long : {X Y : Type 0} (f : X → Y) (xs : List X) (n : ℕ) → length x
 map_long f [] n is = is
 map_long f (x ∷ xs) n is = ap suc (map_long f xs (length xs) refl) ∙ is
 
-pub low_of : (n : ℕ) (xs : List ℕ) (m : ℕ) → m ≡ n → All (λ k. k < n) xs → All (λ k. k < m) xs
-low_of n xs m same all = subst (λ b. All (λ k. k < b) xs) (sym same) all
-
 pub known_of : (monikers : List Moniker) (n : ℕ) → monikers ≡ map moniker_of (range_with_len 0 n) → length monikers ≡ n → monikers ≡ map moniker_of (range_with_len 0 (length monikers))
 known_of monikers n are long = are ∙ ap (λ m. map moniker_of (range_with_len 0 m)) (sym long)
 

@@ -50,10 +50,6 @@ number_refused low high text never = by (accepts false (value.Unsigned low high)
 pub number_unread : (low high : ℕ) (text : List ℕ) → (IsNumeral 10 (without_leading_plus text) × (text_number text < 2 ^ 64) → ⊥) → number_in low high (Some text) ≡ Err Usage
 number_unread low high text never = number_refused low high text (λ a. never (a.0, a.1))
 
--- a number outside of the bounds
-pub number_outside : (low high number : ℕ) (text : List ℕ) → number ≡ text_number text → (low ≤ number → number ≤ high → ⊥) → number_in low high (Some text) ≡ Err Usage
-number_outside low high number text is never = number_refused low high text (λ a. never (subst (λ n. low ≤ n) (sym is) a.2) (subst (λ n. n ≤ high) (sym is) a.3))
-
 -- a number within them
 pub number_within : (low high number : ℕ) (text : List ℕ) → IsNumeral 10 (without_leading_plus text) × (text_number text < 2 ^ 64) → number ≡ text_number text → low ≤ number → number ≤ high → number_in low high (Some text) ≡ Ok number
 number_within low high number text read is above below =

@@ -10,8 +10,8 @@ use Rattle.cm_names.specs.Fronts.{IsLongestFront}
 use Rattle.cm_names.specs.Name.{begins_name, continues_name}
 use Rattle.cm_names.specs.Moniker.{IsMonikerText}
 use Rattle.cm_names.specs.MonikerPlaces.{next, may_end}
-use Rattle.cm_names.proofs.Fronts.{Accepts, onward}
-use Rattle.cm_names.proofs.MonikerGrammar.{moniker_accepted}
+use Rattle.cm_names.proofs.fronts.Fronts.{Accepts, onward}
+use Rattle.cm_names.proofs.fronts.MonikerGrammar.{moniker_accepted}
 use Rattle.cm_world.specs.declared.event.Target.{Target}
 use Rattle.cm_world.specs.declared.event.Target.TheVariants.{Named, Inc}
 use Rattle.cm_command.specs.declared.tokens.WordFault.{WordFault}

@@ -11,12 +11,12 @@ use Rattle.cm_names.specs.declared.rights.Right.TheVariants.{Connect, Enumerate,
 use Rattle.cm_names.specs.declared.rights.RightsFault.{RightsFault}
 use Rattle.cm_names.specs.declared.rights.RightsFault.TheVariants.{RepeatedRight}
 use Rattle.cm_names.specs.Rights.{RightSet, only, union, reading, writing, executing, no_rights, index_of, rights_of_word, with_rights, with_word, rights_behind, rights_of, rights_if_faultless}
-use Rattle.cm_names.proofs.RightsLemmas.{rights_of_words}
+use Rattle.cm_names.proofs.sets.RightsLemmas.{rights_of_words}
 use Rattle.cm_command.specs.declared.tokens.WordFault.{WordFault}
 use Rattle.cm_command.specs.declared.tokens.WordFault.TheVariants.{Bad, Memory}
 use Rattle.cm_command.specs.Counts.{CountsFronts, IsWordFault, fault_behind}
 use Rattle.cm_command.specs.Words.{IsRightsText, IsUnused, right_words}
-use Rattle.cm_command.proofs.counts.KindLemmas.{Each, of_each, now_of, now_at, now_within, all_now, counts_same, counts_none, counts_either}
+use Rattle.cm_command.proofs.counts.KindLemmas.{Each, of_each, now_of, now_at, now_within, all_now, counts_same, counts_either}
 use Rattle.cm_command.proofs.line.Machine.{Leads, Wants, Says, IsMachine, BeginsWithPiece, pieces, word_says, more_says, counts_piece, counts_more}
 use Rattle.cm_command.proofs.bytes.Pieces.{Lacks}
 use Rattle.cm_command.proofs.written.WrittenLemmas.{lacks_by}
@@ -26,9 +26,6 @@ use Rattle.cm_command.proofs.written.WrittenLemmas.{lacks_by}
 -- one of the words that is none of the used ones
 abbrev pub IsLeft : List (List ℕ) → List (List ℕ) → List ℕ → Type 0
 IsLeft used ls t = Contains ls t × (list_any (bytes_eq t) used ≡ false)
-
-pub none_left : (used : List (List ℕ)) (w : List ℕ) → CountsFronts (IsLeft used []) w 0
-none_left used w = counts_none {P = IsLeft used []} w (λ t h. absurd (omega (arith, h.0.1)))
 
 one_more : (ls : List (List ℕ)) (i : ℕ) (t : List ℕ) → i < length ls → Contains (take i ls) t → Contains (take (i + 1) ls) t
 one_more ls i t lt h =

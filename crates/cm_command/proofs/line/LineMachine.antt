@@ -15,9 +15,9 @@ use Rattle.cm_names.specs.Name.{IsName, continues_name}
 use Rattle.cm_names.specs.Child.{in_collection}
 use Rattle.cm_names.specs.Moniker.{IsChild, IsMonikerTextOf}
 use Rattle.cm_names.specs.Rights.{RightSet, rights_of, rights_of_word, no_rights, union, reading}
-use Rattle.cm_names.proofs.Fronts.{onward}
-use Rattle.cm_names.proofs.MonikerGrammar.{moniker_accepted}
-use Rattle.cm_names.proofs.MonikerParts.{reads_one_way_lem as moniker_one_way}
+use Rattle.cm_names.proofs.fronts.Fronts.{onward}
+use Rattle.cm_names.proofs.fronts.MonikerGrammar.{moniker_accepted}
+use Rattle.cm_names.proofs.texts.MonikerParts.{reads_one_way_lem as moniker_one_way}
 use Rattle.cm_decl.specs.declared.kind.Kind.{Kind}
 use Rattle.cm_decl.specs.declared.kind.Kind.TheVariants as kind
 use Rattle.cm_decl.specs.declared.origin.Origin.{Origin}

@@ -1,13 +1,17 @@
 -- Lines of a verb, a target and perhaps one word more.
-use Rattle.std.proofs.Common.{◌≡◌, [], ◌∷◌, ◌++◌, ◌==◌, Option, Some, None, Result, Ok, Err, IfSome, IfOk, sym, ap, subst, ◌∙◌}
+use Rattle.std.proofs.Common.{◌≡◌, [], ◌∷◌, ◌++◌, ◌==◌, Option, Some, None, Result, Ok, Err, IfSome, IfOk, refl, sym, ap, subst, ◌∙◌}
 use Rattle.std.proofs.lemmas.List.Splits.{slice_split_none, slice_split_at}
-use Rattle.cm_world.specs.declared.event.Target.{Target}
 use Rattle.cm_command.specs.declared.command.Command.{Command}
+use Rattle.cm_command.specs.declared.place.Place.{Place}
+use Rattle.cm_command.specs.declared.place.Place.TheVariants as place
+use Rattle.cm_command.specs.declared.place.Sentence.TheVariants as sentence
 use Rattle.cm_command.specs.declared.place.Verb.{Verb}
-use Rattle.cm_command.specs.Words.{words_of, IsTargetText}
-use Rattle.cm_command.specs.Grammar.{Text, CommandText, CommandWords}
-use Rattle.cm_command.specs.Places.{verb_word}
+use Rattle.cm_command.specs.Words.{words_of}
+use Rattle.cm_command.specs.Grammar.{Text, CommandText}
+use Rattle.cm_command.specs.Pieces.{Leads}
+use Rattle.cm_command.specs.Places.{Steps, Ends, LeadsTo, verb_word}
 use Rattle.cm_command.proofs.bytes.Pieces.{Lacks, same}
+use Rattle.cm_command.proofs.line.LineWords.{commands, read}
 
 alone : (rest word : Text) → Lacks 32 word → rest ≡ word → words_of rest ≡ word ∷ []
 alone rest word clean e = ap words_of e ∙ slice_split_none (λ b. b == 32) word clean
@@ -15,28 +19,30 @@ alone rest word clean e = ap words_of e ∙ slice_split_none (λ b. b == 32) wor
 further : (rest word more : Text) → Lacks 32 word → rest ≡ word ++ 32 ∷ more → words_of rest ≡ word ∷ words_of more
 further rest word more clean e = ap words_of e ∙ slice_split_at (λ b. b == 32) word 32 more clean (same 32)
 
--- the target is the last word
-pub by_target : (v : Verb) (rest word : Text) (a : Target) (o : Option Command) → Lacks 32 word → rest ≡ word → IsTargetText word a → IfSome o (λ c. (t : Text) → IsTargetText t a → CommandWords (verb_word v ∷ t ∷ []) c) → IfSome o (λ c. CommandWords (verb_word v ∷ words_of rest) c)
-by_target v rest word a None clean e is it = tt
-by_target v rest word a (Some c) clean e is it =
-    subst (λ ws. CommandWords (verb_word v ∷ ws) c) (sym (alone rest word clean e)) (it word is)
+-- the word is the last one
+pub by_last : (p q : Place) (rest word : Text) (o : Option Command) → Lacks 32 word → rest ≡ word → Steps p word q → IfSome o (λ c. Ends q (sentence.Command c)) → IfSome o (LeadsTo p rest)
+by_last p q rest word None clean e st is = tt
+by_last p q rest word (Some c) clean e st is =
+    subst (λ ws. Leads Steps Ends p ws (sentence.Command c)) (sym (alone rest word clean e)) (q, st, is)
 
-path_by : (v : Verb) (rest word more last : Text) (a : Target) (o : Option Command) → Lacks 32 word → rest ≡ word ++ 32 ∷ more → Lacks 32 last → more ≡ last → IsTargetText word a → IfSome o (λ c. (t : Text) → IsTargetText t a → CommandWords (verb_word v ∷ t ∷ last ∷ []) c) → IfSome o (λ c. CommandWords (verb_word v ∷ words_of rest) c)
-path_by v rest word more last a None clean e pure f is it = tt
-path_by v rest word more last a (Some c) clean e pure f is it =
-    subst (λ ws. CommandWords (verb_word v ∷ ws) c) (sym (further rest word more clean e ∙ ap (λ ws. word ∷ ws) (alone more last pure f))) (it word is)
+more_by : (p q : Place) (rest word more : Text) (o : Option Command) → Lacks 32 word → rest ≡ word ++ 32 ∷ more → Steps p word q → IfSome o (LeadsTo q more) → IfSome o (LeadsTo p rest)
+more_by p q rest word more None clean e st is = tt
+more_by p q rest word more (Some c) clean e st is =
+    subst (λ ws. Leads Steps Ends p ws (sentence.Command c)) (sym (further rest word more clean e)) (q, st, is)
 
--- one word stands behind the target
-pub by_path : {E : Type 0} (v : Verb) (rest word more last : Text) (a : Target) (r : Result (Option Command) E) → Lacks 32 word → rest ≡ word ++ 32 ∷ more → Lacks 32 last → more ≡ last → IsTargetText word a → IfOk r (λ o. IfSome o (λ c. (t : Text) → IsTargetText t a → CommandWords (verb_word v ∷ t ∷ last ∷ []) c)) → IfOk r (λ o. IfSome o (λ c. CommandWords (verb_word v ∷ words_of rest) c))
-by_path v rest word more last a (Ok o) clean e pure f is it = path_by v rest word more last a o clean e pure f is it
-by_path v rest word more last a (Err x) clean e pure f is it = it
+-- words stand behind it
+pub by_more : {E : Type 0} (p q : Place) (rest word more : Text) (r : Result (Option Command) E) → Lacks 32 word → rest ≡ word ++ 32 ∷ more → Steps p word q → IfOk r (λ o. IfSome o (LeadsTo q more)) → IfOk r (λ o. IfSome o (LeadsTo p rest))
+by_more p q rest word more (Ok o) clean e st is = more_by p q rest word more o clean e st is
+by_more p q rest word more (Err x) clean e st is = is
 
-verb_by : (v : Verb) (line word rest : Text) (o : Option Command) → Lacks 32 word → line ≡ word ++ 32 ∷ rest → word ≡ verb_word v → IfSome o (λ c. CommandWords (verb_word v ∷ words_of rest) c) → IfSome o (CommandText line)
-verb_by v line word rest None clean e is it = tt
-verb_by v line word rest (Some c) clean e is it =
-    subst (λ ws. CommandWords ws c) (sym (further line word rest clean e ∙ ap (λ w. w ∷ words_of rest) is)) it
+asked : (line : Text) (o : Option Command) → IfSome o (LeadsTo place.Start line) → IfSome o (CommandText line)
+asked line None is = tt
+asked line (Some c) is = read commands line (sentence.Command c) c refl is
+
+by_start : {E : Type 0} (line : Text) (r : Result (Option Command) E) → IfOk r (λ o. IfSome o (LeadsTo place.Start line)) → IfOk r (λ o. IfSome o (CommandText line))
+by_start line (Ok o) is = asked line o is
+by_start line (Err x) is = is
 
 -- a verb stands before the rest
-pub by_verb : {E : Type 0} (v : Verb) (line word rest : Text) (r : Result (Option Command) E) → Lacks 32 word → line ≡ word ++ 32 ∷ rest → word ≡ verb_word v → IfOk r (λ o. IfSome o (λ c. CommandWords (verb_word v ∷ words_of rest) c)) → IfOk r (λ o. IfSome o (CommandText line))
-by_verb v line word rest (Ok o) clean e is it = verb_by v line word rest o clean e is it
-by_verb v line word rest (Err x) clean e is it = it
+pub by_verb : {E : Type 0} (v : Verb) (line word rest : Text) (r : Result (Option Command) E) → Lacks 32 word → line ≡ word ++ 32 ∷ rest → word ≡ verb_word v → IfOk r (λ o. IfSome o (LeadsTo (place.Verb v) rest)) → IfOk r (λ o. IfSome o (CommandText line))
+by_verb v line word rest r clean e it is = by_start line r (by_more place.Start (place.Verb v) line word rest r clean e (v, it, refl) is)

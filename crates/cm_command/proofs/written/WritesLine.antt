@@ -11,7 +11,7 @@ use Rattle.cm_names.specs.declared.dependency.Dependency.{Dependency}
 use Rattle.cm_names.specs.declared.dependency.Dependency.TheVariants as dependency
 use Rattle.cm_names.specs.Name.{IsName}
 use Rattle.cm_names.specs.Rights.{RightSet, text_of}
-use Rattle.cm_names.proofs.MonikerParts.{writes_its_text_lem}
+use Rattle.cm_names.proofs.texts.MonikerParts.{writes_its_text_lem}
 use Rattle.cm_decl.specs.declared.kind.Kind.{Kind}
 use Rattle.cm_decl.specs.declared.kind.Kind.TheVariants as kind
 use Rattle.cm_decl.specs.declared.origin.Origin.{Origin}

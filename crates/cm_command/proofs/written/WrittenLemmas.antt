@@ -12,15 +12,16 @@ use Rattle.cm_names.specs.Name.{IsName, continues_name}
 use Rattle.cm_names.specs.Child.{child_text}
 use Rattle.cm_names.specs.Moniker.{IsChild, IsMonikerTextOf}
 use Rattle.cm_names.specs.MonikerPlaces.{next, may_end}
-use Rattle.cm_names.proofs.Fronts.{Accepts, onward}
-use Rattle.cm_names.proofs.MonikerGrammar.{moniker_accepted, not_at, begins_continues}
+use Rattle.cm_names.proofs.fronts.Fronts.{Accepts, onward}
+use Rattle.cm_names.proofs.fronts.MonikerGrammar.{moniker_accepted, not_at}
+use Rattle.cm_names.proofs.texts.NameLemmas.{begins_continues}
 use Rattle.std.proofs.lemmas.Bool.{and_parts}
 use Rattle.std.proofs.lemmas.List.Splits.{join_with_byte-slice_split}
 use Rattle.cm_names.specs.Path.{is_path, is_subdir, is_relative, is_part, is_part_byte, is_slash, is_dots}
 use Rattle.cm_names.specs.declared.rights.Right.{Right}
 use Rattle.cm_names.specs.declared.rights.Right.TheVariants.{Connect, Enumerate, Execute, GetAttributes, ModifyDirectory, ReadBytes, Traverse, UpdateAttributes, WriteBytes}
 use Rattle.cm_names.specs.Rights.{RightSet, text_of, words_of, word_of, has, all_rights, no_rights, rights_of}
-use Rattle.cm_names.proofs.WordLemmas.{words_are_read_back_lem}
+use Rattle.cm_names.proofs.sets.WordLemmas.{words_are_read_back_lem}
 use Rattle.cm_command.specs.Words.{IsRightsText}
 use Rattle.cm_command.proofs.bytes.Pieces.{Lacks, same}
 

@@ -18,7 +18,7 @@ use Rattle.cm_decl.specs.declared.origin.Origin.TheVariants as origin
 use Rattle.cm_decl.specs.Same.{same_node}
 use Rattle.cm_decl.specs.Realm.{Directly}
 use Rattle.cm_decl.specs.Graph.{is_node, is_from_node, realm, DependsOn, WouldDirectly, WouldDepend}
-use Rattle.cm_decl.proofs.Orders.{direct_nodes}
+use Rattle.cm_decl.proofs.orders.Orders.{direct_nodes}
 use Rattle.cm_decl.proofs.Sameness.{and_first, and_second, or_split, same_node-refl, same_node_exact}
 use Rattle.cm_deps.specs.Edges.{holds, row}
 use Rattle.cm_deps.specs.Nodes.{at, IsNodes, IsNumber}

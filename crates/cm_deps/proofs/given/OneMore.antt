@@ -3,7 +3,7 @@ use Rattle.std.specs.Prelude.{map, unwrap_or, ◌↔◌}
 use Rattle.std.specs.List.{list_any}
 use Rattle.std.proofs.lemmas.List.{map-append}
 use Rattle.std.proofs.lemmas.List.Folds.{list_any-append}
-use Rattle.std.proofs.lemmas.Bool.{and_from as and_pair}
+use Rattle.std.proofs.lemmas.Bool.{and_from as and_pair, or_parts}
 use Rattle.cm_names.specs.declared.child.ChildName.{ChildName}
 use Rattle.cm_decl.specs.declared.decl.Decl.{Decl}
 use Rattle.cm_decl.specs.declared.node.DynChild.{DynChild}
@@ -13,17 +13,13 @@ use Rattle.cm_decl.specs.Same.{same_node, same_child}
 use Rattle.cm_decl.specs.Realm.{Realm, Directly}
 use Rattle.cm_decl.specs.Reach.{Reaches, NoCycle}
 use Rattle.cm_decl.specs.Graph.{is_node, nodes, static_node, dynamic_node, is_from_node, sources_of, child_sources, gives_of, offers_to, realm, StrongOn, DependsOn, WouldDirectly, WouldDepend}
-use Rattle.cm_decl.proofs.Orders.{edge_nodes}
+use Rattle.cm_decl.proofs.orders.Orders.{edge_nodes}
 use Rattle.cm_decl.proofs.Sameness.{and_first, and_second, or_split, same_node-refl, same_node_exact}
 use Rattle.cm_deps.specs.Laws.{IsFurther}
 use Rattle.cm_deps.specs.Sources.{strong_sources, offers_of}
 use Rattle.cm_deps.proofs.listed.Listing.{or_left, or_right}
 use Rattle.cm_deps.proofs.loops.Ways.{Way-map, Reaches-along, last_step}
 use Rattle.cm_deps.proofs.given.Sourcing.{given_other, given_same, sources_append}
-
-or_right_false : (p q : Bool) → (p || q) ≡ false → q ≡ false
-or_right_false true q e = absurd (true≢false e)
-or_right_false false q e = e
 
 -- the nodes, with one more
 more_nodes : (d : Decl) (dynamic : List DynChild) (k : DynChild) (x : Node) → is_node d (dynamic ++ k ∷ []) x ≡ (is_node d dynamic x || (same_node (Child k.name) x || false))
@@ -127,7 +123,7 @@ direct_new d dynamic collection k is acyclic x y (inr implied) = inr (record {
 
 none_given : (dynamic : List DynChild) (c : ChildName) → list_any (λ y. same_node y (Child c)) (map dynamic_node dynamic) ≡ false → gives_of dynamic c ≡ []
 none_given [] c none = refl
-none_given (h ∷ hs) c none = by (same_child h.name c) refl (none_given hs c (or_right_false (same_child h.name c) (list_any (λ y. same_node y (Child c)) (map dynamic_node hs)) none))
+none_given (h ∷ hs) c none = by (same_child h.name c) refl (none_given hs c (or_parts (same_child h.name c) (list_any (λ y. same_node y (Child c)) (map dynamic_node hs)) none).1)
   where
     by : (b : Bool) → same_child h.name c ≡ b → gives_of hs c ≡ [] → gives_of (h ∷ hs) c ≡ []
     by true e later = absurd (let never : true ≡ false = rw e at none in true≢false never)
@@ -135,7 +131,7 @@ none_given (h ∷ hs) c none = by (same_child h.name c) refl (none_given hs c (o
 
 its_sources : (d : Decl) (dynamic : List DynChild) (collection : List ℕ) (k : DynChild) → IsFurther d dynamic collection k → sources_of d (dynamic ++ k ∷ []) (Child k.name) ≡ child_sources d (record { coll = Some collection; name = [] }) k.gives
 its_sources d dynamic collection k is =
-    let none : gives_of dynamic k.name ≡ [] = none_given dynamic k.name (or_right_false (list_any (λ y. same_node y (Child k.name)) (Own ∷ map static_node d.children)) (list_any (λ y. same_node y (Child k.name)) (map dynamic_node dynamic)) (sym (list_any-append (λ y. same_node y (Child k.name)) (Own ∷ map static_node d.children) (map dynamic_node dynamic)) ∙ is.new)) in
+    let none : gives_of dynamic k.name ≡ [] = none_given dynamic k.name (or_parts (list_any (λ y. same_node y (Child k.name)) (Own ∷ map static_node d.children)) (list_any (λ y. same_node y (Child k.name)) (map dynamic_node dynamic)) (sym (list_any-append (λ y. same_node y (Child k.name)) (Own ∷ map static_node d.children) (map dynamic_node dynamic)) ∙ is.new)).1 in
     given_same d dynamic k ∙
     ap (λ l. strong_sources (offers_to d k.name ++ l) ++ strong_sources k.gives) none ∙
     ap (λ l. strong_sources l ++ strong_sources k.gives) (append-nil (offers_to d k.name)) ∙

@@ -1,7 +1,6 @@
 use Rattle.std.proofs.Common.{◌≡◌, ℕ, ◌<◌, List, [], ◌∷◌, ◌++◌, length, Bool, take, ◌+◌, ap, sym, ◌∙◌, subst, IsTrue, inl, inr, arith, get_or, nat_eq}
 use Rattle.std.specs.Prelude.{map}
 use Rattle.std.proofs.lemmas.List.{take_more, map-append}
-use Rattle.std.proofs.lemmas.Option.{slice_get-get_or}
 use Rattle.cm_decl.specs.declared.decl.Decl.{Decl}
 use Rattle.cm_decl.specs.declared.node.DynChild.{DynChild}
 use Rattle.cm_decl.specs.declared.node.Node.{Node}
@@ -9,7 +8,7 @@ use Rattle.cm_decl.specs.Graph.{is_node, is_strong_edge, realm, StrongOn, IsOrde
 use Rattle.cm_decl.specs.Realm.{Directly}
 use Rattle.cm_decl.specs.Reach.{NoCycle}
 use Rattle.cm_decl.specs.Cycle.{IsPickedCycle}
-use Rattle.cm_decl.proofs.Orders as orders
+use Rattle.cm_decl.proofs.orders.Orders as orders
 use Rattle.cm_decl.proofs.Sameness.{or_split}
 use Rattle.cm_deps.specs.Edges.{holds, IsBelow}
 use Rattle.cm_deps.specs.Ring.{Leads, IsRing}
@@ -23,7 +22,7 @@ use Rattle.cm_deps.proofs.listed.Listing.{same_nat}
 use Rattle.cm_deps.proofs.loops.Ways.{Way-inside, Reaches-along}
 use Rattle.cm_deps.proofs.numbers.Numbering.{number_once, way_inside, ring_picked}
 use Rattle.cm_deps.proofs.numbers.Rising.{rising_keys}
-use Rattle.cm_deps.proofs.listed.Falling.{IsRealmOf, falling_order, held_of}
+use Rattle.cm_deps.proofs.listed.Falling.{IsRealmOf, falling_order}
 use Rattle.cm_deps.proofs.numbers.Depending.{IsDirect, direct_full, direct_strong, ring_cycle, reach_depends, depends_reach}
 use Rattle.cm_deps.proofs.numbers.Realms.{realm_of}
 
@@ -98,6 +97,3 @@ ordered_acyclic d dynamic order is (x, way) =
 -- one node more of these numbers
 pub nodes_more : (nodes : List Node) (numbers : List ℕ) (i : ℕ) → i < length numbers → map (at nodes) (take (i + 1) numbers) ≡ map (at nodes) (take i numbers) ++ at nodes (get_or numbers i 0) ∷ []
 nodes_more nodes numbers i low = ap (map (at nodes)) (take_more numbers i 0 low) ∙ map-append (at nodes) (take i numbers) (get_or numbers i 0 ∷ [])
-
-pub number_held : (numbers : List ℕ) (i : ℕ) → i < length numbers → IsTrue (holds numbers (get_or numbers i 0))
-number_held numbers i low = held_of numbers i (get_or numbers i 0) (slice_get-get_or numbers i 0 low)

@@ -3,6 +3,8 @@ use Rattle.std.specs.Prelude.{map, filter, nat_lt}
 use Rattle.std.specs.List.{list_any, AllByRecursion}
 use Rattle.std.specs.List.Sorted.{IsStrictlySortedBy}
 use Rattle.std.specs.Ordering.{ordering_reverse}
+use Rattle.std.specs.Cmp.{both_ways}
+use Rattle.std.proofs.Math.Bool.{and-false, or_self_left}
 use Rattle.std.proofs.lemmas.Bool.{cases_lt}
 use Rattle.std.proofs.lemmas.List.{length-map, get_or-map}
 use Rattle.std.proofs.lemmas.Map.Keys.{sorted_tail}
@@ -16,7 +18,7 @@ use Rattle.cm_decl.specs.NodeOrder.{node_cmp, node_cmp_total}
 use Rattle.cm_decl.specs.Reach.{NoCycle}
 use Rattle.cm_decl.specs.Cycle.{IsPickedCycle}
 use Rattle.cm_decl.specs.Graph.{nodes, is_node, is_from_node, sources_of, is_strong_edge, realm, StrongOn}
-use Rattle.cm_decl.proofs.Comparing.{node_cmp_exact}
+use Rattle.cm_decl.proofs.orders.Comparing.{node_cmp_exact}
 use Rattle.cm_decl.proofs.Sameness.{same_node-refl, same_node_exact, or_split}
 use Rattle.cm_deps.specs.Edges.{holds, IsPeeled}
 use Rattle.cm_deps.specs.Nodes.{at, IsRising, IsNodes}
@@ -25,7 +27,7 @@ use Rattle.cm_deps.proofs.listed.Listing.{same_nat, nat_eq-refl, or_left, or_rig
 use Rattle.cm_deps.proofs.numbers.Numbering.{ring_picked}
 use Rattle.cm_deps.proofs.listed.Falling.{IsRealmOf}
 use Rattle.cm_deps.proofs.numbers.Depending.{listed_acyclic}
-use Rattle.cm_deps.proofs.numbers.Placing.{bool_same, any_alike}
+use Rattle.cm_deps.proofs.numbers.Placing.{any_alike}
 use Rattle.cm_deps.proofs.numbers.Realms.{realm_of}
 use Rattle.cm_deps.proofs.numbers.Existing.{below, can_be_peeled, has_ring}
 
@@ -42,10 +44,6 @@ record Put (ks : List Node) (k : Node) : Type 0 where
   rising : IsRising keys
   all : (x : Node) → list_any (same_node x) keys ≡ (same_node x k || list_any (same_node x) ks)
   above : (y : Node) → node_cmp y k ≡ Less → AllByRecursion (λ z. node_cmp y z ≡ Less) ks → AllByRecursion (λ z. node_cmp y z ≡ Less) keys
-
-or_twice : (p q : Bool) → (p || q) ≡ (p || (p || q))
-or_twice true q = refl
-or_twice false q = refl
 
 or_swap : (p q r : Bool) → (p || (q || r)) ≡ (q || (p || r))
 or_swap true true r = refl
@@ -67,7 +65,7 @@ put (x ∷ xs) rising k = by (node_cmp k x) refl (put xs (sorted_tail node_cmp x
     by Equal e rest = record {
       keys = x ∷ xs;
       rising = rising;
-      all = λ y. or_twice (same_node y x) (list_any (same_node y) xs) ∙ ap (λ v. same_node y v || (same_node y x || list_any (same_node y) xs)) (sym (node_cmp_exact k x e));
+      all = λ y. sym (or_self_left (same_node y x) (list_any (same_node y) xs)) ∙ ap (λ v. same_node y v || (same_node y x || list_any (same_node y) xs)) (sym (node_cmp_exact k x e));
       above = λ y less all. all;
     }
     by Greater e rest =
@@ -89,7 +87,7 @@ sorted (y ∷ ys) =
     (more.keys, more.rising, λ x. more.all x ∙ ap (λ v. same_node x y || v) (rest.2 x))
 
 same_turned : (x y : Node) → same_node x y ≡ same_node y x
-same_turned x y = bool_same (same_node x y) (same_node y x)
+same_turned x y = both_ways (same_node x y) (same_node y x)
     (λ h. subst (λ v. IsTrue (same_node v x)) (same_node_exact x y h) (same_node-refl x))
     (λ h. subst (λ v. IsTrue (same_node v y)) (same_node_exact y x h) (same_node-refl y))
 
@@ -101,8 +99,8 @@ nodes_of d dynamic =
 -- ---- their edges
 
 holds_below : (n j : ℕ) → holds (below n) j ≡ nat_lt j n
-holds_below zero j = bool_same false (nat_lt j 0) (λ h. absurd (true≢false (sym h))) (λ h. absurd (let low : j < 0 = ltb-true j 0 h in omega arith))
-holds_below (suc n) j = holds_push (below n) n j ∙ ap (λ b. b || nat_eq j n) (holds_below n j) ∙ bool_same (nat_lt j n || nat_eq j n) (nat_lt j (suc n))
+holds_below zero j = both_ways false (nat_lt j 0) (λ h. absurd (true≢false (sym h))) (λ h. absurd (let low : j < 0 = ltb-true j 0 h in omega arith))
+holds_below (suc n) j = holds_push (below n) n j ∙ ap (λ b. b || nat_eq j n) (holds_below n j) ∙ both_ways (nat_lt j n || nat_eq j n) (nat_lt j (suc n))
     (λ h. elim (or_split (nat_lt j n) (nat_eq j n) h) as (λ _. IsTrue (nat_lt j (suc n))) [
       | inl low ↦ lt-ltb j (suc n) (let before : j < n = ltb-true j n low in omega arith)
       | inr same ↦ lt-ltb j (suc n) (let here : j ≡ n = same_nat j n same in omega arith)
@@ -113,10 +111,6 @@ holds_below (suc n) j = holds_push (below n) n j ∙ ap (λ b. b || nat_eq j n) 
       | inr from ↦ (let here : j ≡ n = omega arith in or_right (nat_lt j n) (nat_eq j n) (subst (λ v. IsTrue (nat_eq j v)) here (nat_eq-refl j)))
     ]))
 
-and_none : (p : Bool) → (p && false) ≡ false
-and_none true = refl
-and_none false = refl
-
 holds_filter : (p : ℕ → Bool) (xs : List ℕ) (j : ℕ) → holds (filter p xs) j ≡ (holds xs j && p j)
 holds_filter p [] j = refl
 holds_filter p (x ∷ xs) j = by (p x) refl (nat_eq j x) refl (holds_filter p xs j)
@@ -124,7 +118,7 @@ holds_filter p (x ∷ xs) j = by (p x) refl (nat_eq j x) refl (holds_filter p xs
     by : (b : Bool) → p x ≡ b → (e : Bool) → nat_eq j x ≡ e → holds (filter p xs) j ≡ (holds xs j && p j) → holds (filter p (x ∷ xs)) j ≡ (holds (x ∷ xs) j && p j)
     by true f true e later = rw (f, e) (sym (ap p (same_nat j x e) ∙ f))
     by true f false e later = rw (f, e) later
-    by false f true e later = let fails : p j ≡ false = ap p (same_nat j x e) ∙ f in rw (f, e, fails) (later ∙ ap (λ v. holds xs j && v) fails ∙ and_none (holds xs j))
+    by false f true e later = let fails : p j ≡ false = ap p (same_nat j x e) ∙ f in rw (f, e, fails) (later ∙ ap (λ v. holds xs j && v) fails ∙ and-false (holds xs j))
     by false f false e later = rw (f, e) later
 
 edges_of : (d : Decl) (dynamic : List DynChild) (ks : List Node) → (rows : List (List ℕ)) × IsEdges d dynamic ks rows

@@ -2,6 +2,8 @@ use Rattle.std.proofs.Common.{◌≡◌, ℕ, ◌+◌, ◌<◌, ◌≤◌, List,
 use Rattle.std.specs.Prelude.{map, filter, flat_map, nat_lt, OnOk, IfOk, if◌then◌else◌}
 use Rattle.std.specs.List.{list_any}
 use Rattle.std.specs.Option.{option_eq}
+use Rattle.std.specs.Cmp.{both_ways}
+use Rattle.std.proofs.Math.Bool.{and-false, or-false, or_assoc, and-or_distrib_left}
 use Rattle.std.proofs.lemmas.Bool.{cases_lt}
 use Rattle.std.proofs.lemmas.List.{take_all, take_more, get_or_append_left, length-set}
 use Rattle.std.proofs.lemmas.List.Folds.{list_any_more, list_any-append}
@@ -28,18 +30,14 @@ use Rattle.cm_deps.specs.Sources.{is_source, Lists, ListsMore, IsEdges, strong_s
 use Rattle.cm_deps.proofs.listed.Listing.{same_nat, nat_eq-refl, holds_push}
 use Rattle.cm_deps.proofs.numbers.Numbering.{number_once}
 use Rattle.cm_deps.proofs.numbers.Rising.{rising_keys}
-use Rattle.cm_deps.proofs.numbers.Placing.{bool_same, at_found}
-
-or_false : (p : Bool) → p ≡ (p || false)
-or_false true = refl
-or_false false = refl
+use Rattle.cm_deps.proofs.numbers.Placing.{at_found}
 
 -- ---- one source
 
 -- a source that is a node
 pub source_node : (nodes : List Node) (source : Origin) (x : Node) → node_of source ≡ Some x → (j : ℕ) → is_source nodes (source ∷ []) j ≡ (nat_lt j (length nodes) && same_node x (at nodes j))
 source_node nodes source x some j =
-    ap (λ o. nat_lt j (length nodes) && (option_eq same_node o (Some (at nodes j)) || false)) some ∙ ap (λ v. nat_lt j (length nodes) && v) (sym (or_false (same_node x (at nodes j))))
+    ap (λ o. nat_lt j (length nodes) && (option_eq same_node o (Some (at nodes j)) || false)) some ∙ ap (λ v. nat_lt j (length nodes) && v) (or-false (same_node x (at nodes j)))
 
 -- a node that isn't one of these has no number among them
 pub source_absent : (nodes : List Node) (source : Origin) (x : Node) → node_of source ≡ Some x → list_any (same_node x) nodes ≡ false → (j : ℕ) → is_source nodes (source ∷ []) j ≡ false
@@ -54,7 +52,7 @@ source_absent nodes source x some absent j = source_node nodes source x some j �
 
 -- one that is has one number
 pub source_number : (nodes : List Node) (source : Origin) (x : Node) (i : ℕ) → IsRising nodes → node_of source ≡ Some x → IsNumber nodes x i → (j : ℕ) → nat_eq j i ≡ is_source nodes (source ∷ []) j
-source_number nodes source x i rising some is j = bool_same (nat_eq j i) (nat_lt j (length nodes) && same_node x (at nodes j))
+source_number nodes source x i rising some is j = both_ways (nat_eq j i) (nat_lt j (length nodes) && same_node x (at nodes j))
     (λ h. subst (λ k. IsTrue (nat_lt k (length nodes) && same_node x (at nodes k))) (sym (same_nat j i h))
     (and_pair (nat_lt i (length nodes)) (same_node x (at nodes i)) (lt-ltb i (length nodes) is.inside) (subst (λ v. IsTrue (same_node x v)) (sym is.there) (same_node-refl x))))
     (λ h. (let low : j < length nodes = ltb-true j (length nodes) (and_first (nat_lt j (length nodes)) (same_node x (at nodes j)) h) in
@@ -63,7 +61,7 @@ source_number nodes source x i rising some is j = bool_same (nat_eq j i) (nat_lt
     subst (λ k. IsTrue (nat_eq j k)) one (nat_eq-refl j))) ∙ sym (source_node nodes source x some j)
 
 pub added_none : (nodes : List Node) (source : Origin) (old : List ℕ) → ((j : ℕ) → is_source nodes (source ∷ []) j ≡ false) → ListsMore nodes (source ∷ []) old old
-added_none nodes source old none j = or_false (holds old j) ∙ ap (λ v. holds old j || v) (sym (none j))
+added_none nodes source old none j = sym (or-false (holds old j)) ∙ ap (λ v. holds old j || v) (sym (none j))
 
 pub added_number : (nodes : List Node) (source : Origin) (x : Node) (i : ℕ) (old new : List ℕ) → IsRising nodes → node_of source ≡ Some x → IsNumber nodes x i → new ≡ old ++ i ∷ [] → ListsMore nodes (source ∷ []) old new
 added_number nodes source x i old new rising some is pushed j =
@@ -71,17 +69,9 @@ added_number nodes source x i old new rising some is pushed j =
 
 -- ---- the sources of rows
 
-and_or : (p q r : Bool) → (p && (q || r)) ≡ ((p && q) || (p && r))
-and_or true q r = refl
-and_or false q r = refl
-
-or_group : (p q r : Bool) → ((p || q) || r) ≡ (p || (q || r))
-or_group true q r = refl
-or_group false q r = refl
-
 pub source_append : (nodes : List Node) (xs ys : List Origin) (j : ℕ) → is_source nodes (xs ++ ys) j ≡ (is_source nodes xs j || is_source nodes ys j)
 source_append nodes xs ys j =
-    ap (λ v. nat_lt j (length nodes) && v) (list_any-append (is_from_node (at nodes j)) xs ys) ∙ and_or (nat_lt j (length nodes)) (list_any (is_from_node (at nodes j)) xs) (list_any (is_from_node (at nodes j)) ys)
+    ap (λ v. nat_lt j (length nodes) && v) (list_any-append (is_from_node (at nodes j)) xs ys) ∙ and-or_distrib_left (nat_lt j (length nodes)) (list_any (is_from_node (at nodes j)) xs) (list_any (is_from_node (at nodes j)) ys)
 
 -- the sources of the rows that pass
 abbrev pub passing : {A : Type 0} → (A → Bool) → (A → Origin) → List A → List Origin
@@ -103,30 +93,26 @@ passing_more passes source nodes rows i r low here j =
     list_any_more (λ r. passes r && is_from_node (at nodes j) (source r)) rows i r low ∙
     ap (λ x. list_any (λ r. passes r && is_from_node (at nodes j) (source r)) (take i rows) || (passes x && is_from_node (at nodes j) (source x))) (sym here) ∙
     ap (λ v. v || (passes r && is_from_node (at nodes j) (source r))) (sym (passing_any passes source (is_from_node (at nodes j)) (take i rows)))
-    ) ∙ and_or (nat_lt j (length nodes)) (list_any (is_from_node (at nodes j)) (passing passes source (take i rows))) (passes r && is_from_node (at nodes j) (source r))
+    ) ∙ and-or_distrib_left (nat_lt j (length nodes)) (list_any (is_from_node (at nodes j)) (passing passes source (take i rows))) (passes r && is_from_node (at nodes j) (source r))
 
 pub more_passes : {A : Type 0} (passes : A → Bool) (source : A → Origin) (nodes : List Node) (rows : List A) (i : ℕ) (r : A) (first old new : List ℕ) → i < length rows → r ≡ get_or rows i r → passes r ≡ true → ListsMore nodes (passing passes source (take i rows)) first old → ListsMore nodes (source r ∷ []) old new → ListsMore nodes (passing passes source (take (i + 1) rows)) first new
 more_passes passes source nodes rows i r first old new low here pass so_far step j =
-    step j ∙ ap (λ v. v || is_source nodes (source r ∷ []) j) (so_far j) ∙ or_group (holds first j) (is_source nodes (passing passes source (take i rows)) j) (is_source nodes (source r ∷ []) j) ∙
+    step j ∙ ap (λ v. v || is_source nodes (source r ∷ []) j) (so_far j) ∙ or_assoc (holds first j) (is_source nodes (passing passes source (take i rows)) j) (is_source nodes (source r ∷ []) j) ∙
     ap (λ v. holds first j || v) (
-    ap (λ v. is_source nodes (passing passes source (take i rows)) j || (nat_lt j (length nodes) && v)) (sym (or_false (is_from_node (at nodes j) (source r))) ∙ ap (λ b. b && is_from_node (at nodes j) (source r)) (sym pass)) ∙
+    ap (λ v. is_source nodes (passing passes source (take i rows)) j || (nat_lt j (length nodes) && v)) (or-false (is_from_node (at nodes j) (source r)) ∙ ap (λ b. b && is_from_node (at nodes j) (source r)) (sym pass)) ∙
     sym (passing_more passes source nodes rows i r low here j)
     )
-
-and_false : (p : Bool) → (p && false) ≡ false
-and_false true = refl
-and_false false = refl
 
 pub more_fails : {A : Type 0} (passes : A → Bool) (source : A → Origin) (nodes : List Node) (rows : List A) (i : ℕ) (r : A) (first old : List ℕ) → i < length rows → r ≡ get_or rows i r → passes r ≡ false → ListsMore nodes (passing passes source (take i rows)) first old → ListsMore nodes (passing passes source (take (i + 1) rows)) first old
 more_fails passes source nodes rows i r first old low here fail so_far j =
     so_far j ∙ ap (λ v. holds first j || v) (
-    or_false (is_source nodes (passing passes source (take i rows)) j) ∙
-    ap (λ v. is_source nodes (passing passes source (take i rows)) j || v) (sym (and_false (nat_lt j (length nodes))) ∙ ap (λ b. nat_lt j (length nodes) && (b && is_from_node (at nodes j) (source r))) (sym fail)) ∙
+    sym (or-false (is_source nodes (passing passes source (take i rows)) j)) ∙
+    ap (λ v. is_source nodes (passing passes source (take i rows)) j || v) (sym (and-false (nat_lt j (length nodes))) ∙ ap (λ b. nat_lt j (length nodes) && (b && is_from_node (at nodes j) (source r))) (sym fail)) ∙
     sym (passing_more passes source nodes rows i r low here j)
     )
 
 pub more_none : (nodes : List Node) (first : List ℕ) → ListsMore nodes [] first first
-more_none nodes first j = or_false (holds first j) ∙ ap (λ v. holds first j || v) (sym (and_false (nat_lt j (length nodes))))
+more_none nodes first j = sym (or-false (holds first j)) ∙ ap (λ v. holds first j || v) (sym (and-false (nat_lt j (length nodes))))
 
 pub more_all : {A : Type 0} (passes : A → Bool) (source : A → Origin) (nodes : List Node) (rows : List A) (i : ℕ) (first new : List ℕ) → length rows ≤ i → ListsMore nodes (passing passes source (take i rows)) first new → ListsMore nodes (passing passes source rows) first new
 more_all passes source nodes rows i first new low so_far = subst (λ l. ListsMore nodes (passing passes source l) first new) (take_all i rows low) so_far

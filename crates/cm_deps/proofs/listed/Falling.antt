@@ -1,21 +1,21 @@
 use Rattle.std.proofs.Common.{◌≡◌, ℕ, zero, suc, ◌<◌, List, [], ◌∷◌, length, Bool, true, false, not, ◌&&◌, ◌||◌, true≢false, Some, refl, sym, ◌∙◌, ap, subst, IsTrue, inl, inr, arith, nat_eq}
 use Rattle.std.specs.Prelude.{map, filter, slice_get, if◌then◌else◌}
 use Rattle.std.proofs.lemmas.List.Sums.{length-filter}
-use Rattle.std.proofs.lemmas.Bool.{and_from, not_from_false}
+use Rattle.std.proofs.lemmas.Bool.{and_from, not-true, not_from_false}
 use Rattle.cm_decl.specs.declared.node.Node.{Node}
 use Rattle.cm_decl.specs.Same.{same_node}
 use Rattle.cm_decl.specs.Reach.{Way, Reaches}
 use Rattle.cm_decl.specs.Realm.{Realm, Strong, Directly}
 use Rattle.cm_decl.specs.Graph.{IsOrder}
 use Rattle.cm_decl.proofs.Sameness.{and_first, and_second, or_split, same_node-refl, same_node_exact}
-use Rattle.cm_decl.proofs.Reaching.{Reaches-trans}
+use Rattle.cm_decl.proofs.cycles.Reaching.{Reaches-trans}
 use Rattle.cm_deps.specs.Edges.{holds, On, IsBelow, IsGrown, IsPeeled, IsReach, Waits}
 use Rattle.cm_deps.specs.Ring.{Once}
 use Rattle.cm_deps.specs.Implied.{IsFull, IsFalling}
 use Rattle.cm_deps.proofs.listed.Listing.{same_nat, nat_eq-refl, or_left, or_right}
 use Rattle.cm_deps.proofs.loops.Cores.{listed_unsupported, held_at}
 use Rattle.cm_deps.proofs.loops.Ways.{Way-map}
-use Rattle.cm_deps.proofs.numbers.Numbering.{at, IsNumbered, number_once, edge_at, not_false}
+use Rattle.cm_deps.proofs.numbers.Numbering.{at, IsNumbered, number_once, edge_at}
 
 -- where all are listed by the strong edges, they are by all edges
 pub full_listed : (after : List (List ℕ)) (reached : List ℕ) (full : List (List ℕ)) (first order : List ℕ) → 0 < length after → IsBelow after (length after) → IsReach after 0 reached → IsFull after reached full → IsGrown after first → ((x : ℕ) → x < length after → IsTrue (holds first x)) → IsPeeled full order → (x : ℕ) → x < length after → IsTrue (holds order x)
@@ -29,7 +29,7 @@ full_listed after reached full first order some below reach is grown all peeled 
     onward : (i : ℕ) → IsTrue (holds first i && not (holds order i)) → (y : ℕ) × On full i y × (holds order y ≡ false)
     onward i is_left =
         let low : i < length after = listed_low i (and_first (holds first i) (not (holds order i)) is_left) in
-        let waits : Waits full order i = peeled.rest i (omega (arith, is.size)) (not_false (holds order i) (and_second (holds first i) (not (holds order i)) is_left)) in
+        let waits : Waits full order i = peeled.rest i (omega (arith, is.size)) (not-true (holds order i) (and_second (holds first i) (not (holds order i)) is_left)) in
         (waits.0, waits.1, waits.2)
 
     stays : (i y : ℕ) → On after i y → holds order y ≡ false → IsTrue (holds first y && not (holds order y))

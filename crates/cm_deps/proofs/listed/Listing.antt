@@ -5,21 +5,14 @@ use Rattle.std.specs.List.{list_any, list_all}
 use Rattle.std.proofs.lemmas.List.Folds.{list_any-append}
 use Rattle.std.proofs.lemmas.Option.{slice_get_within}
 use Rattle.std.proofs.lemmas.List.{append-nil, append_assoc, take_more, length-append, length-set, take-append-le, take_all, get_or-set_same, get_or-set_other}
-use Rattle.std.proofs.lemmas.Bool.{eqb-true}
+pub use Rattle.std.proofs.lemmas.Bool.{eqb-true as same_nat, or_left, or_right}
+pub use Rattle.std.proofs.Math.Bool.{or-false as or_none}
 use Rattle.std.proofs.lemmas.Bool.Decides.{nat_tests}
 use Rattle.std.proofs.lemmas.List.Sums.{sum_by-set}
-pub use Rattle.std.proofs.lemmas.Bool.{or_left, or_right}
 use Rattle.cm_deps.specs.Edges.{holds, is_set, row, IsNext, IsGrown, IsListing, IsSettled, Extends}
-
-pub same_nat : (x y : ℕ) → IsTrue (nat_eq x y) → x ≡ y
-same_nat x y h = eqb-true x y h
 
 pub nat_eq-refl : (x : ℕ) → IsTrue (nat_eq x x)
 nat_eq-refl x = grind (arith, nat_tests)
-
-pub or_none : (p : Bool) → (p || false) ≡ p
-or_none true = refl
-or_none false = refl
 
 -- the last of a longer list is the new node
 pub snoc_at : (xs : List ℕ) (y k x : ℕ) → slice_get (xs ++ y ∷ []) k ≡ Some x → (slice_get xs k ≡ Some x) ⊎ ((k ≡ length xs) × (x ≡ y))

@@ -1,16 +1,11 @@
-use Rattle.std.proofs.Common.{◌≡◌, ℕ, zero, suc, ◌+◌, ◌<◌, ◌≤◌, List, [], ◌∷◌, ◌++◌, length, take, Bool, true, false, ◌||◌, refl, sym, ◌∙◌, ap, subst, arith, get_or, nat_eq}
+use Rattle.std.proofs.Common.{◌≡◌, ℕ, zero, suc, ◌+◌, ◌<◌, ◌≤◌, List, [], ◌∷◌, ◌++◌, length, take, ◌||◌, refl, sym, ◌∙◌, ap, subst, arith, get_or, nat_eq}
 use Rattle.std.specs.Prelude.{reverse}
+use Rattle.std.proofs.Math.Bool.{or_comm}
 use Rattle.std.proofs.lemmas.List.{reverse-append, take_more, take_all}
 use Rattle.std.proofs.lemmas.Option.{slice_get-get_or}
 use Rattle.cm_deps.specs.Edges.{holds, IsNext, IsGrown}
 use Rattle.cm_deps.specs.Implied.{IsFalling}
 use Rattle.cm_deps.proofs.listed.Listing.{holds_push}
-
-or_turn : (p q : Bool) → (p || q) ≡ (q || p)
-or_turn true true = refl
-or_turn true false = refl
-or_turn false true = refl
-or_turn false false = refl
 
 reverse_push : (xs : List ℕ) (y : ℕ) → reverse (xs ++ y ∷ []) ≡ y ∷ reverse xs
 reverse_push xs y = reverse-append xs (y ∷ [])
@@ -19,7 +14,7 @@ reverse_push xs y = reverse-append xs (y ∷ [])
 pub holds_reverse : (xs : List ℕ) (x : ℕ) → holds (reverse xs) x ≡ holds xs x
 holds_reverse [] x = refl
 holds_reverse (y ∷ ys) x =
-    ap (λ l. holds l x) (reverse-append (y ∷ []) ys) ∙ holds_push (reverse ys) y x ∙ ap (λ b. b || nat_eq x y) (holds_reverse ys x) ∙ or_turn (holds ys x) (nat_eq x y)
+    ap (λ l. holds l x) (reverse-append (y ∷ []) ys) ∙ holds_push (reverse ys) y x ∙ ap (λ b. b || nat_eq x y) (holds_reverse ys x) ∙ or_comm (holds ys x) (nat_eq x y)
 
 falls_front : (rows : List (List ℕ)) (order : List ℕ) → IsGrown rows order → (k : ℕ) → k ≤ length order → IsFalling rows (reverse (take k order))
 falls_front rows order grown zero low = tt

@@ -4,7 +4,7 @@ use Rattle.std.proofs.lemmas.List.{length-append, length-replicate, length-set, 
 use Rattle.std.proofs.lemmas.List.Sums.{sum_by-set}
 use Rattle.std.proofs.lemmas.List.Folds.{list_any-append}
 use Rattle.cm_decl.specs.Reach.{Way, Reaches}
-use Rattle.cm_decl.proofs.Reaching.{Reaches-trans}
+use Rattle.cm_decl.proofs.cycles.Reaching.{Reaches-trans}
 use Rattle.cm_deps.specs.Edges.{holds, is_set, row, On, IsBelow, IsReach, IsSeen, IsAdded, Extends}
 use Rattle.cm_deps.proofs.listed.Listing.{or_left, or_right, holds_push, flag_more, front_more, holds_at, extends_on, nat_eq-refl}
 use Rattle.cm_deps.proofs.listed.Peeling.{none_set, all_open}
@@ -72,9 +72,6 @@ searched after start found head all state = record {
   only = state.sound;
 }
   where
-    whole : take head found ≡ found
-    whole = take_all head found all
-
     from : (x : ℕ) → ((z : ℕ) → On after x z → IsTrue (holds found z)) → (between : List ℕ) (y : ℕ) → Way (On after) x between y → IsTrue (holds found y)
     from x next [] y on = next y on
     from x next (z ∷ zs) y way = from z (λ w on. state.closed z w (ap (λ l. holds l z) (take_all head found all) ∙ next z way.0) on) zs y way.1

@@ -1,11 +1,10 @@
 use Rattle.std.proofs.Common.{◌≡◌, ℕ, zero, suc, ◌+◌, ◌<◌, ◌≤◌, List, [], ◌∷◌, ◌++◌, length, take, drop, set, Bool, true, false, not, ◌&&◌, true≢false, refl, sym, ◌∙◌, ap, subst, IsTrue, inl, inr, ◌⊎◌, arith, get_or, nat_eq, Some}
 use Rattle.std.specs.Prelude.{map, replicate, count_by, slice_get}
 use Rattle.std.specs.List.{list_any, list_all}
-use Rattle.std.proofs.lemmas.Bool.{cases_lt}
+use Rattle.std.proofs.lemmas.Bool.{cases_lt, not-true}
 use Rattle.std.proofs.lemmas.List.{length-append, length-map, length-drop, get_or-map, get_or_past, get_or_append_left}
 use Rattle.std.proofs.Math.Seq.{get_or-append_seam}
 use Rattle.cm_decl.proofs.Sameness.{or_split}
-use Rattle.cm_deps.proofs.numbers.Numbering.{not_false}
 use Rattle.cm_deps.specs.Edges.{holds, is_set, row, On, IsBelow, IsListing, IsPeeled}
 use Rattle.cm_deps.specs.Ring.{IsLeastLeft, IsFirstLeft, IsWalk, IsTurned, IsRing, GoesOn}
 use Rattle.cm_deps.proofs.listed.Listing.{same_nat, nat_eq-refl, or_left, or_right, one_fails, listing_more}
@@ -102,7 +101,7 @@ can_be_peeled after = peel_on after (length after) [] (replicate (length after) 
 one_open : (xs : List ℕ) (p : ℕ → Bool) → IsTrue (list_any (λ v. not (p v)) xs) → (v : ℕ) × IsTrue (holds xs v) × (p v ≡ false)
 one_open [] p some = absurd (true≢false (sym some))
 one_open (x ∷ xs) p some = elim (or_split (not (p x)) (list_any (λ v. not (p v)) xs) some) as (λ _. (v : ℕ) × IsTrue (holds (x ∷ xs) v) × (p v ≡ false)) [
-  | inl here ↦ (x, or_left (nat_eq x x) (holds xs x) (nat_eq-refl x), not_false (p x) here)
+  | inl here ↦ (x, or_left (nat_eq x x) (holds xs x) (nat_eq-refl x), not-true (p x) here)
   | inr there ↦ (let rest : (v : ℕ) × IsTrue (holds xs v) × (p v ≡ false) = one_open xs p there in (rest.0, or_right (nat_eq rest.0 x) (holds xs rest.0) rest.1, rest.2))
 ]
 

@@ -2,7 +2,7 @@ use Rattle.std.proofs.Common.{◌≡◌, ℕ, zero, suc, ◌<◌, ◌≤◌, Lis
 use Rattle.std.specs.Prelude.{map}
 use Rattle.std.specs.List.{list_any, list_all}
 use Rattle.std.specs.Ordering.{is_le, ordering_reverse}
-use Rattle.std.proofs.lemmas.Bool.{cases_lt}
+use Rattle.std.proofs.lemmas.Bool.{cases_lt, not-true}
 use Rattle.cm_decl.specs.declared.node.Node.{Node}
 use Rattle.cm_decl.specs.Same.{same_node}
 use Rattle.cm_decl.specs.NodeOrder.{node_cmp, node_cmp_total, node_at_most}
@@ -68,15 +68,11 @@ pub left_of : List Node → (ℕ → Bool) → Node → Bool
 left_of [] listed x = false
 left_of (y ∷ ys) listed x = (same_node y x && not (listed 0)) || left_of ys (λ i. listed (suc i)) x
 
-pub not_false : (b : Bool) → IsTrue (not b) → b ≡ false
-not_false true h = absurd (true≢false (sym h))
-not_false false h = refl
-
 pub left_number : (nodes : List Node) (listed : ℕ → Bool) (x : Node) → IsTrue (left_of nodes listed x) → (i : ℕ) × (i < length nodes) × (at nodes i ≡ x) × (listed i ≡ false)
 unfolding left_of
 left_number [] listed x h = absurd (true≢false (sym h))
 left_number (y ∷ ys) listed x h = elim (or_split (same_node y x && not (listed 0)) (left_of ys (λ i. listed (suc i)) x) h) as (λ _. (i : ℕ) × (i < length (y ∷ ys)) × (at (y ∷ ys) i ≡ x) × (listed i ≡ false)) [
-  | inl here ↦ (0, omega arith, same_node_exact y x (and_first (same_node y x) (not (listed 0)) here), not_false (listed 0) (and_second (same_node y x) (not (listed 0)) here))
+  | inl here ↦ (0, omega arith, same_node_exact y x (and_first (same_node y x) (not (listed 0)) here), not-true (listed 0) (and_second (same_node y x) (not (listed 0)) here))
   | inr there ↦ (let rest : (i : ℕ) × (i < length ys) × (at ys i ≡ x) × (listed (suc i) ≡ false) = left_number ys (λ i. listed (suc i)) x there in (suc rest.0, omega arith, rest.2, rest.3))
 ]
 

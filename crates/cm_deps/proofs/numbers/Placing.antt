@@ -5,6 +5,8 @@ use Rattle.std.specs.List.Sorted.{IsSearchInRange, IsBinarySearchResult, IsNonDe
 use Rattle.std.specs.Ordering.{is_eq, ordering_index, ordering_reverse}
 use Rattle.std.specs.Result.{result_ok}
 use Rattle.std.specs.BTreeMap.{is_at}
+use Rattle.std.specs.Cmp.{both_ways}
+use Rattle.std.proofs.Math.Bool.{or-false, or_assoc}
 use Rattle.std.proofs.lemmas.Bool.{cases_lt}
 use Rattle.std.proofs.lemmas.List.{take_all}
 use Rattle.std.proofs.lemmas.List.Folds.{list_any_more, list_any-append}
@@ -16,15 +18,10 @@ use Rattle.cm_decl.specs.declared.node.Node.TheVariants.{Own}
 use Rattle.cm_decl.specs.Same.{same_node}
 use Rattle.cm_decl.specs.NodeOrder.{node_cmp, node_cmp_total}
 use Rattle.cm_decl.specs.Graph.{is_node, static_node, dynamic_node}
-use Rattle.cm_decl.proofs.Comparing.{node_cmp_exact}
+use Rattle.cm_decl.proofs.orders.Comparing.{node_cmp_exact}
 use Rattle.cm_decl.proofs.Sameness.{same_node-refl, same_node_exact, or_split}
 use Rattle.cm_deps.specs.Nodes.{at, IsRising, IsNumber}
 use Rattle.cm_deps.proofs.listed.Listing.{or_right}
-
-pub bool_same : (p q : Bool) → (IsTrue p → IsTrue q) → (IsTrue q → IsTrue p) → p ≡ q
-bool_same true q to from = sym (to refl)
-bool_same false true to from = from refl
-bool_same false false to from = refl
 
 equal_self : (x : Node) → node_cmp x x ≡ Equal
 equal_self x = by (node_cmp x x) refl
@@ -36,7 +33,7 @@ equal_self x = by (node_cmp x x) refl
 
 -- nodes are the same where they compare as equal
 pub same_by_cmp : (x y : Node) → is_eq (node_cmp x y) ≡ same_node x y
-same_by_cmp x y = bool_same (is_eq (node_cmp x y)) (same_node x y)
+same_by_cmp x y = both_ways (is_eq (node_cmp x y)) (same_node x y)
     (λ h. subst (λ z. IsTrue (same_node x z)) (node_cmp_exact x y (equal_of (node_cmp x y) h)) (same_node-refl x))
     (λ h. subst (λ z. IsTrue (is_eq (node_cmp x z))) (same_node_exact x y h) (ap is_eq (equal_self x)))
   where
@@ -63,23 +60,15 @@ true_or true false = refl
 true_or false true = refl
 true_or false false = refl
 
-or_group : (p q r : Bool) → ((p || q) || r) ≡ (p || (q || r))
-or_group true q r = refl
-or_group false q r = refl
-
 -- one more row whose node is put into a set
 pub placed_more : {A : Type 0} (node : A → Node) (rows : List A) (i : ℕ) (row : A) (key : Node) (before old new : Node → Bool) → i < length rows → row ≡ get_or rows i row → key ≡ node row → ((x : Node) → old x ≡ (before x || list_any (λ r. same_node (node r) x) (take i rows))) → ((x : Node) → new x ≡ cond (is_at (node_cmp key) x) true (old x)) → (x : Node) → new x ≡ (before x || list_any (λ r. same_node (node r) x) (take (i + 1) rows))
 placed_more node rows i row key before old new low here is so_far step = λ x.
     step x ∙ ap (λ v. cond v true (old x)) (same_by_cmp key x) ∙ true_or (same_node key x) (old x) ∙ ap (λ k. old x || same_node k x) is ∙
-    ap (λ v. v || same_node (node row) x) (so_far x) ∙ or_group (before x) (list_any (λ r. same_node (node r) x) (take i rows)) (same_node (node row) x) ∙
+    ap (λ v. v || same_node (node row) x) (so_far x) ∙ or_assoc (before x) (list_any (λ r. same_node (node r) x) (take i rows)) (same_node (node row) x) ∙
     ap (λ v. before x || v) (ap (λ r. list_any (λ r. same_node (node r) x) (take i rows) || same_node (node r) x) here ∙ sym (list_any_more (λ r. same_node (node r) x) rows i row low))
 
-or_false : (p : Bool) → p ≡ (p || false)
-or_false true = refl
-or_false false = refl
-
 pub placed_none : {A : Type 0} (node : A → Node) (rows : List A) (before : Node → Bool) → (x : Node) → before x ≡ (before x || list_any (λ r. same_node (node r) x) (take 0 rows))
-placed_none node rows before x = or_false (before x)
+placed_none node rows before x = sym (or-false (before x))
 
 -- all rows
 pub placed_all : {A : Type 0} (node : A → Node) (rows : List A) (before new : Node → Bool) → ((x : Node) → new x ≡ (before x || list_any (λ r. same_node (node r) x) rows)) → (x : Node) → new x ≡ (before x || list_any (λ y. same_node y x) (map node rows))

@@ -25,9 +25,9 @@ use Rattle.cm_laws.specs.Lasting.{begun_by, joined_by, ended_by, awaited_by, IsB
 use Rattle.cm_laws.proofs.actions.Tasks.{by_test, find_left, find_last, find_split, only_by, edit_at, edit_other, unused}
 use Rattle.cm_laws.proofs.actions.Numbers.{IsCounted, counted_after, counted_history}
 use Rattle.cm_laws.proofs.actions.Begun.{begun_action}
-use Rattle.cm_laws.proofs.Answered.{is_plain, begin_passes, plain_reply, IsPlainOrOpened, use_kind, exposed_kind}
+use Rattle.cm_laws.proofs.entries.Answered.{is_plain, begin_passes, plain_reply, IsPlainOrOpened, use_kind, exposed_kind}
 use Rattle.cm_laws.proofs.actions.Known.{IsKnown, AreKnown, grown_known, rows_known, joined_known, root_known}
-use Rattle.cm_laws.proofs.Entries.{of_each_entry}
+use Rattle.cm_laws.proofs.entries.Entries.{of_each_entry}
 
 -- ---- the events by which actions begin, and are joined
 

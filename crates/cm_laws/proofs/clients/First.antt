@@ -12,7 +12,7 @@ use Rattle.cm_world.specs.Legal.{replay}
 use Rattle.cm_world.proofs.trees.Finding.{none_some, some_same}
 use Rattle.cm_laws.specs.Clients.{picked_by, HasClientsShut, ClientsStopFirst}
 use Rattle.cm_laws.specs.Shutdowns.{TreesStaySound}
-use Rattle.cm_laws.proofs.Entries.{of_each_entry}
+use Rattle.cm_laws.proofs.entries.Entries.{of_each_entry}
 use Rattle.cm_laws.proofs.clients.Shut.{client_shut}
 
 -- what is picked may stop

@@ -36,12 +36,12 @@ use Rattle.cm_world.proofs.trees.Histories.{replay-append, replay-push, Legal-sp
 use Rattle.cm_table.proofs.tree.Rows.{lives_below}
 use Rattle.cm_order.proofs.trees.Trees.{climb, or_left, or_right, true_not_false, flip_not, below_cases, below_lives, below_self}
 use Rattle.cm_laws.specs.Destroying.{named_in, asked_of, is_removing, IsDoomed, IsDestroyed, IsPurged, IsShunned, IsForgotten, KeepsGone, LeavesGone, DoomedAreDestroyed, DestroyedStayGone}
-use Rattle.cm_laws.proofs.Entries.{of_each_entry}
+use Rattle.cm_laws.proofs.entries.Entries.{of_each_entry}
 use Rattle.cm_laws.proofs.sound.Above.{above_here, above_up, above_lasts}
 use Rattle.cm_laws.proofs.sound.Purges.{stood}
 use Rattle.cm_laws.proofs.sound.Reaps.{doomed_row}
 use Rattle.cm_laws.proofs.sound.Healthy.{IsHealthy, healthy_after, healthy_history}
-use Rattle.cm_laws.proofs.MarksLast.{Goes, goes_after}
+use Rattle.cm_laws.proofs.lasting.MarksLast.{Goes, goes_after}
 use Rattle.cm_laws.proofs.destroyed.Standing.{stands, is_doomed}
 use Rattle.cm_laws.proofs.destroyed.Naming.{all_kept, fits, names_well, reply_well}
 use Rattle.cm_laws.proofs.destroyed.Rooted.{root_stays}

@@ -48,7 +48,7 @@ use Rattle.cm_world.specs.Expiring.{reaped}
 use Rattle.cm_world.proofs.trees.Finding.{none_some, some_same, row_of-inc}
 use Rattle.cm_order.proofs.trees.Trees.{all_rows, some_eq, and_pair, not_flip}
 use Rattle.cm_laws.specs.Destroying.{incs_of_provider, incs_of_route, named_in}
-use Rattle.cm_laws.proofs.Answered.{passes_or}
+use Rattle.cm_laws.proofs.entries.Answered.{passes_or}
 use Rattle.cm_laws.proofs.sound.Reaps.{reaped_doomed, doomed_live, all_more}
 use Rattle.cm_laws.proofs.destroyed.Standing.{stands, one, stands_down, child_stands, walked_stands, inc_of_start, walk_stands}
 

@@ -19,7 +19,7 @@ use Rattle.cm_world.specs.Stopping.{MayPick}
 use Rattle.cm_world.proofs.trees.Finding.{none_some, find-passes}
 use Rattle.cm_decl.proofs.Sameness.{and_first, and_second}
 use Rattle.cm_order.proofs.trees.Trees.{climb, below_cases, below_lives}
-use Rattle.cm_laws.proofs.Answered.{passes_or, PassesRefusals, refused_passes}
+use Rattle.cm_laws.proofs.entries.Answered.{passes_or, PassesRefusals, refused_passes}
 use Rattle.cm_laws.proofs.sound.Above.{above_here, above_up}
 
 -- ---- a create

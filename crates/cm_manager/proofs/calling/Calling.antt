@@ -13,15 +13,16 @@ use Rattle.cm_world.specs.declared.answer.Answer.{Answer}
 use Rattle.cm_world.specs.declared.answer.Refusal.{Refusal}
 use Rattle.cm_names.specs.declared.moniker.Moniker.{Moniker}
 use Rattle.cm_command.specs.declared.command.Command.{Command}
-use Rattle.cm_manager.specs.declared.acted.Acted.{Acted}
-use Rattle.cm_manager.specs.declared.question.Question.{Question}
-use Rattle.cm_manager.specs.declared.question.Question.TheVariants as question
-use Rattle.cm_manager.specs.declared.question.Request.{Request}
-use Rattle.cm_manager.specs.declared.question.Request.TheVariants as request
+use Rattle.cm_answers.specs.declared.acted.Acted.{Acted}
+use Rattle.cm_answers.specs.declared.question.Question.{Question}
+use Rattle.cm_answers.specs.declared.question.Question.TheVariants as question
+use Rattle.cm_answers.specs.declared.question.Request.{Request}
+use Rattle.cm_answers.specs.declared.question.Request.TheVariants as request
 use Rattle.cm_manager.specs.Runs.{Acts, Tries}
-use Rattle.cm_manager.specs.Answers.{decided_by, found_by, unless_ended}
+use Rattle.cm_answers.specs.Answers.{decided_by, found_by, unless_ended}
 use Rattle.cm_manager.specs.Calls.{Way, Finding, Behind, OnRow, Nothing, Then, Tried, TriedThen, ActedOn, Calls}
-use Rattle.cm_manager.specs.Questions.{requested_by, asked_by, event_for, Requested, AnswersTo}
+use Rattle.cm_answers.specs.Questions.{requested_by, asked_by, event_for}
+use Rattle.cm_manager.specs.Questions.{Requested, AnswersTo}
 use Rattle.cm_manager.specs.Work.{Shelf}
 use Rattle.cm_manager.specs.Contract.{RealmPass, GatesView, Helps, Performs}
 use Rattle.cm_manager.specs.Asking.{frame_in, frame_of, is_asked, is_plain}

@@ -9,15 +9,16 @@ use Rattle.cm_world.specs.declared.reply.Entry.{Entry}
 use Rattle.cm_world.specs.declared.reply.Reply.{Reply}
 use Rattle.cm_world.specs.declared.reply.Reply.TheVariants as reply
 use Rattle.cm_world.specs.Expiring.{runs_once}
-use Rattle.cm_manager.specs.declared.acted.Acted.{Acted}
-use Rattle.cm_manager.specs.declared.question.Follow.TheVariants as next
-use Rattle.cm_manager.specs.declared.question.Request.{Request}
-use Rattle.cm_manager.specs.declared.question.Request.TheVariants as request
+use Rattle.cm_answers.specs.declared.acted.Acted.{Acted}
+use Rattle.cm_answers.specs.declared.question.Follow.TheVariants as next
+use Rattle.cm_answers.specs.declared.question.Request.{Request}
+use Rattle.cm_answers.specs.declared.question.Request.TheVariants as request
 use Rattle.cm_manager.specs.Turns.{Later, world_after}
-use Rattle.cm_manager.specs.Answers.{unless_ended, decided_by, created_in, has_left}
+use Rattle.cm_answers.specs.Answers.{unless_ended, decided_by, created_in, has_left, ends_eager}
 use Rattle.cm_manager.specs.Calls.{Way, Then, TriedThen, OnceCreated, SweptLeft}
-use Rattle.cm_manager.specs.Questions.{started_for, swept_for, follow_of, FollowsBy}
-use Rattle.cm_manager.specs.Runs.{Acts, Tries, Onces, ends_eager}
+use Rattle.cm_answers.specs.Questions.{started_for, swept_for, follow_of}
+use Rattle.cm_manager.specs.Questions.{FollowsBy}
+use Rattle.cm_manager.specs.Runs.{Acts, Tries, Onces}
 use Rattle.cm_manager.specs.Sweeps.{Sweeps}
 use Rattle.cm_manager.specs.Asking.{frame_of}
 use Rattle.cm_manager.specs.Contract.{RealmPass, GatesView, IsSamePass, Helps}

@@ -1,8 +1,6 @@
 -- What the turns of a check of all routes come to, and the lines that it gathers.
-use Rattle.std.proofs.Common.{◌≡◌, ℕ, List, [], ◌∷◌, ◌++◌, Some, None, Result, Ok, Err, IsTrue, IsFalse, refl, sym, ap, subst, ◌∙◌, inl, inr, append_assoc, append-nil, ◌<◌, ◌≤◌, ◌+◌, length, get_or, drop, IfOk, IfErr}
+use Rattle.std.proofs.Common.{◌≡◌, ℕ, List, [], ◌∷◌, ◌++◌, Result, Ok, Err, IsTrue, IsFalse, refl, sym, ap, subst, ◌∙◌, inl, inr, append_assoc, append-nil, ◌<◌, ◌≤◌, ◌+◌, length, get_or, drop}
 use Rattle.std.proofs.lemmas.List.{drop_more, drop_all}
-use Rattle.cm_names.specs.declared.memory.Memory.{Memory}
-use Rattle.cm_names.specs.declared.moniker.Moniker.{Moniker}
 use Rattle.cm_world.specs.declared.answer.Answer.{Answer}
 use Rattle.cm_world.specs.declared.answer.Checked.{Checked}
 use Rattle.cm_world.specs.declared.answer.Refusal.{Refusal}
@@ -16,7 +14,8 @@ use Rattle.cm_world.specs.declared.route.Route.{Route}
 use Rattle.cm_manager.specs.Runs.{Tries}
 use Rattle.cm_manager.specs.Asking.{frame_of}
 use Rattle.cm_manager.specs.Contract.{RealmPass, GatesView, IsSamePass, Helps}
-use Rattle.cm_manager.specs.Doctor.{Checks, Each, OfPath, OfRow, Doctors, Adds, Adding, Gathering, Surveying, end_of_line, in_front, line_of, route_by, unresolved_line, doctored_by}
+use Rattle.cm_answers.specs.Lines.{Adds, in_front, line_of, route_by, unresolved_line, doctored_by}
+use Rattle.cm_manager.specs.Doctor.{Checks, Each, OfPath, OfRow, Doctors, Adding, Gathering, Surveying}
 use Rattle.cm_manager.specs.Work.{Shelf}
 use Rattle.cm_manager.proofs.calling.Helping.{helps_as, helps_nothing, helps_then}
 use Rattle.cm_manager.proofs.onward.Onward.{Ways, Onward, onward_next, by_first}
@@ -34,25 +33,6 @@ front_of_none (Err x) = refl
 adds_of : (lines : List Checked) (more end : Result (List Checked) Refusal) → end ≡ in_front lines more → Adds lines more end
 adds_of lines (Ok new) end is = inl is
 adds_of lines (Err x) end is = is
-
--- further lines, or none for want of memory
-pub adds_or_memory : (lines more : List Checked) (made : Result (List Checked) Memory) (end : Result (List Checked) Refusal) → IfOk made (λ all. all ≡ lines ++ more) → IfOk made (λ all. end ≡ Ok all) → IfErr made (λ e. end ≡ Err refusal.Memory) → Adds lines (Ok more) end
-adds_or_memory lines more (Ok all) end is ok err = inl (ok ∙ ap Ok is)
-adds_or_memory lines more (Err e) end is ok err = inr err
-
--- what ends the call in place of a line
-pub cut_line : (lines : List Checked) (m : Moniker) (p : List ℕ) (found : Result Route Refusal) (x : Refusal) → end_of_line found ≡ Some x → Adds lines (line_of m p found) (Err x)
-cut_line lines m p (Ok route) x is = absurd (cc is)
-cut_line lines m p (Err refusal.Memory) x is = cc is
-cut_line lines m p (Err refusal.HistoryFull) x is = cc is
-cut_line lines m p (Err _) x is = absurd (cc is)
-
--- a line more, or none for want of memory
-pub more_line : (lines : List Checked) (m : Moniker) (p : List ℕ) (found : Result Route Refusal) (made : Result (List Checked) Memory) (end : Result (List Checked) Refusal) → end_of_line found ≡ None → IfOk made (λ all. all ≡ lines ++ record { moniker = m; path = Some p; result = found } ∷ []) → IfOk made (λ all. end ≡ Ok all) → IfErr made (λ e. end ≡ Err refusal.Memory) → Adds lines (line_of m p found) end
-more_line lines m p (Ok route) made end is all ok err = adds_or_memory lines _ made end all ok err
-more_line lines m p (Err refusal.Memory) made end is all ok err = absurd (cc is)
-more_line lines m p (Err refusal.HistoryFull) made end is all ok err = absurd (cc is)
-more_line lines m p (Err _) made end is all ok err = adds_or_memory lines _ made end all ok err
 
 -- ---- items in order
 

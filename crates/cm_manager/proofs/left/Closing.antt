@@ -8,7 +8,7 @@ use Rattle.cm_world.specs.declared.event.Event.{Event}
 use Rattle.cm_world.specs.declared.event.Event.TheVariants as event
 use Rattle.cm_world.specs.declared.reply.Reply.{Reply}
 use Rattle.cm_world.specs.declared.reply.Reply.TheVariants as reply
-use Rattle.cm_manager.specs.declared.acted.Acted.{Acted}
+use Rattle.cm_answers.specs.declared.acted.Acted.{Acted}
 use Rattle.cm_world.specs.declared.answer.Refusal.{Refusal}
 use Rattle.cm_world.specs.declared.answer.Refusal.TheVariants as refusal
 use Rattle.cm_turn.specs.History.{StartsWith}

@@ -1,5 +1,5 @@
 -- What is due in what a caller has seen stays due, and the tree allows it.
-use Rattle.std.proofs.Common.{ℕ, List, Bool, true, false, IsTrue, ap, subst, sym, ◌∙◌}
+use Rattle.std.proofs.Common.{ℕ, List, Bool, true, false, ap, subst, sym, ◌∙◌}
 use Rattle.cm_turn.specs.History.{StartsWith}
 use Rattle.cm_world.specs.declared.event.Event.{Event}
 use Rattle.cm_world.specs.declared.event.Event.TheVariants as event
@@ -11,7 +11,7 @@ use Rattle.cm_world.proofs.trees.Histories.{Legal-split, replay-append}
 use Rattle.cm_laws.specs.Shutdowns.{IsLeaving, IsMarked, IsOver, MarksStay, MarkedMayClose, OverStays, OverMayPurge}
 use Rattle.cm_laws.specs.Story.{Story, world_of, IsLegal}
 use Rattle.cm_manager.specs.Turns.{world_after}
-use Rattle.cm_manager.specs.Asking.{frame_in, frame_of, is_plain, IsDue, IsOpen, DueStays, DueIsOpen}
+use Rattle.cm_manager.specs.Asking.{frame_in, frame_of, IsDue, IsOpen, DueStays, DueIsOpen}
 use Rattle.cm_manager.specs.Contract.{RealmPass, IsSamePass}
 use Rattle.cm_manager.proofs.onward.Turning.{Entered}
 
@@ -42,12 +42,6 @@ pub due_is_open : MarkedMayClose → OverMayPurge → DueIsOpen
 due_is_open closes purges w (event.Pick t) due = closes w t false (leaving_marked w t due)
 due_is_open closes purges w (event.Purge i) due = purges w i due.0 due.1
 due_is_open closes purges w _ due = tt
-
--- an event that may come at any time is always due
-pub plain_due : (w : World) (e : Event) → IsTrue (is_plain e) → IsDue w e
-plain_due w (event.Pick t) plain = absurd (cc plain)
-plain_due w (event.Purge i) plain = absurd (cc plain)
-plain_due w _ plain = tt
 
 -- ---- turns
 

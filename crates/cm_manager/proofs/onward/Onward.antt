@@ -7,7 +7,7 @@ use Rattle.cm_world.specs.declared.reply.Entry.{Entry}
 use Rattle.cm_world.specs.World.{start}
 use Rattle.cm_world.specs.Legal.{Legal}
 use Rattle.cm_manager.specs.Runs.{Acts}
-use Rattle.cm_manager.specs.declared.acted.Acted.{Acted}
+use Rattle.cm_answers.specs.declared.acted.Acted.{Acted}
 use Rattle.cm_manager.specs.Asking.{frame_in, frame_of}
 use Rattle.cm_manager.specs.Contract.{RealmPass, GatesView, IsSamePass, Helps}
 use Rattle.cm_manager.specs.Work.{Shelf}

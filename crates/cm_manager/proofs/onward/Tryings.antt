@@ -8,12 +8,13 @@ use Rattle.cm_world.specs.declared.frame.Frame.{Frame}
 use Rattle.cm_world.specs.declared.reply.Entry.{Entry}
 use Rattle.cm_world.specs.declared.reply.Reply.{Reply}
 use Rattle.cm_manager.specs.Turns.{Asks}
-use Rattle.cm_manager.specs.Runs.{Acts, Tries, ends_call, needed}
+use Rattle.cm_answers.specs.Answers.{ends_call}
+use Rattle.cm_manager.specs.Runs.{Acts, Tries, needed}
 use Rattle.cm_manager.specs.Asking.{Asked, frame_of, is_asked, is_plain}
 use Rattle.cm_manager.specs.Closed.{joins}
 use Rattle.cm_manager.specs.Contract.{RealmPass, GatesView, IsSamePass, Helps}
 use Rattle.cm_manager.specs.Work.{Shelf, begins, is_end}
-use Rattle.cm_manager.specs.declared.acted.Acted.{Acted}
+use Rattle.cm_answers.specs.declared.acted.Acted.{Acted}
 use Rattle.cm_manager.proofs.calling.Helping.{helps_as, helps_nothing, helps_plain}
 use Rattle.cm_manager.proofs.onward.Onward.{Ways, Onward, onward_next, then_acts}
 

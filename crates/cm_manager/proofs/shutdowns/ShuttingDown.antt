@@ -19,8 +19,8 @@ use Rattle.cm_world.proofs.trees.Histories.{Legal-split}
 use Rattle.cm_laws.specs.Shutdowns.{IsLeaving, IsMarked, IsOver, MarksMark, MarksStay, DoneIsOver, PickersMayEnd}
 use Rattle.cm_laws.specs.Story.{IsLegal, world_of}
 use Rattle.cm_manager.specs.Turns.{Makes, Asks, IsCut, world_after}
-use Rattle.cm_manager.specs.Answers.{answer_unless}
-use Rattle.cm_manager.specs.Shutdowns.{unmarked, unmarked_by, Shuts, Destroys}
+use Rattle.cm_answers.specs.Answers.{answer_unless, unmarked, unmarked_by}
+use Rattle.cm_manager.specs.Shutdowns.{Shuts, Destroys}
 use Rattle.cm_manager.specs.Sweeps.{Stops}
 use Rattle.cm_manager.specs.Calls.{Reaches}
 use Rattle.cm_manager.specs.Acting.{PicksBy}

@@ -23,8 +23,8 @@ use Rattle.cm_manager.specs.Acting.{Ends, BeginsBy}
 use Rattle.cm_manager.specs.Asking.{Asked, Purged, frame_of}
 use Rattle.cm_manager.specs.Contract.{RealmPass, GatesView, IsSamePass, Helps}
 use Rattle.cm_manager.specs.Work.{Shelf}
-use Rattle.cm_manager.specs.declared.acted.Acted.{Acted}
-use Rattle.cm_manager.specs.declared.acted.Acted.TheVariants as acted
+use Rattle.cm_answers.specs.declared.acted.Acted.{Acted}
+use Rattle.cm_answers.specs.declared.acted.Acted.TheVariants as acted
 use Rattle.cm_manager.specs.declared.began.Began.{Began}
 use Rattle.cm_manager.specs.declared.began.Began.TheVariants as began
 use Rattle.cm_manager.proofs.calling.Helping.{helps_as, helps_nothing, helps_plain, helps_then}

@@ -1,5 +1,5 @@
 -- What a start comes to by its begin, and behind it.
-use Rattle.std.proofs.Common.{◌≡◌, ◌≢◌, inl, inr, ℕ, List, [], ◌∷◌, ◌++◌, Bool, true, false, not, ◌||◌, Option, Some, None, is_some, Result, Ok, Err, IsFalse, refl, sym, ap, subst, ◌∙◌, append-nil}
+use Rattle.std.proofs.Common.{◌≡◌, ◌≢◌, inl, inr, ℕ, List, [], ◌∷◌, ◌++◌, Bool, ◌||◌, Option, Some, None, Result, Ok, Err, IsFalse, refl, sym, ap, subst, ◌∙◌, append-nil}
 use Rattle.cm_world.specs.declared.action.ActKind.{ActKind}
 use Rattle.cm_world.specs.declared.action.ActKind.TheVariants as kind
 use Rattle.cm_world.specs.declared.action.Outcome.{Outcome}
@@ -12,10 +12,11 @@ use Rattle.cm_world.specs.declared.reply.Entry.{Entry}
 use Rattle.cm_world.specs.declared.reply.Reply.TheVariants as reply
 use Rattle.cm_world.specs.Expiring.{is_stopped}
 use Rattle.cm_manager.specs.Turns.{Later, Asks}
-use Rattle.cm_manager.specs.Runs.{Acts, Eagers, ends_call, failure, is_started, is_followed}
-use Rattle.cm_manager.specs.Acting.{Ends, Joins, BeginsBy, StartsBy, is_well}
-use Rattle.cm_manager.specs.declared.acted.Acted.{Acted}
-use Rattle.cm_manager.specs.declared.acted.Acted.TheVariants as acted
+use Rattle.cm_answers.specs.Answers.{ends_call}
+use Rattle.cm_manager.specs.Runs.{Acts, Eagers, is_started, is_followed}
+use Rattle.cm_manager.specs.Acting.{Ends, Joins, BeginsBy, StartsBy}
+use Rattle.cm_answers.specs.declared.acted.Acted.{Acted}
+use Rattle.cm_answers.specs.declared.acted.Acted.TheVariants as acted
 use Rattle.cm_manager.specs.Asking.{frame_of}
 use Rattle.cm_manager.specs.Contract.{RealmPass, GatesView, Helps}
 use Rattle.cm_manager.specs.Work.{Shelf}
@@ -102,20 +103,3 @@ pub wanting_row : (f : Frame) (c e n : ℕ) (eager es : List ℕ) (a b : List En
 wanting_row f c e n eager es a b some starts = Eagers.cut_at (wanting_start f c e n eager a b some starts) refl
 
 -- ---- failures
-
-some_of : (o : Option Refusal) → is_some o ≡ true → (x : Refusal) × (o ≡ Some x)
-some_of (Some x) is = (x, refl)
-some_of None is = absurd (cc is)
-
-fails_unless : (k : ActKind) (a : ℕ) (o : Outcome) → is_some (failure k a o) ≡ not (is_well o)
-fails_unless k a outcome.Resolved = refl
-fails_unless k a outcome.Started = refl
-fails_unless k a outcome.Stopped = refl
-fails_unless k a outcome.Killed = refl
-fails_unless k a outcome.NoMemory = refl
-fails_unless kind.Resolve a _ = refl
-fails_unless kind.Start a _ = refl
-fails_unless kind.Stop a _ = refl
-
-pub failure_by : (k : ActKind) (a : ℕ) (o : Outcome) (well : Bool) → well ≡ is_well o → well ≡ false → (x : Refusal) × (failure k a o ≡ Some x)
-failure_by k a o well is ill = some_of (failure k a o) (fails_unless k a o ∙ ap not (sym is ∙ ill))

@@ -8,12 +8,13 @@ use Rattle.cm_world.specs.declared.frame.Frame.{Frame}
 use Rattle.cm_world.specs.declared.reply.Entry.{Entry}
 use Rattle.cm_world.specs.declared.reply.Reply.TheVariants as reply
 use Rattle.cm_manager.specs.Turns.{Asks}
-use Rattle.cm_manager.specs.Runs.{Acts, Eagers, ends_call, ends_eager}
-use Rattle.cm_manager.specs.Acting.{StartsBy, FailsBy, behind_eager}
+use Rattle.cm_answers.specs.Answers.{ends_call, ends_eager, FailsBy}
+use Rattle.cm_manager.specs.Runs.{Acts, Eagers}
+use Rattle.cm_manager.specs.Acting.{StartsBy, behind_eager}
 use Rattle.cm_manager.specs.Asking.{frame_of}
 use Rattle.cm_manager.specs.Contract.{RealmPass, GatesView, IsSamePass, Helps}
 use Rattle.cm_manager.specs.Work.{Shelf}
-use Rattle.cm_manager.specs.declared.acted.Acted.{Acted}
+use Rattle.cm_answers.specs.declared.acted.Acted.{Acted}
 use Rattle.cm_manager.specs.declared.began.Launch.{Launch}
 use Rattle.cm_manager.specs.declared.began.Launch.TheVariants as launch
 use Rattle.cm_manager.proofs.calling.Helping.{helps_as, helps_nothing, helps_then}

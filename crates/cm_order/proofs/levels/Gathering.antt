@@ -5,7 +5,6 @@ use Rattle.std.specs.Cmp.{unsigned_Decides}
 use Rattle.std.proofs.lemmas.Bool.{lt-ltb, ltb-true, le-ltb}
 use Rattle.std.proofs.lemmas.List.Folds.{list_any-append}
 use Rattle.cm_decl.specs.declared.node.DynChild.{DynChild}
-use Rattle.cm_decl.specs.declared.node.Node.TheVariants.{Own}
 use Rattle.cm_decl.proofs.Sameness.{and_second}
 use Rattle.cm_world.specs.declared.row.Row.{Row}
 use Rattle.cm_world.specs.Rows.{row_of, has_parent, is_behind, child_behind, is_shut, is_subtree_shut}
@@ -138,9 +137,6 @@ new_member old m x own = list_any-append (λ n. n.inc == x) old (m ∷ []) ∙ o
 
 pub own_shut : (rows : List Row) (p : ℕ) → is_wholly_shut rows p p ≡ is_shut rows p
 own_shut rows p = rw (same_inc p) refl
-
-own_node : (rows : List Row) (p : ℕ) → node_in rows p p ≡ Some Own
-own_node rows p = rw (same_inc p) refl
 
 -- ---- children in collections
 

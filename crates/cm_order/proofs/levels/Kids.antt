@@ -18,11 +18,6 @@ same_or_later c i low = by (c == i) refl where
   by true e = inl (sym ((unsigned_Decides c i).0 e))
   by false e = inr (lt-ltb c i (let apart : c ≡ i → ⊥ = λ same. true≢false (sym ((unsigned_Decides c i).1 same) ∙ e) in omega arith))
 
--- what stands behind the next one stands behind the one before
-later : (after : Option ℕ) (c i : ℕ) → IsTrue (is_behind after c) → c < i → IsTrue (is_behind after i)
-later None c i behind more = refl
-later (Some b) c i behind more = lt-ltb b i (let low : b < c = ltb-true b c behind in omega arith)
-
 -- ---- the first that is found
 
 module _ (q : Row → Bool) where

@@ -16,7 +16,7 @@ use Rattle.cm_decl.specs.Reach.{Way, Reaches, NoCycle}
 use Rattle.cm_decl.specs.Realm.{Directly, Depends}
 use Rattle.cm_decl.specs.Graph.{is_node, is_from_node, is_strong, sources_of, child_sources, StrongOn, realm, DependsOn, WouldDirectly, WouldDepend}
 use Rattle.cm_decl.proofs.Sameness.{and_first, and_second, or_split, never, same_child_exact}
-use Rattle.cm_decl.proofs.Orders.{edge_nodes}
+use Rattle.cm_decl.proofs.orders.Orders.{edge_nodes}
 use Rattle.cm_deps.proofs.loops.Ways.{last_step}
 use Rattle.cm_world.specs.declared.row.Row.{Row}
 use Rattle.cm_world.specs.Rows.{row_of, is_live, decl_of, has_parent, child_of}

@@ -4,7 +4,7 @@ use Rattle.std.specs.List.{list_any}
 use Rattle.std.specs.Cmp.{unsigned_Decides}
 use Rattle.cm_decl.specs.Reach.{Way, Reaches, NoCycle}
 use Rattle.cm_decl.specs.Realm.{Realm, Strong, IsImplied, Directly}
-use Rattle.cm_decl.proofs.Reaching.{Reaches-trans}
+use Rattle.cm_decl.proofs.cycles.Reaching.{Reaches-trans}
 use Rattle.cm_decl.proofs.Sameness.{or_split, never}
 use Rattle.cm_deps.proofs.loops.Ways.{Way-snoc}
 use Rattle.cm_world.specs.declared.row.Row.{Row}

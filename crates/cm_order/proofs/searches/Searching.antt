@@ -1,13 +1,11 @@
 -- The search for a row that may stop, place by place.
-use Rattle.std.proofs.Common.{◌≡◌, ℕ, List, [], ◌∷◌, ◌++◌, true, false, true≢false, Option, Some, None, IsTrue, refl, sym, ◌∙◌, ap, subst, inl, inr}
-use Rattle.std.specs.Prelude.{◌↔◌, is_some}
+use Rattle.std.proofs.Common.{◌≡◌, ℕ, List, [], ◌∷◌, ◌++◌, false, Option, Some, None, IsTrue, refl, sym, ◌∙◌, ap, subst, inl, inr}
 use Rattle.std.specs.Option.{option_map_or}
-use Rattle.cm_decl.proofs.Sameness.{never}
 use Rattle.cm_world.specs.declared.row.Row.{Row}
 use Rattle.cm_world.specs.Rows.{row_of, is_below, is_behind, is_subtree_shut}
 use Rattle.cm_world.specs.Sound.{IsOrderly}
 use Rattle.cm_world.specs.Stopping.{is_wholly_shut, IsFree, line_up_to, AllFree, outermost}
-use Rattle.cm_world.proofs.trees.Finding.{none_some, some_same}
+use Rattle.cm_world.proofs.trees.Finding.{some_same}
 use Rattle.cm_order.specs.declared.below.Spot.{Spot}
 use Rattle.cm_order.specs.declared.search.Wanted.{Wanted}
 use Rattle.cm_order.specs.Spots.{further}
@@ -145,12 +143,3 @@ module _ (rows : List Row) (next : ℕ) (orderly : IsOrderly rows next) (wanted 
 
   pub searching_ends : (top : ℕ) (left : List Spot) → outermost rows top ≡ Some top → IsSearching rows top wanted left → left ≡ [] → NoneIs rows top wanted
   searching_ends top left own is none = clear_none_is top own (is.rest (subst (Each (IsClear rows wanted)) (sym none) tt))
-
-  -- ---- one visit
-
-  behind_some : (o : Option ℕ) → is_some o ≡ true → o ≡ None → ⊥
-  behind_some None yet e = true≢false (sym yet)
-  behind_some (Some b) yet e = none_some b (sym e)
-
-  pub here_seen : (s : Spot) → is_some s.behind ≡ true → IsTrue false ↔ IsHere rows wanted s
-  here_seen s seen = (λ no_way. never no_way, λ here. absurd (behind_some s.behind seen here.new))

@@ -6,7 +6,7 @@ use Rattle.std.specs.Cmp.{unsigned_Decides}
 use Rattle.cm_decl.specs.Reach.{Way, Reaches, NoCycle}
 use Rattle.cm_decl.specs.Realm.{IsImplied, Depends}
 use Rattle.cm_decl.proofs.Sameness.{never}
-use Rattle.cm_decl.proofs.Reaching.{Reaches-trans}
+use Rattle.cm_decl.proofs.cycles.Reaching.{Reaches-trans}
 use Rattle.cm_decl.proofs.Sameness.{and_second}
 use Rattle.cm_world.specs.declared.row.Row.{Row}
 use Rattle.cm_world.specs.Rows.{row_of, has_parent, is_live, is_below, is_closing, is_subtree_shut}

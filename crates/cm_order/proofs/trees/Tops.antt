@@ -18,10 +18,6 @@ outermost_from rows o = find (λ i. has_closing rows i) (reverse (line_from (len
 find_one : (rows : List Row) (i : ℕ) (b : Bool) → has_closing rows i ≡ b → find (λ i. has_closing rows i) (i ∷ []) ≡ cond b (Some i) None
 find_one rows i b e = rw e refl
 
-or_none : (o : Option ℕ) → option_or o None ≡ o
-or_none None = refl
-or_none (Some i) = refl
-
 -- a row further down comes into question where none above it is closing
 top_more : (rows : List Row) (i : ℕ) (line : List ℕ) → find (λ i. has_closing rows i) (reverse (i ∷ line)) ≡ option_or (find (λ i. has_closing rows i) (reverse line)) (cond (has_closing rows i) (Some i) None)
 top_more rows i line =

@@ -12,7 +12,7 @@ use Rattle.cm_order.specs.Kids.{IsKid}
 use Rattle.cm_world.proofs.trees.Climbing.{line_of-step, line_root}
 use Rattle.cm_world.proofs.trees.Finding.{row_of-inc, find-all, find-passes}
 use Rattle.cm_world.proofs.trees.Walks.{find-lives, below_next}
-use Rattle.cm_walk.proofs.Standing as standing
+use Rattle.cm_walk.proofs.ways.Standing as standing
 
 -- ---- tests
 

@@ -24,7 +24,7 @@ use Rattle.cm_lanes.specs.declared.said.Lanes.{Lanes}
 use Rattle.cm_lanes.specs.Script.{Answered, ArePhases, none_left, one_first}
 use Rattle.cm_manager.specs.Kept.{AreSixteen, frame_at, GoesOn, Keeps, KeepsEach, gates_view}
 use Rattle.cm_lanes.specs.Lanes.{Ran}
-use Rattle.cm_lanes.proofs.Ending.{phases_same}
+use Rattle.cm_lanes.proofs.ends.Ending.{phases_same}
 use Rattle.cm_program.specs.Headline.{MakesHistory, WorksEach}
 use Rattle.cm_program.proofs.lanes.Sixteen.{all_at, no_entries, all_front, all_behind, pass_of, caller_low, sixteen_new, IsNew, all_new}
 

@@ -8,7 +8,7 @@ use Rattle.cm_world.specs.Legal.{Legal}
 use Rattle.cm_command.specs.declared.script.Line.{Line}
 use Rattle.cm_lanes.specs.Laws.{no_answer}
 use Rattle.cm_lanes.specs.Script.{Answered, answered_lines, ArePhases}
-use Rattle.cm_lanes.proofs.Parting.{phases_lost}
+use Rattle.cm_lanes.proofs.lines.Parting.{phases_lost}
 use Rattle.cm_program.specs.Headline.{MakesHistory}
 
 abbrev pub all_wanting : List (List Line) → List (List Answered)

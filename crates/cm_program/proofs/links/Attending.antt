@@ -27,7 +27,7 @@ use Rattle.cm_session.specs.declared.served.Cause.TheVariants as cause
 use Rattle.cm_session.specs.declared.served.Served.{Served}
 use Rattle.cm_session.specs.Links.{LinkView}
 use Rattle.cm_session.specs.Serving.{IsOfLink, IsUnserved, ServesAll, ServedOrNot, Visit, back_view, worker_by_worker}
-use Rattle.cm_program.specs.Headline.{EndsWell, IsHistory, WorksEach}
+use Rattle.cm_program.specs.Headline.{EndsWell, WorksEach}
 use Rattle.cm_program.specs.Sessions.{FollowsEach, RunsSessions, sats_by, status_of}
 use Rattle.cm_session.proofs.work.Places.{there_at}
 use Rattle.cm_program.proofs.whole.Nothing.{ends_well, nothing_ends, nothing_legal, works_nothing}
@@ -74,10 +74,6 @@ module _ {G L : Type 0} (log_of : G → Option (List Asked)) (faults_of : G → 
         laws = ends_well f history legal (nothing_ends history none);
         work = works_nothing log_of faults_of shelf history gates₀ gates₁ none same;
       })
-
-  -- the history of sessions
-  pub history_of_sessions : (f : Frame) (shelf : Shelf) (workers : ℕ) (gates₀ gates₁ : List G) (history : List Entry) (links : List (Back LinkView)) (status : ℕ) → RunsSessions log_of faults_of view f shelf workers gates₀ gates₁ history links status → IsHistory history
-  history_of_sessions f shelf workers gates₀ gates₁ history links status runs = record { frame = f; legal = runs.legal; laws = runs.laws }
 
 -- ---- the closed manager
 

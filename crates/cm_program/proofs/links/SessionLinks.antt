@@ -96,6 +96,7 @@ module _ {L : Type 0} (view : L → LinkView) (status : ℕ) where
       wrote = λ other write. wrote_of end (view came).sink now.sink s.told s.wrote (well other) write;
       front = front_of end (view came).sink now.sink s.told s.wrote;
       no_want = λ other. s.no_want (well other);
+      wants_last = s.wants_last;
     };
     follows = s.follows;
   }

@@ -6,8 +6,8 @@ use Rattle.cm_names.specs.Name.{IsName}
 use Rattle.cm_names.specs.Path.{is_path}
 use Rattle.cm_names.specs.Availability.{availability_word, dependency_word}
 use Rattle.cm_names.specs.Rights.{RightSet, words_of}
-use Rattle.cm_names.proofs.PathLemmas.{path_faultless, subdir_faultless}
-use Rattle.cm_names.proofs.WordLemmas.{words_are_read_back_lem}
+use Rattle.cm_names.proofs.texts.PathLemmas.{path_faultless, subdir_faultless}
+use Rattle.cm_names.proofs.sets.WordLemmas.{words_are_read_back_lem}
 use Rattle.cm_decl.specs.declared.kind.Kind.{Kind}
 use Rattle.cm_decl.specs.declared.kind.Kind.TheVariants as kind
 use Rattle.cm_decl.specs.declared.origin.Origin.{Origin}

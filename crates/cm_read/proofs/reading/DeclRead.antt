@@ -9,7 +9,6 @@ use Rattle.serde_json.specs.Data.{Data, Items, no_items, item}
 use Rattle.serde_json.specs.Find.{get, as_array}
 use Rattle.serde_json.specs.Read as json
 use Rattle.cm_names.specs.Name.{IsName}
-use Rattle.cm_text.specs.Json.{json_of}
 use Rattle.cm_decl.specs.declared.section.Section.{Section}
 use Rattle.cm_decl.specs.declared.section.Section.TheVariants as section
 use Rattle.cm_decl.specs.declared.origin.Origin.{Origin}
@@ -43,8 +42,7 @@ use Rattle.cm_read.specs.Items.{expose_at}
 use Rattle.cm_read.specs.Environments.{environment_item_at}
 use Rattle.cm_read.specs.Sections.{next as next_place, rows_at, section_at}
 use Rattle.cm_read.specs.Manifest.{program_at, runner_at, sections_at, children_at, section_rows_at}
-use Rattle.cm_read.specs.Manifest.{declared_by, decl_at, of_data, decl_of_json, json_text, decl_of_text, text_of}
-use Rattle.cm_read.specs.Manifest.{decl_of_bytes}
+use Rattle.cm_read.specs.Manifest.{declared_by, decl_at, of_data, decl_of_json}
 use Rattle.cm_read.specs.Readable.{IsOrigin, IsStaticSource, IsStorageSource, ForSomeOf, AreRows, IsChild}
 use Rattle.cm_read.specs.Readable.{IsCollection, IsCapability, IsStorage, IsUsage, IsDebugUse, IsStorageUse}
 use Rattle.cm_read.specs.Readable.{IsOffer, IsStorageOffer, IsExpose, IsRegistration, IsEnvironment, IsReadable}
@@ -176,12 +174,6 @@ data_reads (Some d) = decl_reads d
 
 pub json_reads : (text : List ℕ) → Reads IsReadable (decl_of_json text)
 json_reads text = data_reads (json.read text)
-
-text_reads : (text : List ℕ) → Reads IsReadable (decl_of_text text)
-text_reads text = next (any (json_text (json_of text))) (λ json _. json_reads json)
-
-pub bytes_reads : (bytes : List ℕ) → Reads IsReadable (decl_of_bytes bytes)
-bytes_reads bytes = next (any (text_of bytes)) (λ text _. text_reads text)
 
 -- ---- the laws
 

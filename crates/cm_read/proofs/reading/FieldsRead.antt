@@ -10,8 +10,8 @@ use Rattle.cm_names.specs.Rights.{RightSet, no_rights, has, union, only, reading
 use Rattle.cm_names.specs.declared.rights.Right.{Right}
 use Rattle.cm_names.specs.declared.rights.Right.TheVariants.{Connect, Enumerate, Execute, GetAttributes, ModifyDirectory, ReadBytes, Traverse, UpdateAttributes, WriteBytes}
 use Rattle.cm_names.specs.declared.rights.RightsFault.{RightsFault}
-use Rattle.cm_names.proofs.NameLemmas.{faultless_name}
-use Rattle.cm_names.proofs.PathLemmas.{faultless_path, faultless_subdir}
+use Rattle.cm_names.proofs.texts.NameLemmas.{faultless_name}
+use Rattle.cm_names.proofs.texts.PathLemmas.{faultless_path, faultless_subdir}
 use Rattle.cm_decl.specs.declared.origin.Origin.{Origin}
 use Rattle.cm_decl.specs.declared.origin.Origin.TheVariants as origin
 use Rattle.cm_read.specs.declared.fault.Place.{Place}

@@ -13,7 +13,7 @@ use Rattle.serde_json.specs.Find.{get, get_member}
 use Rattle.cm_names.specs.Name.{IsName}
 use Rattle.cm_names.specs.Path.{is_path}
 use Rattle.cm_names.specs.declared.dependency.Dependency.TheVariants.{Strong}
-use Rattle.cm_names.proofs.PathLemmas.{service_is_path}
+use Rattle.cm_names.proofs.texts.PathLemmas.{service_is_path}
 use Rattle.cm_decl.specs.Words.{kind_word}
 use Rattle.cm_decl.specs.declared.kind.Kind.{Kind}
 use Rattle.cm_decl.specs.declared.kind.Kind.TheVariants as kind

@@ -29,7 +29,8 @@ use Rattle.cm_session.specs.Session.{KeepsOrNot}
 use Rattle.cm_session.proofs.links.Accepts.{over_later}
 use Rattle.cm_session.proofs.ends.Ending.{PlaceAt, Places, new_at}
 use Rattle.cm_session.proofs.work.Places.{all_places, at_place, map_same, there_at}
-use Rattle.cm_session.proofs.links.Visits.{keeps_own, same_caller, same_lock, serves_keep}
+use Rattle.cm_session.proofs.links.Visits.{serves_keep}
+use Rattle.cm_session.proofs.spoken.Kept.{caller_kept, keeps_kept, lock_kept}
 use Rattle.cm_session.proofs.work.Working.{some_same}
 
 -- ---- the links, worker by worker
@@ -231,8 +232,8 @@ module _ {G L : Type 0} (log_of : G → Option (List Asked)) (faults_of : G → 
 
       pub sixteen_back : (realm : LockView) → AreSixteen realm passes → AreSixteen realm back.passes
       sixteen_back realm are = record {
-        lock = all_places (λ (p : RealmPass). p.lock ≡ realm.lock) back.passes (λ k q there. (let at = back_at k q there in same_lock shelf at.p q at.g at.h at.keeps ∙ at_place (λ (p : RealmPass). p.lock ≡ realm.lock) passes k at.p are.lock at.there));
-        callers = map_same (λ (p : RealmPass). p.caller) passes back.passes back_long (λ k p q p_there q_there. (let at = back_at k q q_there in same_caller shelf at.p q at.g at.h at.keeps ∙ ap (λ (p : RealmPass). p.caller) (some_same at.p p (sym at.there ∙ p_there)))) ∙ are.callers;
+        lock = all_places (λ (p : RealmPass). p.lock ≡ realm.lock) back.passes (λ k q there. (let at = back_at k q there in lock_kept shelf at.p q at.g at.h at.keeps ∙ at_place (λ (p : RealmPass). p.lock ≡ realm.lock) passes k at.p are.lock at.there));
+        callers = map_same (λ (p : RealmPass). p.caller) passes back.passes back_long (λ k p q p_there q_there. (let at = back_at k q q_there in caller_kept shelf at.p q at.g at.h at.keeps ∙ ap (λ (p : RealmPass). p.caller) (some_same at.p p (sym at.there ∙ p_there)))) ∙ are.callers;
       }
 
       pub gates_back : length back.gates ≡ 16
@@ -247,7 +248,7 @@ module _ {G L : Type 0} (log_of : G → Option (List Asked)) (faults_of : G → 
         each : (k : ℕ) (p q : RealmPass) (g h : G) → slice_get passes k ≡ Some p → slice_get back.passes k ≡ Some q → slice_get gates k ≡ Some g → slice_get back.gates k ≡ Some h → Keeps shelf p q (gates_view log_of faults_of g) (gates_view log_of faults_of h)
         each k p q g h p_there q_there g_there h_there =
             let v = there_at visits k (grind (arith, slice_get_within passes k p p_there, pl.count)) in
-            keeps_own shelf p q (gates_view log_of faults_of g) (gates_view log_of faults_of h) (at_place IsOwnPass passes k p own p_there)
+            keeps_kept shelf p q (gates_view log_of faults_of g) (gates_view log_of faults_of h) (at_place IsOwnPass passes k p own p_there)
             (serves_keep shelf v.0 p q (gates_view log_of faults_of g) (gates_view log_of faults_of h) (kept_at k v.0 p q g h v.1 p_there q_there g_there h_there))
 
       pub ends_back : All (λ (p : RealmPass). HasEnds p.mine) passes → All (λ (p : RealmPass). HasEnds p.mine) back.passes

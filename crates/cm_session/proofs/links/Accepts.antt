@@ -1,19 +1,15 @@
 -- What one accept more counts.
-use Rattle.std.proofs.Common.{◌≡◌, ◌==◌, ℕ, ◌+◌, ◌<◌, ◌≤◌, Bool, true, false, cond, List, [], ◌∷◌, ◌++◌, All, filter, length, Option, Some, None, ap, ◌∙◌, inl, inr, arith, refl, sym, subst, append-nil}
+use Rattle.std.proofs.Common.{◌≡◌, ◌==◌, ℕ, ◌+◌, ◌≤◌, Bool, true, false, cond, List, [], ◌∷◌, ◌++◌, All, filter, length, Option, Some, None, ap, ◌∙◌, inl, inr, arith, refl, sym, subst, append-nil}
 use Rattle.std.proofs.lemmas.List.{length-append}
 use Rattle.std.proofs.lemmas.List.Elements.{filter-append, All-push, All-nil}
-use Rattle.cm_io.specs.Counts.{one_more}
-use Rattle.cm_io.specs.Doors.{Accepts}
-use Rattle.cm_io.specs.Outside.{Rose}
 use Rattle.cm_io.specs.declared.door.Accept.{Accept}
 use Rattle.cm_io.specs.declared.door.Accept.TheVariants as accept
-use Rattle.cm_io.specs.declared.door.DoorCounts.{DoorCounts}
 use Rattle.cm_turn.specs.Passes.{HeldView, Enters, Leaves, IsOwn, with_state}
 use Rattle.cm_session.specs.declared.doorway.Accepted.{Accepted}
 use Rattle.cm_session.specs.declared.doorway.Came.{Came}
 use Rattle.cm_session.specs.declared.doorway.Came.TheVariants as came
 use Rattle.cm_session.specs.declared.doorway.Opening.{Opening}
-use Rattle.cm_session.specs.Doorway.{accepted_by, came_of, closings_of, failures_of, is_closing, is_failure, is_link, links_of, sessions_in, sessions_of, DoorPass, DoorwayView, IsCounted, IsLater, IsOver, TakesTurn, TurnedBy}
+use Rattle.cm_session.specs.Doorway.{accepted_by, came_of, closings_of, failures_of, is_closing, is_failure, is_link, links_of, sessions_in, sessions_of, DoorPass, DoorwayView, IsLater, IsOver, TakesTurn, TurnedBy}
 
 -- how many of a list's entries pass, with more behind them
 pub count_more : {A : Type 0} (p : A → Bool) (xs ys : List A) → length (filter p (xs ++ ys)) ≡ length (filter p xs) + length (filter p ys)
@@ -46,52 +42,6 @@ with_closing es w = counts_with es (entry_of w came.Closed)
 
 pub with_failure : (es : List Accepted) (w : ℕ) → CountsMore es (es ++ entry_of w came.Failed ∷ []) 0 0 1
 with_failure es w = counts_with es (entry_of w came.Failed)
-
--- a count that rose before a further rise
-rises_more : (a b c : ℕ) → a ≤ b → c ≡ one_more b → b ≤ c → Rose a c
-rises_more a b c ab is bc = grind (arith, ab, is, bc)
-
-rises_on : (a b c : ℕ) → Rose a b → b ≤ c → Rose a c
-rises_on a b c ab bc = grind (arith, ab, bc)
-
--- the counts with one accept more
-pub counted_more : {L : Type 0} (first before now : DoorCounts) (es : List Accepted) (w : ℕ) (a : Accept L) → IsCounted first before es → Accepts before now a → IsCounted first now (es ++ entry_of w (came_of a) ∷ [])
-counted_more first before now es w (accept.Link l) is now_is =
-    let more = with_link es w in
-    let no_failure : failures_of (es ++ entry_of w came.Link ∷ []) ≡ failures_of es = grind (arith, more.failures_are) in
-    let no_closing : closings_of (es ++ entry_of w came.Link ∷ []) ≡ closings_of es = grind (arith, more.closings_are) in
-    subst (λ (d : DoorCounts). IsCounted first d (es ++ entry_of w came.Link ∷ [])) (sym now_is) (record {
-      links = grind (arith, is.links, more.links_are);
-      faults_stay = is.faults_stay;
-      faults = λ some. is.faults (subst (λ (n : ℕ). 0 < n) no_failure some);
-      sound = λ none. is.sound (sym no_failure ∙ none);
-      closings_stay = is.closings_stay;
-      closings = λ some. is.closings (subst (λ (n : ℕ). 0 < n) no_closing some);
-    })
-counted_more first before now es w accept.Closed is both =
-    let more = with_closing es w in
-    let no_failure : failures_of (es ++ entry_of w came.Closed ∷ []) ≡ failures_of es = grind (arith, more.failures_are) in
-    let closings_is : now.closings ≡ one_more before.closings = ap (λ (d : DoorCounts). d.closings) both.1 in
-    record {
-      links = ap (λ (d : DoorCounts). d.links) both.1 ∙ grind (arith, is.links, more.links_are);
-      faults_stay = subst (λ (n : ℕ). first.faults ≤ n) (sym (ap (λ (d : DoorCounts). d.faults) both.1)) is.faults_stay;
-      faults = λ some. subst (λ (n : ℕ). Rose first.faults n) (sym (ap (λ (d : DoorCounts). d.faults) both.1)) (is.faults (subst (λ (n : ℕ). 0 < n) no_failure some));
-      sound = λ none. ap (λ (d : DoorCounts). d.faults) both.1 ∙ is.sound (sym no_failure ∙ none);
-      closings_stay = grind (arith, is.closings_stay, both.0);
-      closings = λ some. rises_more first.closings before.closings now.closings is.closings_stay closings_is both.0;
-    }
-counted_more first before now es w accept.Failed is both =
-    let more = with_failure es w in
-    let no_closing : closings_of (es ++ entry_of w came.Failed ∷ []) ≡ closings_of es = grind (arith, more.closings_are) in
-    let faults_is : now.faults ≡ one_more before.faults = ap (λ (d : DoorCounts). d.faults) both.1 in
-    record {
-      links = ap (λ (d : DoorCounts). d.links) both.1 ∙ grind (arith, is.links, more.links_are);
-      faults_stay = grind (arith, is.faults_stay, both.0);
-      faults = λ some. rises_more first.faults before.faults now.faults is.faults_stay faults_is both.0;
-      sound = λ none. absurd (omega (arith, none, more.failures_are));
-      closings_stay = subst (λ (n : ℕ). first.closings ≤ n) (sym (ap (λ (d : DoorCounts). d.closings) both.1)) is.closings_stay;
-      closings = λ some. subst (λ (n : ℕ). Rose first.closings n) (sym (ap (λ (d : DoorCounts). d.closings) both.1)) (is.closings (subst (λ (n : ℕ). 0 < n) no_closing some));
-    }
 
 -- what is over stays so
 pub over_later : (sessions : ℕ) (es more : List Accepted) → IsOver sessions es → IsOver sessions (es ++ more)

@@ -1,49 +1,10 @@
--- Room for links, and links put together.
-use Rattle.std.proofs.Common.{◌≡◌, ℕ, zero, suc, ◌+◌, ◌<◌, ◌≤◌, List, [], ◌∷◌, ◌++◌, All, map, length, Option, Some, None, refl, sym, ap, ◌∙◌, subst, append-nil, append_assoc, arith}
-use mathlib.Core.Logic.{dite}
-use native.Mathlib.Decide.{dec_lt}
-use Rattle.std.specs.Prelude.{vec_capacity}
-use Rattle.std.specs.List.{slice_get}
-use Rattle.std.proofs.lemmas.List.{length-append, length-map, length_push, get_or_append_left}
-use Rattle.std.proofs.lemmas.List.Elements.{All-push, All-nil}
-use Rattle.std.proofs.lemmas.Option.{get_or_from_slice_get, slice_get-get_or, slice_get_within}
-use Rattle.std.proofs.Math.Seq.{get_or-append_seam}
+-- Links put together.
+use Rattle.std.proofs.Common.{◌≡◌, ℕ, zero, suc, ◌+◌, ◌<◌, ◌≤◌, List, [], ◌∷◌, ◌++◌, length, refl, sym, ap, ◌∙◌, subst, append-nil, append_assoc, arith}
+use Rattle.std.proofs.lemmas.List.{length-append, length-map, length_push}
 use Rattle.cm_session.specs.declared.served.Back.{Back}
 use Rattle.cm_session.specs.Closing.{backs_of, links_from}
-use Rattle.cm_session.specs.Parts.{HasRooms, Links}
+use Rattle.cm_session.specs.Parts.{Links}
 use Rattle.cm_session.proofs.work.Making.{no_length}
-
--- ---- room for the links of each worker
-
-pub rooms_none : {L : Type 0} (sessions workers : ℕ) (rooms : List (Links L)) → rooms ≡ [] → HasRooms 0 sessions workers rooms
-rooms_none {L} sessions workers rooms none = subst (λ (l : List (Links L)). HasRooms 0 sessions workers l) (sym none) (record {
-  count = refl;
-  none = All-nil (λ (r : Links L). r.items ≡ []);
-  room = λ k r first there. absurd (omega (arith, slice_get_within [] k r there));
-})
-
--- what stands in a list with one more
-pushed_at : {A : Type 0} (xs : List A) (x y : A) (k : ℕ) → slice_get (xs ++ x ∷ []) k ≡ Some y → k < length xs → slice_get xs k ≡ Some y
-pushed_at xs x y k there low = slice_get-get_or xs k y low ∙ ap Some (sym (get_or_append_left xs (x ∷ []) y k low) ∙ get_or_from_slice_get (xs ++ x ∷ []) k y y there)
-
-pushed_last : {A : Type 0} (xs : List A) (x y : A) (k : ℕ) → slice_get (xs ++ x ∷ []) k ≡ Some y → k ≡ length xs → x ≡ y
-pushed_last xs x y k there last = sym (get_or-append_seam xs x [] y) ∙ ap (λ (n : ℕ). Rattle.std.proofs.Common.get_or (xs ++ x ∷ []) n y) (sym last) ∙ get_or_from_slice_get (xs ++ x ∷ []) k y y there
-
-pub rooms_more : {L : Type 0} (n sessions workers : ℕ) (rooms rooms' : List (Links L)) (r : Links L) → HasRooms n sessions workers rooms → r.items ≡ [] → (n < workers → sessions ≤ vec_capacity r) → rooms' ≡ rooms ++ r ∷ [] → HasRooms (n + 1) sessions workers rooms'
-rooms_more {L} n sessions workers rooms rooms' r is none room more = subst (λ (l : List (Links L)). HasRooms (n + 1) sessions workers l) (sym more) (record {
-  count = length_push rooms r ∙ ap (λ (k : ℕ). k + 1) is.count;
-  none = All-push (λ (r : Links L). r.items ≡ []) rooms r is.none none;
-  room = each;
-}) where
-  each : (k : ℕ) (x : Links L) → k < workers → slice_get (rooms ++ r ∷ []) k ≡ Some x → sessions ≤ vec_capacity x
-  each k x first there =
-      let within : k < length (rooms ++ r ∷ []) = slice_get_within (rooms ++ r ∷ []) k x there in
-      let long = length_push rooms r in
-      dite (dec_lt k (length rooms))
-      (λ low. is.room k x first (pushed_at rooms r x k there low))
-      (λ high.
-      let last : k ≡ length rooms = omega (arith, within, long, high) in
-      subst (λ (l : Links L). sessions ≤ vec_capacity l) (pushed_last rooms r x k there last) (room (subst (λ (m : ℕ). m < workers) (last ∙ is.count) first)))
 
 -- ---- the links of one worker
 

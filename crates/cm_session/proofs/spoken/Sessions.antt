@@ -31,7 +31,7 @@ use Rattle.cm_session.specs.declared.ended.Ended.{Ended}
 use Rattle.cm_session.specs.declared.ended.Ended.TheVariants as ended
 use Rattle.cm_session.specs.Links.{Begins, GrowsByFront, LinkView, whole_lines}
 use Rattle.cm_session.specs.Told.{Told, performed, bad, too_long, Reads, reply_line, replies, done_of, IsNoWant}
-use Rattle.cm_session.specs.Session.{AreEnded, BreaksOff, KeepsOrNot, Served, Session, Wrote, most_lines, quit}
+use Rattle.cm_session.specs.Session.{AreEnded, BreaksOff, KeepsOrNot, Served, Session, WantsLast, Wrote, most_lines, quit}
 use Rattle.cm_session.specs.Steps.{IsSilent, LineDone, LineWrote, ServedCommand, ServedLine, ServedOrNot, StepBy, Stepped}
 use Rattle.cm_session.proofs.spoken.Cutting.{Cut, cut-begins, cut-end, cut-ended, cut-ended-so-far, cut-fault, cut-more, cut-next, cut-none}
 use Rattle.cm_session.proofs.spoken.Kept.{GoesOn, does_as, goes_all, goes_more, goes_none, kept_same, kept_then}
@@ -102,6 +102,14 @@ zip-push R (a ∷ xs) (b ∷ ys) x y h r = (h.0, zip-push R xs ys x y h.1 r)
 
 replies-push : (xs : List Told) (t : Told) → replies (xs ++ t ∷ []) ≡ replies xs ++ reply_line t
 replies-push xs t = flat_map-append reply_line xs (t ∷ []) ∙ ap (λ (l : Text). replies xs ++ l) (append-nil (reply_line t))
+
+-- no line was answered for want of memory, so none but the last was
+none-wants : (told : List Told) → All IsNoWant told → WantsLast told
+none-wants told none = record { before = told; last = []; told_are = sym (append-nil told); one = omega arith; no_want = none }
+
+-- of the lines before the last none was
+last-wants : (told : List Told) (t : Told) → All IsNoWant told → WantsLast (told ++ t ∷ [])
+last-wants told t none = record { before = told; last = t ∷ []; told_are = refl; one = omega arith; no_want = none }
 
 -- ---- what a session has done so far, in n lines
 
@@ -201,6 +209,7 @@ with-line shelf p q r g h k old now then before after n e go s l served wrote wa
           (cut-ended-so-far (go.bytes ++ s.given) after (go.lines_done ++ l.line ∷ []) (cut-more go.bytes s.given before after go.lines_done l.line go.cut (λ over. (s.once.still over).0) l.first));
       wrote = wrote;
       no_want = λ other. all-push IsNoWant go.told v.told go.no_want (want other);
+      wants_last = last-wants go.told v.told go.no_want;
       read_fault = λ fault. absurd (none fault);
     }
 
@@ -224,6 +233,7 @@ without-line shelf p q r g h k old now then before after n e go s silent served 
   follows = subst (λ (x : RealmPass). Follows (frame_of p) p.caller (done_of go.told) p.seen x.seen) (sym silent.pass) (goes_all (frame_of p) p.caller (done_of go.told) p.seen q.seen go.goes_on);
   wrote = wrote;
   no_want = λ other. go.no_want;
+  wants_last = none-wants go.told go.no_want;
   read_fault = λ is. rose-later old.source.faults now.source.faults then.source.faults go.later (fault is);
 }
 
@@ -284,6 +294,7 @@ going-spent shelf p q g h old now reader n all go = record {
   follows = goes_all (frame_of p) p.caller (done_of go.told) p.seen q.seen go.goes_on;
   wrote = go.wrote;
   no_want = λ other. go.no_want;
+  wants_last = none-wants go.told go.no_want;
   read_fault = λ is. absurd (spent-is-no-fault is);
 }
 
@@ -303,6 +314,7 @@ session-none shelf p g link = record {
   follows = goes_all (frame_of p) p.caller (done_of []) p.seen p.seen (goes_none (frame_of p) p.caller p.seen);
   wrote = inl (appends-nil link.sink.written);
   no_want = λ other. absurd (other refl);
+  wants_last = none-wants [] (λ k d lt. absurd (omega arith));
   read_fault = λ is. absurd (memory-is-no-fault is);
 }
 

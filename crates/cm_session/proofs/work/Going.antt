@@ -16,7 +16,8 @@ use Rattle.cm_session.specs.Links.{LinkView}
 use Rattle.cm_session.specs.Serving.{AreWell, IsNewLink, IsOfLink, Visit, none_came}
 use Rattle.cm_session.specs.Session.{Session}
 use Rattle.cm_session.proofs.links.Accepts.{counts_given, given_by}
-use Rattle.cm_session.proofs.links.Visits.{same_lock, serves_more}
+use Rattle.cm_session.proofs.links.Visits.{serves_more}
+use Rattle.cm_session.proofs.spoken.Kept.{lock_kept}
 
 pub no_more : (x y z n : ℕ) → x ≡ y + z → z ≡ 0 → y ≡ n → x ≡ n
 no_more x y z n more none is = grind (arith, more, none, is)
@@ -91,7 +92,7 @@ module _ {L : Type 0} (view : L → LinkView) (shelf : Shelf) where
     visits = is.visits ++ record { was = view l; now = view s.now; ended = end } ∷ [];
     served = served_more is.visits p q r g h k d e f links links' l end is.served turn new s;
     well = All-push (λ (v : Visit). v.ended ≢ ended.Memory) is.visits (record { was = view l; now = view s.now; ended = end }) is.well well;
-    of_realm = same_lock shelf q r h k s.session.keeps ∙ is.of_realm;
+    of_realm = lock_kept shelf q r h k s.session.keeps ∙ is.of_realm;
     of_door = turn.same.lock ∙ is.of_door;
     room = subst (λ (n : ℕ). n ≤ capacity) (sym (ap sessions_in turn.same.frame)) is.room;
   }

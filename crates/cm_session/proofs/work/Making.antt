@@ -71,15 +71,6 @@ module _ {G L : Type 0} where
     room = grind (arith, room);
   })
 
-  -- the lists are gone through from their beginnings
-  pub making_begins : (passes ps : List RealmPass) (at_door ds : List DoorPass) (gates gs : List G) (links ls : List (Links L)) (capacity : ℕ) (crew : List (Worker G L)) → ps ≡ passes → ds ≡ at_door → gs ≡ gates → ls ≡ links → crew ≡ [] → length at_door ≡ length passes → length gates ≡ length passes → length links ≡ length passes → length passes ≤ capacity → Making passes at_door gates links capacity crew ps ds gs ls
-  making_begins passes ps at_door ds gates gs links ls capacity crew ps_is ds_is gs_is ls_is none doors many lists room =
-      subst (λ (x : List RealmPass). Making passes at_door gates links capacity crew x ds gs ls) (sym ps_is)
-      (subst (λ (x : List DoorPass). Making passes at_door gates links capacity crew passes x gs ls) (sym ds_is)
-      (subst (λ (x : List G). Making passes at_door gates links capacity crew passes at_door x ls) (sym gs_is)
-      (subst (λ (x : List (Links L)). Making passes at_door gates links capacity crew passes at_door gates x) (sym ls_is)
-      (making_none passes at_door gates links capacity crew none doors many lists room))))
-
   pub making_more : (passes : List RealmPass) (at_door : List DoorPass) (gates : List G) (links : List (Links L)) (capacity : ℕ) (crew : List (Worker G L)) (w : Worker G L) (p : RealmPass) (d : DoorPass) (g : G) (l : Links L) (ps' ps : List RealmPass) (ds' ds : List DoorPass) (gs' gs : List G) (ls' ls : List (Links L)) → Making passes at_door gates links capacity crew ps' ds' gs' ls' → ps' ≡ p ∷ ps → ds' ≡ d ∷ ds → gs' ≡ g ∷ gs → ls' ≡ l ∷ ls → w.pass ≡ Some p → w.at_door ≡ Some d → w.gates ≡ g → w.links ≡ l → w.lost ≡ false → Making passes at_door gates links capacity (crew ++ w ∷ []) ps ds gs ls
   making_more passes at_door gates links capacity crew w p d g l ps' ps ds' ds gs' gs ls' ls is ps_is ds_is gs_is ls_is pass_is door_is gates_is links_is well =
       record {

@@ -101,13 +101,13 @@ pub record IsEnded (old new : Inside) (caller a i : ℕ) (f : Finish) (o : Outco
   pub acts : new.acts.items ≡ ended a o old.acts.items
   pub resolves : new.resolves ≡ count_by is_open_resolve (ended a o old.acts.items)
   pub joins : new.joins.items ≡ old.joins.items
-  pub entries : new.book.entries ≡ old.book.entries ++ entry_of caller (End a f) (Ended o) ∷ []
-  pub reserved : new.book.reserved ≡ old.book.reserved - 1
-  pub most : new.book.limit ≡ old.book.limit
+  pub entries : new.records.book.entries ≡ old.records.book.entries ++ entry_of caller (End a f) (Ended o) ∷ []
+  pub reserved : new.records.book.reserved ≡ old.records.book.reserved - 1
+  pub most : new.records.book.limit ≡ old.records.book.limit
   pub doomed : Bool
   pub told : IsTold (world_in old) (entry_of caller (End a f) (Ended o)) doomed
-  pub keeper : new.keeper ≡ followed (End a f) (Ended o) doomed old.keeper
-  pub plan : IsPlannedBy (is_emptied (End a f) (Ended o) doomed) old.plan new.plan
+  pub keeper : new.records.keeper ≡ followed (End a f) (Ended o) doomed old.records.keeper
+  pub plan : IsPlannedBy (is_emptied (End a f) (Ended o) doomed) old.records.plan new.records.plan
 
 -- then they are the tree that the end leaves
 world_ended : (old new : Inside) (caller a : ℕ) (f : Finish) (o : Outcome) (x : Act) → act_of old.acts.items a ≡ Some x → IsEnded old new caller a x.inc f o → after (world_in old) (entry_of caller (End a f) (Ended o)) ≡ world_in new
@@ -125,7 +125,7 @@ world_ended old new caller a f o x there e =
     ∙ ap (λ xs. made new.table.rows new.table.next_inc (length xs) xs w.joins (w.entries + 1) w.frame) (sym e.acts)
     ∙ ap (λ js. made new.table.rows new.table.next_inc (length new.acts.items) new.acts.items js (w.entries + 1) w.frame) (sym e.joins)
     ∙ ap (λ n. made new.table.rows new.table.next_inc (length new.acts.items) new.acts.items new.joins.items n w.frame) (one_longer _ _ _ e.entries)
-    ∙ ap (made new.table.rows new.table.next_inc (length new.acts.items) new.acts.items new.joins.items (length new.book.entries)) (sym e.frame)
+    ∙ ap (made new.table.rows new.table.next_inc (length new.acts.items) new.acts.items new.joins.items (length new.records.book.entries)) (sym e.frame)
 
 -- and are kept as before
 pub kept_ended : (old new : Inside) (caller a : ℕ) (f : Finish) (o : Outcome) → (may : MayEnd old.acts.items caller a f) → o ≡ outcome_by old.frame.limits.rows old.table.rows old.table.next_inc f → IsKept old → IsEnded old new caller a may.act.inc f o → IsKept new
@@ -158,10 +158,10 @@ kept_ended old new caller a f o may named kept e = record {
       (tasked_expired_by o may.act.inc (rows_by may.act.inc old.table.next_inc f o old.table.rows) (ended a o old.acts.items)
       (tasked_by old.table.rows old.acts.items caller a old.table.next_inc f o may kept.tasks)));
   beside =
-      subst (λ (fr : Frame). IsBeside fr new.book.entries new.keeper) (sym e.frame)
-      (goes_beside old (entry_of caller (End a f) (Ended o)) e.doomed new.book.entries new.keeper kept.stands kept.beside e.entries refl e.told e.keeper);
+      subst (λ (fr : Frame). IsBeside fr new.records.book.entries new.records.keeper) (sym e.frame)
+      (goes_beside old (entry_of caller (End a f) (Ended o)) e.doomed new.records.book.entries new.records.keeper kept.stands kept.beside e.entries refl e.told e.keeper);
   planned =
-      planned_after old (entry_of caller (End a f) (Ended o)) e.doomed new.table.rows new.plan kept.stands
+      planned_after old (entry_of caller (End a f) (Ended o)) e.doomed new.table.rows new.records.plan kept.stands
       (record { enabled = may; allowed = ap Ended named })
       (ap (λ (w : World). w.rows) (world_ended old new caller a f o may.act may.there e)) e.told kept.planned e.plan;
 }

@@ -9,12 +9,13 @@ use Rattle.cm_world.specs.Rows.{is_gone, is_closed, is_resolved, is_on}
 use Rattle.cm_world.specs.World.{World}
 use Rattle.cm_world.specs.Route.{IsWalked}
 use Rattle.cm_world.specs.Openings.{unready, unopened, routed, opened, WalksUnless}
+use Rattle.cm_world.specs.After.{moves}
 use Rattle.cm_world.specs.Legal.{IsStep}
 use Rattle.cm_laws.specs.Story.{entry_of}
 use Rattle.cm_cache.specs.Keeping.{asked_by, asks_if}
 use Rattle.cm_steps.specs.declared.asking.Asking.{Asking}
 use Rattle.cm_steps.specs.declared.asking.Asking.TheVariants as asking
-use Rattle.cm_steps.specs.Asking.{is_ready, may_ask, event_of, reply_of}
+use Rattle.cm_steps.specs.Asking.{is_ready, may_ask, event_of, reply_of, refusal_of}
 
 -- ---- what refuses one who asks
 
@@ -65,3 +66,13 @@ asks_step asking.Opening w caller i path v may walked = record {
       subst (λ o. WalksUnless w.rows w.frame.builtins (UseAt i path) (opened w.rows) o (opened w.rows v))
       (sym (client_free w.rows i may)) (v, walked, refl);
 }
+
+-- one who may not is told what refuses him
+pub refused_step : (k : Asking) (w : World) (caller i : ℕ) (path : List ℕ) (r : Reply) → WalksUnless w.rows w.frame.builtins (UseAt i path) (reply_of k w.rows) (refusal_of k w.rows i) r → IsStep w (entry_of caller (event_of k i path) r)
+refused_step asking.Route w caller i path r told = record { enabled = tt; allowed = told }
+refused_step asking.Opening w caller i path r told = record { enabled = tt; allowed = told }
+
+-- and asking moves nothing
+pub asks_quiet : (k : Asking) (i : ℕ) (path : List ℕ) (r : Reply) → moves (event_of k i path) r ≡ false
+asks_quiet asking.Route i path r = refl
+asks_quiet asking.Opening i path r = refl

@@ -18,7 +18,7 @@ use Rattle.cm_cache.specs.Answers.{kept_at}
 use Rattle.cm_cache.specs.Keeping.{asked_by}
 use Rattle.cm_cache.specs.Beside.{Held, nothing_held, asked_for, followed, IsTold, IsBeside}
 use Rattle.cm_cache.specs.Steps.{may_doom}
-use Rattle.cm_cache.proofs.Going.{nothing_at_first, beside_is_right, unasked_go_on, asked_go_on}
+use Rattle.cm_cache.proofs.histories.Going.{nothing_at_first, beside_is_right, unasked_go_on, asked_go_on}
 use Rattle.cm_steps.specs.Inside.{story_of, world_in, Stands}
 use Rattle.cm_steps.specs.declared.realm.Realm.TheInside.{Inside}
 
@@ -35,7 +35,7 @@ quiet_dooms event r quiet = refl
 pub rising_in : (a : Inside) → Stands (story_of a) (world_in a) → IsRising a.table.next_inc a.table.rows
 unfolding world_of IsLegal
 rising_in a stands =
-    subst (λ (w : World). IsRising w.next_inc w.rows) stands.world (trees_stay_sound a.frame a.book.entries stands.legal).orderly.rising
+    subst (λ (w : World). IsRising w.next_inc w.rows) stands.world (trees_stay_sound a.frame a.records.book.entries stands.legal).orderly.rising
 
 -- ---- what is kept
 
@@ -45,28 +45,28 @@ beside_new f entries h none held =
     subst (IsBeside f entries) (sym held) (subst (λ es. IsBeside f es nothing_held) (sym none) (nothing_at_first f))
 
 -- with an entry more that asks for no use
-pub goes_beside : (a : Inside) (e : Entry) (doomed : Bool) (entries : List Entry) (h : Held) → Stands (story_of a) (world_in a) → IsBeside a.frame a.book.entries a.keeper → entries ≡ a.book.entries ++ e ∷ [] → asked_by (world_in a) e.event ≡ None → IsTold (world_in a) e doomed → h ≡ followed e.event e.reply doomed a.keeper → IsBeside a.frame entries h
+pub goes_beside : (a : Inside) (e : Entry) (doomed : Bool) (entries : List Entry) (h : Held) → Stands (story_of a) (world_in a) → IsBeside a.frame a.records.book.entries a.records.keeper → entries ≡ a.records.book.entries ++ e ∷ [] → asked_by (world_in a) e.event ≡ None → IsTold (world_in a) e doomed → h ≡ followed e.event e.reply doomed a.records.keeper → IsBeside a.frame entries h
 unfolding world_of IsLegal
 goes_beside a e doomed entries h stands beside more none told held =
     subst (IsBeside a.frame entries) (sym held)
-    (subst (λ es. IsBeside a.frame es (followed e.event e.reply doomed a.keeper)) (sym more)
-    (unasked_go_on a.frame a.book.entries e doomed a.keeper (trees_stay_sound a.frame a.book.entries stands.legal).orderly.rising
+    (subst (λ es. IsBeside a.frame es (followed e.event e.reply doomed a.records.keeper)) (sym more)
+    (unasked_go_on a.frame a.records.book.entries e doomed a.records.keeper (trees_stay_sound a.frame a.records.book.entries stands.legal).orderly.rising
     (subst (λ (w : World). asked_by w e.event ≡ None) (sym stands.world) none)
     (subst (λ (w : World). IsTold w e doomed) (sym stands.world) told) beside))
 
 -- with one that asks for a use, whose walk comes to this
-pub asks_beside : (a : Inside) (e : Entry) (i : ℕ) (path : List ℕ) (v : Walked) (entries : List Entry) (h : Held) → Stands (story_of a) (world_in a) → IsBeside a.frame a.book.entries a.keeper → entries ≡ a.book.entries ++ e ∷ [] → asked_by (world_in a) e.event ≡ Some (record { inc = i; path = path }) → IsWalked a.table.rows a.frame.builtins (UseAt i path) v → h ≡ asked_for i path v a.keeper → IsBeside a.frame entries h
+pub asks_beside : (a : Inside) (e : Entry) (i : ℕ) (path : List ℕ) (v : Walked) (entries : List Entry) (h : Held) → Stands (story_of a) (world_in a) → IsBeside a.frame a.records.book.entries a.records.keeper → entries ≡ a.records.book.entries ++ e ∷ [] → asked_by (world_in a) e.event ≡ Some (record { inc = i; path = path }) → IsWalked a.table.rows a.frame.builtins (UseAt i path) v → h ≡ asked_for i path v a.records.keeper → IsBeside a.frame entries h
 unfolding world_of IsLegal
 asks_beside a e i path v entries h stands beside more asks walked held =
     subst (IsBeside a.frame entries) (sym held)
-    (subst (λ es. IsBeside a.frame es (asked_for i path v a.keeper)) (sym more)
-    (asked_go_on a.frame a.book.entries e i path v a.keeper
+    (subst (λ es. IsBeside a.frame es (asked_for i path v a.records.keeper)) (sym more)
+    (asked_go_on a.frame a.records.book.entries e i path v a.records.keeper
     (subst (λ (w : World). asked_by w e.event ≡ Some (record { inc = i; path = path })) (sym stands.world) asks)
     (subst (λ (w : World). IsWalked w.rows w.frame.builtins (UseAt i path) v) (sym stands.world) walked) beside))
 
 -- an answer that is kept is that of the walk in the tree as it is
-pub right_in : (a : Inside) (i : ℕ) (path : List ℕ) (v : Walked) → Stands (story_of a) (world_in a) → IsBeside a.frame a.book.entries a.keeper → kept_at a.keeper.answers i path ≡ Some v → IsWalked a.table.rows a.frame.builtins (UseAt i path) v
+pub right_in : (a : Inside) (i : ℕ) (path : List ℕ) (v : Walked) → Stands (story_of a) (world_in a) → IsBeside a.frame a.records.book.entries a.records.keeper → kept_at a.records.keeper.answers i path ≡ Some v → IsWalked a.table.rows a.frame.builtins (UseAt i path) v
 unfolding world_of
 right_in a i path v stands beside is =
     subst (λ (w : World). IsWalked w.rows w.frame.builtins (UseAt i path) v) stands.world
-    (beside_is_right a.frame a.book.entries a.keeper i path v beside is)
+    (beside_is_right a.frame a.records.book.entries a.records.keeper i path v beside is)

@@ -17,7 +17,7 @@ use Rattle.cm_laws.proofs.sound.Above.{above_lives}
 use Rattle.cm_laws.proofs.sound.Rows.{closing_lasts, follows_changed}
 use Rattle.cm_laws.proofs.sound.Marks.{IsLight, light_end, light_lasts}
 use Rattle.cm_laws.proofs.sound.Healthy.{IsHealthy}
-use Rattle.cm_laws.proofs.MarksLast.{healthy_of}
+use Rattle.cm_laws.proofs.lasting.MarksLast.{healthy_of}
 use Rattle.cm_steps.specs.declared.realm.Realm.TheInside.{Inside}
 use Rattle.cm_steps.specs.Inside.{story_of, world_in, Stands}
 

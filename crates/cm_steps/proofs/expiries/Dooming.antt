@@ -16,7 +16,7 @@ use Rattle.cm_world.proofs.trees.Finding.{none_some, some_same}
 use Rattle.cm_world.proofs.trees.Walks.{find-lives}
 use Rattle.cm_laws.proofs.sound.Expiries.{once_row}
 use Rattle.cm_steps.specs.Expiring.{doomed_if_dynamic, doomed_below}
-use Rattle.cm_walk.proofs.Behind.{next_of, IsNext, is_next, lives_on, behind_more}
+use Rattle.cm_walk.proofs.descents.Behind.{next_of, IsNext, is_next, lives_on, behind_more}
 
 -- ---- what a loop over children has done so far
 
@@ -129,16 +129,6 @@ expired_once rows next i orderly unclosed once =
     each_as (λ r. cond (goes_with rows i r && not r.doomed) (set_doomed r) r) (λ r. cond ((r.inc == i) && not r.doomed) (set_doomed r) r)
     (λ r. ap (λ b. cond (b && not r.doomed) (set_doomed r) r) (open_goes rows i true unclosed once r)) rows
     ∙ own_goes i next rows orderly.rising (λ r lives. once_row rows i r lives once)
-
--- else each of its children in a collection
-below_goes : (b d m : Bool) (r : Row) → cond ((b && d) && not m) (set_doomed r) r ≡ cond b (cond (d && not m) (set_doomed r) r) r
-below_goes true d m r = refl
-below_goes false d m r = refl
-
-pub expired_below : (rows : List Row) (i : ℕ) → is_closed rows i ≡ false → runs_once rows i ≡ false → expired i rows ≡ doomed_below i rows
-expired_below rows i unclosed once =
-    each_as (λ r. cond (goes_with rows i r && not r.doomed) (set_doomed r) r) (λ r. cond (has_parent i r) (doomed_if_dynamic r) r)
-    (λ r. ap (λ b. cond (b && not r.doomed) (set_doomed r) r) (open_goes rows i false unclosed once r) ∙ below_goes (has_parent i r) (is_dynamic r) r.doomed r) rows
 
 -- ---- children, one after another
 

@@ -11,7 +11,7 @@ use Rattle.cm_world.specs.Sound.{IsOrderly}
 use Rattle.cm_world.proofs.trees.Finding.{none_some, some_same, row_of-inc}
 use Rattle.std.specs.Cmp.{unsigned_Decides}
 use Rattle.cm_cache.specs.Beside.{goes_some}
-use Rattle.cm_walk.proofs.Behind.{next_of, IsNext, is_next}
+use Rattle.cm_walk.proofs.descents.Behind.{next_of, IsNext, is_next}
 use Rattle.cm_steps.specs.Expiring.{doomed_if_dynamic}
 use Rattle.cm_steps.proofs.expiries.Dooming.{may_go, doomed_up_to, undoomed_there, expired_closed, expired_once, open_goes, up_more, up_all}
 

@@ -10,7 +10,7 @@ use Rattle.cm_world.specs.Rows.{is_closed}
 use Rattle.cm_world.specs.Find.{found_from}
 use Rattle.cm_world.specs.Located.{located_from}
 use Rattle.cm_world.specs.Offering.{told_index}
-use Rattle.cm_walk.proofs.Leading.{find_reply}
+use Rattle.cm_walk.proofs.ways.Leading.{find_reply}
 
 module _ (rows : List Row) (names : List ChildName) where
   pub found_reply : (i : ℕ) → Found i ≡ located_from rows 0 0 names → reply.Found i ≡ found_from rows 0 [] names

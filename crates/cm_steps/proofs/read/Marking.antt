@@ -6,7 +6,7 @@ use Rattle.cm_world.specs.declared.view.Facts.{Facts}
 use Rattle.cm_world.specs.Rows.{row_of, facts_of, at_or_above, is_gone, is_closed}
 use Rattle.cm_world.specs.Sound.{IsOrderly}
 use Rattle.cm_world.proofs.trees.Climbing.{above_root}
-use Rattle.cm_walk.proofs.Up.{no_row, no_mark_here, mark_found, parent_told, gone_told, closed_told, or_last_false}
+use Rattle.cm_walk.proofs.ways.Up.{no_row, no_mark_here, mark_found, parent_told, gone_told, closed_told, or_last_false}
 
 module _ (all : Bool) (p : Row → Bool) (rows : List Row) where
   -- a row of the way is gathered

@@ -18,12 +18,12 @@ use Rattle.cm_world.specs.Work.{base_of, eager_of, runner_of, program_work, work
 use Rattle.cm_world.specs.Reports.{look_at, show_reply}
 use Rattle.cm_world.specs.After.{moves}
 use Rattle.cm_world.proofs.trees.Finding.{some_same, row_of-inc}
-pub use Rattle.cm_walk.proofs.Steps.{if_ok}
+pub use Rattle.cm_walk.proofs.routes.Steps.{if_ok}
 use Rattle.cm_steps.specs.Answers.{AnswersBegin, AnswersIdle}
 use Rattle.cm_steps.specs.Eager.{eager_by, eager_kids, above_url}
 use Rattle.cm_steps.specs.declared.replies.beginning.BeginAnswer.{BeginAnswer}
 use Rattle.cm_steps.specs.declared.replies.beginning.BeginAnswer.TheVariants as answer
-use Rattle.cm_walk.proofs.Up.{Told, told}
+use Rattle.cm_walk.proofs.ways.Up.{Told, told}
 
 -- what is told of a row that lives
 pub told_of : (rows : List Row) (i : ℕ) (f : Facts) (r : Row) → Some f ≡ option_map facts_of (row_of rows i) → row_of rows i ≡ Some r → f ≡ facts_of r

@@ -15,7 +15,7 @@ use Rattle.cm_world.specs.Reports.{kid_by, kid_of, paths_used, survey_row, surve
 use Rattle.cm_world.proofs.trees.Finding.{row_of-inc}
 use Rattle.cm_steps.specs.Reporting.{kid_as, kid_in, paths_by, surveyed_row}
 use Rattle.cm_steps.proofs.read.Reading.{told_of}
-use Rattle.cm_walk.proofs.Behind.{made_of}
+use Rattle.cm_walk.proofs.descents.Behind.{made_of}
 
 -- ---- lists of children
 

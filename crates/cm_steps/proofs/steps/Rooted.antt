@@ -16,4 +16,4 @@ pub root_in : (a : Inside) → IsKept a → IsTrue (is_live a.table.rows 0)
 unfolding world_of IsLegal
 root_in a kept =
     subst (λ (w : World). IsTrue (is_live w.rows 0)) kept.stands.world
-    (lives_by _ _ (root_stays a.frame a.book.entries kept.stands.legal))
+    (lives_by _ _ (root_stays a.frame a.records.book.entries kept.stands.legal))

@@ -20,7 +20,7 @@ use Rattle.cm_laws.proofs.actions.Tasks.{tasked_new}
 use Rattle.cm_cache.specs.Beside.{nothing_held}
 use Rattle.cm_steps.proofs.asked.Keepers.{beside_new}
 
-stands_new : (a : Inside) → a.table ≡ first_tree a.frame.root a.frame.builtins a.frame.limits.rows → a.acts.items ≡ [] → a.joins.items ≡ [] → a.book.entries ≡ [] → Stands (story_of a) (world_in a)
+stands_new : (a : Inside) → a.table ≡ first_tree a.frame.root a.frame.builtins a.frame.limits.rows → a.acts.items ≡ [] → a.joins.items ≡ [] → a.records.book.entries ≡ [] → Stands (story_of a) (world_in a)
 unfolding world_of IsLegal
 stands_new a table acts joins entries =
     let made : Tree → List Act → List Join → List Entry → World = λ t xs js es. record { frame = a.frame; rows = t.rows; next_inc = t.next_inc; next_action = length xs + 1; acts = xs; joins = js; entries = length es } in
@@ -35,12 +35,12 @@ stands_new a table acts joins entries =
     }
 
 -- the fields of a new realm are the tree that no entry leaves
-pub kept_new : (a : Inside) (f : Frame) → a.frame ≡ f → a.table ≡ first_tree f.root f.builtins f.limits.rows → a.acts.items ≡ [] → a.resolves ≡ 0 → a.joins.items ≡ [] → a.book ≡ record { entries = []; reserved = 0; limit = f.limits.entries } → a.keeper ≡ nothing_held → KnowsNone a.plan → IsKept a
+pub kept_new : (a : Inside) (f : Frame) → a.frame ≡ f → a.table ≡ first_tree f.root f.builtins f.limits.rows → a.acts.items ≡ [] → a.resolves ≡ 0 → a.joins.items ≡ [] → a.records.book ≡ record { entries = []; reserved = 0; limit = f.limits.entries } → a.records.keeper ≡ nothing_held → KnowsNone a.records.plan → IsKept a
 kept_new a f frame first acts resolves joins empty held unknown =
     let table : a.table ≡ first_tree a.frame.root a.frame.builtins a.frame.limits.rows =
     first ∙ ap (λ (g : Frame). first_tree g.root g.builtins g.limits.rows) (sym frame) in
     let made : ℕ → History = λ n. record { entries = []; reserved = 0; limit = n } in
-    let book : a.book ≡ record { entries = []; reserved = 0; limit = a.frame.limits.entries } =
+    let book : a.records.book ≡ record { entries = []; reserved = 0; limit = a.frame.limits.entries } =
     empty ∙ ap (λ (g : Frame). made g.limits.entries) (sym frame) in
     record {
       stands = stands_new a table acts joins (ap (λ (h : History). h.entries) book);
@@ -52,6 +52,6 @@ kept_new a f frame first acts resolves joins empty held unknown =
       builtins = ap (λ (t : Tree). t.builtins) table;
       numbers = subst (IsNumbered 1) (sym acts) tt;
       tasks = subst (λ xs. IsTasked a.table.rows xs) (sym acts) (subst (λ (t : Tree). IsTasked t.rows []) (sym table) (tasked_new a.frame.root));
-      beside = beside_new a.frame a.book.entries a.keeper (ap (λ (h : History). h.entries) book) held;
-      planned = planned_none a.table.rows a.plan unknown;
+      beside = beside_new a.frame a.records.book.entries a.records.keeper (ap (λ (h : History). h.entries) book) held;
+      planned = planned_none a.table.rows a.records.plan unknown;
     }

@@ -40,12 +40,12 @@ pub record IsRowStep (old new : Inside) (e : Entry) (rows : List Row) (next : �
   pub acts : new.acts.items ≡ old.acts.items
   pub resolves : new.resolves ≡ old.resolves
   pub joins : new.joins.items ≡ old.joins.items
-  pub book : new.book ≡ record old.book { entries = old.book.entries ++ e ∷ [] }
+  pub book : new.records.book ≡ record old.records.book { entries = old.records.book.entries ++ e ∷ [] }
   pub doomed : Bool
   pub unasked : asked_by (world_in old) e.event ≡ None
   pub told : IsTold (world_in old) e doomed
-  pub keeper : new.keeper ≡ followed e.event e.reply doomed old.keeper
-  pub plan : IsPlannedBy (is_emptied e.event e.reply doomed) old.plan new.plan
+  pub keeper : new.records.keeper ≡ followed e.event e.reply doomed old.records.keeper
+  pub plan : IsPlannedBy (is_emptied e.event e.reply doomed) old.records.plan new.records.plan
 
 -- where the entry changes just these, the fields are the tree that it leaves
 world_stepped : (old new : Inside) (e : Entry) (rows : List Row) (next : ℕ) → moved (world_in old) e.caller e.event e.reply ≡ record (world_in old) { rows = rows; next_inc = next } → IsRowStep old new e rows next → after (world_in old) e ≡ world_in new
@@ -59,7 +59,7 @@ world_stepped old new e rows next moves s =
     ∙ ap (λ xs. made new.table xs w.joins (w.entries + 1) w.frame) (sym s.acts)
     ∙ ap (λ js. made new.table new.acts.items js (w.entries + 1) w.frame) (sym s.joins)
     ∙ ap (λ n. made new.table new.acts.items new.joins.items n w.frame) (one_longer _ _ e (ap (λ (h : History). h.entries) s.book))
-    ∙ ap (made new.table new.acts.items new.joins.items (length new.book.entries)) (sym s.frame)
+    ∙ ap (made new.table new.acts.items new.joins.items (length new.records.book.entries)) (sym s.frame)
 
 -- and are kept as before
 pub kept_rows : (old new : Inside) (e : Entry) (rows : List Row) (next : ℕ) → IsKept old → IsStep (world_in old) e → moved (world_in old) e.caller e.event e.reply ≡ record (world_in old) { rows = rows; next_inc = next } → IsTasked rows old.acts.items → IsRowStep old new e rows next → IsKept new
@@ -84,14 +84,14 @@ kept_rows old new e rows next kept step moves tasked s = record {
   numbers = subst (IsNumbered 1) (sym s.acts) kept.numbers;
   tasks = subst (IsTasked new.table.rows) (sym s.acts) (subst (λ (t : Tree). IsTasked t.rows old.acts.items) (sym s.table) tasked);
   beside =
-      subst (λ (fr : Frame). IsBeside fr new.book.entries new.keeper) (sym s.frame)
-      (goes_beside old e s.doomed new.book.entries new.keeper kept.stands kept.beside (ap (λ (h : History). h.entries) s.book) s.unasked s.told s.keeper);
+      subst (λ (fr : Frame). IsBeside fr new.records.book.entries new.records.keeper) (sym s.frame)
+      (goes_beside old e s.doomed new.records.book.entries new.records.keeper kept.stands kept.beside (ap (λ (h : History). h.entries) s.book) s.unasked s.told s.keeper);
   planned =
-      planned_after old e s.doomed new.table.rows new.plan kept.stands step (ap (λ (w : World). w.rows) (world_stepped old new e rows next moves s)) s.told kept.planned s.plan;
+      planned_after old e s.doomed new.table.rows new.records.plan kept.stands step (ap (λ (w : World). w.rows) (world_stepped old new e rows next moves s)) s.told kept.planned s.plan;
 }
 
 -- the tree that the fields are is sound, as that of every legal history is
 pub sound_in : TreesStaySound → (a : Inside) → IsKept a → IsSound a.table.rows a.table.next_inc
 unfolding world_of IsLegal
 sound_in law a kept =
-    subst (λ (w : World). IsSound w.rows w.next_inc) kept.stands.world (law a.frame a.book.entries kept.stands.legal)
+    subst (λ (w : World). IsSound w.rows w.next_inc) kept.stands.world (law a.frame a.records.book.entries kept.stands.legal)

@@ -11,11 +11,11 @@ ghost use Rattle.cm_steps.specs.Answers.{CreatesBy};
 use super::Realm;
 use crate::nostep::NoStep;
 use crate::replies::creating::{CreateAnswer, create_answer};
-use crate::rooms::{add_row, put_down};
+use crate::rooms::add_row;
 use cm_decl::Give;
 use cm_laws::trees_stay_sound;
 use cm_names::{List, Name, Text};
-use cm_world::{Entry, Event, Reply};
+use cm_world::{Event, Reply};
 use std::alloc::Global;
 
 impl Realm {
@@ -109,23 +109,17 @@ impl Realm {
         let inc = add_row(
             alloc,
             &mut self.table,
-            &mut self.book,
+            &mut self.records.book,
             parent,
             &coll,
             &name,
             &url,
             &gives,
         )?;
-        let entry = Entry {
+        self.records.put_down(
             caller,
-            event: Event::Create(parent, coll, name, url, gives),
-            reply: Reply::Created(inc),
-        };
-        put_down(
-            &mut self.book,
-            &mut self.keeper,
-            &mut self.plan,
-            entry,
+            Event::Create(parent, coll, name, url, gives),
+            Reply::Created(inc),
             false,
         );
         Ok(Reply::Created(inc))

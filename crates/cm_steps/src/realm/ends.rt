@@ -15,9 +15,9 @@ use super::Realm;
 use crate::ending::{Ending, end_at};
 use crate::expiring::expire_by;
 use crate::pending::{inc_at, outcome_at, settle, take_join};
-use crate::rooms::{put_down, resolves_left};
+use crate::rooms::resolves_left;
 use cm_table::Settled;
-use cm_world::{Entry, Event, Reply};
+use cm_world::{Event, Reply};
 
 impl Realm {
     /// Ends an action that this caller began and that hasn't ended: `Ended` with what became of
@@ -31,21 +31,15 @@ impl Realm {
         ensures step { Tells self.old self.new caller (Event.End action (finish_of ending)) result }
     {
         let inc = inc_at(self.acts.as_slice(), action);
-        let closing = self.plan.closes(&self.table, inc);
+        let closing = self.records.plan.closes(&self.table, inc);
         let Settled { finish, outcome } = end_at(&mut self.table, inc, ending);
         let doomed = expire_by(&mut self.table, inc, outcome, closing);
         self.resolves = resolves_left(self.acts.as_slice(), self.resolves, action);
         settle(&mut self.acts, action, outcome);
-        let entry = Entry {
+        self.records.put_down(
             caller,
-            event: Event::End(action, finish),
-            reply: Reply::Ended(outcome),
-        };
-        put_down(
-            &mut self.book,
-            &mut self.keeper,
-            &mut self.plan,
-            entry,
+            Event::End(action, finish),
+            Reply::Ended(outcome),
             doomed,
         );
         Reply::Ended(outcome)
@@ -62,18 +56,8 @@ impl Realm {
     {
         let outcome = outcome_at(self.acts.as_slice(), action)?;
         take_join(&mut self.joins, caller, action);
-        let entry = Entry {
-            caller,
-            event: Event::Await(action),
-            reply: Reply::Ended(outcome),
-        };
-        put_down(
-            &mut self.book,
-            &mut self.keeper,
-            &mut self.plan,
-            entry,
-            false,
-        );
+        self.records
+            .put_down(caller, Event::Await(action), Reply::Ended(outcome), false);
         Some(Reply::Ended(outcome))
     }
 }

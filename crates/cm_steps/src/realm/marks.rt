@@ -21,11 +21,11 @@ use crate::nostep::NoStep;
 use crate::replies::marking::{MarkAnswer, mark_answer};
 use crate::replies::purging::{PurgeAnswer, purge_answer};
 use crate::replies::reaping::reap_reply;
-use crate::rooms::{copy_in_room, put_down};
+use crate::rooms::copy_in_room;
 use cm_laws::trees_stay_sound;
 use cm_names::List;
 use cm_table::Table;
-use cm_world::{Entry, Event, Lost, Reply};
+use cm_world::{Event, Lost, Reply};
 use std::alloc::Global;
 
 impl Realm {
@@ -82,20 +82,10 @@ impl Realm {
         ensures refused { IfErr result (RefusesQuiet self.old) }
         ensures err { OnErr result (self.new ≡ self.old) }
     {
-        self.book.reserve(1)?;
+        self.records.book.reserve(1)?;
         set_mark(&mut self.table, doom, inc);
-        let entry = Entry {
-            caller,
-            event: Event::Mark(doom, inc),
-            reply: Reply::Marked,
-        };
-        put_down(
-            &mut self.book,
-            &mut self.keeper,
-            &mut self.plan,
-            entry,
-            doom,
-        );
+        self.records
+            .put_down(caller, Event::Mark(doom, inc), Reply::Marked, doom);
         Ok(Reply::Marked)
     }
 
@@ -160,7 +150,8 @@ impl Realm {
         }
     }
 
-    /// Puts down that an instance is removed with all below it.
+    /// Puts down that an instance is removed with all below it. The history keeps a copy of what is
+    /// lost, which takes no more than it needs.
     fn remove(&mut self, caller: u32, inc: u64, lost: List<Lost>) -> Result<Reply, NoStep>
         requires purgeable { IsTrue (may_purge (world_of self.old).rows inc) }
         requires lives { IsTrue (is_live (world_of self.old).rows inc) }
@@ -173,21 +164,11 @@ impl Realm {
         ensures err { OnErr result (self.new ≡ self.old) }
     {
         trees_stay_sound();
-        let told = copy_in_room(&mut self.book, &lost)?;
+        let kept = copy_in_room(&mut self.records.book, &lost)?;
         self.table.remove_below(inc);
-        let entry = Entry {
-            caller,
-            event: Event::Purge(inc),
-            reply: Reply::Purged(lost),
-        };
-        put_down(
-            &mut self.book,
-            &mut self.keeper,
-            &mut self.plan,
-            entry,
-            false,
-        );
-        Ok(Reply::Purged(told))
+        self.records
+            .put_down(caller, Event::Purge(inc), Reply::Purged(kept), false);
+        Ok(Reply::Purged(lost))
     }
 }
 

@@ -12,9 +12,9 @@ ghost use Rattle.cm_steps.specs.Answers.{PicksBy};
 use super::Realm;
 use crate::nostep::NoStep;
 use crate::replies::picking::{PickAnswer, pick_answer};
-use crate::rooms::{next_action, put_down};
+use crate::rooms::next_action;
 use cm_laws::trees_stay_sound;
-use cm_world::{ActKind, Entry, Event, Reply};
+use cm_world::{ActKind, Event, Reply};
 use std::alloc::Global;
 
 impl Realm {
@@ -46,7 +46,7 @@ impl Realm {
         }
         trees_stay_sound();
         let next = next_action(self.acts.as_slice());
-        let answer = pick_answer(alloc, &self.table, &mut self.plan, next, target)?;
+        let answer = pick_answer(alloc, &self.table, &mut self.records.plan, next, target)?;
         self.pick_by(caller, target, answer)
     }
 
@@ -82,20 +82,10 @@ impl Realm {
         ensures refused { IfErr result (RefusesQuiet self.old) }
         ensures err { OnErr result (self.new ≡ self.old) }
     {
-        self.book.reserve(1)?;
+        self.records.book.reserve(1)?;
         self.table.set_shut(inc);
-        let entry = Entry {
-            caller,
-            event: Event::Pick(target),
-            reply: Reply::ShutDown(inc),
-        };
-        put_down(
-            &mut self.book,
-            &mut self.keeper,
-            &mut self.plan,
-            entry,
-            false,
-        );
+        self.records
+            .put_down(caller, Event::Pick(target), Reply::ShutDown(inc), false);
         Ok(Reply::ShutDown(inc))
     }
 }

@@ -16,7 +16,7 @@ use crate::standing::{Standing, standing_of};
 use cm_decl::Child;
 use cm_names::{Boxed, ChildName, List, Memory, Name, Text};
 use cm_table::Table;
-use cm_walk::above::resolved;
+use cm_walk::above::is_resolved;
 use cm_walk::hop::moniker;
 use cm_world::{ActKind, Facts, Reply, View, Work};
 use std::alloc::Global;
@@ -87,7 +87,7 @@ fn idle_answer(
     ensures { IfOk result (λ answer. (r : Row) → row_of table.now.rows inc ≡ Some r
         → AnswersIdle table.now.rows next_action kind r answer) }
 {
-    let resolved = resolved(table, inc);
+    let resolved = is_resolved(table, inc);
     if is_so(kind, facts.on, resolved) {
         return Ok(BeginAnswer::Quiet(Reply::Already));
     }

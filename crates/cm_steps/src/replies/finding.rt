@@ -9,7 +9,7 @@ ghost use Rattle.cm_world.specs.Located.{located_from};
 
 use cm_names::{ChildName, List, Memory, Moniker, Shared};
 use cm_table::Table;
-use cm_walk::above::closed;
+use cm_walk::above::is_closed;
 use cm_walk::locate;
 use cm_world::{Located, Reply, Steps, View};
 use std::alloc::Global;
@@ -55,8 +55,6 @@ fn missing(
     requires { located_from table.now.rows 0 0 parts.now ≡ Located.Missing count }
     ensures { IfOk result (λ reply. reply ≡ found_from table.now.rows 0 [] parts.now) }
 {
-    // The tree of which the contract speaks.
-    let _table = table;
     if count < u32::MAX {
         return not_found(alloc, &parts[..count as usize]);
     }
@@ -76,7 +74,7 @@ pub fn unresolved<V: View>(view: &V, inc: u64) -> Reply
     ensures { result ≡
         (if is_closed (V.rows view.now) inc then Reply.Shut inc else Reply.Need inc) }
 {
-    if closed(view, inc) {
+    if is_closed(view, inc) {
         Reply::Shut(inc)
     } else {
         Reply::Need(inc)

@@ -5,7 +5,7 @@ ghost use Rattle.cm_world.specs.Rows.{has_closing};
 ghost use Rattle.cm_steps.specs.Answers.{AnswersMark};
 
 use cm_dynamic::{MayDestroy, may_destroy};
-use cm_walk::above::gone;
+use cm_walk::above::is_gone;
 use cm_world::{Reply, View};
 
 /// What a mark comes to.
@@ -44,7 +44,7 @@ fn doom_answer<V: View>(view: &V, inc: u64) -> MarkAnswer
 fn close_answer<V: View>(view: &V, inc: u64) -> MarkAnswer
     ensures { AnswersMark (V.rows view.now) false inc result }
 {
-    if gone(view, inc) {
+    if is_gone(view, inc) {
         return MarkAnswer::Quiet(Reply::Gone(inc));
     }
     if is_marked(view, inc) {

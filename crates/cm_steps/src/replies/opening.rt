@@ -6,7 +6,7 @@ ghost use Rattle.cm_world.specs.Route.{IsWalked};
 
 use crate::replies::finding::unresolved;
 use cm_names::{CapPath, Memory, Name, Shared};
-use cm_walk::above::{closed, gone, on, resolved, shut};
+use cm_walk::above::{is_closed, is_gone, is_on, is_resolved, is_shut};
 use cm_walk::walk;
 use cm_world::{Provider, Reply, Route, Start, View, Walked};
 use std::alloc::Global;
@@ -15,10 +15,10 @@ use std::alloc::Global;
 pub fn unready<V: View>(view: &V, inc: u64) -> Option<Reply>
     ensures { result ≡ openings.unready (V.rows view.now) inc }
 {
-    if gone(view, inc) {
+    if is_gone(view, inc) {
         return Some(Reply::Gone(inc));
     }
-    if resolved(view, inc) {
+    if is_resolved(view, inc) {
         return None;
     }
     Some(unresolved(view, inc))
@@ -28,10 +28,10 @@ pub fn unready<V: View>(view: &V, inc: u64) -> Option<Reply>
 pub fn unopened<V: View>(view: &V, inc: u64) -> Option<Reply>
     ensures { result ≡ openings.unopened (V.rows view.now) inc }
 {
-    if gone(view, inc) {
+    if is_gone(view, inc) {
         return Some(Reply::Gone(inc));
     }
-    if on(view, inc) {
+    if is_on(view, inc) {
         None
     } else {
         Some(Reply::ClientOff)
@@ -46,7 +46,7 @@ pub fn routed<V: View>(view: &V, walked: Walked) -> Reply
         Walked::Given(route) => Reply::Given(route),
         Walked::Failed(hop, why) => Reply::Failed(hop, why),
         Walked::Need(inc) => {
-            if closed(view, inc) {
+            if is_closed(view, inc) {
                 Reply::SourceShut(inc)
             } else {
                 Reply::Need(inc)
@@ -67,13 +67,13 @@ fn opened_route<V: View>(view: &V, route: Shared<Route>) -> Reply
         Provider::Framework => return Reply::Opened(route),
         Provider::Builtin => return Reply::Opened(route),
     };
-    if shut(view, source) {
+    if is_shut(view, source) {
         return Reply::SourceShut(source);
     }
-    if on(view, source) {
+    if is_on(view, source) {
         return Reply::Opened(route);
     }
-    if closed(view, source) {
+    if is_closed(view, source) {
         Reply::SourceShut(source)
     } else {
         Reply::NeedStart(source)
@@ -102,46 +102,6 @@ pub fn walk_use<V: View>(
 {
     let path = path.clone()?;
     walk(alloc, view, Start::UseAt(inc, path))
-}
-
-/// The reply to who asks for the route of a use.
-pub fn route_reply<V: View>(
-    alloc: Global,
-    view: &V,
-    inc: u64,
-    path: &CapPath,
-) -> Result<Reply, Memory>
-    ensures { let rows = V.rows view.now in
-        IfOk result (openings.WalksUnless rows (V.builtins view.now) (Start.UseAt inc path.now)
-        (openings.routed rows) (openings.unready rows inc)) }
-{
-    match unready(view, inc) {
-        Some(refusal) => Ok(refusal),
-        None => {
-            let walked = walk_use(alloc, view, inc, path)?;
-            Ok(routed(view, walked))
-        }
-    }
-}
-
-/// The reply to who opens what an instance uses.
-pub fn open_use_reply<V: View>(
-    alloc: Global,
-    view: &V,
-    inc: u64,
-    path: &CapPath,
-) -> Result<Reply, Memory>
-    ensures { let rows = V.rows view.now in
-        IfOk result (openings.WalksUnless rows (V.builtins view.now) (Start.UseAt inc path.now)
-        (openings.opened rows) (openings.unopened rows inc)) }
-{
-    match unopened(view, inc) {
-        Some(refusal) => Ok(refusal),
-        None => {
-            let walked = walk_use(alloc, view, inc, path)?;
-            Ok(opened(view, walked))
-        }
-    }
 }
 
 /// The reply to who opens what an instance exposes.

@@ -24,7 +24,7 @@ pub enum PurgeAnswer {
 pub fn purge_answer(alloc: Global, table: &Table, inc: u64) -> Result<PurgeAnswer, Memory>
     ensures { IfOk result (AnswersPurge table.now.rows inc) }
 {
-    if !lives(table, inc) {
+    if !is_live(table, inc) {
         return Ok(PurgeAnswer::Before);
     }
     let lost = told_below(alloc, table, inc)?;
@@ -32,7 +32,7 @@ pub fn purge_answer(alloc: Global, table: &Table, inc: u64) -> Result<PurgeAnswe
 }
 
 /// Whether an instance lives.
-fn lives<V: View>(view: &V, inc: u64) -> bool
+fn is_live<V: View>(view: &V, inc: u64) -> bool
     ensures { result ≡ is_live (V.rows view.now) inc }
 {
     match view.facts(inc) {

@@ -10,7 +10,7 @@ ghost use Rattle.cm_steps.specs.Answers.{AnswersExit};
 use crate::replies::beginning::text_or_empty;
 use cm_names::{Memory, Moniker, Text};
 use cm_table::Table;
-use cm_walk::above::{gone, resolved};
+use cm_walk::above::{is_gone, is_resolved};
 use cm_walk::hop::moniker;
 use cm_world::{Facts, Look, Reply, View};
 use std::alloc::Global;
@@ -30,7 +30,7 @@ pub enum ExitAnswer {
 pub fn shown(alloc: Global, table: &Table, inc: u64) -> Result<Reply, Memory>
     ensures { IfOk result (λ reply. reply ≡ show_reply table.now.rows inc) }
 {
-    if gone(table, inc) {
+    if is_gone(table, inc) {
         return Ok(Reply::Gone(inc));
     }
     match table.facts(inc) {
@@ -45,7 +45,7 @@ fn shown_row(alloc: Global, table: &Table, inc: u64, facts: Facts) -> Result<Rep
         → facts ≡ facts_of r → reply ≡ Reply.Shown (look_at r)) }
 {
     let url = text_or_empty(alloc, table.url(inc))?;
-    let resolved = resolved(table, inc);
+    let resolved = is_resolved(table, inc);
     let look = look(inc, facts, url, resolved);
     Ok(Reply::Shown(look))
 }
@@ -91,7 +91,7 @@ pub fn exit_answer<V: View>(alloc: Global, view: &V, inc: u64) -> Result<ExitAns
 pub fn tailed<V: View>(view: &V, inc: u64, entries: u64) -> Reply
     ensures { result ≡ tail_reply (V.rows view.now) entries inc }
 {
-    if gone(view, inc) {
+    if is_gone(view, inc) {
         Reply::Gone(inc)
     } else {
         Reply::Tailed(entries)

@@ -11,7 +11,7 @@ use crate::replies::telling::{Told, told_below};
 use cm_decl::Usage;
 use cm_names::{CapPath, List, Memory};
 use cm_table::Table;
-use cm_walk::above::{gone, on, resolved, shut};
+use cm_walk::above::{is_gone, is_on, is_resolved, is_shut};
 use cm_walk::hop::moniker;
 use cm_world::{Reply, SurveyRow, View};
 use std::alloc::Global;
@@ -20,7 +20,7 @@ use std::alloc::Global;
 pub fn surveyed(alloc: Global, table: &Table, inc: u64) -> Result<Reply, Memory>
     ensures { IfOk result (λ reply. reply ≡ reports.survey_reply table.now.rows inc) }
 {
-    if gone(table, inc) {
+    if is_gone(table, inc) {
         return Ok(Reply::Gone(inc));
     }
     let rows = told_below(alloc, table, inc)?;
@@ -33,7 +33,7 @@ impl Told for SurveyRow {
     ghost told_of = { surveyed_row };
 
     fn told(alloc: Global, table: &Table, inc: u64) -> Result<Option<SurveyRow>, Memory> {
-        if gone(table, inc) {
+        if is_gone(table, inc) {
             return Ok(None);
         }
         let row = survey_row(alloc, table, inc)?;
@@ -52,9 +52,9 @@ fn survey_row<V: View>(alloc: Global, view: &V, inc: u64) -> Result<SurveyRow, M
     Ok(SurveyRow {
         inc,
         moniker,
-        resolved: resolved(view, inc),
-        on: on(view, inc),
-        shut: shut(view, inc),
+        resolved: is_resolved(view, inc),
+        on: is_on(view, inc),
+        shut: is_shut(view, inc),
         paths,
     })
 }

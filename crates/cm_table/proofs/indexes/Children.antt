@@ -3,6 +3,7 @@ use Rattle.std.proofs.Common.{◌≡◌, ℕ, ◌<◌, ◌≤◌, List, [], ◌�
 use Rattle.std.specs.Prelude.{option_map}
 use Rattle.std.specs.Option.{option_eq}
 use Rattle.std.specs.Cmp.{unsigned_Decides}
+use Rattle.std.proofs.lemmas.Bool.{not-true}
 use Rattle.cm_names.specs.declared.child.ChildName.{ChildName}
 use Rattle.cm_decl.specs.Same.{same_child}
 use Rattle.cm_decl.proofs.Sameness.{and_first, and_second, same_child_exact}
@@ -12,7 +13,7 @@ use Rattle.cm_world.specs.Rows.{row_of, has_parent, has_name, is_behind, child_o
 use Rattle.cm_world.specs.End.{changed, set_doomed}
 use Rattle.cm_world.specs.Sound.{IsRising, IsOrderly}
 use Rattle.cm_world.proofs.trees.Finding.{some_same, none_some, find-passes}
-use Rattle.cm_world.proofs.trees.Walks.{find-lives}
+use Rattle.cm_world.proofs.trees.Walks.{find-lives, parent_is}
 use Rattle.cm_table.specs.Keys.{Each}
 use Rattle.cm_table.specs.Links.{unless}
 use Rattle.cm_table.specs.Reading.{is_there}
@@ -52,9 +53,6 @@ same_test : (j : ℕ) (c : ChildName) (x y : Row) → y.parent ≡ x.parent → 
 unfolding there_by
 same_test j c x y p n d =
     ap (λ o. there_by j c o y.name y.doomed) p ∙ ap (λ o. there_by j c x.parent o y.doomed) n ∙ ap (λ b. there_by j c x.parent x.name b) d
-
-found : Option Row → Option ℕ
-found o = option_map (λ r. r.inc) o
 
 found_same : (c : Bool) (x y : Row) (o p : Option Row) → x.inc ≡ y.inc → option_map (λ r. r.inc) o ≡ option_map (λ r. r.inc) p → option_map (λ r. r.inc) (cond c (Some x) o) ≡ option_map (λ r. r.inc) (cond c (Some y) p)
 found_same true x y o p n e = ap Some n
@@ -131,17 +129,9 @@ find_kept t i (x ∷ xs) other = kept_by (t x) (x.inc == i) t i x xs refl refl o
 
 -- ---- the child of a name
 
-parent_by : (p : ℕ) (o : Option ℕ) → IsTrue (option_eq nat_eq o (Some p)) → o ≡ Some p
-parent_by p None h = absurd (true≢false (sym h))
-parent_by p (Some q) h = ap Some ((unsigned_Decides q p).0 h)
-
 name_by : (c : ChildName) (o : Option ChildName) → IsTrue (option_eq same_child o (Some c)) → o ≡ Some c
 name_by c None h = absurd (true≢false (sym h))
 name_by c (Some d) h = ap Some (same_child_exact d c h)
-
-not_true : (b : Bool) → IsTrue (not b) → b ≡ false
-not_true true h = absurd (true≢false (sym h))
-not_true false h = refl
 
 -- what is told of a row that is found by its name
 pub record IsNamed (rows : List Row) (p : ℕ) (c : ChildName) (r : Row) : Type 0 where
@@ -156,9 +146,9 @@ named_row rows next p c r rising e =
     let both : IsTrue (has_parent p r && has_name c r) = and_first (has_parent p r && has_name c r) (not r.doomed) passes in
     record {
       lives = find-lives (is_there p c) rows next r rising e;
-      under = parent_by p r.parent (and_first (has_parent p r) (has_name c r) both);
+      under = parent_is p r.parent (and_first (has_parent p r) (has_name c r) both);
       named = name_by c r.name (and_second (has_parent p r) (has_name c r) both);
-      alive = not_true r.doomed (and_second (has_parent p r && has_name c r) (not r.doomed) passes);
+      alive = not-true r.doomed (and_second (has_parent p r && has_name c r) (not r.doomed) passes);
     }
 
 -- no second one has the name
@@ -307,7 +297,7 @@ kids_live rows next p rising =
       one n h = record {
         row = h.0;
         lives = subst (λ k. row_of rows k ≡ Some h.0) h.1 h.3;
-        under = parent_by p h.0.parent h.2;
+        under = parent_is p h.0.parent h.2;
         below = subst (λ k. k < next) h.1 (lives_below rows next h.0.inc h.0 rising h.3);
       }
 

@@ -4,7 +4,7 @@ use Rattle.std.specs.Cmp.{unsigned_Decides}
 use Rattle.cm_world.specs.Edits.{edit_first, drop_first}
 use Rattle.cm_world.proofs.trees.Finding.{some_same, none_some}
 use Rattle.cm_table.specs.Keys.{Each, EachOf, item_of, nth, Rising}
-use Rattle.cm_table.proofs.lists.Halves.{own, lower_differs}
+use Rattle.cm_table.proofs.lists.Halves.{own, lower_differs, some_cond}
 use Rattle.cm_table.proofs.lists.Editing.{edited}
 
 module _ {A : Type 0} where
@@ -56,15 +56,11 @@ module _ {A : Type 0} where
   each_same R P [] f all = tt
   each_same R P (x ∷ xs) f all = (f x all.0, each_same R P xs f all.1)
 
-some_behind : {A : Type 0} (t : Bool) (x : A) (o : Option A) → IsSome o → IsSome (cond t (Some x) o)
-some_behind true x o h = refl
-some_behind false x o h = h
-
 module _ {Y : Type 0} (key : Y → ℕ) where
   -- what stands behind a key is above it
   pub above : (i : ℕ) (ss : List Y) → ((j : ℕ) → IsSome (item_of key ss j) → i < j) → Each (λ s. i < key s) ss
   above i [] h = tt
-  above i (s ∷ ss) h = (h (key s) (own key s ss), above i ss (λ j g. h j (some_behind (key s == j) s (item_of key ss j) g)))
+  above i (s ∷ ss) h = (h (key s) (own key s ss), above i ss (λ j g. h j (some_cond (key s == j) s (item_of key ss j) g)))
 
   both : (P Q : Y → Type 0) (ss : List Y) → Each P ss → Each Q ss → Each (λ s. P s × Q s) ss
   both P Q [] a b = tt

@@ -37,7 +37,7 @@ one_less k differ = omega arith
 
 -- ---- two lists
 
-some_cond : {A : Type 0} (t : Bool) (x : A) (o : Option A) → IsSome o → IsSome (cond t (Some x) o)
+pub some_cond : {A : Type 0} (t : Bool) (x : A) (o : Option A) → IsSome o → IsSome (cond t (Some x) o)
 some_cond true x o h = refl
 some_cond false x o h = h
 

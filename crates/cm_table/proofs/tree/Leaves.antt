@@ -1,5 +1,5 @@
 -- Rows without one that has no children.
-use Rattle.std.proofs.Common.{◌≡◌, ℕ, zero, suc, ◌+◌, ◌<◌, List, [], ◌∷◌, Bool, true, false, cond, not, ◌&&◌, ◌||◌, ◌==◌, nat_eq, true≢false, Option, Some, None, IsSome, IsTrue, find, filter, length, refl, sym, ◌∙◌, ap, subst, arith}
+use Rattle.std.proofs.Common.{◌≡◌, ℕ, zero, suc, ◌+◌, ◌<◌, List, [], ◌∷◌, Bool, true, false, cond, not, ◌&&◌, ◌||◌, ◌==◌, nat_eq, true≢false, Option, Some, None, IsSome, IsTrue, find, filter, length, refl, sym, ◌∙◌, ap, arith}
 use Rattle.std.specs.Option.{option_eq}
 use Rattle.std.specs.Cmp.{unsigned_Decides}
 use Rattle.cm_world.specs.declared.row.Row.{Row}
@@ -8,35 +8,23 @@ use Rattle.cm_world.specs.Rows.{row_of, child_behind, at_or_above, some_above, i
 use Rattle.cm_world.specs.After.{others_than}
 use Rattle.cm_world.specs.Sound.{IsRising, IsOrderly, IsParent}
 use Rattle.cm_world.proofs.trees.Finding.{none_some, row_of-inc}
-use Rattle.cm_world.proofs.trees.Climbing.{some_above-step, above_root}
+use Rattle.cm_world.proofs.trees.Climbing.{fewer, some_above-step, above_root}
 use Rattle.cm_table.specs.Reading.{follows}
-use Rattle.cm_table.proofs.tree.Rows.{some_is, is_some_by}
+use Rattle.cm_table.proofs.tree.Rows.{some_is, is_some_by, left_by}
 use Rattle.cm_table.proofs.tree.Adding.{none_mapped, missed}
+use Rattle.cm_table.proofs.lists.Halves.{not_same, lower_differs}
 
 -- the rows without that of an incarnation
 abbrev pub without : ℕ → List Row → List Row
 without i rows = drop_first (λ r. r.inc == i) rows
 
-apart : (n m : ℕ) → (n ≡ m → ⊥) → (n == m) ≡ false
-apart n m differ = by (n == m) refl where
-  by : (t : Bool) → (n == m) ≡ t → t ≡ false
-  by true same = absurd (differ ((unsigned_Decides n m).0 same))
-  by false same = refl
-
-lower : (n m : ℕ) → n < m → n ≡ m → ⊥
-lower n m less same = let at : n < n = subst (λ z. n < z) (sym same) less in absurd (omega arith)
-
 -- ---- which rows are left
-
-kept_by : (u : Bool) (x s : Row) (o p : Option Row) → (o ≡ Some s → p ≡ Some s) → cond u (Some x) o ≡ Some s → cond u (Some x) p ≡ Some s
-kept_by true x s o p later e = e
-kept_by false x s o p later e = later e
 
 left_at : (t : Bool) (i next j : ℕ) (x s : Row) (xs : List Row) → IsRising next (x ∷ xs) → (row_of (without i xs) j ≡ Some s → row_of xs j ≡ Some s) → row_of (cond t xs (x ∷ without i xs)) j ≡ Some s → row_of (x ∷ xs) j ≡ Some s
 left_at true i next j x s xs rising later e =
-    let miss : (x.inc == j) ≡ false = apart x.inc j (lower x.inc j (rising.0.1 j (is_some_by (row_of xs j) s e))) in
+    let miss : (x.inc == j) ≡ false = not_same x.inc j (lower_differs x.inc j (rising.0.1 j (is_some_by (row_of xs j) s e))) in
     rw miss e
-left_at false i next j x s xs rising later e = kept_by (x.inc == j) x s (row_of (without i xs) j) (row_of xs j) later e
+left_at false i next j x s xs rising later e = left_by (x.inc == j) x s (row_of (without i xs) j) (row_of xs j) later e
 
 -- what is left was there
 pub was_there : (i next j : ℕ) (rows : List Row) (s : Row) → IsRising next rows → row_of (without i rows) j ≡ Some s → row_of rows j ≡ Some s
@@ -49,7 +37,7 @@ not_by false i j x s o same other later e is = later e is
 
 not_at : (t : Bool) (i next j : ℕ) (x s : Row) (xs : List Row) → (x.inc == i) ≡ t → IsRising next (x ∷ xs) → (row_of (without i xs) j ≡ Some s → j ≡ i → ⊥) → row_of (cond t xs (x ∷ without i xs)) j ≡ Some s → j ≡ i → ⊥
 not_at true i next j x s xs own rising later e is =
-    lower x.inc j (rising.0.1 j (is_some_by (row_of xs j) s e)) ((unsigned_Decides x.inc i).0 own ∙ sym is)
+    lower_differs x.inc j (rising.0.1 j (is_some_by (row_of xs j) s e)) ((unsigned_Decides x.inc i).0 own ∙ sym is)
 not_at false i next j x s xs own rising later e is = not_by (x.inc == j) i j x s (row_of (without i xs) j) refl own later e is
 
 -- and isn't the one that was taken away
@@ -63,7 +51,7 @@ past_by false i j x s o same own differ e = e
 
 stays_at : (t : Bool) (i j : ℕ) (x s : Row) (xs : List Row) → (x.inc == i) ≡ t → (j ≡ i → ⊥) → (row_of xs j ≡ Some s → row_of (without i xs) j ≡ Some s) → row_of (x ∷ xs) j ≡ Some s → row_of (cond t xs (x ∷ without i xs)) j ≡ Some s
 stays_at true i j x s xs own differ later e = past_by (x.inc == j) i j x s (row_of xs j) refl own differ e
-stays_at false i j x s xs own differ later e = kept_by (x.inc == j) x s (row_of xs j) (row_of (without i xs) j) later e
+stays_at false i j x s xs own differ later e = left_by (x.inc == j) x s (row_of xs j) (row_of (without i xs) j) later e
 
 -- every other row is left
 pub stays : (i j : ℕ) (rows : List Row) (s : Row) → (j ≡ i → ⊥) → row_of rows j ≡ Some s → row_of (without i rows) j ≡ Some s
@@ -116,9 +104,6 @@ above_by : (passes : Row → Bool) (rows : List Row) (next i n m : ℕ) (s : Row
 above_by passes rows next i n m s None e later = above_root n passes (without i rows) ∙ sym (above_root m passes rows)
 above_by passes rows next i n m s (Some p) e later = later p e
 
-fewer : (p j n : ℕ) → p < j → j < suc n → p < n
-fewer p j n up low = omega arith
-
 above_below : (n : ℕ) (passes : Row → Bool) (rows : List Row) (next i j : ℕ) (s : Row) → IsOrderly rows next → child_behind rows i None ≡ None → j < n → row_of (without i rows) j ≡ Some s → some_above passes (without i rows) j ≡ some_above passes rows j
 above_below zero passes rows next i j s o childless low here = absurd (omega arith)
 above_below (suc n) passes rows next i j s o childless low here =
@@ -140,7 +125,7 @@ filter_by b c x ys zs same rest = ap (λ t. cond t (x ∷ ys) ys) same ∙ ap (�
 
 behind : (next : ℕ) (x r : Row) (xs : List Row) → IsRising next (x ∷ xs) → row_of xs r.inc ≡ Some r → row_of (x ∷ xs) r.inc ≡ Some r
 behind next x r xs rising here =
-    let miss : (x.inc == r.inc) ≡ false = apart x.inc r.inc (lower x.inc r.inc (rising.0.1 r.inc (is_some_by (row_of xs r.inc) r here))) in
+    let miss : (x.inc == r.inc) ≡ false = not_same x.inc r.inc (lower_differs x.inc r.inc (rising.0.1 r.inc (is_some_by (row_of xs r.inc) r here))) in
     rw miss here
 
 -- two tests that agree on rows that live leave the same rows
@@ -170,7 +155,7 @@ others_without rows next top i o childless below =
 nothing_by : (n top i : ℕ) (rows : List Row) (o : Option Row) → row_of rows top ≡ None → row_of rows i ≡ o → ((u : Option ℕ) → at_or_above n (λ r. r.inc == top) rows u ≡ false) → elim o as (λ _. Bool) [ None ↦ false | Some r ↦ (r.inc == top) || at_or_above n (λ s. s.inc == top) rows r.parent ] ≡ false
 nothing_by n top i rows None none e later = refl
 nothing_by n top i rows (Some r) none e later =
-    let other : (r.inc == top) ≡ false = apart r.inc top (λ same. none_some r (sym none ∙ ap (row_of rows) (sym same ∙ row_of-inc rows i r e) ∙ e)) in
+    let other : (r.inc == top) ≡ false = not_same r.inc top (λ same. none_some r (sym none ∙ ap (row_of rows) (sym same ∙ row_of-inc rows i r e) ∙ e)) in
     rw other (later r.parent)
 
 -- nothing is below a row that doesn't live

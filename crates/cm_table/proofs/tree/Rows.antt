@@ -6,6 +6,7 @@ use Rattle.cm_world.specs.Rows.{row_of}
 use Rattle.cm_world.specs.End.{changed}
 use Rattle.cm_world.specs.Sound.{IsRising}
 use Rattle.cm_world.proofs.trees.Finding.{some_same, none_some}
+pub use Rattle.cm_world.proofs.trees.Walks.{below_next as lives_below}
 
 pub some_is : {A : Type 0} (o : Option A) → IsSome o → (x : A) × (o ≡ Some x)
 some_is None h = absurd (true≢false (sym h))
@@ -16,7 +17,7 @@ is_some_by o x e = ap is_some e
 
 -- ---- with more rows behind
 
-left_by : (t : Bool) (x r : Row) (o all : Option Row) → (o ≡ Some r → all ≡ Some r) → cond t (Some x) o ≡ Some r → cond t (Some x) all ≡ Some r
+pub left_by : (t : Bool) (x r : Row) (o all : Option Row) → (o ≡ Some r → all ≡ Some r) → cond t (Some x) o ≡ Some r → cond t (Some x) all ≡ Some r
 left_by true x r o all later e = e
 left_by false x r o all later e = later e
 
@@ -98,15 +99,6 @@ row_of-changed i f keeps [] r e = absurd (none_some r e)
 row_of-changed i f keeps (x ∷ xs) r e = changed_by (x.inc == i) i f x r xs keeps refl (row_of-changed i f keeps xs r) e
 
 -- ---- rising incarnations
-
-low_by : (t : Bool) (next i : ℕ) (x r : Row) (o : Option Row) → (x.inc == i) ≡ t → x.inc < next → (o ≡ Some r → i < next) → cond t (Some x) o ≡ Some r → i < next
-low_by true next i x r o same low later e = subst (λ n. n < next) ((unsigned_Decides x.inc i).0 same) low
-low_by false next i x r o same low later e = later e
-
--- a row that lives is below the next incarnation
-pub lives_below : (rows : List Row) (next i : ℕ) (r : Row) → IsRising next rows → row_of rows i ≡ Some r → i < next
-lives_below [] next i r rising e = absurd (none_some r e)
-lives_below (x ∷ xs) next i r rising e = low_by (x.inc == i) next i x r (row_of xs i) refl rising.0.0 (lives_below xs next i r rising.1) e
 
 later_low : (next i s : ℕ) (rs : List Row) (r : Row) (o : Option Row) → r.inc ≡ next → i < next → (IsSome o → i < s) → (q : Row) → (o ≡ Some q) ⊎ ((q ≡ r) × (r.inc ≡ s)) → i < s
 later_low next i s rs r o number low later q (inl e) = later (is_some_by o q e)

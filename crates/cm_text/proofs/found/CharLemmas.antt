@@ -129,20 +129,6 @@ char_left e c rest h left =
     both_right (list_all (is_char 39) (items_of e (encode_utf8 c))) (are_chars false rest)
     (sym (list_all-append (is_char 39) (items_of e (encode_utf8 c)) (within false rest)) ∙ ap (list_all (is_char 39)) (sym (char_within e c rest h)) ∙ left)
 
-slash_text : (rest : List ℕ) → encode_utf8 92 ++ rest ≡ 92 ∷ rest
-slash_text rest = rw (encode_ascii 92 (omega arith)) refl
-
-pub slash_step : (rest : List ℕ) → chars_json false (encode_utf8 92 ++ rest) ≡ chars_json true rest
-slash_step rest = ap (chars_json false) (slash_text rest)
-
-pub slash_left : (rest : List ℕ) → are_chars false (encode_utf8 92 ++ rest) ≡ are_chars true rest
-slash_left rest = ap (are_chars false) (slash_text rest)
-
-pub no_chars_left : (e : Bool) (text : List ℕ) → length text ≡ 0 → are_chars e text ≡ true → chars_json e text ≡ []
-no_chars_left false [] l h = refl
-no_chars_left true [] l h = absurd (grind (arith, rules))
-no_chars_left e (b ∷ bs) l h = absurd (omega arith)
-
 pub passed_char : (e : Bool) (c : ℕ) (text rest json written whole : List ℕ) → text ≡ encode_utf8 c ++ rest → ((c ≡ 92) × (e ≡ true)) ⊎ (c ≡ 92 → ⊥) → written ≡ json ++ char_text e c → are_chars e text ≡ true → json ++ chars_json e text ≡ whole → (are_chars false rest ≡ true) × (written ++ chars_json false rest ≡ whole)
 passed_char e c text rest json written whole bytes other here left before =
     let fits : (e ≡ true) ⊎ ((c == 92) ≡ false) = elim other [ inl h ↦ inl h.1 | inr h ↦ inr (false_from_ne_true (c == 92) (λ same. h (eqb-true c 92 same))) ] in

@@ -5,13 +5,13 @@ use Rattle.std.specs.Str.{IsUtf8, IsCharBoundary}
 use Rattle.std.proofs.lemmas.Str.{IsCharBoundary-after_ascii, IsCharBoundary-before_ascii}
 use Rattle.std.specs.List.{flat_map, slice_range}
 use Rattle.std.proofs.lemmas.List.{length-append, take_rest, take-append-le, take_all, length-take-le}
-use Rattle.cm_text.specs.Bytes.{is_mark, is_space, is_quote, is_word_byte, begins_with}
-use Rattle.cm_text.specs.Token.{Token, mark, quoted, word, Piece, token, char_bytes, piece_bytes, piece_token}
+use Rattle.cm_text.specs.Bytes.{is_quote, is_word_byte, begins_with}
+use Rattle.cm_text.specs.Token.{Token, quoted, word, Piece, token, char_bytes, piece_bytes, piece_token}
 use Rattle.cm_text.specs.Pieces.{First, stray, unclosed, piece, string_piece, comment, first_piece}
 use Rattle.cm_text.specs.Scan.{close_place, within, outline, first_of_text}
 use Rattle.cm_text.specs.declared.fault.TextFault.{TextFault}
 use Rattle.cm_text.specs.declared.fault.TextFault.TheVariants.{Unclosed}
-use Rattle.cm_text.proofs.ByteLemmas.{mark_class, space_class, quote_class, word_class}
+use Rattle.cm_text.proofs.ByteLemmas.{quote_class, word_class}
 use Rattle.cm_text.proofs.pieces.PieceLemmas.{run_more}
 use Rattle.cm_text.proofs.pieces.SoundLemmas.{Stands, first_stands, comment_closes, runs}
 use Rattle.cm_text.proofs.found.StringLemmas.{closes_at, never_closes, within_spells, some_place}
@@ -25,18 +25,7 @@ fault e = Err e
 
 -- ---- marks and spaces
 
-pub mark_outline : (text : List ℕ) (at : ℕ) → is_mark (get_or text 0 0) ≡ true → 0 < length text → found (Some (mark (get_or text 0 0))) 1 ≡ outline at (first_of_text text)
-mark_outline [] at h n = absurd (omega arith)
-mark_outline (b ∷ bs) at h n = rw (mark_class b h) refl
-
-pub space_outline : (text : List ℕ) (at : ℕ) → is_space (get_or text 0 0) ≡ true → 0 < length text → found None 1 ≡ outline at (first_of_text text)
-space_outline [] at h n = absurd (omega arith)
-space_outline (b ∷ bs) at h n = rw (space_class b h) refl
-
 -- ---- words
-
-word_taken : (text : List ℕ) → length (take_while is_word_byte text) ≤ length text
-word_taken text = let r = runs is_word_byte text in omega (arith, ap length r.bytes ∙ length-append (take_while is_word_byte text) r.rest)
 
 taken_run : (text : List ℕ) → take (length (take_while is_word_byte text)) text ≡ take_while is_word_byte text
 taken_run text =

@@ -1,7 +1,7 @@
 -- The lengths that the code finds, and what they say of the definition's pieces.
 use Rattle.std.proofs.Common.{◌≡◌, ℕ, suc, ◌+◌, ◌-◌, ◌<◌, ◌≤◌, List, ◌∷◌, length, Bool, true, false, ◌==◌, Option, Some, None, option_map, refl, sym, ap, ◌∙◌, arith, eqb-true, get_or, drop, take, add-zero, zero-add}
 use Rattle.std.proofs.lemmas.List.{drop_more, drop_all, take_rest}
-use Rattle.std.proofs.lemmas.Bool.{eq-eqb, false_from_ne_true}
+use Rattle.std.proofs.lemmas.Bool.{false_from_ne_true}
 use Rattle.cm_text.specs.Bytes.{closes_comment}
 use Rattle.cm_text.specs.Pieces.{comment}
 use Rattle.cm_text.proofs.pieces.PieceLemmas.{comment_here, comment_later}
@@ -21,9 +21,6 @@ close_taken q b bs e h = rw h refl
 close_plain : (q b : ℕ) (bs : List ℕ) (e : Bool) → e ≡ false → (b == q) ≡ false → close_place q e (b ∷ bs) ≡ option_map suc (close_place q (b == 92) bs)
 close_plain q b bs e h f = rw h (rw (close_place, f) refl)
 
-close_here : (q b : ℕ) (bs : List ℕ) (e : Bool) → e ≡ false → (b == q) ≡ true → close_place q e (b ∷ bs) ≡ Some 0
-close_here q b bs e h f = rw h (rw (close_place, f) refl)
-
 pub past_taken : (o : Option ℕ) (q i : ℕ) (xs : List ℕ) (e f : Bool) → i < length xs → e ≡ true → f ≡ false → o ≡ option_map (λ n. i + n) (close_place q e (drop i xs)) → o ≡ option_map (λ n. i + 1 + n) (close_place q f (drop (i + 1) xs))
 past_taken o q i xs e f h behind after before =
     before
@@ -40,13 +37,6 @@ past_plain o q i xs e f h behind other after before =
     ∙ ap (option_map (λ n. i + n)) (close_plain q (get_or xs i 0) (drop (i + 1) xs) e behind differs)
     ∙ further i (close_place q (get_or xs i 0 == 92) (drop (i + 1) xs))
     ∙ ap (λ g. option_map (λ n. i + 1 + n) (close_place q g (drop (i + 1) xs))) (sym after)
-
-pub closed_here : (o : Option ℕ) (q i : ℕ) (xs : List ℕ) (e : Bool) → i < length xs → e ≡ false → get_or xs i 0 ≡ q → o ≡ option_map (λ n. i + n) (close_place q e (drop i xs)) → Some i ≡ o
-closed_here o q i xs e h behind here before =
-    sym (before
-    ∙ ap (λ bs. option_map (λ n. i + n) (close_place q e bs)) (drop_more xs i 0 h)
-    ∙ ap (option_map (λ n. i + n)) (close_here q (get_or xs i 0) (drop (i + 1) xs) e behind (eq-eqb (get_or xs i 0) q here))
-    ∙ ap (λ m. Some m) (add-zero i))
 
 -- ---- comments
 

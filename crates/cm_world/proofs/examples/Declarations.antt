@@ -1,8 +1,9 @@
 -- The declarations of the worked examples are valid.
-use Rattle.std.proofs.Common.{◌≡◌, ℕ, List, [], ◌++◌, Bool, true, false, cond, ◌&&◌, ◌||◌, true≢false, Option, Some, None, unwrap_or, map, filter, refl, sym, ◌∙◌, ap, IsTrue, bytes_eq}
+use Rattle.std.proofs.Common.{◌≡◌, ℕ, List, [], ◌∷◌, ◌++◌, flat_map, Bool, true, false, cond, ◌&&◌, true≢false, Option, Some, None, unwrap_or, map, filter, refl, sym, ◌∙◌, ap, IsTrue, bytes_eq}
 use Rattle.std.specs.List.{list_any}
 use Rattle.std.specs.Option.{option_eq}
 use Rattle.std.specs.Cmp.Lexicographic.{bytes_decides}
+use Rattle.std.proofs.Math.Bool.{or-false}
 use Rattle.cm_names.specs.declared.child.ChildName.{ChildName}
 use Rattle.cm_decl.specs.declared.decl.Decl.{Decl}
 use Rattle.cm_decl.specs.declared.node.Node.{Node}
@@ -12,13 +13,13 @@ use Rattle.cm_decl.specs.Graph.{StrongOn, is_node, sources_of, own_sources, chil
 use Rattle.cm_decl.specs.Reach.{NoCycle}
 use Rattle.cm_decl.specs.Valid.{IsValid, is_well_formed}
 use Rattle.cm_decl.specs.Examples.{from_child, no_decl}
-use Rattle.cm_decl.proofs.Computed.{first_fault}
-use Rattle.cm_decl.proofs.FirstFaults.{computes_none}
-use Rattle.cm_decl.proofs.Reaching.{acyclic_by_ends}
+use Rattle.cm_decl.proofs.faults.Computed.{first_fault}
+use Rattle.cm_decl.proofs.faults.FirstFaults.{computes_none}
+use Rattle.cm_decl.proofs.cycles.Reaching.{acyclic_by_ends}
 use Rattle.cm_decl.proofs.Sameness.{and_first}
 use Rattle.cm_world.specs.Examples.{root_decl, logger_decl, client_decl, no_offer_decl, no_expose_decl, l, c}
 use Rattle.cm_world.specs.RouteExamples.{one_child}
-use Rattle.cm_world.specs.ShutdownExamples.{k_decl}
+use Rattle.cm_world.specs.ShutdownExamples.{k_decl, x_name}
 
 -- an edge has a source that says so
 pub edge_source : (d : Decl) (dynamic : List DynChild) (x y : Node) → StrongOn d dynamic x y → IsTrue (list_any (is_from_node y) (sources_of d dynamic x))
@@ -67,13 +68,9 @@ no_decl_valid = valid_alone no_decl refl refl refl (λ n. refl)
 
 -- ---- a declaration with one offer, from l to c
 
-or_none : (a : Bool) → IsTrue (a || false) → IsTrue a
-or_none true h = refl
-or_none false h = absurd (true≢false (sym h))
-
 -- t says whether the offer reaches the child
 one_offer : (t : Bool) (y : Node) → IsTrue (list_any (is_from_node y) (map (λ g. g.from) (filter (λ g. is_strong g.dependency) (map (λ o. o.give) (cond t root_decl.offers []) ++ [])))) → IsTrue t × IsTrue (is_from_node y (from_child l))
-one_offer true y h = (refl, or_none (is_from_node y (from_child l)) h)
+one_offer true y h = (refl, sym (or-false (is_from_node y (from_child l))) ∙ h)
 one_offer false y h = absurd (true≢false (sym h))
 
 -- an edge of a child leads from c to l
@@ -101,3 +98,12 @@ root_valid = record {
   faultless = computes_none root_decl refl;
   acyclic = acyclic_by_ends (StrongOn root_decl []) short;
 }
+
+-- ---- a child that was created, and is offered nothing
+
+abbrev pub new_child : DynChild
+new_child = record { name = x_name; gives = [] }
+
+pub no_gives : (t : Bool) → flat_map (λ k. k.gives) (cond t (new_child ∷ []) []) ≡ []
+no_gives true = refl
+no_gives false = refl

@@ -1,6 +1,5 @@
 -- The worked examples of instances that go with one that stops.
-use Rattle.std.proofs.Common.{◌≡◌, [], ◌∷◌, Bool, true, false, cond, flat_map, refl}
-use Rattle.cm_decl.specs.declared.node.DynChild.{DynChild}
+use Rattle.std.proofs.Common.{◌≡◌, [], ◌∷◌, refl}
 use Rattle.cm_decl.specs.declared.node.Node.{Node}
 use Rattle.cm_decl.specs.declared.node.Node.TheVariants.{Own, Child}
 use Rattle.cm_decl.specs.declared.rows.Durability.{Durability}
@@ -15,18 +14,11 @@ use Rattle.cm_world.specs.Legal.{Legal, replay}
 use Rattle.cm_world.specs.Examples.{frame}
 use Rattle.cm_world.specs.ShutdownExamples.{x_name}
 use Rattle.cm_world.specs.ExpiringExamples.{collecting_decl, stopping_entries, expired_entries, closed_entries, once_entries}
-use Rattle.cm_world.proofs.examples.Declarations.{acyclic_alone, valid_alone, no_decl_valid}
+use Rattle.cm_world.proofs.examples.Declarations.{acyclic_alone, valid_alone, no_decl_valid, new_child, no_gives}
 
 valid : (d : Durability) → IsValid (collecting_decl d)
 valid Transient = valid_alone (collecting_decl Transient) refl refl refl (λ n. refl)
 valid SingleRun = valid_alone (collecting_decl SingleRun) refl refl refl (λ n. refl)
-
-abbrev new_child : DynChild
-new_child = record { name = x_name; gives = [] }
-
-no_gives : (t : Bool) → flat_map (λ k. k.gives) (cond t (new_child ∷ []) []) ≡ []
-no_gives true = refl
-no_gives false = refl
 
 no_sources : (d : Durability) (n : Node) → sources_of (collecting_decl d) (new_child ∷ []) n ≡ []
 no_sources d Own = refl

@@ -1,7 +1,7 @@
 -- A tree is sound when it is made.
 use Rattle.std.proofs.Common.{◌≡◌, ℕ, List, [], ◌∷◌, Bool, true, false, cond, Some, None, unwrap_or, option_and_then, refl, true≢false, sym, ◌∙◌, ap, arith, ◌==◌}
 use Rattle.std.specs.List.{list_any}
-use Rattle.cm_decl.proofs.Reaching.{acyclic_by_ends}
+use Rattle.cm_decl.proofs.cycles.Reaching.{acyclic_by_ends}
 use Rattle.cm_world.specs.declared.row.Row.{Row}
 use Rattle.cm_world.specs.Rows.{decl_of}
 use Rattle.cm_world.specs.World.{start, root_row}

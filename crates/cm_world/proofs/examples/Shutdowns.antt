@@ -1,7 +1,6 @@
 -- The worked examples of a shutdown.
-use Rattle.std.proofs.Common.{◌≡◌, ℕ, [], ◌∷◌, ◌++◌, Bool, true, false, cond, Some, None, flat_map, take, refl, true≢false, sym, subst, inl, inr}
+use Rattle.std.proofs.Common.{◌≡◌, ℕ, [], ◌∷◌, ◌++◌, true, false, Some, None, take, refl, true≢false, sym, subst, inl, inr}
 use Rattle.std.specs.Cmp.{unsigned_Decides}
-use Rattle.cm_decl.specs.declared.node.DynChild.{DynChild}
 use Rattle.cm_decl.specs.declared.node.Node.{Node}
 use Rattle.cm_decl.specs.declared.node.Node.TheVariants.{Own, Child}
 use Rattle.cm_decl.specs.Same.{same_child}
@@ -17,19 +16,12 @@ use Rattle.cm_world.specs.After.{after}
 use Rattle.cm_world.specs.Legal.{Legal, replay}
 use Rattle.cm_world.specs.Examples.{frame, x}
 use Rattle.cm_world.specs.ShutdownExamples.{k_decl, x_name, doomed_entries, purged_entries, chain_rows}
-use Rattle.cm_world.proofs.examples.Declarations.{acyclic_alone, k_valid, no_decl_valid}
+use Rattle.cm_world.proofs.examples.Declarations.{acyclic_alone, k_valid, no_decl_valid, new_child, no_gives}
 use Rattle.cm_world.proofs.trees.Levels.{lone_free, own_level, unneeded_free}
 use Rattle.cm_world.proofs.trees.Finding.{some_same}
 use Rattle.cm_world.proofs.examples.Picks.{stuck_pick}
 
 -- ---- a doomed child
-
-abbrev new_child : DynChild
-new_child = record { name = x_name; gives = [] }
-
-no_gives : (t : Bool) → flat_map (λ k. k.gives) (cond t (new_child ∷ []) []) ≡ []
-no_gives true = refl
-no_gives false = refl
 
 no_sources : (n : Node) → sources_of k_decl (new_child ∷ []) n ≡ []
 no_sources Own = refl

@@ -1,5 +1,6 @@
 -- Walks along routes, station by station.
-use Rattle.std.proofs.Common.{◌≡◌, List, [], ◌∷◌, ◌++◌, Bool, true, false, Option, Some, None, sym, ◌∙◌, ap, subst, true≢false}
+use Rattle.std.proofs.Common.{◌≡◌, List, [], ◌∷◌, ◌++◌, sym, ◌∙◌, ap, subst}
+use Rattle.std.proofs.lemmas.Option.{same_Some, none-some}
 use Rattle.cm_world.specs.declared.row.Row.{Row}
 use Rattle.cm_world.specs.declared.frame.Builtin.{Builtin}
 use Rattle.cm_world.specs.declared.route.Walked.{Walked}
@@ -17,27 +18,11 @@ pub same_station : (s t : Station) → To s ≡ To t → s ≡ t
 unfolding station_of
 same_station s t e = ap (station_of s) e
 
-found : Walked → Option Walked → Walked
-found d None = d
-found d (Some v) = v
-
-is_found : Option Walked → Bool
-is_found None = false
-is_found (Some v) = true
-
-same_found : (v w : Walked) → Some v ≡ Some w → v ≡ w
-unfolding found
-same_found v w e = ap (found v) e
-
-not_both : (v : Walked) → Some v ≡ None → ⊥
-unfolding is_found
-not_both v e = true≢false (ap is_found e)
-
 -- what is decided from a station behind a front is decided only once
 pub decided_once : (rows : List Row) (builtins : List Builtin) (front : List Station) (s : Station) (xs ys : List Station) (v w : Walked) → IsChain rows builtins s xs → IsChain rows builtins s ys → IsDecided rows builtins front s xs v → IsDecided rows builtins front s ys w → v ≡ w
-decided_once rows builtins front s [] [] v w on to first second = same_found v w (sym first ∙ second)
-decided_once rows builtins front s [] (y ∷ ys) v w on to first second = absurd (not_both v (sym first ∙ second.0))
-decided_once rows builtins front s (x ∷ xs) [] v w on to first second = absurd (not_both w (sym second ∙ first.0))
+decided_once rows builtins front s [] [] v w on to first second = same_Some v w (sym first ∙ second)
+decided_once rows builtins front s [] (y ∷ ys) v w on to first second = absurd (none-some v (sym second.0 ∙ first))
+decided_once rows builtins front s (x ∷ xs) [] v w on to first second = absurd (none-some w (sym first.0 ∙ second))
 decided_once rows builtins front s (x ∷ xs) (y ∷ ys) v w on to first second =
     let same : y ≡ x = same_station y x (sym to.0 ∙ on.0) in
     decided_once rows builtins (front ++ s ∷ []) x xs ys v w on.1

@@ -96,7 +96,7 @@ parent_rank rows next i p r orderly lives below =
     let parent : IsParent rows p i = (orderly.parents i p r lives below).0 in
     rank-less rows p i parent.row parent.lower parent.lives
 
-fewer : (m n k : ℕ) → m < n → n < suc k → m < k
+pub fewer : (m n k : ℕ) → m < n → n < suc k → m < k
 fewer m n k low high = omega arith
 
 -- ---- what is made of a row and those above it

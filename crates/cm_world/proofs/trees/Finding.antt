@@ -1,16 +1,11 @@
 -- What a row that is found in a list passes.
-use Rattle.std.proofs.Common.{◌≡◌, ℕ, List, [], ◌∷◌, Bool, true, false, cond, ◌&&◌, ◌==◌, true≢false, Option, Some, None, find, is_some, unwrap_or, refl, sym, ap, subst, IsTrue}
+use Rattle.std.proofs.Common.{◌≡◌, ℕ, List, [], ◌∷◌, Bool, true, false, cond, ◌&&◌, ◌==◌, Option, Some, find, refl, subst, IsTrue}
 use Rattle.std.specs.List.{list_all}
 use Rattle.std.specs.Cmp.{unsigned_Decides}
+pub use Rattle.std.proofs.lemmas.Option.{same_Some as some_same, none-some as none_some}
 use Rattle.cm_decl.proofs.Sameness.{and_first, and_second}
 use Rattle.cm_world.specs.declared.row.Row.{Row}
 use Rattle.cm_world.specs.Rows.{row_of}
-
-pub some_same : {A : Type 0} (x y : A) → Some x ≡ Some y → x ≡ y
-some_same x y e = ap (λ o. unwrap_or o x) e
-
-pub none_some : {A : Type 0} (x : A) → None ≡ Some x → ⊥
-none_some x e = true≢false (sym (ap is_some e))
 
 found_by : {A : Type 0} (t : Bool) (p : A → Bool) (s r : A) (o : Option A) → p s ≡ t → (o ≡ Some r → IsTrue (p r)) → cond t (Some s) o ≡ Some r → IsTrue (p r)
 found_by true p s r o here later e = subst (λ z. IsTrue (p z)) (some_same s r e) here

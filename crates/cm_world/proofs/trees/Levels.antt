@@ -3,6 +3,7 @@ use Rattle.std.proofs.Common.{◌≡◌, ◌≢◌, ℕ, List, [], ◌∷◌, Bo
 use Rattle.std.specs.List.{list_any, list_all}
 use Rattle.std.specs.Option.{option_map_or}
 use Rattle.std.specs.Cmp.{unsigned_Decides}
+use Rattle.std.proofs.lemmas.Bool.{or_parts}
 use Rattle.cm_decl.specs.declared.decl.Decl.{Decl}
 use Rattle.cm_decl.specs.Graph.{own_sources}
 use Rattle.cm_decl.specs.Reach.{Way}
@@ -33,15 +34,11 @@ picks : (p : ℕ) (t : Bool) (r : Row) (o : Option Row) → has_parent p r ≡ f
 picks p true r o here later = here
 picks p false r o here later = later
 
-neither : (a b : Bool) → (a || b) ≡ false → (a ≡ false) × (b ≡ false)
-neither true b h = absurd (true≢false h)
-neither false b h = (refl, h)
-
 -- where no row has this parent, no incarnation is a child of it
 pub childless : (rows : List Row) (p x : ℕ) → list_any (has_parent p) rows ≡ false → is_child_row rows p x ≡ false
 childless [] p x none = refl
 childless (r ∷ rs) p x none =
-    let both : (has_parent p r ≡ false) × (list_any (has_parent p) rs ≡ false) = neither (has_parent p r) (list_any (has_parent p) rs) none in
+    let both : (has_parent p r ≡ false) × (list_any (has_parent p) rs ≡ false) = or_parts (has_parent p r) (list_any (has_parent p) rs) none in
     picks p (r.inc == x) r (row_of rs x) both.0 (childless rs p x both.1)
 
 either : (a b live : Bool) → IsTrue ((a && live) || b) → b ≡ false → IsTrue a

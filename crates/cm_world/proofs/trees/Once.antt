@@ -5,7 +5,7 @@ use Rattle.cm_decl.specs.declared.decl.Decl.{Decl}
 use Rattle.cm_decl.specs.declared.node.DynChild.{DynChild}
 use Rattle.cm_decl.specs.declared.rows.Give.{Give}
 use Rattle.cm_decl.specs.Graph.{is_strong_edge}
-use Rattle.cm_decl.proofs.Picking.{picks_once, picked_is_cycle}
+use Rattle.cm_decl.proofs.cycles.Picking.{picks_once, picked_is_cycle}
 use Rattle.cm_world.specs.declared.row.Row.{Row}
 use Rattle.cm_world.specs.declared.frame.Builtin.{Builtin}
 use Rattle.cm_world.specs.declared.route.Start.{Start}

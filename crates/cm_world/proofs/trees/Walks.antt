@@ -3,6 +3,7 @@ use Rattle.std.proofs.Common.{◌≡◌, ℕ, zero, suc, ◌+◌, ◌<◌, List,
 use Rattle.std.specs.List.{list_all}
 use Rattle.std.specs.Option.{option_eq}
 use Rattle.std.specs.Cmp.{unsigned_Decides}
+use Rattle.std.proofs.Math.Bool.{and-false}
 use Rattle.cm_names.specs.declared.child.ChildName.{ChildName}
 use Rattle.cm_decl.specs.declared.kind.Kind.{Kind}
 use Rattle.cm_decl.specs.declared.decl.Decl.{Decl}
@@ -31,6 +32,7 @@ use Rattle.cm_world.specs.Sound.{IsRising, IsOrderly}
 use Rattle.cm_world.specs.Ending.{is_expose, left_at, left_from, steps_left, is_from_parent, KeepsDown, BeginsDown, StepsFall, WalksEnd}
 use Rattle.cm_world.proofs.trees.Finding.{some_same, none_some, find-passes, find-all}
 use Rattle.cm_world.proofs.trees.Chains.{same_station}
+use Rattle.cm_world.proofs.trees.Climbing.{fewer}
 
 -- ---- rows that rise
 
@@ -66,7 +68,7 @@ found_child : (rows : List Row) (p j : ℕ) (c : ChildName) (o : Option Row) →
 found_child rows p j c None f e = absurd (none_some j e)
 found_child rows p j c (Some r) f e = (r, f, some_same r.inc j e)
 
-parent_is : (p : ℕ) (o : Option ℕ) → IsTrue (option_eq nat_eq o (Some p)) → o ≡ Some p
+pub parent_is : (p : ℕ) (o : Option ℕ) → IsTrue (option_eq nat_eq o (Some p)) → o ≡ Some p
 parent_is p None h = absurd (true≢false (sym h))
 parent_is p (Some q) h = ap Some ((unsigned_Decides q p).0 h)
 
@@ -83,10 +85,6 @@ child_lives rows next p j c rising e =
     )
 
 -- ---- exposes
-
-and_false : (b : Bool) → (b && false) ≡ false
-and_false true = refl
-and_false false = refl
 
 -- an expose that isn't from the parent leads down
 expose_down : (from : Origin) → IsTrue (not (is_parent from)) → (is_from_parent (Some from) && true) ≡ false
@@ -142,7 +140,7 @@ builtin_nearer rows next n i kind name (Some b) t some e = subst (λ z. IsNearer
 offer_nearer : (rows : List Row) (next n p : ℕ) (kind : Kind) (name : List ℕ) (o : Option Give) (t : Station) → left_at next p false < n → by_offer rows p kind name o ≡ To t → IsNearer next n t
 unfolding IsNearer is_to
 offer_nearer rows next n p kind name None t fewer e = absurd (not_to _ t refl e)
-offer_nearer rows next n p kind name (Some g) t fewer e = subst (λ z. IsNearer next n z) (same_station (offer_station rows p g) t e) (fewer, and_false (is_from_parent (Some g.from)))
+offer_nearer rows next n p kind name (Some g) t fewer e = subst (λ z. IsNearer next n z) (same_station (offer_station rows p g) t e) (fewer, and-false (is_from_parent (Some g.from)))
 
 offered_nearer : (rows : List Row) (next n p : ℕ) (r : Row) (kind : Kind) (name : List ℕ) (o : Option Decl) (t : Station) → left_at next p false < n → offered_by rows p r kind name o ≡ To t → IsNearer next n t
 unfolding is_to
@@ -220,7 +218,7 @@ same_first s t e = ap (station_in s) e
 used_down : (rows : List Row) (i : ℕ) (s : Station) (o : Option Usage) → elim o as (λ _. Named) [ None ↦ NoUse | Some u ↦ First (use_station rows i u) ] ≡ First s → KeepsDown s
 unfolding is_first
 used_down rows i s None e = absurd (not_first _ s refl e)
-used_down rows i s (Some u) e = subst KeepsDown (same_first (use_station rows i u) s e) (and_false (is_from_parent (Some u.from)))
+used_down rows i s (Some u) e = subst KeepsDown (same_first (use_station rows i u) s e) (and-false (is_from_parent (Some u.from)))
 
 exposed_down : (rows : List Row) (i : ℕ) (missing : Hop) (s : Station) (o : Option Give) → ((g : Give) → o ≡ Some g → (is_from_parent (Some g.from) && true) ≡ false) → elim o as (λ _. Named) [ None ↦ NoneExposed missing | Some g ↦ First (expose_station rows i g) ] ≡ First s → KeepsDown s
 unfolding is_first
@@ -234,7 +232,7 @@ given_down rows next i q g (Some d) orderly f e = valid_down d q g (decl_valid r
 offered_down : (rows : List Row) (i : ℕ) (s : Station) (o : Option Offer) → elim o as (λ _. Named) [ None ↦ NoUse | Some x ↦ First (offer_station rows i x.give) ] ≡ First s → KeepsDown s
 unfolding is_first
 offered_down rows i s None e = absurd (not_first _ s refl e)
-offered_down rows i s (Some x) e = subst KeepsDown (same_first (offer_station rows i x.give) s e) (and_false (is_from_parent (Some x.give.from)))
+offered_down rows i s (Some x) e = subst KeepsDown (same_first (offer_station rows i x.give) s e) (and-false (is_from_parent (Some x.give.from)))
 
 pub begins_down : BeginsDown
 begins_down rows next (UseAt i path) s orderly e = used_down rows i s _ e
@@ -283,9 +281,6 @@ walk_at rows builtins front s None e more =
     let next : (t : Station) × (next_of rows builtins s ≡ To t) = next_at (next_of rows builtins s) (undecided front s (next_of rows builtins s) e) in
     let end : HasEnd rows builtins (front ++ s ∷ []) next.0 = more next.0 next.1 in
     record { verdict = end.verdict; rest = next.0 ∷ end.rest; chain = (next.1, end.chain); decided = (e, end.decided) }
-
-fewer : (m k n : ℕ) → m < k → k < suc n → m < n
-fewer m k n low high = omega arith
 
 -- from a station with fewer than n steps left
 pub walks_from : (n : ℕ) (rows : List Row) (next : ℕ) (builtins : List Builtin) (front : List Station) (s : Station) → IsOrderly rows next → KeepsDown s → steps_left next s < n → HasEnd rows builtins front s

@@ -8,4 +8,4 @@ returns-in-Protocol c =
 
 pub returns-in-Err-from_subdir : goal.returns-in-Err-from_subdir
 returns-in-Err-from_subdir c =
-    fault_1 c.args.kind c.args.word.now c.in-Err.fault c.in-Err-from_subdir.other c.either.result c.in-Directory.is c.either.ensures c.in-Err.ensures c.in-Err-from_subdir.ensures
+    fault_1 c.args.kind c.args.word.now c.in-Err.fault c.in-Err-from_subdir.other c.fault_of_either.result c.in-Directory.is c.fault_of_either.ensures c.in-Err.ensures c.in-Err-from_subdir.ensures

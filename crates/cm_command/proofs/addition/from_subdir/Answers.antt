@@ -8,4 +8,4 @@ returns-in-Protocol c =
 
 pub returns-in-Err-from_weak : goal.returns-in-Err-from_weak
 returns-in-Err-from_weak c =
-    fault_2 c.args.kind c.args.word.now c.in-Err.fault c.in-Err-from_weak.other c.either.result c.in-Directory.is c.either.ensures c.in-Err.ensures c.in-Err-from_weak.ensures
+    fault_2 c.args.kind c.args.word.now c.in-Err.fault c.in-Err-from_weak.other c.fault_of_either.result c.in-Directory.is c.fault_of_either.ensures c.in-Err.ensures c.in-Err-from_weak.ensures

@@ -1,10 +1,11 @@
 use Rattle.std.proofs.Common.{◌∷◌, [], ◌++◌, get_or, sym, ◌∙◌, ap}
 use Rattle.cm_deps.specs.Nodes.{at}
-use Rattle.cm_deps.proofs.given.Outcomes.{nodes_more, number_held}
+use Rattle.cm_deps.proofs.given.Outcomes.{nodes_more}
+use Rattle.cm_deps.proofs.listed.Listing.{holds_at}
 use Rattle.cm_deps.proofs.outcome.nodes_at.Goals as goal
 
 pub node_at-requires : goal.node_at-requires
-node_at-requires c = c.requires (get_or c.args.numbers.now c.loop-number.number-index 0) (number_held c.args.numbers.now c.loop-number.number-index c.loop-number-test.true)
+node_at-requires c = c.requires (get_or c.args.numbers.now c.loop-number.number-index 0) (holds_at c.args.numbers.now c.loop-number.number-index c.loop-number-test.true)
 
 pub loop-number-preserved : goal.loop-number-preserved
 loop-number-preserved c =

@@ -2,9 +2,9 @@ use Rattle.std.proofs.Common.{Option, None, refl, sym, subst}
 use Rattle.cm_world.specs.Create.{dynamic_name, dynamic_children, dynamic_with, refused_create}
 use Rattle.cm_dynamic.specs.Replies.{AnswersCreate, AnswersGraph, Refuses}
 use Rattle.cm_dynamic.specs.declared.create.MayCreate.{MayCreate}
-use Rattle.cm_dynamic.proofs.Further.{created_name, created_names, further_acyclic}
-use Rattle.cm_walk.proofs.Steps.{if_ok}
-use Rattle.cm_dynamic.proofs.Refusing.{is_refused, is_resolved, is_by_graph}
+use Rattle.cm_dynamic.proofs.graphs.Further.{created_name, created_names, further_acyclic}
+use Rattle.cm_walk.proofs.routes.Steps.{if_ok}
+use Rattle.cm_dynamic.proofs.children.Refusing.{is_refused, is_resolved, is_by_graph}
 use Rattle.cm_dynamic.proofs.create.may_create_acyclic.Goals as goal
 
 pub returns-in-Some : goal.returns-in-Some

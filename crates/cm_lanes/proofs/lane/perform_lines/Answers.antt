@@ -2,7 +2,7 @@ use Rattle.std.proofs.Common.{rules, ◌≡◌, ◌==◌, ◌++◌, ◌∷◌, [
 use Rattle.std.proofs.lemmas.List.{take_more, take_all}
 use Rattle.cm_command.specs.declared.script.Line.{Line}
 use Rattle.cm_manager.specs.Kept.{gates_view}
-use Rattle.cm_lanes.proofs.Performing.{Performing, performing_none, performing_more, performing_all}
+use Rattle.cm_lanes.proofs.lines.Performing.{Performing, performing_none, performing_more, performing_all}
 use Rattle.cm_lanes.proofs.lane.perform_lines.Goals as goal
 
 pub loop-line-init : goal.loop-line-init

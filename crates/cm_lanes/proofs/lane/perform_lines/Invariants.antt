@@ -1,6 +1,6 @@
 use Rattle.std.proofs.Common.{take, ◌≡◌}
 use Rattle.cm_manager.specs.Kept.{gates_view}
-use Rattle.cm_lanes.proofs.Performing.{Performing}
+use Rattle.cm_lanes.proofs.lines.Performing.{Performing}
 use Rattle.cm_lanes.proofs.lane.perform_lines.Given as goal
 
 abbrev pub invariant-loop-line : goal.invariant-loop-line

@@ -1,7 +1,7 @@
 use Rattle.std.proofs.Common.{refl, subst, sym, List, ◌∙◌, vec_capacity, ℕ}
 use Rattle.cm_manager.specs.Contract.{RealmPass}
 use Rattle.cm_lanes.specs.declared.lane.Lane.{Lane}
-use Rattle.cm_lanes.proofs.Making.{Making, making_none, making_more}
+use Rattle.cm_lanes.proofs.ends.Making.{Making, making_none, making_more}
 use Rattle.cm_lanes.proofs.parts.make_lanes.Goals as goal
 
 pub loop-pass-init : goal.loop-pass-init

@@ -1,5 +1,5 @@
 use Rattle.std.proofs.Common.{vec_capacity}
-use Rattle.cm_lanes.proofs.Making.{Making}
+use Rattle.cm_lanes.proofs.ends.Making.{Making}
 use Rattle.cm_lanes.proofs.parts.make_lanes.Given as goal
 
 abbrev pub invariant-loop-pass : goal.invariant-loop-pass

@@ -1,6 +1,6 @@
 use Rattle.std.proofs.Common.{subst, sym, List, ◌∙◌}
 use Rattle.cm_lanes.specs.declared.lane.Lane.{Lane}
-use Rattle.cm_lanes.proofs.Making.{Taking, taking_none, taking_more, taking_all}
+use Rattle.cm_lanes.proofs.ends.Making.{Taking, taking_none, taking_more, taking_all}
 use Rattle.cm_lanes.proofs.parts.take_apart.Goals as goal
 
 pub loop-lane-init : goal.loop-lane-init

@@ -1,4 +1,4 @@
-use Rattle.cm_lanes.proofs.Making.{Taking}
+use Rattle.cm_lanes.proofs.ends.Making.{Taking}
 use Rattle.cm_lanes.proofs.parts.take_apart.Given as goal
 
 abbrev pub invariant-loop-lane : goal.invariant-loop-lane

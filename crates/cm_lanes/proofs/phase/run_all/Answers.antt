@@ -1,7 +1,7 @@
 use Rattle.std.proofs.Common.{List, sym, subst}
 use Rattle.cm_lanes.specs.declared.lane.Lane.{Lane}
 use Rattle.cm_lanes.specs.Phases.{LanesRan, AreLanes}
-use Rattle.cm_lanes.proofs.Ending.{whole_slice}
+use Rattle.cm_lanes.proofs.ends.Ending.{whole_slice}
 use Rattle.cm_lanes.proofs.phase.run_all.Goals as goal
 
 pub perform_phases-requires-clause-lanes : goal.perform_phases-requires-clause-lanes

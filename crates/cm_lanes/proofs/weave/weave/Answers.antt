@@ -2,7 +2,7 @@ use Rattle.std.proofs.Common.{◌∙◌, ◌+◌, List, sym, ap, subst, drop}
 use Rattle.cm_command.specs.declared.script.Line.{Line}
 use Rattle.cm_lanes.specs.Phases.{told_to}
 use Rattle.cm_lanes.specs.Weave.{BeginsWith}
-use Rattle.cm_lanes.proofs.Queues.{next_phase, phase_begins, phases_on, phases_end}
+use Rattle.cm_lanes.proofs.woven.Queues.{next_phase, phase_begins, phases_on, phases_end}
 use Rattle.cm_lanes.proofs.weave.weave.Goals as goal
 
 pub weave_lines-requires-clause-begins : goal.weave_lines-requires-clause-begins

@@ -1,6 +1,6 @@
 use Rattle.std.proofs.Common.{◌≡◌, length}
 use Rattle.cm_lanes.specs.Weave.{HasAll}
-use Rattle.cm_lanes.proofs.Queues.{MovesAll}
+use Rattle.cm_lanes.proofs.woven.Queues.{MovesAll}
 use Rattle.cm_lanes.proofs.weave.weave.Given as goal
 
 abbrev pub invariant-loop-phase : goal.invariant-loop-phase

@@ -1,6 +1,6 @@
 use Rattle.std.proofs.Common.{◌∙◌, ◌<◌, sym, subst}
 use Rattle.cm_command.specs.declared.script.Line.{Line}
-use Rattle.cm_lanes.proofs.Queues.{moves_more, moves_end, takes_one, next_answer, some_queue}
+use Rattle.cm_lanes.proofs.woven.Queues.{moves_more, moves_end, takes_one, next_answer, some_queue}
 use Rattle.cm_lanes.proofs.weave.weave_lines.Goals as goal
 
 pub unreachable-requires : goal.unreachable-requires

@@ -1,6 +1,6 @@
 use Rattle.std.proofs.Common.{◌≡◌, length}
 use Rattle.cm_lanes.specs.Weave.{BeginsWith}
-use Rattle.cm_lanes.proofs.Queues.{Moves}
+use Rattle.cm_lanes.proofs.woven.Queues.{Moves}
 use Rattle.cm_lanes.proofs.weave.weave_lines.Given as goal
 
 abbrev pub invariant-loop-line : goal.invariant-loop-line

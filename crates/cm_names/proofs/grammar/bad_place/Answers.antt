@@ -1,7 +1,7 @@
 use Rattle.std.proofs.Common.{◌≡◌, ◌+◌, ◌<◌, false, true≢false, sym, arith, rules}
 use Rattle.cm_names.specs.MonikerPlaces.{may_end}
-use Rattle.cm_names.proofs.Fronts.{not_whole}
-use Rattle.cm_names.proofs.MonikerFronts.{stuck, full, further, unended, not_ended, ended}
+use Rattle.cm_names.proofs.fronts.Fronts.{not_whole}
+use Rattle.cm_names.proofs.fronts.MonikerFronts.{stuck, full, further, unended, not_ended, ended}
 use Rattle.cm_names.proofs.grammar.bad_place.Goals as goal
 use Rattle.cm_names.proofs.grammar.bad_place.Goals.{else-i-eq-MAX_PATH_BYTES-via-then-i-eq-MAX_PATH_BYTES+else-not-may_end, else-i-eq-MAX_PATH_BYTES-via-else-i-eq-MAX_PATH_BYTES}
 

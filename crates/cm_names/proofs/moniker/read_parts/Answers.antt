@@ -6,7 +6,7 @@ use Rattle.std.proofs.lemmas.List.Elements.{All-push}
 use Rattle.std.specs.Str.Iter.{split_text, split_has_more, split_pattern}
 use Rattle.cm_names.specs.Moniker.{IsChild, IsChildText}
 use Rattle.cm_names.specs.Path.{parts_of}
-use Rattle.cm_names.proofs.MonikerParts.{texts_more}
+use Rattle.cm_names.proofs.texts.MonikerParts.{texts_more}
 use Rattle.cm_names.proofs.moniker.read_parts.Goals as goal
 
 pub read_child-requires : goal.read_child-requires

@@ -1,5 +1,5 @@
 use Rattle.std.proofs.Common.{◌∙◌, rules}
-use Rattle.cm_names.proofs.MonikerParts.{pieces, made}
+use Rattle.cm_names.proofs.texts.MonikerParts.{pieces, made}
 use Rattle.cm_names.proofs.moniker.read_whole.Goals as goal
 
 pub read_parts-requires : goal.read_parts-requires

@@ -1,4 +1,4 @@
-use Rattle.cm_walk.proofs.Monikers.{loop-lower}
+use Rattle.cm_walk.proofs.ways.Monikers.{loop-lower}
 use Rattle.cm_order.proofs.trees.Tops.{goes_up}
 use Rattle.cm_order.proofs.above.outermost.Goals as goal
 

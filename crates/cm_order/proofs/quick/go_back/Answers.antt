@@ -10,16 +10,16 @@ pub loop-stand-preserved : goal.loop-stand-preserved
 loop-stand-preserved g c =
     let parts : IsWay (g.V.View.rows c.args.view.now) c.args.top c.pop.new.self.items × IsStand (g.V.View.rows c.args.view.now) c.args.top c.in-Some.stand = last_stand (g.V.View.rows c.args.view.now) c.args.top c.loop-stand.way.items c.pop.new.self.items c.in-Some.stand c.in-Some.ensures.items c.loop-stand.invariant.0 in (
       parts.0,
-      left_behind (g.V.View.rows c.args.view.now) (g.V.View.next_inc c.args.view.now) c.requires.sound.orderly c.in-Some.stand c.left_shut-closed.result parts.1.known (sym c.unshut.ensures.unshut ∙ c.if-unshut.false) c.left_shut-closed.ensures,
+      left_behind (g.V.View.rows c.args.view.now) (g.V.View.next_inc c.args.view.now) c.requires.sound.orderly c.in-Some.stand c.left_shut-closed.result parts.1.known (sym c.is_unshut.ensures.unshut ∙ c.if-is_unshut.false) c.left_shut-closed.ensures,
     )
 
-pub loop-stand-preserved-else-unshut : goal.loop-stand-preserved-else-unshut
-loop-stand-preserved-else-unshut g c =
+pub loop-stand-preserved-else-is_unshut : goal.loop-stand-preserved-else-is_unshut
+loop-stand-preserved-else-is_unshut g c =
     let parts : IsWay (g.V.View.rows c.args.view.now) c.args.top c.pop.new.self.items × IsStand (g.V.View.rows c.args.view.now) c.args.top c.in-Some.stand = last_stand (g.V.View.rows c.args.view.now) c.args.top c.loop-stand.way.items c.pop.new.self.items c.in-Some.stand c.in-Some.ensures.items c.loop-stand.invariant.0 in (
       parts.0,
-      left_behind (g.V.View.rows c.args.view.now) (g.V.View.next_inc c.args.view.now) c.requires.sound.orderly c.in-Some.stand c.left_shut-closed.result parts.1.known (sym c.unshut.ensures.unshut ∙ c.if-unshut.false) c.left_shut-closed.ensures,
+      left_behind (g.V.View.rows c.args.view.now) (g.V.View.next_inc c.args.view.now) c.requires.sound.orderly c.in-Some.stand c.left_shut-closed.result parts.1.known (sym c.is_unshut.ensures.unshut ∙ c.if-is_unshut.false) c.left_shut-closed.ensures,
     )
 
-pub returns-then-unshut-clause-way : goal.returns-then-unshut-clause-way
-returns-then-unshut-clause-way g c =
+pub returns-then-is_unshut-clause-way : goal.returns-then-is_unshut-clause-way
+returns-then-is_unshut-clause-way g c =
     looked_at (g.V.View.rows c.args.view.now) c.args.top c.loop-stand.way.items c.pop.new.self.items c.push.new.self.items c.in-Some.stand c.count_done.new.stand c.in-Some.ensures.items c.loop-stand.invariant.0 c.count_done.ensures.same c.count_done.ensures.known c.in_ok-push.ensures.items

@@ -14,7 +14,7 @@ use Rattle.cm_call.specs.declared.call.ServeOptions.{ServeOptions}
 use Rattle.cm_call.specs.declared.call.Workload.{Workload}
 use Rattle.cm_program.specs.declared.wanted.Wanted.TheVariants.{Answers, Summary}
 use Rattle.cm_program.specs.Sessions.{served_frame, served_shelf}
-use Rattle.cm_session.specs.Links.{link_view}
+use Rattle.cm_session.specs.Links.{view_of}
 use Rattle.cm_session.specs.Serving.{back_view}
 use Rattle.cm_program.proofs.links.Attending.{runs_no_session}
 use Rattle.cm_program.proofs.whole.RunLemmas.{empty_history, known_nothing, of_faulty, own_nothing, some_unread}
@@ -26,34 +26,34 @@ use Rattle.cm_program.proofs.run.run.Goals as goal
 pub returns-in-Ok-Run : goal.returns-in-Ok-Run
 returns-in-Ok-Run g c =
     record {
-      usage = not_script 2 c.run_script-status.result.status refl c.run_script-status.ensures.others;
+      usage = not_script 2 c.run_script-ran.result.status refl c.run_script-ran.ensures.others;
       unusable = no_fault c.in-Ok-Run.ensures.gives c.in-Ok-Run.field-0-is;
-      read = c.run_script-status.ensures.read;
-      write = c.run_script-status.ensures.write;
-      door = not_script 5 c.run_script-status.result.status refl c.run_script-status.ensures.others;
+      read = c.run_script-ran.ensures.read;
+      write = c.run_script-ran.ensures.write;
+      door = not_script 5 c.run_script-ran.result.status refl c.run_script-ran.ensures.others;
       sound = λ none. refl;
-      heard = c.run_script-status.ensures.heard;
-      whole = c.run_script-status.ensures.whole;
-      silent = script_idles c.run_script-status.result.status c.run_script-status.ensures.others c.run_script-status.ensures.silent;
+      heard = c.run_script-ran.ensures.heard;
+      whole = c.run_script-ran.ensures.whole;
+      silent = script_idles c.run_script-ran.result.status c.run_script-ran.ensures.others c.run_script-ran.ensures.silent;
       kept = λ none. absurd (none (inl (c.in-Ok-Run.options, asked c.in-Ok-Run.ensures.gives c.in-Ok-Run.field-0-is)));
-      err = c.run_script-status.ensures.err;
-      history = c.run_script-status.ensures.history;
-      gates = c.run_script-status.ensures.gates;
-      empty = script_idles c.run_script-status.result.status c.run_script-status.ensures.others c.run_script-status.ensures.empty;
+      err = c.run_script-ran.ensures.err;
+      history = c.run_script-ran.ensures.history;
+      gates = c.run_script-ran.ensures.gates;
+      empty = script_idles c.run_script-ran.result.status c.run_script-ran.ensures.others c.run_script-ran.ensures.empty;
       other = λ none. absurd (none (inl (inl (c.in-Ok-Run.options, asked c.in-Ok-Run.ensures.gives c.in-Ok-Run.field-0-is))));
-      unserved = λ no_workload no_door. c.run_script-status.ensures.unserved;
+      unserved = λ no_workload no_door. c.run_script-ran.ensures.unserved;
       given = none_given (g.D.Door.counts c.args.door).links c.new.result c.new.ensures;
       unopened = λ none. (c.new.ensures, refl);
-      refused = λ asks. c.run_script-status.ensures.refused;
-      faulty = λ asks. c.run_script-status.ensures.faulty;
-      script = λ asks. c.run_script-status.ensures.others;
+      refused = λ asks. c.run_script-ran.ensures.refused;
+      faulty = λ asks. c.run_script-ran.ensures.faulty;
+      script = λ asks. c.run_script-ran.ensures.others;
       headline = λ options asks ended.
-          subst (λ (o : RunOptions). OfKnown (RunsAsServed (λ served. RunsScript g.G.Gates.log g.G.Gates.faults (Answers o.journal) o.repository served c.args.gates c.run_script-status.result.gates c.run_script-status.result.book.entries c.run_script-status.result.status (g.K.Sink.written c.args.out.now) (g.K.Sink.written c.run_script-status.new.out))) (g.S.Source.left c.args.input.now))
-          (same_options c.in-Ok-Run.ensures.gives c.in-Ok-Run.field-0-is asks) (c.run_script-status.ensures.headline ended);
+          subst (λ (o : RunOptions). OfKnown (RunsAsServed (λ served. RunsScript g.G.Gates.log g.G.Gates.faults (Answers o.journal) o.repository served c.args.gates c.run_script-ran.result.gates c.run_script-ran.result.book.entries c.run_script-ran.result.status (g.K.Sink.written c.args.out.now) (g.K.Sink.written c.run_script-ran.new.out))) (g.S.Source.left c.args.input.now))
+          (same_options c.in-Ok-Run.ensures.gives c.in-Ok-Run.field-0-is asks) (c.run_script-ran.ensures.headline ended);
       some = λ options asks ended.
-          subst (λ (o : RunOptions). RunsSome (λ served. RunsScript g.G.Gates.log g.G.Gates.faults (Answers o.journal) o.repository served c.args.gates c.run_script-status.result.gates c.run_script-status.result.book.entries c.run_script-status.result.status (g.K.Sink.written c.args.out.now) (g.K.Sink.written c.run_script-status.new.out))
-          (RunsNothing c.run_script-status.result.book.entries c.args.gates c.run_script-status.result.gates × Keeps (g.K.Sink.written c.args.out.now) (g.K.Sink.written c.run_script-status.new.out)) c.run_script-status.result.status (g.S.Source.left c.args.input.now))
-          (same_options c.in-Ok-Run.ensures.gives c.in-Ok-Run.field-0-is asks) (c.run_script-status.ensures.some ended);
+          subst (λ (o : RunOptions). RunsSome (λ served. RunsScript g.G.Gates.log g.G.Gates.faults (Answers o.journal) o.repository served c.args.gates c.run_script-ran.result.gates c.run_script-ran.result.book.entries c.run_script-ran.result.status (g.K.Sink.written c.args.out.now) (g.K.Sink.written c.run_script-ran.new.out))
+          (RunsNothing c.run_script-ran.result.book.entries c.args.gates c.run_script-ran.result.gates × Keeps (g.K.Sink.written c.args.out.now) (g.K.Sink.written c.run_script-ran.new.out)) c.run_script-ran.result.status (g.S.Source.left c.args.input.now))
+          (same_options c.in-Ok-Run.ensures.gives c.in-Ok-Run.field-0-is asks) (c.run_script-ran.ensures.some ended);
       workload = λ w asks. no_other is_run c.in-Ok-Run.ensures.gives c.in-Ok-Run.field-0-is asks refl refl;
       unmade = λ w asks. no_other is_run c.in-Ok-Run.ensures.gives c.in-Ok-Run.field-0-is asks refl refl;
       generate = λ asks. no_other is_run c.in-Ok-Run.ensures.gives c.in-Ok-Run.field-0-is asks.1 refl refl;
@@ -72,20 +72,20 @@ returns-in-Ok-Run g c =
 pub returns-in-Ok-Generate : goal.returns-in-Ok-Generate
 returns-in-Ok-Generate g c =
     record {
-      usage = not_run 2 c.run_generated-status.result.status refl c.run_generated-status.ensures.others;
+      usage = not_run 2 c.run_generated-ran.result.status refl c.run_generated-ran.ensures.others;
       unusable = no_fault c.in-Ok-Generate.ensures.gives c.in-Ok-Generate.field-0-is;
-      read = not_run 3 c.run_generated-status.result.status refl c.run_generated-status.ensures.others;
-      write = c.run_generated-status.ensures.cause;
-      door = not_run 5 c.run_generated-status.result.status refl c.run_generated-status.ensures.others;
+      read = not_run 3 c.run_generated-ran.result.status refl c.run_generated-ran.ensures.others;
+      write = c.run_generated-ran.ensures.cause;
+      door = not_run 5 c.run_generated-ran.result.status refl c.run_generated-ran.ensures.others;
       sound = λ none. refl;
       heard = λ three six. refl;
-      whole = c.run_generated-status.ensures.whole;
-      silent = run_isnt_idle c.run_generated-status.result.status c.run_generated-status.ensures.others;
+      whole = c.run_generated-ran.ensures.whole;
+      silent = run_isnt_idle c.run_generated-ran.result.status c.run_generated-ran.ensures.others;
       kept = λ none. absurd (none (inr (c.in-Ok-Generate.workload, asked c.in-Ok-Generate.ensures.gives c.in-Ok-Generate.field-0-is)));
-      err = c.run_generated-status.ensures.err;
-      history = c.run_generated-status.ensures.history;
-      gates = c.run_generated-status.ensures.gates;
-      empty = run_isnt_idle c.run_generated-status.result.status c.run_generated-status.ensures.others;
+      err = c.run_generated-ran.ensures.err;
+      history = c.run_generated-ran.ensures.history;
+      gates = c.run_generated-ran.ensures.gates;
+      empty = run_isnt_idle c.run_generated-ran.result.status c.run_generated-ran.ensures.others;
       other = λ none. absurd (none (inl (inr (c.in-Ok-Generate.workload, asked c.in-Ok-Generate.ensures.gives c.in-Ok-Generate.field-0-is))));
       unserved = λ no_workload. absurd (no_workload (c.in-Ok-Generate.workload, asked c.in-Ok-Generate.ensures.gives c.in-Ok-Generate.field-0-is));
       given = none_given (g.D.Door.counts c.args.door).links c.new-in-Ok-Generate.result c.new-in-Ok-Generate.ensures;
@@ -96,11 +96,11 @@ returns-in-Ok-Generate g c =
       headline = λ options asks. no_other is_generate c.in-Ok-Generate.ensures.gives c.in-Ok-Generate.field-0-is asks refl refl;
       some = λ options asks. no_other is_generate c.in-Ok-Generate.ensures.gives c.in-Ok-Generate.field-0-is asks refl refl;
       workload = λ w asks.
-          subst (λ (w : Workload). RunsOwn (λ served. RunsScript g.G.Gates.log g.G.Gates.faults (Summary w.size) None served c.args.gates c.run_generated-status.result.gates c.run_generated-status.result.book.entries c.run_generated-status.result.status (g.K.Sink.written c.args.out.now) (g.K.Sink.written c.run_generated-status.new.out)) (script_of w.seed w.size) c.run_generated-status.result.status)
-          (same_workload c.in-Ok-Generate.ensures.gives c.in-Ok-Generate.field-0-is asks) c.run_generated-status.ensures.runs;
+          subst (λ (w : Workload). RunsOwn (λ served. RunsScript g.G.Gates.log g.G.Gates.faults (Summary w.size) None served c.args.gates c.run_generated-ran.result.gates c.run_generated-ran.result.book.entries c.run_generated-ran.result.status (g.K.Sink.written c.args.out.now) (g.K.Sink.written c.run_generated-ran.new.out)) (script_of w.seed w.size) c.run_generated-ran.result.status)
+          (same_workload c.in-Ok-Generate.ensures.gives c.in-Ok-Generate.field-0-is asks) c.run_generated-ran.ensures.runs;
       unmade = λ w asks none.
-          c.run_generated-status.ensures.unmade (λ served is. none served (subst (λ (x : Workload). served_script (script_of x.seed x.size) ≡ Ok served) (same_workload c.in-Ok-Generate.ensures.gives c.in-Ok-Generate.field-0-is asks) is));
-      generate = λ asks. c.run_generated-status.ensures.others;
+          c.run_generated-ran.ensures.unmade (λ served is. none served (subst (λ (x : Workload). served_script (script_of x.seed x.size) ≡ Ok served) (same_workload c.in-Ok-Generate.ensures.gives c.in-Ok-Generate.field-0-is asks) is));
+      generate = λ asks. c.run_generated-ran.ensures.others;
       unread = λ asks. refl;
       sessions = λ o asks. no_other is_generate c.in-Ok-Generate.ensures.gives c.in-Ok-Generate.field-0-is asks refl refl;
       few = λ o asks. no_other is_generate c.in-Ok-Generate.ensures.gives c.in-Ok-Generate.field-0-is asks refl refl;
@@ -116,23 +116,23 @@ returns-in-Ok-Generate g c =
 pub returns-in-Ok-Serve : goal.returns-in-Ok-Serve
 returns-in-Ok-Serve g c =
     record {
-      usage = not_serve 2 c.run_sessions.result.status refl c.run_sessions.ensures.others;
+      usage = not_serve 2 c.run_sessions.result.status refl c.run_sessions.ensures.attended.others;
       unusable = no_fault c.in-Ok-Serve.ensures.gives c.in-Ok-Serve.field-0-is;
-      read = not_serve 3 c.run_sessions.result.status refl c.run_sessions.ensures.others;
-      write = not_serve 4 c.run_sessions.result.status refl c.run_sessions.ensures.others;
-      door = c.run_sessions.ensures.door;
-      sound = c.run_sessions.ensures.sound;
+      read = not_serve 3 c.run_sessions.result.status refl c.run_sessions.ensures.attended.others;
+      write = not_serve 4 c.run_sessions.result.status refl c.run_sessions.ensures.attended.others;
+      door = c.run_sessions.ensures.attended.failed;
+      sound = c.run_sessions.ensures.attended.sound;
       heard = λ three six. refl;
       whole = λ four six. refl;
-      silent = serve_isnt_idle c.run_sessions.result.status c.run_sessions.ensures.others;
+      silent = serve_isnt_idle c.run_sessions.result.status c.run_sessions.ensures.attended.others;
       kept = λ none six. Keeps-refl _;
       err = c.run_sessions.ensures.err;
       history = c.run_sessions.ensures.history;
-      gates = c.run_sessions.ensures.gates;
-      empty = serve_isnt_idle c.run_sessions.result.status c.run_sessions.ensures.others;
+      gates = c.run_sessions.ensures.attended.sixteen;
+      empty = serve_isnt_idle c.run_sessions.result.status c.run_sessions.ensures.attended.others;
       other = λ none. absurd (none (inr (c.in-Ok-Serve.options, asked c.in-Ok-Serve.ensures.gives c.in-Ok-Serve.field-0-is)));
       unserved = λ no_workload no_door. absurd (no_door (c.in-Ok-Serve.options, asked c.in-Ok-Serve.ensures.gives c.in-Ok-Serve.field-0-is));
-      given = c.run_sessions.ensures.given;
+      given = c.run_sessions.ensures.attended.given;
       unopened = λ none. absurd (none (c.in-Ok-Serve.options, asked c.in-Ok-Serve.ensures.gives c.in-Ok-Serve.field-0-is));
       refused = λ asks. no_other is_serve c.in-Ok-Serve.ensures.gives c.in-Ok-Serve.field-0-is asks.1 refl refl;
       faulty = λ asks. no_other is_serve c.in-Ok-Serve.ensures.gives c.in-Ok-Serve.field-0-is asks.1 refl refl;
@@ -144,14 +144,14 @@ returns-in-Ok-Serve g c =
       generate = λ asks. no_other is_serve c.in-Ok-Serve.ensures.gives c.in-Ok-Serve.field-0-is asks.1 refl refl;
       unread = λ asks. no_other is_serve c.in-Ok-Serve.ensures.gives c.in-Ok-Serve.field-0-is asks.1 refl refl;
       sessions = λ o asks.
-          subst (λ (x : ServeOptions). RunsSessions g.G.Gates.log g.G.Gates.faults (link_view g.D.Link.Source.left g.D.Link.Source.given g.D.Link.Sink.written g.D.Link.Source.faults g.D.Link.Sink.faults) (served_frame x) (served_shelf x) x.workers c.args.gates c.run_sessions.result.gates c.run_sessions.result.book.entries
-          (map (back_view (link_view g.D.Link.Source.left g.D.Link.Source.given g.D.Link.Sink.written g.D.Link.Source.faults g.D.Link.Sink.faults)) c.run_sessions.result.links) c.run_sessions.result.status)
-          (same_serving c.in-Ok-Serve.ensures.gives c.in-Ok-Serve.field-0-is asks) c.run_sessions.ensures.runs;
-      few = λ o asks. subst (λ (x : ServeOptions). length c.run_sessions.result.links ≤ x.sessions) (same_serving c.in-Ok-Serve.ensures.gives c.in-Ok-Serve.field-0-is asks) c.run_sessions.ensures.few;
+          subst (λ (x : ServeOptions). RunsSessions g.G.Gates.log g.G.Gates.faults (view_of g.D.Link.Source g.D.Link.Sink) (served_frame x) (served_shelf x) x.workers c.args.gates c.run_sessions.result.gates c.run_sessions.result.book.entries
+          (map (back_view (view_of g.D.Link.Source g.D.Link.Sink)) c.run_sessions.result.links) c.run_sessions.result.status)
+          (same_serving c.in-Ok-Serve.ensures.gives c.in-Ok-Serve.field-0-is asks) c.run_sessions.ensures.attended.runs;
+      few = λ o asks. subst (λ (x : ServeOptions). length c.run_sessions.result.links ≤ x.sessions) (same_serving c.in-Ok-Serve.ensures.gives c.in-Ok-Serve.field-0-is asks) c.run_sessions.ensures.attended.few;
       done = λ o asks.
           subst (λ (x : ServeOptions). c.run_sessions.result.status ≡ 0 → (length c.run_sessions.result.links ≡ x.sessions) ⊎ Rose (g.D.Door.counts c.args.door).closings (g.D.Door.counts c.run_sessions.result.door).closings)
-          (same_serving c.in-Ok-Serve.ensures.gives c.in-Ok-Serve.field-0-is asks) c.run_sessions.ensures.done;
-      serve = λ asks. c.run_sessions.ensures.others;
+          (same_serving c.in-Ok-Serve.ensures.gives c.in-Ok-Serve.field-0-is asks) c.run_sessions.ensures.attended.done;
+      serve = λ asks. c.run_sessions.ensures.attended.others;
       untouched = λ asks. (refl, refl);
       valid = λ asks. no_other is_serve c.in-Ok-Serve.ensures.gives c.in-Ok-Serve.field-0-is asks refl refl;
       invalid = λ asks. no_other is_serve c.in-Ok-Serve.ensures.gives c.in-Ok-Serve.field-0-is asks refl refl;
@@ -194,9 +194,9 @@ returns-in-Err-Memory g c =
       generate = λ asks. inr (inr (at_six c.stopped-in-Err-Memory.ensures.status c.want_of_memory.ensures.status));
       unread = λ asks. refl;
       sessions = λ o asks.
-          runs_no_session g.G.Gates.log g.G.Gates.faults (link_view g.D.Link.Source.left g.D.Link.Source.given g.D.Link.Sink.written g.D.Link.Source.faults g.D.Link.Sink.faults) (served_frame o) (served_shelf o) o.workers c.args.gates c.stopped-in-Err-Memory.result.gates c.stopped-in-Err-Memory.result.book.entries
-          (map (back_view (link_view g.D.Link.Source.left g.D.Link.Source.given g.D.Link.Sink.written g.D.Link.Source.faults g.D.Link.Sink.faults)) c.stopped-in-Err-Memory.result.links) c.stopped-in-Err-Memory.result.status
-          c.stopped-in-Err-Memory.ensures.empty c.stopped-in-Err-Memory.ensures.gates (ap (map (back_view (link_view g.D.Link.Source.left g.D.Link.Source.given g.D.Link.Sink.written g.D.Link.Source.faults g.D.Link.Sink.faults))) c.stopped-in-Err-Memory.ensures.links);
+          runs_no_session g.G.Gates.log g.G.Gates.faults (view_of g.D.Link.Source g.D.Link.Sink) (served_frame o) (served_shelf o) o.workers c.args.gates c.stopped-in-Err-Memory.result.gates c.stopped-in-Err-Memory.result.book.entries
+          (map (back_view (view_of g.D.Link.Source g.D.Link.Sink)) c.stopped-in-Err-Memory.result.links) c.stopped-in-Err-Memory.result.status
+          c.stopped-in-Err-Memory.ensures.empty c.stopped-in-Err-Memory.ensures.gates (ap (map (back_view (view_of g.D.Link.Source g.D.Link.Sink))) c.stopped-in-Err-Memory.ensures.links);
       few = λ o asks. few_given c.stopped-in-Err-Memory.result.links o.sessions c.stopped-in-Err-Memory.ensures.links;
       done = λ o asks is. not_six c.stopped-in-Err-Memory.ensures.status c.want_of_memory.ensures.status is refl;
       serve = λ asks. inr (inr (at_six c.stopped-in-Err-Memory.ensures.status c.want_of_memory.ensures.status));

@@ -1,20 +1,25 @@
-use Rattle.std.proofs.Common.{map, ap}
-use Rattle.cm_session.specs.Links.{link_view}
+use Rattle.std.proofs.Common.{◌∙◌}
+use Rattle.cm_session.specs.Links.{view_of}
 use Rattle.cm_session.specs.Serving.{back_view}
 use Rattle.cm_program.specs.Sessions.{served_frame, served_shelf}
-use Rattle.cm_program.proofs.links.Attending.{runs_no_session}
+use Rattle.cm_program.proofs.links.Doors.{attended_by, unattended_for_fault, unattended_for_want}
 use Rattle.cm_program.proofs.serving.run_sessions.Goals as goal
 
-pub returns-in_default-clause-runs : goal.returns-in_default-clause-runs
-returns-in_default-clause-runs g c =
-    runs_no_session g.G.Gates.log g.G.Gates.faults (link_view g.D.Link.Source.left g.D.Link.Source.given g.D.Link.Sink.written g.D.Link.Source.faults g.D.Link.Sink.faults)
-    (served_frame c.args.options) (served_shelf c.args.options) c.args.options.workers c.args.gates c.stopped.result.gates c.stopped.result.book.entries
-    (map (back_view (link_view g.D.Link.Source.left g.D.Link.Source.given g.D.Link.Sink.written g.D.Link.Source.faults g.D.Link.Sink.faults)) c.stopped.result.links) c.stopped.result.status
-    c.stopped.ensures.empty c.stopped.ensures.gates (ap (map (back_view (link_view g.D.Link.Source.left g.D.Link.Source.given g.D.Link.Sink.written g.D.Link.Source.faults g.D.Link.Sink.faults))) c.stopped.ensures.links)
+pub returns-in_default-clause-attended : goal.returns-in_default-clause-attended
+returns-in_default-clause-attended g c =
+    unattended_for_want g.G.Gates.log g.G.Gates.faults (view_of g.D.Link.Source g.D.Link.Sink) g.D.Door.counts
+    (served_frame c.args.options) (served_shelf c.args.options) c.args.options.sessions c.args.options.workers c.args.gates c.args.door c.stopped.result
+    c.requires.gates c.stopped.ensures.empty c.stopped.ensures.gates c.stopped.ensures.links c.stopped.ensures.door (c.stopped.ensures.status ∙ c.want_of_memory.ensures.status)
 
-pub returns-clause-runs : goal.returns-clause-runs
-returns-clause-runs g c =
-    runs_no_session g.G.Gates.log g.G.Gates.faults (link_view g.D.Link.Source.left g.D.Link.Source.given g.D.Link.Sink.written g.D.Link.Source.faults g.D.Link.Sink.faults)
-    (served_frame c.args.options) (served_shelf c.args.options) c.args.options.workers c.args.gates c.stopped-in-Failed.result.gates c.stopped-in-Failed.result.book.entries
-    (map (back_view (link_view g.D.Link.Source.left g.D.Link.Source.given g.D.Link.Sink.written g.D.Link.Source.faults g.D.Link.Sink.faults)) c.stopped-in-Failed.result.links) c.stopped-in-Failed.result.status
-    c.stopped-in-Failed.ensures.empty c.stopped-in-Failed.ensures.gates (ap (map (back_view (link_view g.D.Link.Source.left g.D.Link.Source.given g.D.Link.Sink.written g.D.Link.Source.faults g.D.Link.Sink.faults))) c.stopped-in-Failed.ensures.links)
+pub returns-in-Ready-clause-attended : goal.returns-in-Ready-clause-attended
+returns-in-Ready-clause-attended g c =
+    attended_by g.G.Gates.log g.G.Gates.faults (view_of g.D.Link.Source g.D.Link.Sink) g.D.Door.counts
+    c.args.options c.in-Ok.service c.args.gates (g.D.Door.counts c.args.door) (g.D.Door.counts c.listen.new.self) c.attend.result
+    c.in-Ok.ensures.1 c.in-Ok.ensures.2 c.in-Ok.ensures.3 c.in-Ok.ensures.4 c.in-Ready.ensures.counts c.attend.ensures.attended
+
+pub returns-clause-attended : goal.returns-clause-attended
+returns-clause-attended g c =
+    unattended_for_fault g.G.Gates.log g.G.Gates.faults (view_of g.D.Link.Source g.D.Link.Sink) g.D.Door.counts
+    (served_frame c.args.options) (served_shelf c.args.options) c.args.options.sessions c.args.options.workers c.args.gates (g.D.Door.counts c.args.door) c.listen.new.self c.stopped-in-Failed.result
+    c.requires.gates c.stopped-in-Failed.ensures.empty c.stopped-in-Failed.ensures.gates c.stopped-in-Failed.ensures.links c.stopped-in-Failed.ensures.door (c.stopped-in-Failed.ensures.status ∙ c.door_fault.ensures.status)
+    c.in-Failed.ensures.counts

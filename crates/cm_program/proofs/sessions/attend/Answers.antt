@@ -1,24 +1,22 @@
-use Rattle.std.proofs.Common.{◌≡◌, Some, [], map, ap, ◌∙◌, subst}
+use Rattle.std.proofs.Common.{◌≡◌, Some, [], ap, ◌∙◌, subst}
 use Rattle.cm_repo.specs.Blocks.{Blocks}
 use Rattle.cm_manager.specs.Work.{Shelf}
-use Rattle.cm_session.specs.Links.{link_view}
-use Rattle.cm_session.specs.Serving.{back_view}
-use Rattle.cm_program.specs.Sessions.{RunsSessions}
-use Rattle.cm_program.proofs.links.Attending.{runs_no_session}
+use Rattle.cm_session.specs.Links.{view_of}
+use Rattle.cm_program.specs.Sessions.{Attended}
+use Rattle.cm_program.proofs.links.Doors.{unattended_for_want}
 use Rattle.cm_program.proofs.sessions.attend.Goals as goal
 
 -- the manager's shelf is the folder, with no blocks
-pub returns-in-Ok-clause-runs : goal.returns-in-Ok-clause-runs
-returns-in-Ok-clause-runs g c =
+pub returns-in-Ok-clause-attended : goal.returns-in-Ok-clause-attended
+returns-in-Ok-clause-attended g c =
     let shelf : Shelf = record { repo = Some c.args.service.folder; blocks = [] } in
     let same : c.in-Ok.manager.shelf ≡ shelf = c.in-Ok.ensures.shelf ∙ ap (λ (b : Blocks). record { repo = Some c.args.service.folder; blocks = b }) c.new.ensures in
-    subst (λ (s : Shelf). RunsSessions g.G.Gates.log g.G.Gates.faults (link_view g.D.Link.Source.left g.D.Link.Source.given g.D.Link.Sink.written g.D.Link.Source.faults g.D.Link.Sink.faults) c.args.service.realm.frame s c.args.service.workers c.args.gates c.attend_under.result.gates c.attend_under.result.book.entries
-    (map (back_view (link_view g.D.Link.Source.left g.D.Link.Source.given g.D.Link.Sink.written g.D.Link.Source.faults g.D.Link.Sink.faults)) c.attend_under.result.links) c.attend_under.result.status)
-    same (c.attend_under.ensures.runs c.args.service.realm.frame c.in-Ok.ensures.new)
+    subst (λ (s : Shelf). Attended g.G.Gates.log g.G.Gates.faults (view_of g.D.Link.Source g.D.Link.Sink) g.D.Door.counts
+    c.args.service.realm.frame s c.args.service.sessions c.args.service.workers c.args.gates (g.D.Door.counts c.args.door) c.attend_under.result)
+    same (c.attend_under.ensures.attended c.args.service.realm.frame c.in-Ok.ensures.new)
 
-pub returns-in-Err-clause-runs : goal.returns-in-Err-clause-runs
-returns-in-Err-clause-runs g c =
-    runs_no_session g.G.Gates.log g.G.Gates.faults (link_view g.D.Link.Source.left g.D.Link.Source.given g.D.Link.Sink.written g.D.Link.Source.faults g.D.Link.Sink.faults)
-    c.args.service.realm.frame (record { repo = Some c.args.service.folder; blocks = [] }) c.args.service.workers c.args.gates c.stopped.result.gates c.stopped.result.book.entries
-    (map (back_view (link_view g.D.Link.Source.left g.D.Link.Source.given g.D.Link.Sink.written g.D.Link.Source.faults g.D.Link.Sink.faults)) c.stopped.result.links) c.stopped.result.status
-    c.stopped.ensures.empty c.stopped.ensures.gates (ap (map (back_view (link_view g.D.Link.Source.left g.D.Link.Source.given g.D.Link.Sink.written g.D.Link.Source.faults g.D.Link.Sink.faults))) c.stopped.ensures.links)
+pub returns-in-Err-clause-attended : goal.returns-in-Err-clause-attended
+returns-in-Err-clause-attended g c =
+    unattended_for_want g.G.Gates.log g.G.Gates.faults (view_of g.D.Link.Source g.D.Link.Sink) g.D.Door.counts
+    c.args.service.realm.frame (record { repo = Some c.args.service.folder; blocks = [] }) c.args.service.sessions c.args.service.workers c.args.gates c.args.door c.stopped.result
+    c.requires.gates c.stopped.ensures.empty c.stopped.ensures.gates c.stopped.ensures.links c.stopped.ensures.door (c.stopped.ensures.status ∙ c.want_of_memory.ensures.status)

@@ -4,7 +4,7 @@ use Rattle.cm_world.specs.Rows.{has_parent}
 use Rattle.cm_table.specs.Tree.{Tree}
 use Rattle.cm_table.specs.Change.{with_changed}
 use Rattle.cm_steps.specs.Expiring.{doomed_if_dynamic}
-use Rattle.cm_walk.proofs.Behind.{left_falls}
+use Rattle.cm_walk.proofs.descents.Behind.{left_falls}
 use Rattle.cm_steps.proofs.expiries.Dooming.{up_first, up_more, up_all, next_before}
 use Rattle.cm_steps.proofs.expiring.doom_children.Goals as goal
 

@@ -4,14 +4,14 @@ use Rattle.cm_table.specs.Tree.{Tree}
 use Rattle.cm_steps.proofs.expiries.Dooming.{expired_closed, expired_once}
 use Rattle.cm_steps.proofs.expiring.doom_goers.Goals as goal
 
-pub returns-then-closed : goal.returns-then-closed
-returns-then-closed c =
+pub returns-then-is_closed : goal.returns-then-is_closed
+returns-then-is_closed c =
     let t : Tree = c.args.table.now in
-    ap (λ (rs : List Row). record t { rows = rs }) (sym (expired_closed t.rows c.args.inc (sym c.closed.ensures ∙ c.if-closed.true)))
+    ap (λ (rs : List Row). record t { rows = rs }) (sym (expired_closed t.rows c.args.inc (sym c.is_closed.ensures ∙ c.if-is_closed.true)))
 
 pub returns-then-runs_once : goal.returns-then-runs_once
 returns-then-runs_once c =
     let t : Tree = c.args.table.now in
     c.doom_dynamic.ensures
     ∙ ap (λ (rs : List Row). record t { rows = rs })
-    (sym (expired_once t.rows t.next_inc c.args.inc c.runs_once.ensures.orderly (sym c.closed.ensures ∙ c.if-closed.false) (sym c.runs_once.ensures.once ∙ c.if-runs_once.true)))
+    (sym (expired_once t.rows t.next_inc c.args.inc c.runs_once.ensures.orderly (sym c.is_closed.ensures ∙ c.if-is_closed.false) (sym c.runs_once.ensures.once ∙ c.if-runs_once.true)))

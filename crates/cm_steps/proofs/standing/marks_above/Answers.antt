@@ -2,8 +2,8 @@ use Rattle.std.proofs.Common.{◌||◌, length, sym, ◌∙◌, ap}
 use Rattle.cm_world.specs.Rows.{at_or_above}
 use Rattle.cm_world.specs.declared.row.Row.{Row}
 use Rattle.cm_walk.specs.declared.above.Mark.TheVariants as mark
-use Rattle.cm_walk.proofs.Monikers.{loop-lower}
-use Rattle.cm_walk.proofs.Up.{parent_told, mark_told}
+use Rattle.cm_walk.proofs.ways.Monikers.{loop-lower}
+use Rattle.cm_walk.proofs.ways.Up.{parent_told, mark_told}
 use Rattle.cm_steps.proofs.read.Marking.{gathered, gathered_all, gathered_none}
 use Rattle.cm_steps.proofs.standing.marks_above.Goals as goal
 

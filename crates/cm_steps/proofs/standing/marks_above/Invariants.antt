@@ -1,6 +1,6 @@
 use Rattle.std.proofs.Common.{◌≡◌, ◌||◌, length}
 use Rattle.cm_world.specs.Rows.{at_or_above}
-use Rattle.cm_walk.proofs.Monikers.{height}
+use Rattle.cm_walk.proofs.ways.Monikers.{height}
 use Rattle.cm_steps.proofs.standing.marks_above.Given as goal
 
 -- what was found and what is left of the way up decide

@@ -1,5 +1,4 @@
-use Rattle.std.proofs.Common.{sym}
-use Rattle.cm_walk.proofs.Up.{gone_none, closed_none}
+use Rattle.cm_walk.proofs.ways.Up.{gone_none, closed_none}
 use Rattle.cm_steps.proofs.read.Marking.{gone_by, closed_by}
 use Rattle.cm_steps.proofs.standing.standing_of.Goals as goal
 
@@ -15,4 +14,4 @@ returns-in-Some-clause-gone g c =
 
 pub returns-in-Some-clause-closed : goal.returns-in-Some-clause-closed
 returns-in-Some-clause-closed g c =
-    closed_by (g.V.View.rows c.args.view.now) (g.V.View.next_inc c.args.view.now) c.args.inc c.in-Some.own c.marks_above.result.closing c.with_marks-above.result.closing c.either.result c.facts.ensures.orderly c.in-Some.ensures.facts c.marks_above.ensures.closing c.with_marks-above.ensures.closing c.either.ensures
+    closed_by (g.V.View.rows c.args.view.now) (g.V.View.next_inc c.args.view.now) c.args.inc c.in-Some.own c.marks_above.result.closing c.with_marks-above.result.closing c.is_either.result c.facts.ensures.orderly c.in-Some.ensures.facts c.marks_above.ensures.closing c.with_marks-above.ensures.closing c.is_either.ensures

@@ -1,4 +1,4 @@
-use Rattle.std.proofs.Common.{ℕ, Some, None, refl, sym, subst}
+use Rattle.std.proofs.Common.{ℕ, refl, sym, subst, Option}
 use Rattle.cm_decl.specs.declared.decl.Decl.{Decl}
 use Rattle.cm_decl.specs.declared.rows.Child.{Child}
 use Rattle.cm_decl.specs.declared.section.Section.TheVariants.{Children}
@@ -15,13 +15,8 @@ returns-then-row-apart c =
     let d = c.args.index.now in
     named_apart d Children (λ (k : Child). k.name) d.children c.args.apart c.args.row (named d c.args.row) c.requires.apart c.if-row-apart.true
 
-pub returns-in_default : goal.returns-in_default
-returns-in_default c =
-    let d = c.args.index.now in
-    named_found d Children (λ (k : Child). k.name) c.as_slice-children.result.now d.children c.args.row c.index-children-row.result c.child_named.result None (named d c.args.row) (cc) c.requires.within c.index-children-row.is c.child_named.ensures (cc)
-
 pub returns : goal.returns
 returns c =
     let d = c.args.index.now in
-    let found = named_found d Children (λ (k : Child). k.name) c.as_slice-children.result.now d.children c.args.row c.index-children-row.result c.child_named.result (Some c.in-Some.first) (named d c.args.row) (cc) c.requires.within c.index-children-row.is c.child_named.ensures c.in-Some.is in
-    subst (λ (f : Found). Finds d (At Children c.args.row) (Some f)) (sym c.clash.ensures) found
+    let found = named_found d Children (λ (k : Child). k.name) c.as_slice-children.result.now d.children c.args.row c.index-children-row.result c.child_named-first.result c.child_named-first.result (named d c.args.row) (cc) c.requires.within c.index-children-row.is c.child_named-first.ensures refl in
+    subst (λ (f : Option Found). Finds d (At Children c.args.row) f) (sym c.earlier.ensures) found

@@ -1,7 +1,7 @@
 use Rattle.std.proofs.Common.{◌≡◌, length}
 use Rattle.cm_world.specs.Rows.{at_or_above}
 use Rattle.cm_walk.specs.Marks.{has_mark}
-use Rattle.cm_walk.proofs.Monikers.{height}
+use Rattle.cm_walk.proofs.ways.Monikers.{height}
 use Rattle.cm_walk.proofs.above.has_above.Given as goal
 
 -- what is left of the way up decides

@@ -2,7 +2,7 @@ use Rattle.std.proofs.Common.{List, sym, subst}
 use Rattle.cm_world.specs.Stations.{Station as Place}
 use Rattle.cm_world.specs.Next as to
 use Rattle.cm_walk.specs.Walking.{as_station, as_next, EndsAt, IsBehind, Leads}
-use Rattle.cm_walk.proofs.Steps.{if_ok}
+use Rattle.cm_walk.proofs.routes.Steps.{if_ok}
 use Rattle.cm_walk.proofs.walking.go.Goals as goal
 
 pub returns-in-To : goal.returns-in-To

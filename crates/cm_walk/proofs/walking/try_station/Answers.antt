@@ -1,7 +1,7 @@
 use Rattle.std.proofs.Common.{List}
 use Rattle.cm_world.specs.Stations.{Station as Place}
 use Rattle.cm_walk.specs.Walking.{as_station, as_next, EndsAt, IsBehind, Decides, Steps}
-use Rattle.cm_walk.proofs.Steps.{tries, if_ok}
+use Rattle.cm_walk.proofs.routes.Steps.{tries, if_ok}
 use Rattle.cm_walk.proofs.walking.try_station.Goals as goal
 
 pub returns : goal.returns

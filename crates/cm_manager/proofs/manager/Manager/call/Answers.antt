@@ -1,4 +1,5 @@
-use Rattle.cm_manager.specs.Questions.{AnswersTo, asked_by}
+use Rattle.cm_answers.specs.Questions.{asked_by}
+use Rattle.cm_manager.specs.Questions.{AnswersTo}
 use Rattle.cm_manager.proofs.calling.Calling.{performs_on, performs_missed, question_called}
 use Rattle.cm_manager.proofs.manager.Manager.call.Goals as goal
 

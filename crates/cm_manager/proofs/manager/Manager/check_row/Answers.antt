@@ -1,4 +1,5 @@
-use Rattle.cm_manager.proofs.checks.DoctorLines.{row_adds, unresolved_adds, adds_or_memory}
+use Rattle.cm_answers.proofs.LineLemmas.{adds_or_memory}
+use Rattle.cm_manager.proofs.checks.DoctorLines.{row_adds, unresolved_adds}
 use Rattle.cm_manager.proofs.manager.Manager.check_row.Goals as goal
 
 pub returns-then-not-row : goal.returns-then-not-row

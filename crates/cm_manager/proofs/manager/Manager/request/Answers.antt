@@ -1,6 +1,7 @@
 use Rattle.std.proofs.Common.{sym, ◌∙◌}
 use Rattle.cm_manager.specs.Asking.{frame_of}
-use Rattle.cm_manager.specs.Questions.{event_for, FollowsBy}
+use Rattle.cm_answers.specs.Questions.{event_for}
+use Rattle.cm_manager.specs.Questions.{FollowsBy}
 use Rattle.cm_manager.specs.Runs.{Onces}
 use Rattle.cm_manager.specs.Sweeps.{Sweeps}
 use Rattle.cm_manager.proofs.calling.Followings.{nothing_follows, something_follows, no_follow, start_follows, sweep_follows}

@@ -1,5 +1,5 @@
 use Rattle.std.proofs.Common.{Ok, Err, ◌∙◌, sym}
-use Rattle.cm_manager.specs.Questions.{event_of}
+use Rattle.cm_answers.specs.Questions.{event_of}
 use Rattle.cm_manager.proofs.onward.Tryings.{cut_trying, decided_trying, failed_trying, needed_next}
 use Rattle.cm_manager.proofs.manager.Manager.try_event.Goals as goal
 

@@ -1,4 +1,4 @@
-use Rattle.cm_manager.specs.Questions.{event_of}
+use Rattle.cm_answers.specs.Questions.{event_of}
 use Rattle.cm_manager.specs.Runs.{Tries}
 use Rattle.cm_manager.proofs.onward.Onward.{Onward}
 use Rattle.cm_manager.proofs.manager.Manager.try_event.Given as goal

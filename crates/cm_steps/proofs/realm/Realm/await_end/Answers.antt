@@ -14,7 +14,7 @@ use Rattle.cm_laws.specs.Tasks.{IsNumbered}
 use Rattle.cm_steps.specs.Inside.{world_in}
 use Rattle.cm_steps.proofs.steps.Counts.{length-unjoined}
 use Rattle.cm_steps.proofs.steps.Going.{goes_on, one_longer}
-use Rattle.cm_cache.proofs.Dooming.{others_doom_none}
+use Rattle.cm_cache.proofs.histories.Dooming.{others_doom_none}
 use Rattle.cm_steps.proofs.asked.Keepers.{goes_beside}
 use Rattle.cm_cache.specs.Beside.{is_emptied}
 use Rattle.cm_steps.proofs.Planning.{planned_same}
@@ -35,7 +35,7 @@ invariant_of-self c =
       stands =
           goes_on _ _ _ _ _ c.self.invariant.stands refl more
           (record { enabled = record { joined = has; ended = ap is_some found }; allowed = ap (option_map reply.Ended) found })
-          (ap (λ js. moved js (length c.self.inside.book.entries + 1)) (sym c.take_join.ensures) ∙ ap (moved c.take_join.new.joins.items) (one_longer _ _ _ more));
+          (ap (λ js. moved js (length c.self.inside.records.book.entries + 1)) (sym c.take_join.ensures) ∙ ap (moved c.take_join.new.joins.items) (one_longer _ _ _ more));
       owes =
           let r = ap (λ (t : History). t.reserved) c.put_down.ensures.book in
           let less : length c.take_join.new.joins.items + 1 ≡ length c.self.inside.joins.items = ap (λ js. length js + 1) c.take_join.ensures ∙ length-unjoined c.args.caller c.args.action c.self.inside.joins.items has in
@@ -49,5 +49,5 @@ invariant_of-self c =
       numbers = c.self.invariant.numbers;
       tasks = c.self.invariant.tasks;
       beside = goes_beside c.self.inside e false _ _ c.self.invariant.stands c.self.invariant.beside more refl (others_doom_none (world_in c.self.inside) e refl) c.put_down.ensures.keeper;
-      planned = planned_same c.self.inside.table.rows (is_emptied e.event e.reply false) c.self.inside.plan c.put_down.new.plan c.self.invariant.planned c.put_down.ensures.plan;
+      planned = planned_same c.self.inside.table.rows (is_emptied e.event e.reply false) c.self.inside.records.plan c.put_down.new.self.plan c.self.invariant.planned c.put_down.ensures.plan;
     }

@@ -21,7 +21,7 @@ use Rattle.cm_laws.proofs.actions.Tasks.{numbered_more, tasked_begun}
 use Rattle.cm_cache.specs.Keeping.{asked_by}
 use Rattle.cm_cache.specs.Beside.{is_emptied, followed}
 use Rattle.cm_steps.specs.Planned.{IsPlannedBy}
-use Rattle.cm_cache.proofs.Dooming.{others_doom_none}
+use Rattle.cm_cache.proofs.histories.Dooming.{others_doom_none}
 use Rattle.cm_steps.proofs.asked.Keepers.{goes_beside}
 use Rattle.cm_steps.proofs.Planning.{planned_after}
 use Rattle.cm_steps.proofs.realm.Realm.begin_action.Goals as goal
@@ -50,11 +50,11 @@ invariant_of-self c =
     let begins = subst (λ (v : World). moved v c.args.caller c.args.event c.args.reply ≡ with_action v c.args.caller c.args.kind c.args.inc) here c.requires.begins in
     let idle : IsIdleAt w.rows c.args.kind c.args.inc = subst (λ (v : World). IsIdleAt v.rows c.args.kind c.args.inc) here c.requires.idle in
     let step : IsStep w e = subst (λ v. IsStep v e) here c.requires.step in
-    let behind : after w e ≡ left c.set_pending.new.self c.push_reserved.new.self.items (length c.put_down.new.book.entries) =
+    let behind : after w e ≡ left c.set_pending.new.self c.push_reserved.new.self.items (length c.put_down.new.self.book.entries) =
     ap counted begins
-    ∙ ap (λ n. record (left (pended next roomy) all (length c.self.inside.book.entries + 1)) { next_action = n + 1 }) long
-    ∙ ap (λ t. left t all (length c.self.inside.book.entries + 1)) (sym table)
-    ∙ ap (λ ys. left c.set_pending.new.self ys (length c.self.inside.book.entries + 1)) (sym acts)
+    ∙ ap (λ n. record (left (pended next roomy) all (length c.self.inside.records.book.entries + 1)) { next_action = n + 1 }) long
+    ∙ ap (λ t. left t all (length c.self.inside.records.book.entries + 1)) (sym table)
+    ∙ ap (λ ys. left c.set_pending.new.self ys (length c.self.inside.records.book.entries + 1)) (sym acts)
     ∙ ap (left c.set_pending.new.self c.push_reserved.new.self.items) (one_longer _ _ _ more) in
     record {
       stands = goes_on _ _ w _ e c.self.invariant.stands refl more step behind;
@@ -92,9 +92,9 @@ invariant_of-self c =
           goes_beside c.self.inside e false _ _ c.self.invariant.stands c.self.invariant.beside more
           (subst (λ (v : World). asked_by v c.args.event ≡ None) here c.requires.unasked)
           (others_doom_none w e c.requires.undoomed)
-          (c.put_down.ensures.keeper ∙ ap (λ r. followed c.args.event r false c.self.inside.keeper) same);
+          (c.put_down.ensures.keeper ∙ ap (λ r. followed c.args.event r false c.self.inside.records.keeper) same);
       planned =
-          planned_after c.self.inside e false c.set_pending.new.self.rows c.put_down.new.plan c.self.invariant.stands step (ap (λ (v : World). v.rows) behind)
+          planned_after c.self.inside e false c.set_pending.new.self.rows c.put_down.new.self.plan c.self.invariant.stands step (ap (λ (v : World). v.rows) behind)
           (others_doom_none w e c.requires.undoomed) c.self.invariant.planned
-          (subst (λ r. IsPlannedBy (is_emptied c.args.event r false) c.self.inside.plan c.put_down.new.plan) same c.put_down.ensures.plan);
+          (subst (λ r. IsPlannedBy (is_emptied c.args.event r false) c.self.inside.records.plan c.put_down.new.self.plan) same c.put_down.ensures.plan);
     }

@@ -17,7 +17,7 @@ use Rattle.cm_steps.proofs.steps.Counts.{open_less}
 use Rattle.cm_steps.proofs.actions.Ends.{inc-ended, can_take, kept_ended}
 use Rattle.cm_cache.specs.Beside.{is_emptied, followed, IsTold, goes_some_by}
 use Rattle.cm_steps.specs.Planned.{IsPlannedBy}
-use Rattle.cm_cache.proofs.Dooming.{ends_doom}
+use Rattle.cm_cache.proofs.histories.Dooming.{ends_doom}
 use Rattle.cm_steps.specs.Inside.{world_in}
 use Rattle.cm_steps.proofs.asked.Keepers.{rising_in}
 use Rattle.cm_steps.proofs.expiries.Closing.{orderly_in, still_closed}
@@ -80,7 +80,7 @@ invariant_of-self c =
       joins = refl;
       entries =
           ap (λ (h : History). h.entries) c.put_down.ensures.book
-          ∙ ap (λ g. c.self.inside.book.entries ++ entry_of c.args.caller (End c.args.action g) (Ended o) ∷ []) c.end_at-finish.ensures.finish;
+          ∙ ap (λ g. c.self.inside.records.book.entries ++ entry_of c.args.caller (End c.args.action g) (Ended o) ∷ []) c.end_at-finish.ensures.finish;
       reserved = ap (λ (h : History). h.reserved) c.put_down.ensures.book;
       most = ap (λ (h : History). h.limit) c.put_down.ensures.book;
       doomed = c.expire_by-doomed.result;
@@ -93,8 +93,8 @@ invariant_of-self c =
           (ends_doom (world_in c.self.inside) c.args.caller c.args.action f o may.act (rising_in c.self.inside c.self.invariant.stands) may.there);
       keeper =
           c.put_down.ensures.keeper
-          ∙ ap (λ g. followed (End c.args.action g) (Ended o) c.expire_by-doomed.result c.self.inside.keeper) c.end_at-finish.ensures.finish;
+          ∙ ap (λ g. followed (End c.args.action g) (Ended o) c.expire_by-doomed.result c.self.inside.records.keeper) c.end_at-finish.ensures.finish;
       plan =
-          subst (λ g. IsPlannedBy (is_emptied (End c.args.action g) (Ended o) c.expire_by-doomed.result) c.self.inside.plan c.put_down.new.plan)
+          subst (λ g. IsPlannedBy (is_emptied (End c.args.action g) (Ended o) c.expire_by-doomed.result) c.self.inside.records.plan c.put_down.new.self.plan)
           c.end_at-finish.ensures.finish c.put_down.ensures.plan;
     })

@@ -11,7 +11,7 @@ use Rattle.cm_laws.specs.Story.{world_of, entry_of}
 use Rattle.cm_steps.specs.Inside.{world_in}
 use Rattle.cm_steps.proofs.steps.Going.{goes_on, one_longer}
 use Rattle.cm_steps.proofs.actions.Joined.{length-joined}
-use Rattle.cm_cache.proofs.Dooming.{others_doom_none}
+use Rattle.cm_cache.proofs.histories.Dooming.{others_doom_none}
 use Rattle.cm_steps.proofs.asked.Keepers.{goes_beside}
 use Rattle.cm_cache.specs.Beside.{is_emptied}
 use Rattle.cm_steps.proofs.Planning.{planned_same}
@@ -31,7 +31,7 @@ invariant_of-self-2 c =
       stands =
           goes_on _ _ w _ e c.self.invariant.stands refl more
           (record { enabled = ap is_some reply_is; allowed = reply_is })
-          (ap (λ js. moved js (length c.self.inside.book.entries + 1)) (sym c.in_ok-add_join.ensures.joins)
+          (ap (λ js. moved js (length c.self.inside.records.book.entries + 1)) (sym c.in_ok-add_join.ensures.joins)
           ∙ ap (moved c.add_join.new.joins.items) (one_longer _ _ _ more));
       owes =
           let r = ap (λ (t : History). t.reserved) book in
@@ -47,5 +47,5 @@ invariant_of-self-2 c =
       numbers = c.self.invariant.numbers;
       tasks = c.self.invariant.tasks;
       beside = goes_beside c.self.inside e false _ _ c.self.invariant.stands c.self.invariant.beside more refl (others_doom_none w e refl) c.put_down.ensures.keeper;
-      planned = planned_same c.self.inside.table.rows (is_emptied e.event e.reply false) c.self.inside.plan c.put_down.new.plan c.self.invariant.planned c.put_down.ensures.plan;
+      planned = planned_same c.self.inside.table.rows (is_emptied e.event e.reply false) c.self.inside.records.plan c.put_down.new.self.plan c.self.invariant.planned c.put_down.ensures.plan;
     }

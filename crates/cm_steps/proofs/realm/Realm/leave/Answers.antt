@@ -14,7 +14,7 @@ use Rattle.cm_laws.proofs.sound.Expiries.{tasked_expired}
 use Rattle.cm_steps.specs.Inside.{world_in}
 use Rattle.cm_steps.proofs.steps.Stepping.{one_pushed, kept_rows}
 use Rattle.cm_cache.specs.Beside.{IsTold, goes_some}
-use Rattle.cm_cache.proofs.Dooming.{exits_doom}
+use Rattle.cm_cache.proofs.histories.Dooming.{exits_doom}
 use Rattle.cm_steps.proofs.asked.Keepers.{rising_in}
 use Rattle.cm_steps.proofs.realm.Realm.leave.Goals as goal
 
@@ -22,9 +22,11 @@ pub invariant_of-self-2 : goal.invariant_of-self-2
 invariant_of-self-2 c =
     let w : World = world_in c.self.inside in
     let here : world_of c.args.self.now ≡ w = ap world_of (sym c.self.view_is) ∙ c.self.invariant.stands.world in
-    let e : Entry = entry_of c.args.caller (event.Exited c.args.inc) (reply.Left c.args.moniker) in
+    let e : Entry = entry_of c.args.caller (event.Exited c.args.inc) (reply.Left c.in_ok-kept.kept) in
     let off : List Row = changed c.args.inc (set_on false) w.rows in
-    let reply_is = subst (λ (v : World). exit_reply v.rows c.args.inc ≡ Some (reply.Left c.args.moniker)) here c.requires in
+    let reply_is =
+    subst (λ (v : World). exit_reply v.rows c.args.inc ≡ Some (reply.Left c.args.moniker)) here c.requires
+    ∙ ap (λ m. Some (reply.Left m)) (sym c.in_ok-kept.ensures.copy) in
     kept_rows c.self.inside _ e (expired c.args.inc off) w.next_inc c.self.invariant
     (record { enabled = ap is_some reply_is; allowed = reply_is })
     refl
@@ -36,12 +38,12 @@ invariant_of-self-2 c =
       acts = refl;
       resolves = refl;
       joins = refl;
-      book = one_pushed _ _ _ e c.in_ok-told.ensures.book c.put_down.ensures.book;
+      book = one_pushed _ _ _ e c.in_ok-kept.ensures.book c.put_down.ensures.book;
       doomed = c.expire-doomed.result;
       unasked = refl;
       told =
           subst (IsTold w e) (sym (c.expire-doomed.ensures.goes ∙ ap (λ (t : Tree). goes_some t.rows c.args.inc) c.set_on.ensures))
-          (exits_doom w c.args.caller c.args.inc c.args.moniker (rising_in c.self.inside c.self.invariant.stands));
+          (exits_doom w c.args.caller c.args.inc c.in_ok-kept.kept (rising_in c.self.inside c.self.invariant.stands));
       keeper = c.put_down.ensures.keeper;
       plan = c.put_down.ensures.plan;
     })

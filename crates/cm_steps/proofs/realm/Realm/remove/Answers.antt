@@ -12,7 +12,7 @@ use Rattle.cm_steps.specs.Inside.{world_in}
 use Rattle.cm_steps.proofs.steps.Stepping.{one_pushed, kept_rows, sound_in}
 use Rattle.cm_laws.proofs.sound.Tasks.{tasked_purged}
 use Rattle.cm_steps.proofs.expiries.Removing.{purge_shut}
-use Rattle.cm_cache.proofs.Dooming.{others_doom_none}
+use Rattle.cm_cache.proofs.histories.Dooming.{others_doom_none}
 use Rattle.cm_steps.proofs.realm.Realm.remove.Goals as goal
 
 pub invariant_of-self-2 : goal.invariant_of-self-2
@@ -20,10 +20,10 @@ invariant_of-self-2 c =
     let w : World = world_in c.self.inside in
     let i = c.args.inc in
     let here : world_of c.args.self.now ≡ w = ap world_of (sym c.self.view_is) ∙ c.self.invariant.stands.world in
-    let e : Entry = entry_of c.args.caller (event.Purge i) (reply.Purged c.args.lost) in
+    let e : Entry = entry_of c.args.caller (event.Purge i) (reply.Purged c.in_ok-kept.kept) in
     let may : may_purge w.rows i ≡ true = subst (λ (v : World). IsTrue (may_purge v.rows i)) here c.requires.purgeable in
     let lives : is_live w.rows i ≡ true = subst (λ (v : World). IsTrue (is_live v.rows i)) here c.requires.lives in
-    let lost : c.args.lost ≡ map (lost_of w.rows) (subtree w.rows i) = subst (λ (v : World). c.args.lost ≡ map (lost_of v.rows) (subtree v.rows i)) here c.requires.lost in
+    let lost : c.in_ok-kept.kept ≡ map (lost_of w.rows) (subtree w.rows i) = c.in_ok-kept.ensures.copy ∙ subst (λ (v : World). c.args.lost ≡ map (lost_of v.rows) (subtree v.rows i)) here c.requires.lost in
     kept_rows c.self.inside _ e (others_than w.rows i) w.next_inc c.self.invariant
     (record {
       enabled = may;
@@ -37,7 +37,7 @@ invariant_of-self-2 c =
       acts = refl;
       resolves = refl;
       joins = refl;
-      book = one_pushed _ _ _ e c.in_ok-told.ensures.book c.put_down.ensures.book;
+      book = one_pushed _ _ _ e c.in_ok-kept.ensures.book c.put_down.ensures.book;
       doomed = false;
       unasked = refl;
       told = others_doom_none w e refl;

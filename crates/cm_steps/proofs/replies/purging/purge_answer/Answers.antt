@@ -5,4 +5,4 @@ use Rattle.cm_steps.proofs.replies.purging.purge_answer.Goals as goal
 
 pub returns : goal.returns
 returns c =
-    (sym c.lives.ensures ∙ c.if-not-lives.false, c.in_ok-lost.ensures ∙ lost_all c.args.table.now.rows (subtree c.args.table.now.rows c.args.inc))
+    (sym c.is_live.ensures ∙ c.if-not-is_live.false, c.in_ok-lost.ensures ∙ lost_all c.args.table.now.rows (subtree c.args.table.now.rows c.args.inc))

@@ -8,4 +8,4 @@ pub returns : goal.returns
 returns c = λ r lives told.
     ap Shown
     (c.look-look.ensures r (row_of-inc c.args.table.now.rows c.args.inc r lives) told (c.in_ok-url.ensures ∙ ap (λ o. unwrap_or o []) (c.url.ensures ∙ ap (option_map (λ s. s.url)) lives))
-    (resolved_is c.args.table.now.rows c.args.inc r c.resolved-resolved.result c.resolved-resolved.ensures lives))
+    (resolved_is c.args.table.now.rows c.args.inc r c.is_resolved-resolved.result c.is_resolved-resolved.ensures lives))

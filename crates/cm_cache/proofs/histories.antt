@@ -1,0 +1,3 @@
+pub mod Folding
+pub mod Dooming
+pub mod Going

@@ -1,0 +1,4 @@
+pub mod Loops
+pub mod Picking
+pub mod Reaching
+pub mod Ring

@@ -1,0 +1,4 @@
+pub mod Following
+pub mod Bad
+pub mod Refusing
+pub mod Taking

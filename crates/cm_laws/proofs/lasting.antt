@@ -1,0 +1,2 @@
+pub mod MarksLast
+pub mod Stable

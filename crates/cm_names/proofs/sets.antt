@@ -1,0 +1,4 @@
+pub mod BitLemmas
+pub mod JoinLemmas
+pub mod RightsLemmas
+pub mod WordLemmas

@@ -1,0 +1,4 @@
+pub mod MonikerParts
+pub mod NameLemmas
+pub mod PathLemmas
+pub mod ShortLemmas

@@ -1,0 +1,5 @@
+pub mod NoUse
+pub mod Sources
+pub mod Offers
+pub mod Steps
+pub mod Trails

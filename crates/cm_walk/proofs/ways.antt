@@ -1,0 +1,5 @@
+pub mod Monikers
+pub mod Placed
+pub mod Up
+pub mod Standing
+pub mod Leading
