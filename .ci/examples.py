@@ -3,7 +3,8 @@
 
     .ci/examples.py [--program PATH] [--seconds N] FILE...
 
-An example stands in a fenced block whose language is `console`. A line that begins with `$ ` is a command;
+An example stands in a fenced block whose language is `console`, or in a page of help, a file `*.txt`, in
+lines that are set in by four spaces. A line that begins with `$ ` is a command;
 where it ends with a backslash, the next line belongs to it. What follows up to the next command is the output
 that is expected, with two marks: a line `# status N` says the exit status, which else has to be 0, and a line
 `...` stands for any number of lines. Empty lines at the end of an output don't count, and the error stream
@@ -30,18 +31,9 @@ import tempfile
 TOP = os.path.dirname(os.path.dirname(os.path.abspath(__file__)))
 FENCE = re.compile(r" {0,3}(`{3,}|~{3,})\s*(\S*)")
 STATUS = re.compile(r"# status (\d+)\s*")
-# The folder of the scripts that an example's path begins with.
-SCRIPTS = ".scripts"
-# What stands for rt: a try runs the program, and all else is refused.
-RT = """\
-#!/bin/sh
-if [ "$1 $2" != "try --" ]; then
-    echo "rt: an example has 'rt try -- WORDS' alone" >&2
-    exit 2
-fi
-shift 2
-exec {program} "$@"
-"""
+SCRIPT = "component_manager"
+# What a page of help sets an example in by.
+INDENT = "    "
 
 
 class Example:
@@ -63,7 +55,9 @@ class Example:
 
 
 def examples_of(file):
-    """The examples of a Markdown file, in order."""
+    """The examples of a Markdown file or of a page of help, in order."""
+    if file.endswith(".txt"):
+        return examples_of_page(file)
     found, fence, example = [], None, None
     with open(file, encoding="utf-8") as lines:
         for number, line in enumerate(lines, 1):
@@ -80,6 +74,22 @@ def examples_of(file):
                 found.append(example)
             elif example is not None:
                 example.add(line)
+    return found
+
+
+def examples_of_page(file):
+    """The examples of a page of help: a block of lines that are set in, from a command on."""
+    found, example = [], None
+    with open(file, encoding="utf-8") as lines:
+        for number, line in enumerate(lines, 1):
+            line, is_inside = line.rstrip("\n").removeprefix(INDENT), line.startswith(INDENT)
+            if is_inside and line.startswith("$ "):
+                example = Example(file, number, line[2:])
+                found.append(example)
+            elif is_inside and example is not None:
+                example.add(line)
+            else:
+                example = None
     return found
 
 
@@ -102,39 +112,24 @@ def fits(expected, printed):
     return len(printed) in ends
 
 
-def wrapper(program):
-    """The script that stands for ./component_manager."""
-    own = shlex.quote(os.path.join(TOP, "component_manager"))
-    if program is None:
-        return f'#!/bin/sh\nexec {own} "$@"\n'
-    given = shlex.quote(os.path.abspath(program))
-    return f'#!/bin/sh\ncase "$1" in help | --help | -h) exec {own} "$@" ;; esac\nexec {given} "$@"\n'
-
-
-def write_script(path, text):
-    with open(path, "w", encoding="utf-8") as it:
-        it.write(text)
-    os.chmod(path, 0o755)
-
-
 def make_copy(folder, program):
-    """Fills a folder with links to what stands at the repository's top, but for the program, and with a
-    folder of scripts that go before those of the path.
+    """Fills a folder with links to what stands at the repository's top, but for the script there: one calls
+    it in its place, with the program that is given.
     """
     for name in os.listdir(TOP):
-        if name != "component_manager":
+        if name != SCRIPT:
             os.symlink(os.path.join(TOP, name), os.path.join(folder, name))
-    write_script(os.path.join(folder, "component_manager"), wrapper(program))
-    os.mkdir(os.path.join(folder, SCRIPTS))
-    program = shlex.quote(os.path.join(folder, "component_manager"))
-    write_script(os.path.join(folder, SCRIPTS, "rt"), RT.format(program=program))
+    own, script = shlex.quote(os.path.join(TOP, SCRIPT)), os.path.join(folder, SCRIPT)
+    given = f"export COMPONENT_MANAGER_PROGRAM={shlex.quote(program)}\n" if program else ""
+    with open(script, "w", encoding="utf-8") as it:
+        it.write(f'#!/bin/sh\n{given}exec {own} "$@"\n')
+    os.chmod(script, 0o755)
 
 
-def run(command, folder, seconds):
+def run(command, folder, program, seconds):
     """What a command prints, and its exit status; None as the status where it took too long."""
     # The tools take the program that this variable names.
-    given = {**os.environ, "COMPONENT_MANAGER": os.path.join(folder, "component_manager")}
-    given["PATH"] = os.path.join(folder, SCRIPTS) + os.pathsep + given.get("PATH", "")
+    given = {**os.environ, "COMPONENT_MANAGER": program} if program else dict(os.environ)
     # A file and no pipe, since a command may leave a program behind that holds its output open.
     with tempfile.TemporaryFile() as out:
         how = {"stdin": subprocess.DEVNULL, "stdout": out, "timeout": seconds, "check": False}
@@ -146,9 +141,9 @@ def run(command, folder, seconds):
         return out.read().decode("utf-8", "replace"), status
 
 
-def differs(example, folder, seconds):
+def differs(example, folder, program, seconds):
     """Whether an example prints something else, which is then told."""
-    text, status = run(example.command, folder, seconds)
+    text, status = run(example.command, folder, program, seconds)
     expected, printed = without_empty_end(example.output), without_empty_end(text.split("\n"))
     if status == example.status and fits(expected, printed):
         return False
@@ -166,7 +161,7 @@ def differs(example, folder, seconds):
 def words():
     """The words of the command line."""
     parser = argparse.ArgumentParser(description="Runs the examples of Markdown files.")
-    parser.add_argument("--program", metavar="PATH", help="the program in the place of ./component_manager")
+    parser.add_argument("--program", metavar="PATH", help="the program that ./component_manager takes")
     parser.add_argument("--seconds", metavar="N", type=int, default=120,
                         help="how long a command may take (default: 120)")
     parser.add_argument("files", metavar="FILE", nargs="+")
@@ -175,18 +170,18 @@ def words():
 
 def main():
     given = words()
-    if given.program is None:
-        # The first use of the script at the top builds the program, which may take long.
-        subprocess.run([os.path.join(TOP, "component_manager"), "check"], stdin=subprocess.DEVNULL,
-                       stdout=subprocess.DEVNULL, check=False)
+    program = os.path.abspath(given.program) if given.program else None
+    if program is None:
+        # The first use of the script at the top may make a program, which takes longer than an example may.
+        subprocess.run([os.path.join(TOP, SCRIPT), "--where"], stdout=subprocess.DEVNULL, check=False)
     try:
         examples = [example for file in given.files for example in examples_of(file)]
     except OSError as fault:
         print(f"examples.py: {fault}", file=sys.stderr)
         return 2
     with tempfile.TemporaryDirectory(prefix="examples-") as folder:
-        make_copy(folder, given.program)
-        count = sum(differs(example, folder, given.seconds) for example in examples)
+        make_copy(folder, program)
+        count = sum(differs(example, folder, program, given.seconds) for example in examples)
     print(f"{len(examples)} examples, {count} differ")
     return 0 if examples and not count else 1
 

@@ -241,16 +241,31 @@ def outdated(text):
     return [] if is_same else ["docs/component_manager.1 is old: run tools/make-man"]
 
 
+def rows_of_script():
+    """The words of each command in the table of the script at the top."""
+    table = read("component_manager").partition("commands() {\n    cat <<'END'\n")[2].partition("\nEND\n")[0]
+    return {row.split()[0]: row.split()[1:] for row in table.split("\n")}
+
+
 def unanswered():
-    """Words that the script at the top keeps from the program, or doesn't tell on its page."""
-    script = read("component_manager")
-    handed = re.search(r"^([a-z |]+)\) ;;$", script, re.M)[1].split(" | ")
-    page = script.partition("<<'END'\n")[2].partition("\nEND\n")[0]
-    words = sorted(words_and_options())
-    kept = [it for it in words if it[0] != "-" and it not in handed]
-    wrong = [f"component_manager doesn't hand on `{it}`" for it in kept]
-    wrong += [f"component_manager hands on `{it}`, which is no word" for it in handed if it not in words]
-    return wrong + [f"component_manager's page lacks `{it}`" for it in words if not stands_in(it, page)]
+    """Words that the table of the script at the top lacks, or the pages of help."""
+    rows, words = rows_of_script(), words_and_options()
+    known = set(rows).union(*map(options_of, rows.values()))
+    wrong = [f"component_manager has no row or option for `{it}`" for it in sorted(words - known)]
+    wrong += [f"component_manager has `{it}`, which is no word" for it in sorted(known - words)]
+    page = read("docs/help/help.txt")
+    wrong += [f"docs/help/help.txt lacks `{it}`" for it in sorted(words) if not stands_in(it, page)]
+    for name in sorted(rows):
+        path = f"docs/help/{name}.txt"
+        page = read(path) if (TOP / path).exists() else ""
+        words = (name, *options_of(rows[name]))
+        wrong += [f"{path} lacks `{it}`" for it in words if not stands_in(it, page)]
+    return wrong
+
+
+def options_of(row):
+    """The options in a row of that table."""
+    return [it.partition("=")[0] for it in row if it.startswith("--")]
 
 
 def unshown():

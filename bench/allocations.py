@@ -1,16 +1,20 @@
 #!/usr/bin/env python3
-"""Makes each of some runs again and again: three short scripts, the day of the product in examples/product, a
-workload that is generated, and a session over a Unix socket. In each run one request for memory is refused:
-the first, the second, and so on, until a run makes no such request.
+"""Makes each of some runs again and again: three short scripts, the realm of examples/whole-realm.txt, the
+day of the product in examples/product, a workload that is generated, and a session over a Unix socket. In
+each run one request for memory is refused: the first, the second, and so on, until a run makes no such
+request.
 
 A run must end with status 0 and the whole text, or with status 6, `want of memory` on the error
 stream, and a front of the text or another text, in which lines may be answered `refused
 want-of-memory`. Where a journal was written, each action that was begun must have its end in it. Where
 a stop was cut, the destroy behind it must have removed what was to go with it.
 Prints how many runs had each status, and each run that broke a rule. Needs a C compiler. Run it
-from anywhere: bench/allocations.py [PROGRAM [RUN..]]
+from anywhere: bench/allocations.py [--seconds N] [PROGRAM [RUN..]]. With --seconds it ends after about so
+many: the requests that are refused until then are spread over all.
 """
+import argparse
 import collections
+import itertools
 import os
 import re
 import socket
@@ -20,7 +24,6 @@ import tempfile
 import time
 
 HERE = os.path.dirname(os.path.abspath(__file__))
-PROGRAM = sys.argv[1] if len(sys.argv) > 1 else os.path.join(HERE, "..", "component_manager")
 
 # Stands before the C library: the request of the number REFUSED finds no memory.
 REFUSE = r"""
@@ -89,7 +92,8 @@ SCRIPTS = {
 
 
 ROOT = "fuchsia-pkg://fuchsia.com/product#meta/product.cm"
-PRODUCT = os.path.join(HERE, "..", "examples", "product")
+EXAMPLES = os.path.join(HERE, "..", "examples")
+PRODUCT = os.path.join(EXAMPLES, "product")
 # The lines of a session over the product.
 SESSION = (
     "resolve .\nstart session\nopen session /data\nfoo\n"
@@ -100,14 +104,14 @@ SESSION = (
 class Script:
     """A run over an input."""
 
-    def __init__(self, words, text):
-        self.words, self.text = words, text
+    def __init__(self, program, words, text):
+        self.words, self.text = [program, *words], text
         self.lanes = 2 if "\n1 " in text or words[0] == "generate" else 1
 
     def come(self, environment, told):
         """The status and both outputs of a run; `told` is a descriptor that it gets."""
         done = subprocess.run(
-            [PROGRAM, *self.words],
+            self.words,
             input=self.text.encode(), capture_output=True, env=environment, pass_fds=[told],
         )
         return done.returncode, done.stdout.decode(), done.stderr.decode()
@@ -118,13 +122,16 @@ class Session:
 
     lanes = 1
 
+    def __init__(self, program):
+        self.program = program
+
     def come(self, environment, told):
         """The status, what was sent to the client, and what stands on the error stream."""
         with tempfile.TemporaryDirectory() as folder:
             path = os.path.join(folder, "s")
             words = ["serve", path, "--root", ROOT, "--repo", os.path.join(PRODUCT, "packages")]
             with subprocess.Popen(
-                [PROGRAM, *words], stdin=subprocess.DEVNULL, stderr=subprocess.PIPE,
+                [self.program, *words], stdin=subprocess.DEVNULL, stderr=subprocess.PIPE,
                 env=environment, pass_fds=[told],
             ) as process:
                 sent = session_at(path, process)
@@ -147,16 +154,23 @@ def session_at(path, process):
     return b""
 
 
-def runs():
+def read(path):
+    """The text of a file."""
+    with open(path, encoding="utf-8") as file:
+        return file.read()
+
+
+def runs(program):
     """All runs, by their names."""
-    with open(os.path.join(PRODUCT, "product.txt"), encoding="utf-8") as file:
-        product = file.read()
     folder = os.path.join(PRODUCT, "packages")
-    scripts = {name: Script(["run", "--journal"], REALM + lines) for name, lines in SCRIPTS.items()}
+    product = read(os.path.join(PRODUCT, "product.txt"))
+    journal = ["run", "--journal"]
+    scripts = {name: Script(program, journal, REALM + lines) for name, lines in SCRIPTS.items()}
     return scripts | {
-        "the product": Script(["run", "--journal", "--repo", folder], product),
-        "a workload": Script(["generate", "1", "5"], ""),
-        "a session": Session(),
+        "a whole realm": Script(program, journal, read(os.path.join(EXAMPLES, "whole-realm.txt"))),
+        "the product": Script(program, [*journal, "--repo", folder], product),
+        "a workload": Script(program, ["generate", "1", "5"], ""),
+        "a session": Session(program),
     }
 
 
@@ -207,41 +221,91 @@ def front_or_wanting(out, whole):
     return whole.startswith(out) or "refused want-of-memory" in out
 
 
-def try_all(shim, name, made):
-    """Makes a run with each request refused in turn, and says how many of them broke a rule."""
+def count_requests(shim, made):
+    """How many requests a run makes: the last one that is refused."""
+    below, above = 0, 1
+    while run(shim, made, above)[0]:
+        below, above = above, 2 * above
+    while above - below > 1:
+        middle = (below + above) // 2
+        if run(shim, made, middle)[0]:
+            below = middle
+        else:
+            above = middle
+    return below
+
+
+def spread(last):
+    """The numbers from 1 to the last one, of which the first few are spread over all."""
+    step = 1 << last.bit_length()
+    while step:
+        yield from range(step, last + 1, 2 * step)
+        step //= 2
+
+
+def requests(shim, made, seconds):
+    """The requests to refuse: one after another without end, or those for which the seconds are enough."""
+    if seconds is None:
+        yield from itertools.count(1)
+        return
+    numbers = spread(count_requests(shim, made))
+    end = time.monotonic() + seconds
+    for number in numbers:
+        yield number
+        if time.monotonic() > end:
+            return
+
+
+def try_all(shim, name, made, seconds):
+    """Makes a run with each of the requests refused in turn, and says how many of them broke a rule."""
     _, status, whole, err = run(shim, made, 0)
     if status != 0:
         sys.exit("%s: without a refused request: status %d, %s" % (name, status, err))
-    failures, counts, number = 0, collections.Counter(), 0
-    while True:
-        number += 1
+    failures, counts = 0, collections.Counter()
+    for number in requests(shim, made, seconds):
         was, status, out, err = run(shim, made, number)
         if not was:
-            break
+            # A run of two lanes makes a few requests more or less from time to time.
+            if seconds is None:
+                break
+            continue
         counts[status] += 1
         rule = broken(status, out, err, whole, made.lanes)
         if rule:
             failures += 1
             print("%s, request %d: %s" % (name, number, rule))
-    print("%s: %d runs, by status %s" % (name, number - 1, dict(counts)), flush=True)
-    if number == 1:
+    print("%s: %d runs, by status %s" % (name, counts.total(), dict(counts)), flush=True)
+    if not counts.total():
         sys.exit("%s: no request was refused" % name)
     return failures
 
 
+def words():
+    """The words that the script was given."""
+    parser = argparse.ArgumentParser(description="Refuses requests for memory, one in each run.")
+    parser.add_argument("--seconds", type=float, help="end after about so many seconds")
+    parser.add_argument("program", nargs="?", default=os.path.join(HERE, "..", "component_manager"))
+    parser.add_argument("runs", nargs="*", help="which runs; all where none is named")
+    return parser.parse_args()
+
+
 def main():
-    wanted = sys.argv[2:] or list(runs())
-    unknown = [name for name in wanted if name not in runs()]
+    """Makes the wanted runs; the status is 1 where one broke a rule, and 2 where no run has that name."""
+    given = words()
+    known = runs(given.program)
+    wanted = given.runs or list(known)
+    unknown = [name for name in wanted if name not in known]
     if unknown:
-        known = ", ".join(runs())
-        print("allocations.py: no run is named %s; there are %s" % (unknown[0], known), file=sys.stderr)
+        names = ", ".join(known)
+        print("allocations.py: no run is named %s; there are %s" % (unknown[0], names), file=sys.stderr)
         return 2
+    share = None if given.seconds is None else given.seconds / len(wanted)
     with tempfile.TemporaryDirectory() as folder:
         source, shim = os.path.join(folder, "refuse.c"), os.path.join(folder, "refuse.so")
-        with open(source, "w") as file:
+        with open(source, "w", encoding="utf-8") as file:
             file.write(REFUSE)
         subprocess.run(["cc", "-shared", "-fPIC", "-O1", "-o", shim, source], check=True)
-        failures = sum(try_all(shim, name, runs()[name]) for name in wanted)
+        failures = sum(try_all(shim, name, known[name], share) for name in wanted)
     return 1 if failures else 0
 
 

@@ -2,34 +2,28 @@
 
 from __future__ import annotations
 
-import os
 import re
 import subprocess
 from pathlib import Path
 
 from cm_tools.console import Unusable, Words
+from cm_tools.merge_main import add_words, features
+from cm_tools.merging import SUFFIXES, Sources
+from cm_tools.program import HELP, chosen_program
 
-BESIDE = Path(__file__).resolve().parent.parent.parent / "component_manager"
-VARIABLE = "COMPONENT_MANAGER"
-# A manifest as its author writes it, and one as a folder of packages holds it.
-SUFFIXES = (".cml", ".cm")
 # What the program says of a manifest, by its status.
 VERDICTS = {0: re.compile("valid"), 1: re.compile("invalid .*")}
 
 
 def main(words: list[str]) -> int:
-    """Checks each manifest below a folder; 0 where all are valid, else 1."""
+    """Checks each manifest that is named or stands below a folder; 0 where all are valid, else 1."""
     options = _parser().parse_args(words)
-    program = Path(options.program or os.environ.get(VARIABLE) or BESIDE)
-    if not os.access(program, os.X_OK) or program.is_dir():
-        raise Unusable(f"{program} is no program that can be run; name it with --program")
-    manifests = _manifests(Path(options.folder))
-    if program == BESIDE:
-        # It builds itself first where it has to, and says how far it is.
-        subprocess.run([program, "check"], stdin=subprocess.DEVNULL, stdout=subprocess.DEVNULL)
+    sources = Sources([Path(one) for one in options.include], features(options.without))
+    manifests = [path for place in options.places for path in _manifests(Path(place))]
+    program = chosen_program(options.program)
     faulty = 0
     for manifest in manifests:
-        verdict, is_valid = _check(program, manifest)
+        verdict, is_valid = _check(program, sources, manifest)
         print(f"{manifest}: {verdict}", flush=True)
         faulty += not is_valid
     return 1 if faulty else 0
@@ -37,30 +31,38 @@ def main(words: list[str]) -> int:
 
 def _parser() -> Words:
     parser = Words(
-        prog="check-all", description="Checks each manifest (*.cml, *.cm) below a folder, a line for each."
+        prog="check-all",
+        description="Checks each manifest, a line for each: files by any name, and what is named *.cml or"
+        " *.cm below folders.",
     )
-    parser.add_argument("folder", metavar="DIR")
-    parser.add_argument(
-        "--program", metavar="FILE",
-        help=f"the component manager; by default what {VARIABLE} names, or the one beside tools/",
-    )
+    parser.add_argument("places", metavar="PATH", nargs="+", help="a manifest or a folder")
+    add_words(parser)
+    parser.add_argument("--program", metavar="FILE", help=HELP)
     return parser
 
 
-def _manifests(folder: Path) -> list[Path]:
-    if not folder.is_dir():
-        raise Unusable(f"{folder} is no folder")
-    found = sorted(path for path in folder.rglob("*") if path.suffix in SUFFIXES and path.is_file())
+def _manifests(place: Path) -> list[Path]:
+    """The file itself, or the manifests below a folder, in the order of their paths."""
+    if place.is_file():
+        return [place]
+    if not place.is_dir():
+        raise Unusable(f"{place} is no file and no folder")
+    found = sorted(path for path in place.rglob("*") if path.suffix in SUFFIXES and path.is_file())
     if not found:
-        raise Unusable(f"there is no manifest (*.cml, *.cm) below {folder}")
+        raise Unusable(f"there is no manifest (*.cml, *.cm) below {place}")
     return found
 
 
-def _check(program: Path, manifest: Path) -> tuple[str, bool]:
-    """What the program says of the manifest, and whether it is valid."""
+def _check(program: Path, sources: Sources, manifest: Path) -> tuple[str, bool]:
+    """What the program says of the manifest, with its shards, and whether it is valid."""
     try:
-        with open(manifest, "rb") as source:
-            ran = subprocess.run([program.absolute(), "check"], stdin=source, capture_output=True)
+        text = sources.text(manifest)
+    except Unusable as fault:
+        return str(fault), False
+    except OSError as fault:
+        raise Unusable(f"{manifest}: {fault.strerror}") from None
+    try:
+        ran = subprocess.run([program, "check"], input=text, capture_output=True, check=False)
     except OSError as fault:
         raise Unusable(f"{fault.filename or program}: {fault.strerror}") from None
     verdict = ran.stdout.decode("utf-8", "replace").strip()

@@ -3,12 +3,14 @@
 from __future__ import annotations
 
 import argparse
+import contextlib
 import gc
 import os
 import sys
 from typing import Callable, NoReturn
 
 UNUSABLE_STATUS = 2
+INTERRUPTED_STATUS = 130
 
 
 class Unusable(Exception):
@@ -26,24 +28,60 @@ class Words(argparse.ArgumentParser):
 def run_tool(name: str, main: Callable[[list[str]], int]) -> int:
     """Runs a tool on the words of its command line and gives its status.
 
-    What can't be used is told in one line on the error stream, with status 2. An output that is
-    closed early, as by `head`, ends the tool quietly.
+    What can't be used is told in one line on the error stream, with status 2; so is an output that can't
+    be written. An output that is closed early, as by `head`, ends the tool quietly, and Ctrl-C with 130.
     """
     # A tool keeps nearly all that it makes until it ends, so looking for garbage finds none.
     gc.disable()
+    _open_streams()
     try:
         status = main(sys.argv[1:])
         sys.stdout.flush()
         return status
     except Unusable as fault:
-        print(f"{name}: {fault}", file=sys.stderr)
-        return UNUSABLE_STATUS
+        _say(name, str(fault))
     except BrokenPipeError:
-        # What is left in the buffer would be written again at the end, and fail again.
-        os.dup2(os.open(os.devnull, os.O_WRONLY), sys.stdout.fileno())
+        _drop_output()
         return 0
     except KeyboardInterrupt:
-        return 130
+        _drop_output()
+        return INTERRUPTED_STATUS
+    except OSError as fault:
+        _drop_output()
+        _say(name, f"{fault.filename or 'the output'}: {fault.strerror or fault}")
+    return UNUSABLE_STATUS
+
+
+def _open_streams() -> None:
+    """Opens what the caller has closed, so that nothing that is opened later takes its place."""
+    for number, name in enumerate(("stdin", "stdout", "stderr")):
+        if getattr(sys, name) is None:
+            setattr(sys, name, os.fdopen(_nothing_at(number), "w" if number else "r", encoding="utf-8"))
+
+
+def _nothing_at(number: int) -> int:
+    """The number of a stream, at which nothing is read and nothing kept."""
+    opened = os.open(os.devnull, os.O_RDWR)
+    if opened != number:
+        os.dup2(opened, number)
+        os.close(opened)
+    return number
+
+
+def _drop_output() -> None:
+    """Lets what is left in the buffers go: it would be written again at the end, and fail again."""
+    for stream in (sys.stdout, sys.stderr):
+        try:
+            stream.flush()
+        except (OSError, ValueError):
+            with contextlib.suppress(OSError, ValueError):
+                _nothing_at(stream.fileno())
+
+
+def _say(name: str, text: str) -> None:
+    """One line on the error stream, if that takes one."""
+    with contextlib.suppress(OSError, ValueError):
+        print(f"{name}: {text}", file=sys.stderr, flush=True)
 
 
 def read_bytes(path: str) -> bytes:

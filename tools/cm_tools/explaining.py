@@ -3,6 +3,10 @@
 from __future__ import annotations
 
 from cm_tools.console import Unusable
+from cm_tools.curing import (
+    builtin_cures, chain_line, command_cures, group_lines, manifest_cures, missing_rights, nearest_name,
+    text_cures,
+)
 from cm_tools.locating import locate
 from cm_tools.numbers import NUMBERS, advice_words
 from cm_tools.pointing import Document
@@ -80,7 +84,7 @@ def explain_manifest(document: Document, fault: ManifestFault) -> list[str]:
         lines += [document.pointed(place.start, place.end), f"      {place.note}"]
     if fault.cycle:
         lines.append("The circle: " + " -> ".join(fault.cycle))
-    return lines + advice(fault.number)
+    return lines + manifest_cures(root, fault) + advice(fault.number)
 
 
 def _explain_spelling(document: Document, fault: ManifestFault, spelling: SpellingFault) -> list[str]:
@@ -89,7 +93,8 @@ def _explain_spelling(document: Document, fault: ManifestFault, spelling: Spelli
     if fault.number != SPELLING:
         lines.append("The manifest can't be read here, so the place of the fault isn't found.")
     line, column = document.line_and_column(place)
-    return lines + [f"Line {line}, column {column}: {spelling.why}."] + advice(fault.number)
+    told = [f"Line {line}, column {column}: {spelling.why}."]
+    return lines + told + text_cures(document.text) + advice(fault.number)
 
 
 # ---- scripts
@@ -117,7 +122,8 @@ def explain_script(script: Script, fault: ScriptFault) -> list[str]:
     start, end = _script_stretch(text, fault)
     lines = [heading(fault.number, document.position(start)), document.pointed(start, end)]
     beside = _stopped_at(text, start) if fault.number == 70 and fault.at else _earlier(script, text, fault)
-    return lines + beside + advice(fault.number)
+    cures = command_cures(text) if fault.number == 70 else []
+    return lines + beside + cures + text_cures(script.text) + advice(fault.number)
 
 
 def _is_manifest(text: str) -> bool:
@@ -172,7 +178,10 @@ def explain_refusal(sketch: Sketch, refusal: Refusal, command: Command | None) -
     if refusal.fault is not None:
         return lines + _inner_fault(sketch, refusal.fault, command)
     told = _absent_lines if refusal.words.endswith(" absent") else _route_lines
-    return lines + told(sketch, refusal, command) + advice(refusal.number, refusal.words)
+    lines += told(sketch, refusal, command) + group_lines(refusal, command)
+    if refusal.number == 70 and command is not None:
+        lines += command_cures(f"{command.lane} {' '.join(command.words)}")
+    return lines + advice(refusal.number, refusal.words)
 
 
 def command_of(script: Script, refusal: Refusal) -> list[Command]:
@@ -188,9 +197,14 @@ def command_of(script: Script, refusal: Refusal) -> list[Command]:
 def _route_lines(sketch: Sketch, refusal: Refusal, command: Command | None) -> list[str]:
     """The hop at which the route fails, in the manifest that states it or lacks it."""
     stops = _stops(sketch, refusal, command)
+    weak = WEAK_FIELDS.get(refusal.words.split(" ")[0], "")
     for stop in stops:
         if (stop.step, stop.moniker) == (refusal.step, refusal.moniker):
-            return _stop_lines(sketch, stop, WEAK_FIELDS.get(refusal.words.split(" ")[0], ""))
+            cures = missing_rights(stops) if weak == "rights" else nearest_name(sketch, stop)
+            return _stop_lines(sketch, stop, weak) + chain_line(stops, refusal) + cures
+    if stops and refusal.step:
+        return [f"The manifests that are given have no such hop on the way; is {sketch.script.label} the"
+                " script that was run?"]
     return []
 
 
@@ -222,6 +236,8 @@ def _stop_lines(sketch: Sketch, stop: Stop, weak: str) -> list[str]:
         text = sketch.script.lines[stop.command.line - 1]
         shown = Document(sketch.script.label, text, stop.command.line)
         return [shown.pointed(0, len(text)), "      the offer of this command"]
+    if stop.step == "builtin":
+        return [f"      {stop.wish}", *builtin_cures(sketch, stop)]
     url = sketch.url(stop.moniker)
     document = sketch.document(url) if url else None
     root = sketch.value(url) if url else None

@@ -2,7 +2,10 @@
 
 from __future__ import annotations
 
-from cm_tools.instances import RouteNote
+from dataclasses import dataclass
+
+from cm_tools.console import Unusable
+from cm_tools.instances import Instance, RouteNote
 from cm_tools.world import World
 
 # Fill and border of each state, readable on white with black text.
@@ -21,63 +24,141 @@ COLOURS: dict[str, tuple[str, str]] = {
 }
 
 
-def dot_text(world: World) -> str:
-    """The graph for Graphviz: a box for each instance, dashed arrows from clients to providers."""
+@dataclass(frozen=True, slots=True)
+class Graph:
+    """What a graph shows: instances, and routes as they were last told."""
+
+    instances: list[Instance]
+    notes: list[RouteNote]
+
+
+def graph_of(world: World, only: str | None, capability: str | None) -> Graph:
+    """All of a realm, or what one instance and those above it have to do with, or one capability's routes."""
+    notes = [note for note in world.routes.values() if capability is None or _is_of(note, capability)]
+    if only is not None:
+        chosen = {one.incarnation for one in world.instances.values() if one.moniker == only.lstrip("/")}
+        if not chosen:
+            raise Unusable(f"no instance is named {only}")
+        notes = [note for note in notes if chosen & _ends(note)]
+    if only is None and capability is None:
+        return Graph(list(world.instances.values()), notes)
+    if not notes and only is None:
+        raise Unusable(f"no route of {capability} was asked for")
+    shown = set().union(*map(_ends, notes)) if notes else set()
+    if only is not None:
+        shown |= chosen
+    shown = {above for one in shown if one in world.instances for above in _above(world, one)}
+    return Graph([one for one in world.instances.values() if one.incarnation in shown], notes)
+
+
+def dot_text(graph: Graph) -> str:
+    """The graph for Graphviz: a box for each instance, and over the tree the routes, each with a label of its
+    own between its ends, so that none lies on another. Refused ones are dashed.
+    """
     lines = [
         "digraph realm {",
-        "  rankdir=LR; nodesep=0.5; ranksep=1.5;",
+        "  rankdir=LR; nodesep=0.25; ranksep=0.6;",
         '  node [shape=box, style="rounded,filled", fontname="sans-serif", fontsize=11];',
         '  edge [color="#71717a", fontname="sans-serif", fontsize=9];',
     ]
-    for one in world.instances.values():
+    for one in graph.instances:
         fill, border = COLOURS[one.state]
         label = f"{_dot(one.name)}\\n{one.state}"
         lines.append(f'  i{one.incarnation} [label="{label}", fillcolor="{fill}", color="{border}"];')
-    for one in world.instances.values():
-        lines.extend(f"  i{one.incarnation} -> i{child};" for child in one.children)
-    lines.extend(f'  {name} [label="{name}", shape=ellipse];' for name in _outsiders(world))
-    for note, provider in _edges(world):
-        label = _dot(note.asked)
-        lines.append(
-            f'  i{note.client} -> {provider} [label="{label}", style=dashed, color="#2563eb",'
-            " constraint=false];"
-        )
+    shown = {one.incarnation for one in graph.instances}
+    for one in graph.instances:
+        lines.extend(f"  i{one.incarnation} -> i{child};" for child in one.children if child in shown)
+    lines.extend(f'  {name} [label="{name}", shape=ellipse];' for name in _outsiders(graph))
+    for (client, end, is_refused), paths in _bundles(graph).items():
+        lines += _dot_route(len(lines), f"i{client}", end, is_refused, paths)
     lines.append("}")
     return "\n".join(lines) + "\n"
 
 
-def mermaid_text(world: World) -> str:
+def mermaid_text(graph: Graph) -> str:
     """The graph for Mermaid."""
     lines = ["flowchart LR"]
-    for one in world.instances.values():
+    for one in graph.instances:
         label = f"{_mermaid(one.name)}<br/>{one.state}"
         lines.append(f'  i{one.incarnation}["{label}"]:::{one.state}')
-    for one in world.instances.values():
-        lines.extend(f"  i{one.incarnation} --- i{child}" for child in one.children)
-    lines.extend(f'  {name}(["{name}"])' for name in _outsiders(world))
-    for note, provider in _edges(world):
-        lines.append(f'  i{note.client} -.->|"{_mermaid(note.asked)}"| {provider}')
-    used = dict.fromkeys(one.state for one in world.instances.values())
-    for state in used:
+    shown = {one.incarnation for one in graph.instances}
+    for one in graph.instances:
+        lines.extend(f"  i{one.incarnation} --- i{child}" for child in one.children if child in shown)
+    lines.extend(f'  {name}(["{name}"])' for name in _outsiders(graph))
+    for number, ((client, end, is_refused), paths) in enumerate(_bundles(graph).items()):
+        told = "<br/>".join(map(_mermaid, paths))
+        if is_refused:
+            lines.append(f'  r{number}(["✗ {_mermaid(end)}"]):::refused')
+            lines.append(f'  i{client} -.->|"{told}"| r{number}')
+        else:
+            lines.append(f'  i{client} ==>|"{told}"| {end}')
+    for state in dict.fromkeys(one.state for one in graph.instances):
         fill, border = COLOURS[state]
         lines.append(f"  classDef {state} fill:{fill},stroke:{border},color:#18181b")
+    if any(is_refused for _, _, is_refused in _bundles(graph)):
+        lines.append("  classDef refused fill:#fee2e2,stroke:#dc2626,color:#18181b")
     return "\n".join(lines) + "\n"
 
 
-def _edges(world: World) -> list[tuple[RouteNote, str]]:
-    """The routes that lead somewhere, each with the node that it leads to."""
-    found = []
-    for note in world.routes.values():
-        route = note.route
-        if route is not None:
-            is_instance = route.source == "instance"
-            found.append((note, f"i{route.incarnation}" if is_instance else route.source))
+def _dot_route(number: int, client: str, end: str, is_refused: bool, paths: list[str]) -> list[str]:
+    """A bundle of routes: its label as a node of its own, and where it is refused the reason as another."""
+    colour = "#dc2626" if is_refused else "#2563eb"
+    look = f'color="{colour}"' + (", style=dashed" if is_refused else "")
+    told = "\\n".join(map(_dot, paths))
+    lines = [f'  r{number} [label="{told}", shape=plaintext, style="", fontsize=9, fontcolor="{colour}"];']
+    if is_refused:
+        lines.append(f'  e{number} [label="✗ {_dot(end)}", shape=ellipse, style="", color="{colour}"];')
+        end = f"e{number}"
+    return [*lines, f"  {client} -> r{number} [{look}, arrowhead=none];", f"  r{number} -> {end} [{look}];"]
+
+
+def _bundles(graph: Graph) -> dict[tuple[int, str, bool], list[str]]:
+    """The paths of the routes between two ends, and of those that fail for one reason."""
+    found: dict[tuple[int, str, bool], list[str]] = {}
+    for note in graph.notes:
+        end = _end(note) if note.route is not None else _reason(note)
+        found.setdefault((note.client, end, note.route is None), []).append(note.asked)
     return found
 
 
-def _outsiders(world: World) -> list[str]:
+def _end(note: RouteNote) -> str:
+    """The node that a route leads to."""
+    route = note.route
+    if route is None:
+        return ""
+    return f"i{route.incarnation}" if route.source == "instance" else route.source
+
+
+def _reason(note: RouteNote) -> str:
+    """Why a route leads nowhere."""
+    hop = f" at {note.hop.step} {note.hop.moniker}" if note.hop else ""
+    return f"{note.why or note.outcome}{hop}"
+
+
+def _ends(note: RouteNote) -> set[int]:
+    """The instances at the ends of a route."""
+    provider = note.route.incarnation if note.route is not None else None
+    return {note.client} if provider is None else {note.client, provider}
+
+
+def _is_of(note: RouteNote, name: str) -> bool:
+    """Whether a route is of a capability: by the name at its end, by its path, or as it is exposed."""
+    paths = [note.asked.removeprefix("exposed "), note.route.path if note.route else ""]
+    return any(path == name or path.endswith(f"/{name}") for path in paths)
+
+
+def _above(world: World, incarnation: int) -> list[int]:
+    """An instance and all above it."""
+    found, one = [incarnation], world.instances[incarnation]
+    while one.parent is not None:
+        found.append(one.parent)
+        one = world.instances[one.parent]
+    return found
+
+
+def _outsiders(graph: Graph) -> list[str]:
     """What provides and is no instance: `builtin` and `framework`, where a route leads there."""
-    providers = {provider for _, provider in _edges(world)}
+    providers = {_end(note) for note in graph.notes}
     return [name for name in ("builtin", "framework") if name in providers]
 
 

@@ -43,7 +43,7 @@ def page_data(journal: Journal, world: World) -> dict[str, Any]:
         "declarations": {
             one.incarnation: one.declaration for one in world.instances.values() if one.declaration
         },
-        "routes": [_route(note, world) for note in world.routes.values()],
+        **_askings(world),
         "entries": [
             [
                 entry.caller,
@@ -54,6 +54,20 @@ def page_data(journal: Journal, world: World) -> dict[str, Any]:
             for entry in entries
         ],
     }
+
+
+def _askings(world: World) -> dict[str, Any]:
+    """Each route that was told once, and each asking as its entry and the index of what was told."""
+    indices: dict[str, int] = {}
+    routes, askings = [], []
+    for note in world.askings:
+        told = _route(note, world)
+        key = json.dumps(told)
+        if key not in indices:
+            indices[key] = len(routes)
+            routes.append(told)
+        askings.append([note.entry, indices[key]])
+    return {"routes": routes, "askings": askings}
 
 
 def _instance(one: Instance, world: World) -> dict[str, Any]:
@@ -80,7 +94,6 @@ def _route(note: RouteNote, world: World) -> dict[str, Any]:
     return {
         "client": note.client,
         "asked": note.asked,
-        "entry": note.entry,
         "told": outcome_words(note, world),
         "path": route.path if route else "",
         "source": route.source if route else "",

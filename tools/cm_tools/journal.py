@@ -44,6 +44,11 @@ def parse_journal(data: bytes, partial: bool = False) -> Journal:
         raise Unusable("the input is empty; give it what `run --journal` prints")
     lines = text.split("\n")
     last = lines.pop()
+    if "journal\r" in lines:
+        raise Unusable(
+            f"line {lines.index('journal' + chr(13)) + 1} ends in a carriage return (CRLF); save the journal"
+            " with line feeds alone, as `tr -d '\\r'` does"
+        )
     journal_line = _find_journal_line(lines, last)
     if last and not partial:
         raise Unusable(f"line {len(lines) + 1} is cut short (--partial reads what stands before it)")

@@ -2,9 +2,10 @@
 
 from __future__ import annotations
 
+from cm_tools.auditing import require_legal
 from cm_tools.console import Unusable, Words, read_bytes, write_text
 from cm_tools.entries import Journal
-from cm_tools.graph_views import dot_text, mermaid_text
+from cm_tools.graph_views import dot_text, graph_of, mermaid_text
 from cm_tools.html_view import html_text
 from cm_tools.journal import parse_journal
 from cm_tools.json_view import json_text
@@ -16,21 +17,33 @@ VIEWS = {
     "timeline": ("the entries in order, with a column for each caller", timeline_text),
     "routes": ("the routes, with their hops indented", lambda _, world: routes_text(world)),
     "json": ("everything as JSON", json_text),
-    "dot": ("a graph for Graphviz", lambda _, world: dot_text(world)),
-    "mermaid": ("a graph for Mermaid", lambda _, world: mermaid_text(world)),
+    "dot": ("a graph for Graphviz", None),
+    "mermaid": ("a graph for Mermaid", None),
     "html": ("one page to look at in a browser, which needs no network", html_text),
 }
+
+
+GRAPHS = {"dot": dot_text, "mermaid": mermaid_text}
 
 
 def main(words: list[str]) -> int:
     """Reads the journal, replays it, and writes the view that was asked for."""
     options = _parser().parse_args(words)
-    journal = parse_journal(read_bytes(options.file), options.partial)
+    data = read_bytes(options.file)
+    journal = parse_journal(data, options.partial)
+    if not options.partial:
+        require_legal(data)
     world = replay(journal, options.at)
     if options.at is None and not options.partial:
         _require_whole(journal, world)
-    view = VIEWS[options.view or "tree"][1]
-    write_text(options.output, view(journal, world))
+    name = options.view or "tree"
+    if name in GRAPHS:
+        text = GRAPHS[name](graph_of(world, options.only, options.capability))
+    elif options.only is not None or options.capability is not None:
+        raise Unusable("--only and --capability are for --dot and --mermaid")
+    else:
+        text = VIEWS[name][1](journal, world)
+    write_text(options.output, text)
     return 0
 
 
@@ -44,7 +57,10 @@ def _parser() -> Words:
     views = parser.add_mutually_exclusive_group()
     for name, (told, _) in VIEWS.items():
         views.add_argument(f"--{name}", dest="view", action="store_const", const=name, help=told)
-    parser.add_argument("--at", type=int, metavar="N", help="the state behind entry N, 0 for the start")
+    parser.add_argument("--only", metavar="MONIKER",
+                        help="in a graph: this instance, what is above it, and its routes")
+    parser.add_argument("--capability", metavar="NAME", help="in a graph: the routes of this capability")
+    parser.add_argument("--at", type=int, metavar="N", help="the state after entry N, 0 for the start")
     parser.add_argument("--partial", action="store_true", help="read a journal that is cut, too")
     parser.add_argument("-o", "--output", metavar="FILE", help="write to a file")
     return parser

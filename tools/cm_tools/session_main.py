@@ -2,14 +2,18 @@
 
 from __future__ import annotations
 
+import argparse
+import contextlib
+import os
 import re
 import socket
 import sys
 import threading
 import time
-from typing import Iterable
+from typing import Iterable, Iterator
 
 from cm_tools.console import Unusable, Words
+from cm_tools.transcripts import Transcript
 
 QUIT = b"quit"
 REFUSED = b"refused "
@@ -29,10 +33,12 @@ def main(words: list[str]) -> int:
     """Has one session; 0 where no command was refused, else 1."""
     options = _parser().parse_args(words)
     lines = [_line(command) for command in options.commands]
-    with _connected(options.socket, time.monotonic() + options.wait) as link:
-        sender = Sender(link, lines or sys.stdin.buffer)
+    with contextlib.ExitStack() as stack:
+        link = stack.enter_context(_connected(options.socket, time.monotonic() + options.wait))
+        transcript = _transcript(options, stack)
+        sender = Sender(link, lines or _lines_of_input(), transcript)
         sender.start()
-        replies = Replies()
+        replies = Replies(transcript)
         replies.take_all(link)
     if not sender.is_through or replies.count < sender.asked:
         told = f"{replies.count} whole {'reply' if replies.count == 1 else 'replies'}"
@@ -49,15 +55,45 @@ def _parser() -> Words:
     )
     parser.add_argument("--wait", metavar="SECONDS", type=float, default=0.0,
                         help="how long to wait for a server that isn't there yet; by default not at all")
+    parser.add_argument("--transcript", metavar="FILE",
+                        help="write commands and replies with their times to a file, which explain reads")
     parser.add_argument("socket", metavar="SOCKET", help="the path that it serves")
     parser.add_argument("commands", metavar="COMMAND", nargs="*", help="a line each, as 'start .'")
     return parser
+
+
+def _transcript(options: argparse.Namespace, stack: contextlib.ExitStack) -> Transcript | None:
+    """The transcript, where one is wanted."""
+    if options.transcript is None:
+        return None
+    try:
+        return Transcript(stack.enter_context(open(options.transcript, "wb")), options.socket)
+    except OSError as fault:
+        raise Unusable(f"{options.transcript}: {fault.strerror}") from None
 
 
 def _line(command: str) -> bytes:
     if "\n" in command:
         raise Unusable(f"a command is one line, and this one has a line end in it: {ascii(command)}")
     return f"{command}\n".encode("utf-8", "surrogateescape")
+
+
+def _lines_of_input() -> Iterator[bytes]:
+    """The lines of the standard input, each as it comes.
+
+    They aren't taken from its buffer: a thread that waits for a buffer keeps the tool from ending.
+    """
+    try:
+        number = sys.stdin.fileno()
+    except OSError:
+        yield from sys.stdin.buffer
+        return
+    behind = b""
+    while piece := os.read(number, PIECE):
+        *lines, behind = (behind + piece).split(b"\n")
+        yield from (line + b"\n" for line in lines)
+    if behind:
+        yield behind
 
 
 def _connected(path: str, until: float) -> socket.socket:
@@ -84,8 +120,9 @@ class Sender(threading.Thread):
     further line is sent.
     """
 
-    def __init__(self, link: socket.socket, lines: Iterable[bytes]) -> None:
+    def __init__(self, link: socket.socket, lines: Iterable[bytes], transcript: Transcript | None) -> None:
         super().__init__(daemon=True)
+        self.transcript = transcript
         self.link = link
         self.lines = lines
         self.asked = 0
@@ -96,6 +133,8 @@ class Sender(threading.Thread):
             for line in self.lines:
                 self.is_through = line.rstrip(b"\n") == QUIT
                 self.asked += not self.is_through
+                if self.transcript:
+                    self.transcript.note(b">", line)
                 self.link.sendall(line)
                 if self.is_through:
                     break
@@ -109,7 +148,8 @@ class Sender(threading.Thread):
 class Replies:
     """What came of a session so far: the number of replies, and whether one is a refusal."""
 
-    def __init__(self) -> None:
+    def __init__(self, transcript: Transcript | None = None) -> None:
+        self.transcript = transcript
         self.count = 0
         self.refused = False
         self._behind = b""
@@ -133,6 +173,8 @@ class Replies:
     def _take(self, piece: bytes) -> None:
         """Counts the lines that a piece ends. A reply that is cut has no line end, and isn't counted."""
         *lines, self._behind = (self._behind + piece).split(b"\n")
+        for line in lines if self.transcript else ():
+            self.transcript.note(b"<", line)
         firsts = [line for line in lines if not line.startswith(FURTHER)]
         for line in firsts:
             if not REPLY.match(line):

@@ -14,7 +14,7 @@ def tree_text(journal: Journal, world: World) -> str:
     """The tree, a line for each instance: its name, its state, its incarnation, what is to note."""
     rows = [(front + instance.name, instance) for front, instance in _branches(world)]
     width = max(len(name) for name, _ in rows)
-    lines = [f"root {journal.root}, behind entry {world.applied} of {len(journal.entries)}"]
+    lines = [f"root {journal.root}, after entry {world.applied} of {len(journal.entries)}"]
     for name, instance in rows:
         number = f"@{instance.incarnation}"
         line = f"{name:<{width}}  {instance.state:<10}  {number:<5}{_note(instance)}"

@@ -16,8 +16,8 @@ STEP_LIMIT = 1000
 class Stop:
     """A hop of the way: its step and moniker, and the item that states it.
 
-    Where `item` is None the hop is missing; `wish` says what is missing. `command` is there where a
-    `create` states the hop.
+    Where `item` is None the hop is missing; `wish` says what is missing, of what kind and by what name.
+    `command` is there where a `create` states the hop.
     """
 
     step: str
@@ -25,6 +25,8 @@ class Stop:
     item: Node | None
     wish: str
     command: Command | None = None
+    kind: str = ""
+    name: str = ""
 
 
 def trace(sketch: Sketch, client: str, path: str) -> list[Stop]:
@@ -60,15 +62,18 @@ def _next(sketch: Sketch, stop: Stop, kind: str, name: str) -> tuple[Stop, str] 
         return None
     origin = _origin(sketch, stop, name)
     moniker = stop.moniker
-    if stop.step == "capability" or origin in ("void", "framework"):
+    if stop.step == "capability" or origin == "void":
         return None
+    if origin == "framework":
+        return Stop("framework", moniker, None, ""), name
     if origin == "self":
         return _capability(sketch, moniker, kind, name), name
     if origin.startswith("#"):
         child = origin[1:] if moniker == "." else f"{moniker}/{origin[1:]}"
         return _expose(sketch, child, kind, name)
     if moniker == ".":
-        return None
+        wish = f"no line `builtin {kind} {name}` stands in the header"
+        return Stop("builtin", ".", None, wish, kind=kind, name=name), name
     return _offer(sketch, moniker, kind, name)
 
 
@@ -102,7 +107,8 @@ def _offer(sketch: Sketch, child: str, kind: str, name: str) -> tuple[Stop, str]
     group = _group(command, name) if command else None
     if command is not None and group is not None:
         return Stop("offer", parent, None, "", command), group[1]
-    return Stop("offer", parent, None, f"{parent} offers no {kind} {name} to {own}"), name
+    wish = f"{parent} offers no {kind} {name} to {own}"
+    return Stop("offer", parent, None, wish, kind=kind, name=name), name
 
 
 def _expose(sketch: Sketch, moniker: str, kind: str, name: str) -> tuple[Stop, str]:
@@ -110,14 +116,15 @@ def _expose(sketch: Sketch, moniker: str, kind: str, name: str) -> tuple[Stop, s
         source = _source_name(item, kind, name)
         if source:
             return Stop("expose", moniker, item, ""), source
-    return Stop("expose", moniker, None, f"{moniker} exposes no {kind} {name}"), name
+    wish = f"{moniker} exposes no {kind} {name}"
+    return Stop("expose", moniker, None, wish, kind=kind, name=name), name
 
 
 def _capability(sketch: Sketch, moniker: str, kind: str, name: str) -> Stop:
     for item in _items(sketch, moniker, "capabilities"):
         if name in {one.value for one in many(item.get(kind))}:
             return Stop("capability", moniker, item, "")
-    return Stop("capability", moniker, None, f"{moniker} declares no {kind} {name}")
+    return Stop("capability", moniker, None, f"{moniker} declares no {kind} {name}", kind=kind, name=name)
 
 
 def _source_name(item: Node, kind: str, target_name: str) -> str:

@@ -8,7 +8,7 @@ from typing import Callable
 from cm_tools.console import Unusable
 from cm_tools.entries import Entry, Hop, Journal, Route
 from cm_tools.instances import Action, Instance, RouteNote
-from cm_tools.journal import parse_hop, parse_number, parse_route
+from cm_tools.journal import parse_hop, parse_journal, parse_number, parse_route
 
 ROUTE_OUTCOMES = frozenset({
     "given", "opened", "failed", "void", "source-shut", "no-such-use", "client-off",
@@ -17,7 +17,10 @@ SUCCESSES = frozenset({"resolved", "started", "stopped", "killed"})
 
 
 class World:
-    """The tree behind the entries that were applied, with everything that ever was in it."""
+    """The tree after the entries that were applied, with everything that ever was in it.
+
+    `routes` has what was last told of each route, and `askings` each asking in order.
+    """
 
     def __init__(self, root_url: str) -> None:
         root = Instance(0, ".", ".", None, root_url, 0)
@@ -25,6 +28,7 @@ class World:
         self.instances: dict[int, Instance] = {0: root}
         self.actions: dict[int, Action] = {}
         self.routes: dict[tuple[int, str], RouteNote] = {}
+        self.askings: list[RouteNote] = []
         self.subjects: list[tuple[int, ...]] = []
         self.doomed: dict[int, tuple[int, ...]] = {}
         self.applied = 0
@@ -275,9 +279,9 @@ class World:
         route, hop, why = _told(entry)
         before = self.routes.get((client, asked))
         times = before.times + 1 if before else 1
-        self.routes[client, asked] = RouteNote(
-            client, asked, entry.number, reply.word, route, hop, why, times
-        )
+        note = RouteNote(client, asked, entry.number, reply.word, route, hop, why, times)
+        self.routes[client, asked] = note
+        self.askings.append(note)
         if route is not None and route.incarnation is not None:
             return [route.incarnation]
         return [reply.number] if reply.number is not None else []
@@ -309,3 +313,11 @@ def replay(journal: Journal, at: int | None = None) -> World:
     for entry in journal.entries[: count if at is None else at]:
         world.apply(entry)
     return world
+
+
+def replay_partly(text: str) -> World | None:
+    """The tree that a run's output leaves, whole or cut; None where it has no journal that can be read."""
+    try:
+        return replay(parse_journal(text.encode("utf-8", "surrogateescape"), True))
+    except Unusable:
+        return None

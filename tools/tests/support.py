@@ -9,10 +9,13 @@ import subprocess
 import sys
 from dataclasses import dataclass
 from pathlib import Path
+from unittest import mock
 
 from cm_tools.check_all_main import main as check_all
 from cm_tools.console import run_tool
+from cm_tools.doctor_main import main as doctor
 from cm_tools.explain_main import main as explain
+from cm_tools.merge_main import main as merge
 from cm_tools.realm_main import main as realm
 from cm_tools.session_main import main as session
 
@@ -21,7 +24,10 @@ TOOLS = TESTS.parent
 ROOT = TOOLS.parent
 JOURNALS = TESTS / "journals"
 SECONDS = 100
-MAINS = {"realm": realm, "explain": explain, "check-all": check_all, "session": session}
+MAINS = {
+    "realm": realm, "explain": explain, "check-all": check_all, "session": session, "doctor": doctor,
+    "merge": merge,
+}
 
 
 @dataclass(frozen=True)
@@ -33,8 +39,14 @@ class Ran:
     err: str
 
 
-def run(tool: str, *words: str, data: bytes = b"") -> Ran:
-    """Runs a tool within this process on these words and this standard input."""
+def run(tool: str, *words: str, data: bytes = b"", audited: bool = False) -> Ran:
+    """Runs a tool within this process on these words and this standard input.
+
+    Journals that are made by hand to show something aren't legal: the program is asked only where it is said.
+    """
+    if not audited:
+        with mock.patch("cm_tools.auditing.verdict_on", return_value=None):
+            return run(tool, *words, data=data, audited=True)
     out, err = io.TextIOWrapper(io.BytesIO(), "utf-8"), io.StringIO()
     source = io.TextIOWrapper(io.BytesIO(data), "utf-8")
     kept = sys.argv, sys.stdin

@@ -27,7 +27,7 @@ SWEEPS = str(JOURNALS / "sweeps.txt")
 HEAD = "journal\nroot fuchsia-pkg://t/a#meta/root.cm\n"
 
 ROUTE_TREE = """\
-root fuchsia-pkg://t/a#meta/root.cm, behind entry 11 of 11
+root fuchsia-pkg://t/a#meta/root.cm, after entry 11 of 11
 .          resolved    @0
 ├─ logger  resolved    @1
 └─ client  resolved    @2
@@ -43,7 +43,7 @@ client /svc/fuchsia.logger.LogSink -> logger /svc/fuchsia.logger.LogSink  (entry
 """
 
 COMINGS_TREE = """\
-root fuchsia-pkg://t/a#meta/root.cm, behind entry 34 of 34
+root fuchsia-pkg://t/a#meta/root.cm, after entry 34 of 34
 .               resolved    @0
 ├─ eager        discovered  @1     failed: absent, eager
 ├─ elements:e1  destroyed   @2
@@ -53,7 +53,7 @@ root fuchsia-pkg://t/a#meta/root.cm, behind entry 34 of 34
 
 # What goes with an instance that stops, or that ended by itself, and nothing at a shutdown.
 SWEEPS_TREE = """\
-root fuchsia-pkg://t/a#meta/root.cm, behind entry 61 of 61
+root fuchsia-pkg://t/a#meta/root.cm, after entry 61 of 61
 .          shut        @0
 ├─ helper  shut        @1
 ├─ coll:x  destroyed   @2
@@ -226,10 +226,33 @@ class RealmTests(unittest.TestCase):
         self.assertTrue(dot.startswith("digraph realm {\n") and dot.endswith("}\n"))
         self.assertIn('  i1 [label="logger\\nresolved"', dot)
         self.assertIn("  i0 -> i2;\n", dot)
-        self.assertIn('  i2 -> i1 [label="/svc/fuchsia.logger.LogSink"', dot)
+        label = re.search(r'  (r\d+) \[label="/svc/fuchsia.logger.LogSink", shape=plaintext', dot)
+        assert label is not None
+        self.assertIn(f"  i2 -> {label[1]} [", dot)
+        self.assertIn(f'  {label[1]} -> i1 [color="#2563eb"];\n', dot)
         mermaid = run("realm", "--mermaid", ROUTE).out
         self.assertTrue(mermaid.startswith("flowchart LR\n"))
-        self.assertIn('  i2 -.->|"/svc/fuchsia.logger.LogSink"| i1\n', mermaid)
+        self.assertIn('  i2 ==>|"/svc/fuchsia.logger.LogSink"| i1\n', mermaid)
+
+    def test_parts_of_graphs(self) -> None:
+        """one instance's part of a graph, one capability's, and refused routes as dashed ones"""
+        dot = run("realm", "--dot", COMINGS).out
+        self.assertIn('[label="✗ no-offer at offer ."', dot)
+        self.assertRegex(dot, r'-> e\d+ \[color="#dc2626", style=dashed\];')
+        self.assertIn('-.->|"/svc/q"| r0\n', run("realm", "--mermaid", COMINGS).out)
+        product = str(JOURNALS / "product.txt")
+        whole = run("realm", "--dot", product).out
+        part = run("realm", "--dot", "--only", "core/session/shell", product).out
+        self.assertLess(part.count("\n"), whole.count("\n") // 2)
+        self.assertIn('label="shell', part)
+        self.assertNotIn('label="input', part)
+        part = run("realm", "--dot", "--capability", "fuchsia.crash.Reporter", product).out
+        self.assertIn("fuchsia.crash.Reporter", part)
+        self.assertNotIn("/svc/fuchsia.logger.LogSink", part)
+        bad = (("--only", "core/nobody", "--dot"), ("--capability", "none", "--dot"), ("--only", "core"))
+        for words in bad:
+            ran = run("realm", *words, product)
+            self.assertEqual((ran.status, ran.out, ran.err.count("\n")), (2, "", 1), words)
 
     def test_page(self) -> None:
         """the page: its data is the realm's, and nothing in it asks for a network"""
@@ -339,7 +362,7 @@ class BadInputTests(unittest.TestCase):
         data = Path(COMINGS).read_bytes()
         ran = run("realm", "--partial", data=data[: data.index(b"19 0 end") + 20])
         self.assertEqual(ran.status, 0)
-        self.assertIn("behind entry 18 of 18", ran.out)
+        self.assertIn("after entry 18 of 18", ran.out)
         self.assertIn("elements:e1  resolving   @3", ran.out)
 
     def test_words(self) -> None:

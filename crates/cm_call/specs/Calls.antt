@@ -14,7 +14,7 @@ use Rattle.clap.specs.declared.builder.ArgAction.TheVariants.{Set, SetTrue}
 use Rattle.clap.specs.declared.ArgMatches.{ArgMatches}
 use Rattle.cm_names.specs.Steps.{◌>>=◌}
 use Rattle.cm_call.specs.declared.call.Call.{Call}
-use Rattle.cm_call.specs.declared.call.Call.TheVariants.{Run, Check, Generate, Serve}
+use Rattle.cm_call.specs.declared.call.Call.TheVariants.{Run, Check, Generate, Serve, Audit}
 use Rattle.cm_call.specs.declared.call.RunOptions.{RunOptions}
 use Rattle.cm_call.specs.declared.call.ServeOptions.{ServeOptions}
 use Rattle.cm_call.specs.declared.call.Workload.{Workload}
@@ -47,6 +47,9 @@ run_app = with_rule (with_rule (app_named (codes "run")) journal_rule) repo_rule
 
 abbrev pub check_app : App
 check_app = app_named (codes "check")
+
+abbrev pub audit_app : App
+audit_app = app_named (codes "audit")
 
 -- a whole number from low to high, which has to be there
 abbrev pub number_rule : List ℕ → ℕ → ℕ → Rule
@@ -133,6 +136,9 @@ run_words words = on_rows (λ rows. Run (options_in rows)) (rows_read run_app wo
 abbrev pub check_words : List Text → Read Call
 check_words words = on_rows (λ rows. Check) (rows_read check_app words)
 
+abbrev pub audit_words : List Text → Read Call
+audit_words words = on_rows (λ rows. Audit) (rows_read audit_app words)
+
 -- the number that a text is, if it is one from low to high; a plus may stand before its digits
 abbrev pub number_in : ℕ → ℕ → Option Text → Read ℕ
 number_in low high None = Err Usage
@@ -203,6 +209,7 @@ IsPossible (Run options) = Unit {0}
 IsPossible Check = Unit {0}
 IsPossible (Generate w) = IsWorkload w
 IsPossible (Serve o) = IsServing o
+IsPossible Audit = Unit {0}
 
 -- what words ask for: the first is the command, and the others are for its parser
 unfoldable pub words_of : List Text → Read Call
@@ -212,4 +219,5 @@ words_of (word ∷ words) =
     else if bytes_eq word (codes "check") then check_words words
     else if bytes_eq word (codes "generate") then generate_words words
     else if bytes_eq word (codes "serve") then serve_words words
+    else if bytes_eq word (codes "audit") then audit_words words
     else Err Usage

@@ -58,6 +58,8 @@ pub enum Call {
     /// `serve SOCKET --root URL --repo DIR [--sessions N] [--workers W]`: answer the commands that
     /// come over links.
     Serve(ServeOptions),
+    /// `audit`: say whether a journal is a legal history.
+    Audit,
 }
 
 /// Why words ask for nothing.
@@ -100,6 +102,13 @@ fn check_command<'a>(alloc: Global) -> Command<'a>
     ensures { app_of result ≡ spec.check_app }
 {
     Command::new(alloc, "check").no_binary_name(true)
+}
+
+/// The parser of the words behind `audit`.
+fn audit_command<'a>(alloc: Global) -> Command<'a>
+    ensures { app_of result ≡ spec.audit_app }
+{
+    Command::new(alloc, "audit").no_binary_name(true)
 }
 
 /// An argument that has to be there, a whole number from low to high.
@@ -273,6 +282,15 @@ fn read_check(alloc: Global, words: &[Text]) -> Result<Call, WordsFault>
     Ok(Call::Check)
 }
 
+/// What the words behind `audit` ask for.
+fn read_audit(alloc: Global, words: &[Text]) -> Result<Call, WordsFault>
+    ensures gives { Gives result (spec.audit_words words.now) }
+    ensures possible { IfOk result IsPossible }
+{
+    let _matches = parsed(audit_command(alloc), words)?;
+    Ok(Call::Audit)
+}
+
 /// The workload that a parse asks for.
 #[tactic(auto, unfolding(crate::specs::Calls::workload_in))]
 fn workload_of(matches: &ArgMatches<'_>) -> Result<Call, WordsFault>
@@ -355,8 +373,8 @@ fn read_serve(alloc: Global, words: &[Text]) -> Result<Call, WordsFault>
 /// The first word picks the command, and the further words go to that command's parser, which is
 /// one of the crate `clap`.
 ///
-/// `Err(Usage)` comes exactly where the first word is none of `run`, `check`, `generate` and
-/// `serve`, or clap's definition of that command finds a fault in the further words; `Err(Memory)`
+/// `Err(Usage)` comes exactly where the first word is none of `run`, `check`, `generate`, `serve` and
+/// `audit`, or clap's definition of that command finds a fault in the further words; `Err(Memory)`
 /// where memory runs out. The words are this project's own choice.
 #[tactic(auto, unfolding(crate::specs::Calls::words_of))]
 pub fn read_words(alloc: Global, words: &[Text]) -> Result<Call, WordsFault>
@@ -377,6 +395,9 @@ pub fn read_words(alloc: Global, words: &[Text]) -> Result<Call, WordsFault>
     }
     if word.as_str() == "serve" {
         return read_serve(alloc, others);
+    }
+    if word.as_str() == "audit" {
+        return read_audit(alloc, others);
     }
     Err(WordsFault::Usage)
 }

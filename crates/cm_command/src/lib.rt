@@ -40,6 +40,6 @@ pub use command::{Command, CommandFault};
 pub use fault::{ScriptFault, ScriptNumber};
 pub use reader::read_command;
 pub use script::{Block, Line, Script};
-pub use script_reader::read_script;
+pub use script_reader::{cut_line, read_script};
 pub use tokens::{WordFault, read_moniker, read_number};
 pub use writer::write_command;

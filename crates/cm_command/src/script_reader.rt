@@ -180,8 +180,8 @@ fn is_repeated(earlier: &List<Builtin>, builtin: &Builtin) -> bool
     earlier.as_slice().iter().any(|other| other.kind == builtin.kind && other.name == builtin.name)
 }
 
-/// The first line, and the bytes behind it.
-fn cut_line(bytes: &[u8]) -> (&[u8], &[u8])
+/// The first line of some bytes, without its line feed, and the bytes behind it.
+pub fn cut_line(bytes: &[u8]) -> (&[u8], &[u8])
     requires { 0 < length bytes.now }
     ensures lines { spec.lines_of bytes.now ≡ result.0.now ∷ spec.lines_of result.1.now }
     ensures shorter { length result.1.now < length bytes.now }

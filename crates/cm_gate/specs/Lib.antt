@@ -4,3 +4,4 @@ pub mod Manifests
 pub mod Meeting
 pub mod Places
 pub mod Planned
+pub mod Runner

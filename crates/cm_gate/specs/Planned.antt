@@ -1,9 +1,10 @@
 -- Planned gates, as contracts see them.
-use Rattle.std.specs.Prelude.{◌≡◌, ◌⊎◌, ℕ, cond, nat_le, nat_eq, Bool, true, false}
+use Rattle.std.specs.Prelude.{not, ◌≡◌, ◌⊎◌, ℕ, cond, nat_le, nat_eq, Bool, true, false}
 use Rattle.std.specs.Prelude.{List, [], ◌∷◌, ◌++◌, length, Option, Some, None}
 use Rattle.std.specs.List.{list_any}
 use Rattle.std.specs.Str.{bytes_eq}
 use Rattle.cm_io.specs.Counts.{one_more, count_after}
+use Rattle.cm_io.specs.Outside.{Rose}
 use Rattle.cm_gate.specs.declared.asked.Asked.{Asked}
 use Rattle.cm_gate.specs.declared.asked.Asked.TheVariants as asked
 use Rattle.cm_gate.specs.declared.asked.Fetched.{Fetched}
@@ -28,10 +29,12 @@ pub record PlanAtWork : Type 0 where
   -- how many calls were made, and how many of them failed
   pub calls : ℕ
   pub faults : ℕ
+  -- for how many of them memory was too short to be noted
+  pub short : ℕ
 
 -- gates by a plan, before the first call
 abbrev pub not_yet_asked : GatePlan → PlanAtWork
-not_yet_asked plan = record { plan = plan; noted = []; told = true; calls = 0; faults = 0 }
+not_yet_asked plan = record { plan = plan; noted = []; told = true; calls = 0; faults = 0; short = 0 }
 
 -- whether a URL is one of these
 abbrev pub is_among : List ℕ → List (List ℕ) → Bool
@@ -84,9 +87,15 @@ IsUnnoted full (asked.Fetch what answer) =
 IsUnnoted full (asked.Launch job answer) = answer ≡ launched.Failed
 IsUnnoted full (asked.Halt job answer) = answer ≡ halted.Failed
 
--- a call isn't noted, and so the log isn't told any more
+-- a call isn't noted, and so the log isn't told any more; it is counted where that is for want of memory
 abbrev pub Loses : PlanAtWork → PlanAtWork → Asked → Type 0
-Loses old new question = IsUnnoted (is_full old) question × (new ≡ record old { told = false })
+Loses old new question =
+    IsUnnoted (is_full old) question
+    × (new ≡ record old { told = false; short = count_after (not (is_full old)) old.short })
+
+-- the log is told as before, unless it was full, or memory was short, which was counted
+abbrev pub StaysTold : PlanAtWork → PlanAtWork → Type 0
+StaysTold old new = (new.told ≡ old.told) ⊎ ((is_full old ≡ true) ⊎ Rose old.short new.short)
 
 -- what a call leaves: it is counted, and its question stands in the log with its answer, or the log isn't
 -- told any more

@@ -1,21 +1,22 @@
 //! Gates to a folder of manifests.
 
-ghost use Rattle.std.specs.Prelude.{◌≡◌, ◌⊎◌, ◌<◌, ◌≤◌, ◌^◌, IfOk, None, length};
+ghost use Rattle.std.specs.Prelude.{◌≡◌, ◌⊎◌, ◌<◌, ◌≤◌, ◌^◌, IfOk, None, false, is_some, length};
 ghost use Rattle.std.specs.IoError.{error_kind};
 ghost use Rattle.cm_io.specs.Counts.{count_after};
 ghost use Rattle.cm_io.specs.Outside.{Rose};
-ghost use Rattle.cm_gate.specs.Failures.{is_failed_fetch};
+ghost use Rattle.cm_gate.specs.Failures.{is_failed_fetch, is_failed_halt, is_failed_launch};
 ghost use Rattle.cm_gate.specs.Places.{HasAtMost, place_of_fetch};
 
 use crate::count::FaultCount;
 use crate::place::place_of;
-use crate::{Fetch, Fetched, Gates, Halted, Job, Launched};
+use crate::{Fetch, Fetched, Gates, Halted, Job, Launched, Runner};
 use cm_names::List;
 use cm_turn::Pass;
 use cm_world::{Entry, Frame};
 use std::alloc::Global;
 use std::io::{ErrorKind, Read};
 use std::marker::Model;
+use std::net::Net;
 use std::rt::Files;
 use std::sync::Wait;
 use std::thread::Threads;
@@ -28,39 +29,43 @@ const LONGEST_READ: u64 = 1_048_577;
 /// Gates to folders of manifests.
 ///
 /// The manifest of a URL is the file `repo/host/path/fragment`, where `repo` is the folder that the
-/// fetch names, and host, path and fragment are those of the URL. They start and stop no programs:
-/// each launch answers `Running` and each halt `Stopped`. They tell no log.
+/// fetch names, and host, path and fragment are those of the URL. Programs are started and stopped
+/// by a [`Runner`]; where there is none, each launch answers `Running` and each halt `Stopped`. They
+/// tell no log.
 ///
 /// That manifests lie in a folder in this way is this project's own choice. Contracts see how often
 /// these gates failed.
 #[derive(Drop)]
 pub struct FolderGates<F> {
     files: F,
+    runner: Option<Runner>,
     faults: FaultCount,
 }
 
 impl<F> Model for FolderGates<F> {
-    ghost use Rattle.std.specs.Prelude.{ℕ};
+    ghost use Rattle.std.specs.Prelude.{is_some};
+    ghost use Rattle.cm_gate.specs.Runner.{FolderView};
 
-    ghost Value = { ℕ };
+    ghost Value = { FolderView };
 
-    ghost view = { λ g. g.faults };
+    ghost view = { λ g. record { runs = is_some g.runner; faults = g.faults } };
 }
 
 impl<F: Files + Drop> FolderGates<F> {
     /// Gates that read through `files`, and have not failed yet.
-    pub fn new(files: F) -> FolderGates<F>
-        ensures { result ≡ 0 }
+    pub fn new(files: F, runner: Option<Runner>) -> FolderGates<F>
+        ensures { result ≡ record { runs = is_some runner; faults = 0 } }
     {
         FolderGates {
             files,
+            runner,
             faults: FaultCount::new(),
         }
     }
 
     /// How often they failed, up to 2^64 - 1.
     pub fn faults(&self) -> u64
-        ensures { result ≡ self.now }
+        ensures { result ≡ self.now.faults }
     {
         self.faults.get()
     }
@@ -116,12 +121,12 @@ fn find_file<F: Files>(files: &F, alloc: Global, what: &Fetch) -> Fetched
     }
 }
 
-impl<F: Files + Drop> Gates for FolderGates<F> {
+impl<F: Files + Net + Drop> Gates for FolderGates<F> {
     ghost use Rattle.std.specs.Prelude.{None};
 
     ghost log = { λ _. None };
 
-    ghost faults = { λ faults. faults };
+    ghost faults = { λ g. g.faults };
 
     ghost quiet = { λ _. ⊥ };
 
@@ -139,10 +144,11 @@ impl<F: Files + Drop> Gates for FolderGates<F> {
         _idle: &Pass<Entry, Frame>,
         what: &Fetch,
     ) -> Fetched
-        ensures count { self.new ≡ count_after (is_failed_fetch result) self.old }
-        ensures later { self.old ≤ self.new }
-        ensures fault { result ≡ Fetched.Failed → Rose self.old self.new }
-        ensures bound { self.new < 2 ^ 64 }
+        ensures call { self.new
+            ≡ record self.old { faults = count_after (is_failed_fetch result) self.old.faults } }
+        ensures later { self.old.faults ≤ self.new.faults }
+        ensures fault { result ≡ Fetched.Failed → Rose self.old.faults self.new.faults }
+        ensures bound { self.new.faults < 2 ^ 64 }
         ensures no_repo { what.now.repo ≡ None → result ≡ Fetched.Absent }
         ensures nowhere { place_of_fetch what.now ≡ None →
             (result ≡ Fetched.Absent) ⊎ (result ≡ Fetched.Memory) }
@@ -153,31 +159,47 @@ impl<F: Files + Drop> Gates for FolderGates<F> {
         answer
     }
 
+    /// Asks the runner, if there is one; else the program is taken to run.
     fn launch<R: Threads + Wait + Sync>(
         &mut self,
         _rt: &R,
         _idle: &Pass<Entry, Frame>,
-        _job: &Job,
+        job: &Job,
     ) -> Launched
-        ensures count { self.new ≡ self.old }
-        ensures bound { self.new < 2 ^ 64 }
-        ensures answer { result ≡ Launched.Running }
+        ensures call { self.new
+            ≡ record self.old { faults = count_after (is_failed_launch result) self.old.faults } }
+        ensures later { self.old.faults ≤ self.new.faults }
+        ensures fault { result ≡ Launched.Failed → Rose self.old.faults self.new.faults }
+        ensures bound { self.new.faults < 2 ^ 64 }
+        ensures recorded { self.old.runs ≡ false → result ≡ Launched.Running }
     {
-        self.faults.count(false);
-        Launched::Running
+        let answer = match &self.runner {
+            Some(runner) => runner.launch(&self.files, job),
+            None => Launched::Running,
+        };
+        self.faults.count(answer.is_failed());
+        answer
     }
 
+    /// Asks the runner, if there is one; else the program is taken to have stopped.
     fn halt<R: Threads + Wait + Sync>(
         &mut self,
         _rt: &R,
         _idle: &Pass<Entry, Frame>,
-        _job: &Job,
+        job: &Job,
     ) -> Halted
-        ensures count { self.new ≡ self.old }
-        ensures bound { self.new < 2 ^ 64 }
-        ensures answer { result ≡ Halted.Stopped }
+        ensures call { self.new
+            ≡ record self.old { faults = count_after (is_failed_halt result) self.old.faults } }
+        ensures later { self.old.faults ≤ self.new.faults }
+        ensures fault { result ≡ Halted.Failed → Rose self.old.faults self.new.faults }
+        ensures bound { self.new.faults < 2 ^ 64 }
+        ensures recorded { self.old.runs ≡ false → result ≡ Halted.Stopped }
     {
-        self.faults.count(false);
-        Halted::Stopped
+        let answer = match &self.runner {
+            Some(runner) => runner.halt(&self.files, job),
+            None => Halted::Stopped,
+        };
+        self.faults.count(answer.is_failed());
+        answer
     }
 }

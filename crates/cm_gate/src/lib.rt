@@ -9,7 +9,7 @@
 //!
 //! | gates | what they are for |
 //! |---|---|
-//! | [`FolderGates`] | manifests are files of a folder; programs are taken to run |
+//! | [`FolderGates`] | manifests are files of a folder; a [`Runner`] runs programs, or all run at once |
 //! | [`QuietGates`] | no manifest is known, and no call fails |
 //! | [`PlannedGates`] | for tests: answers and failures are planned, questions are noted |
 //! | [`MeetingGates`] | for tests: a fetch of one caller waits for a fetch of another |
@@ -26,6 +26,7 @@ pub mod meeting;
 mod place;
 pub mod planned;
 pub mod quiet;
+pub mod runner;
 
 pub use asked::{Asked, Fetch, Fetched, Halted, Job, Launched};
 pub use folder::FolderGates;
@@ -34,3 +35,4 @@ pub use manifests::Manifest;
 pub use meeting::MeetingGates;
 pub use planned::{GatePlan, PlannedGates};
 pub use quiet::QuietGates;
+pub use runner::Runner;

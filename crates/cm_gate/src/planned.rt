@@ -1,9 +1,10 @@
 //! Gates whose answers and failures are planned, and which note what they were asked.
 
 ghost use Rattle.cm_gate.specs.Logs.{Grew};
-ghost use Rattle.cm_gate.specs.Planned.{Causes, Leaves, Notes, counted, is_full, told_log};
+ghost use Rattle.cm_gate.specs.Planned.{Causes, Leaves, Notes, StaysTold, counted, is_full, told_log};
 ghost use Rattle.cm_gate.specs.Planned.{fails_next, is_among, not_yet_asked};
 ghost use Rattle.cm_gate.specs.Planned.{planned_fetch, planned_halt, planned_launch};
+ghost use Rattle.cm_io.specs.Counts.{count_after};
 ghost use Rattle.cm_io.specs.Outside.{Rose};
 ghost use Rattle.std.specs.Option.{option_map};
 ghost use Rattle.std.specs.Prelude.{◌≡◌, ◌⊎◌, ◌<◌, ◌≤◌, ◌++◌, ◌^◌, [], ◌∷◌, true, false};
@@ -80,6 +81,7 @@ pub struct PlannedGates {
     told: bool,
     calls: u64,
     faults: FaultCount,
+    short: FaultCount,
 }
 
 impl Model for PlannedGates {
@@ -93,6 +95,7 @@ impl Model for PlannedGates {
       told = g.told;
       calls = g.calls;
       faults = g.faults;
+      short = g.short;
     } };
 }
 
@@ -107,6 +110,7 @@ impl PlannedGates {
             told: true,
             calls: 0,
             faults: FaultCount::new(),
+            short: FaultCount::new(),
         }
     }
 
@@ -126,6 +130,13 @@ impl PlannedGates {
         ensures { result ≡ self.now.faults }
     {
         self.faults.get()
+    }
+
+    /// For how many calls memory was too short to note them, up to 2^64 - 1.
+    pub fn short(&self) -> u64
+        ensures { result ≡ self.now.short }
+    {
+        self.short.get()
     }
 
     fn fails_next(&self) -> bool
@@ -239,13 +250,18 @@ impl PlannedGates {
         self.faults.count(failed);
     }
 
-    /// Counts a call that isn't in the log, and its failure.
-    fn count_unnoted(&mut self, failed: bool)
+    /// Counts a call that isn't in the log, its failure, and whether memory was too short.
+    fn count_unnoted(&mut self, failed: bool, short: bool)
         ensures later { self.old.faults ≤ self.new.faults }
         ensures bound { self.new.faults < 2 ^ 64 }
-        ensures call { self.new ≡ record (counted failed self.old) { told = false } }
+        ensures call { self.new ≡ record (counted failed self.old) {
+          told = false;
+          short = count_after short self.old.short;
+        } }
+        ensures shorter { short ≡ true → Rose self.old.short self.new.short }
     {
         self.told = false;
+        self.short.count(short);
         self.count(failed);
     }
 }
@@ -275,6 +291,7 @@ impl Gates for PlannedGates {
         ensures answer { is_full self.old ≡ false →
             (result ≡ planned_fetch self.old what.now.url) ⊎ (result ≡ Fetched.Memory) }
         ensures told { self.new.told ≡ true → result ≡ planned_fetch self.old what.now.url }
+        ensures noted { StaysTold self.old self.new }
         ensures call { Leaves self.old self.new (Asked.Fetch what.now result) }
     {
         match self.note_fetch(what) {
@@ -283,11 +300,11 @@ impl Gates for PlannedGates {
                 answer
             }
             Err(Unnoted::NoRoom) => {
-                self.count_unnoted(true);
+                self.count_unnoted(true, false);
                 Fetched::Failed
             }
             Err(Unnoted::Memory) => {
-                self.count_unnoted(false);
+                self.count_unnoted(false, true);
                 Fetched::Memory
             }
         }
@@ -308,6 +325,7 @@ impl Gates for PlannedGates {
         ensures answer { is_full self.old ≡ false →
             (result ≡ planned_launch self.old job.now.url) ⊎ (result ≡ Launched.Failed) }
         ensures told { self.new.told ≡ true → result ≡ planned_launch self.old job.now.url }
+        ensures noted { StaysTold self.old self.new }
         ensures call { Leaves self.old self.new (Asked.Launch job.now result) }
     {
         match self.note_launch(job) {
@@ -315,8 +333,12 @@ impl Gates for PlannedGates {
                 self.count(answer.is_failed());
                 answer
             }
-            Err(_) => {
-                self.count_unnoted(true);
+            Err(Unnoted::NoRoom) => {
+                self.count_unnoted(true, false);
+                Launched::Failed
+            }
+            Err(Unnoted::Memory) => {
+                self.count_unnoted(true, true);
                 Launched::Failed
             }
         }
@@ -337,6 +359,7 @@ impl Gates for PlannedGates {
         ensures answer { is_full self.old ≡ false →
             (result ≡ planned_halt self.old) ⊎ (result ≡ Halted.Failed) }
         ensures told { self.new.told ≡ true → result ≡ planned_halt self.old }
+        ensures noted { StaysTold self.old self.new }
         ensures call { Leaves self.old self.new (Asked.Halt job.now result) }
     {
         match self.note_halt(job) {
@@ -344,8 +367,12 @@ impl Gates for PlannedGates {
                 self.count(answer.is_failed());
                 answer
             }
-            Err(_) => {
-                self.count_unnoted(true);
+            Err(Unnoted::NoRoom) => {
+                self.count_unnoted(true, false);
+                Halted::Failed
+            }
+            Err(Unnoted::Memory) => {
+                self.count_unnoted(true, true);
                 Halted::Failed
             }
         }

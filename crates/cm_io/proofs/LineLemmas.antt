@@ -1,5 +1,5 @@
 -- Lemmas on the lines of bytes, and on what a line reader has passed over.
-use Rattle.std.proofs.Common.{◌≡◌, ◌≢◌, ◌≤◌, ◌<◌, ◌==◌, ◌⊎◌, inl, inr, ℕ, suc, length-append, ◌+◌, ◌-◌, cond, nat_lt, Bool, true, false, List, [], ◌∷◌, ◌++◌, length, get_or, take, drop, Option, None, Some, refl, ap, sym, ◌∙◌, subst, append_assoc, append-nil, drop-cons, add-one, arith}
+use Rattle.std.proofs.Common.{map, ◌≡◌, ◌≢◌, ◌≤◌, ◌<◌, ◌==◌, ◌⊎◌, inl, inr, ℕ, suc, length-append, ◌+◌, ◌-◌, cond, nat_lt, Bool, true, false, List, [], ◌∷◌, ◌++◌, length, get_or, take, drop, Option, None, Some, refl, ap, sym, ◌∙◌, subst, append_assoc, append-nil, drop-cons, add-one, arith}
 use mathlib.Core.Bool.{true≢false}
 use Rattle.std.specs.List.{Contains, position, position_or_len}
 use Rattle.std.proofs.lemmas.Grind.{common_steps}
@@ -13,6 +13,8 @@ use Rattle.std.proofs.KnownBytes.{Appends-trans, Consumes-trans, Consumes-kept}
 use Rattle.cm_io.specs.declared.lines.Next.{Next}
 use Rattle.cm_io.specs.declared.lines.Next.TheVariants as next
 use Rattle.cm_io.specs.Outside.{AsSource}
+use Rattle.cm_io.proofs.Ordering.{came-trans, joined-more}
+use Rattle.cm_io.specs.Orders.{Came, Move, Pulled, ReadsUnbroken, joined, gave as gave_move}
 use Rattle.cm_io.specs.Lines.{EndsOnce, IsUnbroken, IsFirstLine, Grows, Moves, Reader, TakesPart, TakesLine, Tells, lines, in_front}
 
 abbrev ends_line : ℕ → Bool
@@ -129,8 +131,33 @@ appends-kept (Some x) None c bs grown kept = absurd grown
 appends-kept (Some x) (Some y) None bs grown kept = absurd kept
 appends-kept (Some x) (Some y) (Some z) bs grown kept = kept ∙ grown
 
+-- ---- the order of reads
+
+moves-more : (pieces : List (List ℕ)) (piece : List ℕ) → map gave_move (pieces ++ piece ∷ []) ≡ map gave_move pieces ++ gave_move piece ∷ []
+moves-more [] piece = refl
+moves-more (p ∷ pieces) piece = ap (λ (l : List Move). gave_move p ∷ l) (moves-more pieces piece)
+
+reads-more : (taken piece : List ℕ) (pieces : List (List ℕ)) → ReadsUnbroken taken pieces → IsUnbroken (taken ++ joined pieces) → ReadsUnbroken taken (pieces ++ piece ∷ [])
+reads-more taken piece [] reads unbroken = (subst IsUnbroken (append-nil taken) unbroken, tt)
+reads-more taken piece (p ∷ pieces) reads unbroken =
+    (reads.0, reads-more (taken ++ p) piece pieces reads.1 (subst IsUnbroken (sym (append_assoc taken p (joined pieces))) unbroken))
+
+-- nothing was read yet
+pub pulled-none : (o : Option (List Move)) (held : List ℕ) → Came o o [] → Pulled o o held []
+pulled-none o held came = record { pieces = []; all = refl; came = came; no_further = tt }
+
+-- one read more, while no line ends in what is there
+pulled-more : (first o then : Option (List Move)) (held given piece : List ℕ) → Pulled first o held given → IsUnbroken (held ++ given)
+    → Came o then (gave_move piece ∷ []) → Pulled first then held (given ++ piece)
+pulled-more first o then held given piece p unbroken came = record {
+  pieces = p.pieces ++ piece ∷ [];
+  all = ap (λ (l : List ℕ). l ++ piece) p.all ∙ sym (joined-more p.pieces piece);
+  came = subst (Came first then) (sym (moves-more p.pieces piece)) (came-trans first o then (map gave_move p.pieces) (gave_move piece ∷ []) p.came came);
+  no_further = reads-more held piece p.pieces p.no_further (subst (λ (l : List ℕ). IsUnbroken (held ++ l)) p.all unbroken);
+}
+
 -- what a call has passed over so far: `gone`, of the `held` bytes and of those that the source gave
-pub record Passed (old now : AsSource) (over : Bool) (held kept line : List ℕ) : Type 0 where
+pub record Passed (old now : AsSource) (first o : Option (List Move)) (over : Bool) (held kept line : List ℕ) : Type 0 where
   pub given : List ℕ
   pub gone : List ℕ
   pub gave : Moves old now given
@@ -138,6 +165,7 @@ pub record Passed (old now : AsSource) (over : Bool) (held kept line : List ℕ)
   pub moved : held ++ given ≡ gone ++ kept
   pub unbroken : IsUnbroken gone
   pub carried : Carries line gone
+  pub pulled : Pulled first o held given
 
 Carries-grown : (line next gone part : List ℕ) → Grows line next part → Carries line gone → Carries next (gone ++ part)
 Carries-grown line next gone part grows (inl e) =
@@ -149,9 +177,10 @@ Carries-grown line next gone part grows (inr h) =
     inr (omega (arith, h.0, ap length (grows.1 h.0)), omega (arith, h.1, length-append gone part))
 
 -- no line end stands in what was held, and then the source gave `more`
-pub passed-filled : (old now then : AsSource) (over : Bool) (held kept line next more : List ℕ) → over ≡ false → Passed old now over held kept line → IsUnbroken kept → Grows line next kept
-    → Moves now then more → Passed old then over held more next
-passed-filled old now then over held kept line next more not p unbroken grows gave = record {
+pub passed-filled : (old now then : AsSource) (first o after : Option (List Move)) (over : Bool) (held kept line next more : List ℕ) → over ≡ false
+    → Passed old now first o over held kept line → IsUnbroken kept → Grows line next kept
+    → Moves now then more → Came o after (gave_move more ∷ []) → Passed old then first after over held more next
+passed-filled old now then first o after over held kept line next more not p unbroken grows gave came = record {
   given = p.given ++ more;
   gone = p.gone ++ kept;
   gave = (Consumes-trans old.left now.left then.left p.given more p.gave.0 gave.0, Appends-trans old.given now.given then.given p.given more p.gave.1 gave.1);
@@ -159,11 +188,13 @@ passed-filled old now then over held kept line next more not p unbroken grows ga
   moved = sym (append_assoc held p.given more) ∙ ap (λ (l : List ℕ). l ++ more) p.moved;
   unbroken = All-append (λ b. b ≢ 10) p.gone kept p.unbroken unbroken;
   carried = Carries-grown line next p.gone kept grows p.carried;
+  pulled = pulled-more first o after held p.given more p.pulled (subst IsUnbroken (sym p.moved) (All-append (λ b. b ≢ 10) p.gone kept p.unbroken unbroken)) came;
 }
 
 -- what a call may tell, with the bytes that the source gave in it
-abbrev pub Told : AsSource → AsSource → Reader → Reader → Next → Type 0
-Told old now before after answer = (given : List ℕ) × Moves old now given × EndsOnce before after old now given × Tells (before.held ++ given) after answer
+abbrev pub Told : AsSource → AsSource → Option (List Move) → Option (List Move) → Reader → Reader → Next → Type 0
+Told old now first o before after answer =
+    (given : List ℕ) × Moves old now given × EndsOnce before after old now given × Tells (before.held ++ given) after answer × Pulled first o before.held given
 
 tells-line : (taken : List ℕ) (after : Reader) (line gone : List ℕ) (answer : Next) → Carries line gone → IsFirstLine taken after gone
     → (length line ≤ 65536 → answer ≡ next.Line line) → (65536 < length line → answer ≡ next.TooLong) → Tells taken after answer
@@ -181,10 +212,10 @@ same-end before after old now given e still = record {
   comes = λ not there. absurd (true≢false (sym there ∙ e ∙ not));
 }
 
-pub told-whole : (old now : AsSource) (before after : Reader) (kept line grown : List ℕ) (answer : Next) → after.over ≡ before.over
-    → Passed old now before.over before.held kept line → TakesPart kept after.held line grown true
-    → (length grown ≤ 65536 → answer ≡ next.Line grown) → (65536 < length grown → answer ≡ next.TooLong) → Told old now before after answer
-told-whole old now before after kept line grown answer e p (part, unbroken, parted, grows) short long =
+pub told-whole : (old now : AsSource) (first o : Option (List Move)) (before after : Reader) (kept line grown : List ℕ) (answer : Next) → after.over ≡ before.over
+    → Passed old now first o before.over before.held kept line → TakesPart kept after.held line grown true
+    → (length grown ≤ 65536 → answer ≡ next.Line grown) → (65536 < length grown → answer ≡ next.TooLong) → Told old now first o before after answer
+told-whole old now first o before after kept line grown answer e p (part, unbroken, parted, grows) short long =
     let gone = p.gone ++ part in
     let moved : before.held ++ p.given ≡ gone ++ 10 ∷ after.held =
     p.moved ∙ ap (λ (l : List ℕ). p.gone ++ l) parted ∙ sym (append_assoc p.gone part (10 ∷ after.held)) in (
@@ -193,6 +224,7 @@ told-whole old now before after kept line grown answer e p (part, unbroken, part
       same-end before after old now p.given e p.still,
       tells-line (before.held ++ p.given) after grown gone answer (Carries-grown line grown p.gone part grows p.carried)
           (All-append (λ b. b ≢ 10) p.gone part p.unbroken unbroken, inl moved) short long,
+      p.pulled,
     )
 
 -- a line is empty where the bytes are that it stands for
@@ -206,11 +238,11 @@ some line gone (inl e) h = omega (arith, ap length e)
 some line gone (inr c) h = omega (arith, c.1)
 
 -- the source is at its end, or was before: all that was held is the last line, if it isn't empty
-pub told-last : (old then : AsSource) (before after : Reader) (kept line grown : List ℕ) (answer : Next) → after.held ≡ [] → after.over ≡ true
-    → (before.over ≡ false → IsAtEnd then.left) → Passed old then before.over before.held kept line → TakesPart kept [] line grown false
+pub told-last : (old then : AsSource) (first o : Option (List Move)) (before after : Reader) (kept line grown : List ℕ) (answer : Next) → after.held ≡ [] → after.over ≡ true
+    → (before.over ≡ false → IsAtEnd then.left) → Passed old then first o before.over before.held kept line → TakesPart kept [] line grown false
     → (length grown ≡ 0 → answer ≡ next.End) → (0 < length grown → length grown ≤ 65536 → answer ≡ next.Line grown)
-    → (65536 < length grown → answer ≡ next.TooLong) → Told old then before after answer
-told-last old then before after kept line grown answer held over end p (unbroken, none, grows) empty short long =
+    → (65536 < length grown → answer ≡ next.TooLong) → Told old then first o before after answer
+told-last old then first o before after kept line grown answer held over end p (unbroken, none, grows) empty short long =
     let gone = p.gone ++ kept in
     let carried = Carries-grown line grown p.gone kept grows p.carried in
     let all = All-append (λ b. b ≢ 10) p.gone kept p.unbroken unbroken in (
@@ -221,12 +253,14 @@ told-last old then before after kept line grown answer held over end p (unbroken
         | inl h ↦ subst (Tells (before.held ++ p.given) after) (sym (empty (omega (arith, h.1)))) (p.moved ∙ nothing grown gone carried h.1, held, over)
         | inr h ↦ tells-line (before.held ++ p.given) after grown gone answer carried (all, inr (p.moved, some grown gone carried h.1, held, over)) (short h.1) long
       ],
+      p.pulled,
     )
 
 -- a read that kept the source's bytes gave none
-pub passed-kept : (old now then : AsSource) (over : Bool) (held kept line : List ℕ) → over ≡ false → Passed old now over held kept line
-    → Keeps now.left then.left → Keeps now.given then.given → Passed old then over held kept line
-passed-kept old now then over held kept line not p left given = record {
+pub passed-kept : (old now then : AsSource) (first o after : Option (List Move)) (over : Bool) (held kept line : List ℕ) → over ≡ false
+    → Passed old now first o over held kept line → IsUnbroken kept
+    → Keeps now.left then.left → Keeps now.given then.given → Came o after (gave_move [] ∷ []) → Passed old then first after over held kept line
+passed-kept old now then first o after over held kept line not p unbroken left given came = record {
   given = p.given;
   gone = p.gone;
   gave = (Consumes-kept old.left now.left then.left p.given p.gave.0 left, appends-kept old.given now.given then.given p.given p.gave.1 given);
@@ -234,15 +268,18 @@ passed-kept old now then over held kept line not p left given = record {
   moved = p.moved;
   unbroken = p.unbroken;
   carried = p.carried;
+  pulled = subst (Pulled first after held) (append-nil p.given)
+      (pulled-more first o after held p.given [] p.pulled (subst IsUnbroken (sym p.moved) (All-append (λ b. b ≢ 10) p.gone kept p.unbroken unbroken)) came);
 }
 
-pub told-fault : (old then : AsSource) (before after : Reader) (kept line grown : List ℕ) → after.held ≡ [] → after.over ≡ before.over
-    → Passed old then before.over before.held kept line → TakesPart kept [] line grown false → Told old then before after next.ReadFault
-told-fault old then before after kept line grown held over p (unbroken, none, grows) = (
+pub told-fault : (old then : AsSource) (first o : Option (List Move)) (before after : Reader) (kept line grown : List ℕ) → after.held ≡ [] → after.over ≡ before.over
+    → Passed old then first o before.over before.held kept line → TakesPart kept [] line grown false → Told old then first o before after next.ReadFault
+told-fault old then first o before after kept line grown held over p (unbroken, none, grows) = (
   p.given,
   p.gave,
   same-end before after old then p.given over p.still,
   (subst IsUnbroken (sym p.moved) (All-append (λ b. b ≢ 10) p.gone kept p.unbroken unbroken), held),
+  p.pulled,
 )
 
 first-lines : (taken left : List ℕ) (after : Reader) (line : List ℕ) → (after.over ≡ true → left ≡ []) → IsFirstLine taken after line
@@ -271,6 +308,6 @@ takes-of (Some o) (Some n) before after answer given gave ends tells =
     takes-known before.held o given n after answer ends (ap (λ (l : List ℕ). before.held ++ l) gave ∙ sym (append_assoc before.held given n)) tells
 
 -- where the bytes that the source has left are known, the call took the first of their lines
-pub takes-line : (old now : AsSource) (before after : Reader) (answer : Next) → Told old now before after answer → before.over ≡ false
+pub takes-line : (old now : AsSource) (first o : Option (List Move)) (before after : Reader) (answer : Next) → Told old now first o before after answer → before.over ≡ false
     → TakesLine (prepend_known before.held old.left) (prepend_known after.held now.left) answer
-takes-line old now before after answer (given, gave, ends, tells) not = takes-of old.left now.left before after answer given gave.0 (ends.comes not) tells
+takes-line old now first o before after answer (given, gave, ends, tells, pulled) not = takes-of old.left now.left before after answer given gave.0 (ends.comes not) tells

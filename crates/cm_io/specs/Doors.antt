@@ -1,5 +1,5 @@
 -- What the calls on a door say: what is counted, and that a link is new.
-use Rattle.std.specs.Prelude.{◌≡◌, ◌+◌, ◌≤◌, ⊤}
+use Rattle.std.specs.Prelude.{◌≡◌, ℕ, List, ◌+◌, ◌≤◌, ⊤, Option, Some, None}
 use Rattle.std.specs.Io.KnownBytes.{IsAtEnd}
 use Rattle.cm_io.specs.Counts.{one_more}
 use Rattle.cm_io.specs.Outside.{AsSink, AsSource}
@@ -18,6 +18,44 @@ CountsFault before now =
 abbrev pub Listens : DoorCounts → DoorCounts → Listen → Type 0
 Listens before now listen.Ready = now ≡ before
 Listens before now listen.Failed = CountsFault before now
+
+-- where peers may come: the door doesn't tell, nowhere yet, somewhere that it doesn't tell, or at this place
+pub data Place : Type 0 where
+  untold : Place
+  nowhere : Place
+  somewhere : Place
+  at : List ℕ → Place
+
+-- peers may not come yet
+abbrev pub IsShut : Place → Type 0
+IsShut untold = ⊤
+IsShut nowhere = ⊤
+IsShut somewhere = ⊥
+IsShut (at place) = ⊥
+
+-- peers may come somewhere
+abbrev pub IsOpen : Place → Type 0
+IsOpen untold = ⊤
+IsOpen nowhere = ⊥
+IsOpen somewhere = ⊤
+IsOpen (at place) = ⊤
+
+-- peers may come there
+abbrev pub IsAt : List ℕ → Place → Type 0
+IsAt wanted untold = ⊤
+IsAt wanted nowhere = ⊥
+IsAt wanted somewhere = ⊤
+IsAt wanted (at place) = place ≡ wanted
+
+-- somewhere, where there is a listener
+abbrev pub place_by : {A : Type 0} → Option A → Place
+place_by None = nowhere
+place_by (Some listener) = somewhere
+
+-- a listen lets peers come at the place that it names, and nowhere where it fails
+abbrev pub Opens : List ℕ → Place → Place → Listen → Type 0
+Opens wanted before now listen.Ready = IsAt wanted now
+Opens wanted before now listen.Failed = now ≡ before
 
 -- a link, a closing or a fault is counted, and nothing else
 abbrev pub Accepts : {L : Type 0} → DoorCounts → DoorCounts → Accept L → Type 0

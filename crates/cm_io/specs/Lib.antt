@@ -3,4 +3,6 @@ pub mod Doors
 pub mod InMemory
 pub mod Lines
 pub mod MemoryDoors
+pub mod Orders
+pub mod Steps
 pub mod Outside

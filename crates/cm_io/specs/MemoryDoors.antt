@@ -1,7 +1,11 @@
 -- Links and doors in memory, as contracts see them.
-use Rattle.std.specs.Prelude.{◌≡◌, ◌⊎◌, ◌-◌, ◌^◌, ℕ, Bool, true, false, Contains, List, [], ◌∷◌, Some}
+use Rattle.std.specs.Prelude.{cond, ◌≡◌, ◌⊎◌, ◌-◌, ◌^◌, ℕ, Bool, true, false}
+use Rattle.std.specs.Prelude.{Contains, List, [], ◌∷◌, Option, Some}
 use Rattle.cm_io.specs.InMemory.{PlanAtWork, unused}
+use Rattle.cm_io.specs.Doors.{Place, nowhere, somewhere}
+use Rattle.cm_io.specs.Orders.{Move}
 use Rattle.cm_io.specs.Outside.{AsSink, AsSource}
+use Rattle.cm_io.specs.Steps.{order_of}
 use Rattle.cm_io.specs.declared.door.Accept.{Accept}
 use Rattle.cm_io.specs.declared.door.Accept.TheVariants as accept
 use Rattle.cm_io.specs.declared.door.DoorCounts.{DoorCounts}
@@ -22,11 +26,16 @@ as_source link = record {
 abbrev pub as_sink : MemoryLink → AsSink
 as_sink link = record { written = Some link.sink.written; faults = link.sink.plan.faults }
 
+-- in which order a link in memory was read, written and hung up, where that is told
+abbrev pub link_order : MemoryLink → Option (List Move)
+link_order link = order_of link.log
+
 -- the link that a plan makes: it gave nothing yet, and nothing was written to it
 abbrev pub made_by : LinkPlan → MemoryLink
 made_by plan = record {
   source = record { given = []; left = plan.bytes; plan = unused plan.source.piece plan.source.failing };
   sink = record { written = []; capacity = 0; plan = unused plan.sink.piece plan.sink.failing };
+  log = Some [];
 }
 
 -- a door: the links that wait, the plan by which its calls fail, and how many links and closings it counted
@@ -35,6 +44,17 @@ pub record DoorInMemory : Type 0 where
   pub plan : PlanAtWork
   pub links : ℕ
   pub closings : ℕ
+  -- whether a listen succeeded
+  pub listening : Bool
+
+-- somewhere, behind a listen that succeeded
+abbrev pub place_in_memory : DoorInMemory → Place
+place_in_memory door = cond door.listening somewhere nowhere
+
+-- whether peers may come behind a listen
+abbrev pub listens_now : Bool → Listen → Bool
+listens_now before listen.Ready = true
+listens_now before listen.Failed = before
 
 -- what a door in memory counted
 abbrev pub counts_of : DoorInMemory → DoorCounts

@@ -1,6 +1,6 @@
 //! Where links come from.
 
-ghost use Rattle.cm_io.specs.Doors.{Accepts, IsNew, Listens, OnLink};
+ghost use Rattle.cm_io.specs.Doors.{Accepts, IsNew, IsOpen, IsShut, Listens, OnLink, Opens};
 ghost use Rattle.std.specs.Prelude.{◌≡◌, ◌-◌, ◌^◌};
 
 use crate::Link;
@@ -39,6 +39,7 @@ pub struct DoorCounts {
 
 /// Where links come from.
 pub trait Door: Drop {
+    ghost use Rattle.cm_io.specs.Doors.{Place, untold};
     ghost use Rattle.cm_io.specs.declared.door.DoorCounts.{DoorCounts};
 
     /// What it gives.
@@ -47,13 +48,20 @@ pub trait Door: Drop {
     /// What it counted.
     ghost counts: { Self → DoorCounts };
 
-    /// Lets peers come at this place.
+    /// Where peers may come, where it tells that.
+    ghost place: { Self → Place } = { λ _. untold };
+
+    /// Lets peers come at this place. They may come nowhere before.
     fn listen<R: Threads + Wait + Sync>(&mut self, rt: &R, at: &str) -> Listen
+        requires { IsShut (place self.old) }
+        ensures place { Opens at.now (place self.old) (place self.new) result }
         ensures counts { Listens (counts self.old) (counts self.new) result };
 
-    /// Waits for the next peer. A link that is given is new: it failed never, and what it tells of
-    /// its bytes is that there were none.
+    /// Waits for the next peer, where it was let come. A link that is given is new: it failed never, and
+    /// what it tells of its bytes is that there were none.
     fn accept<R: Threads + Wait + Sync>(&mut self, rt: &R) -> Accept<Self::Link>
+        requires { IsOpen (place self.old) }
+        ensures place { place self.new ≡ place self.old }
         ensures counts { Accepts (counts self.old) (counts self.new) result }
         ensures full { (counts self.old).links ≡ 2 ^ 64 - 1 → result ≡ Accept.Failed }
         ensures new { OnLink result (λ l. IsNew

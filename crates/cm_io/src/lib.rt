@@ -27,6 +27,7 @@ pub mod sink;
 pub mod sockets;
 pub mod source;
 pub mod standard;
+pub mod steps;
 
 pub use door::{Accept, Door, DoorCounts, Listen};
 pub use input::{SourceFault, read_up_to};
@@ -40,3 +41,4 @@ pub use sink::{Sink, Took};
 pub use sockets::{SocketDoor, SocketLink};
 pub use source::{Got, Source};
 pub use standard::{Reading, Writing};
+pub use steps::{Step, StepLog};

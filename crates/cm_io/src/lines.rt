@@ -1,10 +1,11 @@
 //! Lines out of a source.
 
 ghost use Rattle.cm_io.specs.Lines.{EndsOnce, Fills, Gains, Grows, Moves, TakesLine, TakesPart, Tells};
+ghost use Rattle.cm_io.specs.Orders.{Came, Pulled, gave as gave_move};
 ghost use Rattle.cm_io.specs.Outside.{AsSource, ReadCause, Rose};
 ghost use Rattle.std.specs.Io.KnownBytes.{prepend_known};
 ghost use Rattle.std.specs.List.{position};
-ghost use Rattle.std.specs.Prelude.{◌≡◌, ◌≢◌, ◌==◌, ◌<◌, ◌≤◌, ◌++◌, ℕ, List as Seq, [], length, false};
+ghost use Rattle.std.specs.Prelude.{◌≡◌, ◌≢◌, ◌==◌, ◌<◌, ◌≤◌, ◌++◌, ◌∷◌, ℕ, List as Seq, [], length, false};
 ghost use Rattle.std.specs.Prelude.{true, Contains, IfOk, OnOk};
 
 use crate::input::make_piece;
@@ -83,6 +84,8 @@ impl LineReader {
 
     /// Takes the next line. The byte 0x0A ends each line; a last line without it counts where it isn't empty.
     /// A whole line that is held is told without a read, and so is what is held behind the source's end.
+    /// It reads only while no line ends in what it has, so never further than the read that holds the line's
+    /// end, and a read that fails is told.
     ///
     /// It is `TooLong` exactly where the next line has more than 65,536 bytes, and the next call
     /// goes on behind that line. It is `End` exactly where no byte is left. `ReadFault` comes only
@@ -101,7 +104,8 @@ impl LineReader {
               faults = S.faults source.new;
             } in
             (given : Seq ℕ) × Moves old new given × EndsOnce self.old self.new old new given
-            × Tells (self.old.held ++ given) self.new result }
+            × Tells (self.old.held ++ given) self.new result
+            × Pulled (S.order source.old) (S.order source.new) self.old.held given }
         ensures lines { self.old.over ≡ false → TakesLine (prepend_known self.old.held (S.left source.old))
             (prepend_known self.new.held (S.left source.new)) result }
         ensures ready { Contains self.old.held 10 → source.new ≡ source.old }
@@ -109,6 +113,7 @@ impl LineReader {
         ensures beside { S.beside source.new ≡ S.beside source.old }
         ensures later { S.faults source.old ≤ S.faults source.new }
         ensures fault { result ≡ Next.ReadFault → Rose (S.faults source.old) (S.faults source.new) }
+        ensures told_fault { result ≢ Next.ReadFault → S.faults source.new ≡ S.faults source.old }
         ensures quiet { S.quiet source.old →
             S.quiet source.new × (S.faults source.new ≡ S.faults source.old) }
         ensures unfailing { S.quiet source.old → result ≢ Next.ReadFault }
@@ -137,6 +142,7 @@ impl LineReader {
         requires { self.old.held ≡ [] }
         ensures bytes { Fills (S.left source.old) (S.left source.new) self.new.held result }
         ensures gave { Gains (S.given source.old) (S.given source.new) self.new.held result }
+        ensures order { Came (S.order source.old) (S.order source.new) (gave_move self.new.held ∷ []) }
         ensures over { result ≢ Got.End → self.new.over ≡ self.old.over }
         ensures ended { result ≡ Got.End → self.new.over ≡ true }
         ensures beside { S.beside source.new ≡ S.beside source.old }

@@ -1,6 +1,7 @@
 //! Connections.
 
-ghost use Rattle.std.specs.Prelude.{◌≡◌};
+ghost use Rattle.std.specs.Prelude.{◌≡◌, ◌∷◌, []};
+ghost use Rattle.cm_io.specs.Orders.{Came, hung_up};
 
 use crate::{Sink, Source};
 use std::sync::Wait;
@@ -18,7 +19,8 @@ pub trait Link: Source + Sink {
     /// counts stay as they are.
     fn hang_up<R: Threads + Wait + Sync>(&mut self, rt: &R)
         ensures source { Self.Sink.beside self.new ≡ Self.Sink.beside self.old }
-        ensures sink { Self.Source.beside self.new ≡ Self.Source.beside self.old };
+        ensures sink { Self.Source.beside self.new ≡ Self.Source.beside self.old }
+        ensures order { Came (Self.Source.order self.old) (Self.Source.order self.new) (hung_up ∷ []) };
 
     /// What no read changes is what it tells as a sink.
     ghost sink_apart: { (l : Self) →
@@ -28,4 +30,7 @@ pub trait Link: Source + Sink {
     ghost source_apart: { (l : Self) →
         Self.Sink.beside l ≡
         record { left = Self.left l; given = Self.given l; faults = Self.Source.faults l } };
+
+    /// Reads and writes stand in one order.
+    ghost one_order: { (l : Self) → Self.Source.order l ≡ Self.Sink.order l };
 }

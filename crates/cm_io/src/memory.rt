@@ -136,6 +136,13 @@ impl MemorySource {
             planned: Planned::new(plan),
         }
     }
+
+    /// How many reads failed, up to 2^64 - 1.
+    pub fn faults(&self) -> u64
+        ensures { result ≡ self.now.plan.faults }
+    {
+        self.planned.faults
+    }
 }
 
 impl Source for MemorySource {
@@ -235,6 +242,13 @@ impl MemorySink {
         ensures { result.now ≡ self.now.written }
     {
         self.bytes.as_slice()
+    }
+
+    /// How many writes failed, up to 2^64 - 1.
+    pub fn faults(&self) -> u64
+        ensures { result ≡ self.now.plan.faults }
+    {
+        self.planned.faults
     }
 }
 

@@ -3,8 +3,8 @@
 ghost use Rattle.cm_io.specs.Doors.{Accepts, IsNew, Listens, OnLink};
 ghost use Rattle.cm_io.specs.InMemory.{after_call, unused};
 ghost use Rattle.cm_io.specs.MemoryDoors.{Gives, IsToFail, is_failed_accept, as_sink, as_source, counts_of};
-ghost use Rattle.cm_io.specs.MemoryDoors.{is_failed_listen};
-ghost use Rattle.std.specs.Prelude.{◌≡◌, ◌↔◌, ◌-◌, ◌^◌, Contains};
+ghost use Rattle.cm_io.specs.MemoryDoors.{is_failed_listen, listens_now};
+ghost use Rattle.std.specs.Prelude.{◌≡◌, ◌↔◌, ◌-◌, ◌^◌, Contains, false};
 
 use crate::memory::Planned;
 use crate::{Accept, Door, LinkPlan, Listen, MemoryLink, Plan};
@@ -25,6 +25,7 @@ pub struct MemoryDoor {
     planned: Planned,
     links: u64,
     closings: u64,
+    listening: bool,
 }
 
 impl Model for MemoryDoor {
@@ -42,6 +43,7 @@ impl Model for MemoryDoor {
       };
       links = d.links;
       closings = d.closings;
+      listening = d.listening;
     } };
 }
 
@@ -49,7 +51,13 @@ impl MemoryDoor {
     /// A door that gives these links. The first call, be it a listen or an accept, has the number 0.
     pub fn new(alloc: Global, waiting: VecDeque<LinkPlan>, failing: List<u64>) -> MemoryDoor
         ensures { result ≡
-            record { waiting = waiting.items; plan = unused 1 failing; links = 0; closings = 0 } }
+            record {
+              waiting = waiting.items;
+              plan = unused 1 failing;
+              links = 0;
+              closings = 0;
+              listening = false;
+            } }
     {
         MemoryDoor {
             alloc,
@@ -57,16 +65,26 @@ impl MemoryDoor {
             planned: Planned::new(Plan { piece: 1, failing }),
             links: 0,
             closings: 0,
+            listening: false,
         }
+    }
+
+    /// How many calls failed, up to 2^64 - 1.
+    pub fn faults(&self) -> u64
+        ensures { result ≡ self.now.plan.faults }
+    {
+        self.planned.faults
     }
 }
 
 impl Door for MemoryDoor {
-    ghost use Rattle.cm_io.specs.MemoryDoors.{counts_of};
+    ghost use Rattle.cm_io.specs.MemoryDoors.{counts_of, place_in_memory};
 
     type Link = MemoryLink;
 
     ghost counts = { counts_of };
+
+    ghost place = { place_in_memory };
 
     /// It fails exactly where that is planned.
     fn listen<R: Threads + Wait + Sync>(&mut self, _rt: &R, _at: &str) -> Listen
@@ -74,11 +92,13 @@ impl Door for MemoryDoor {
         ensures failed { (result ≡ Listen.Failed) ↔ Contains self.old.plan.failing self.old.plan.calls }
         ensures call { self.new ≡ record self.old {
           plan = after_call (is_failed_listen result) self.old.plan;
+          listening = listens_now self.old.listening result;
         } }
     {
         if self.planned.fails() {
             return Listen::Failed;
         }
+        self.listening = true;
         Listen::Ready
     }
 
@@ -89,6 +109,7 @@ impl Door for MemoryDoor {
         ensures full { self.old.links ≡ 2 ^ 64 - 1 → result ≡ Accept.Failed }
         ensures new { OnLink result (λ link. IsNew (as_source link) (as_sink link)) }
         ensures failed { (result ≡ Accept.Failed) ↔ IsToFail self.old }
+        ensures listening { self.new.listening ≡ self.old.listening }
         ensures gives { Gives self.old.waiting self.new.waiting result }
         ensures call { self.new.plan ≡ after_call (is_failed_accept result) self.old.plan }
     {

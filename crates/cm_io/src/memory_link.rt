@@ -1,11 +1,15 @@
 //! Links in memory.
 
 ghost use Rattle.cm_io.specs.InMemory.{after_call, most_of, sure_room};
-ghost use Rattle.cm_io.specs.MemoryDoors.{as_sink, as_source, made_by};
+ghost use Rattle.cm_io.specs.MemoryDoors.{as_sink, as_source, link_order, made_by};
+ghost use Rattle.cm_io.specs.Orders.{Came, gave as gave_move, got_bytes, hung_up, took_bytes};
+ghost use Rattle.cm_io.specs.Orders.{wrote as wrote_move};
 ghost use Rattle.cm_io.specs.Outside.{Gave, ReadCause, Reads, TookAnd, WriteCause, Writes, is_failed_read};
 ghost use Rattle.cm_io.specs.Outside.{is_failed_write};
-ghost use Rattle.std.specs.Prelude.{◌≡◌, ◌≢◌, ◌↔◌, ◌⊎◌, ◌<◌, ◌≤◌, ◌+◌, ℕ, Some, [], length, min, Contains};
+ghost use Rattle.std.specs.Prelude.{◌≡◌, ◌≢◌, ◌↔◌, ◌⊎◌, ◌<◌, ◌≤◌, ◌+◌, ◌∷◌, ℕ, Some, []};
+ghost use Rattle.std.specs.Prelude.{length, min, Contains};
 
+use crate::steps::StepLog;
 use crate::{Got, Link, MemorySink, MemorySource, Plan, Sink, Source, Took};
 use cm_names::Bytes;
 use std::alloc::Global;
@@ -22,11 +26,13 @@ pub struct MemoryLink {
     pub source: MemorySource,
     /// What is written.
     pub sink: MemorySink,
+    /// In which order it was read, written and hung up.
+    pub log: StepLog,
 }
 
 impl Source for MemoryLink {
     ghost use Rattle.std.specs.Prelude.{◌≡◌, Some, []};
-    ghost use Rattle.cm_io.specs.MemoryDoors.{as_sink};
+    ghost use Rattle.cm_io.specs.MemoryDoors.{as_sink, link_order};
 
     ghost left = { λ l. Some l.source.left };
 
@@ -38,11 +44,15 @@ impl Source for MemoryLink {
 
     ghost beside = { as_sink };
 
+    ghost order = { link_order };
+
     fn read<R: Threads + Wait + Sync>(&mut self, rt: &R, into: &mut [u8]) -> Got
         requires { 0 < length into.old }
         ensures bytes { Reads (Some self.old.source.left) (Some self.new.source.left) into.new result }
         ensures gave { Gave (Some self.old.source.given) (Some self.new.source.given) into.new result }
         ensures beside { as_sink self.new ≡ as_sink self.old }
+        ensures order { Came (link_order self.old) (link_order self.new)
+            (gave_move (got_bytes into.new result) ∷ []) }
         ensures cause { ReadCause self.old.source.plan.faults self.new.source.plan.faults result }
         ensures quiet { self.old.source.plan.failing ≡ [] →
             (self.new.source.plan.failing ≡ []) × (result ≢ Got.Failed) }
@@ -53,14 +63,19 @@ impl Source for MemoryLink {
             n ≡ min (min (length self.old.source.left) (length into.old)) (most_of self.old.source.plan) }
         ensures apart { self.new.sink ≡ self.old.sink }
     {
-        self.source.read(rt, into)
+        let got = self.source.read(rt, into);
+        match got {
+            Got::Bytes(count) => self.log.note_gave(&into[..count]),
+            Got::End | Got::Failed => self.log.note_gave(&[]),
+        }
+        got
     }
 }
 
 impl Sink for MemoryLink {
     ghost use Rattle.std.specs.Prelude.{Some};
     ghost use Rattle.cm_io.specs.InMemory.{sure_room};
-    ghost use Rattle.cm_io.specs.MemoryDoors.{as_source};
+    ghost use Rattle.cm_io.specs.MemoryDoors.{as_source, link_order};
 
     ghost written = { λ l. Some l.sink.written };
 
@@ -70,10 +85,14 @@ impl Sink for MemoryLink {
 
     ghost beside = { as_source };
 
+    ghost order = { link_order };
+
     fn write<R: Threads + Wait + Sync>(&mut self, rt: &R, bytes: &[u8]) -> Took
         requires { 0 < length bytes.now }
         ensures bytes { Writes (Some self.old.sink.written) (Some self.new.sink.written) bytes.now result }
         ensures beside { as_source self.new ≡ as_source self.old }
+        ensures order { Came (link_order self.old) (link_order self.new)
+            (wrote_move (took_bytes bytes.now result) ∷ []) }
         ensures cause { WriteCause self.old.sink.plan.faults self.new.sink.plan.faults result }
         ensures room { length bytes.now ≤ sure_room self.old.sink →
             TookAnd result (λ n. sure_room self.old.sink ≤ n + sure_room self.new.sink) }
@@ -89,7 +108,12 @@ impl Sink for MemoryLink {
         ensures capacity { self.old.sink.capacity ≤ self.new.sink.capacity }
         ensures apart { self.new.source ≡ self.old.source }
     {
-        self.sink.write(rt, bytes)
+        let took = self.sink.write(rt, bytes);
+        match took {
+            Took::Bytes(count) => self.log.note_wrote(&bytes[..count]),
+            Took::Failed => self.log.note_wrote(&[]),
+        }
+        took
     }
 }
 
@@ -100,11 +124,16 @@ impl Link for MemoryLink {
 
     ghost source_apart = { λ _. refl };
 
+    ghost one_order = { λ _. refl };
+
     fn hang_up<R: Threads + Wait + Sync>(&mut self, _rt: &R)
         ensures source { as_source self.new ≡ as_source self.old }
         ensures sink { as_sink self.new ≡ as_sink self.old }
-        ensures kept { self.new ≡ self.old }
-    {}
+        ensures order { Came (link_order self.old) (link_order self.new) (hung_up ∷ []) }
+        ensures kept { (self.new.source ≡ self.old.source) × (self.new.sink ≡ self.old.sink) }
+    {
+        self.log.note_hung_up();
+    }
 }
 
 /// What a link in memory is made of: the bytes that it gives, and how its two sides behave.
@@ -129,6 +158,7 @@ impl LinkPlan {
         MemoryLink {
             source: MemorySource::new(bytes, source),
             sink: MemorySink::new(alloc, sink),
+            log: StepLog::new(alloc),
         }
     }
 }

@@ -1,6 +1,7 @@
 //! Writing the whole of a text.
 
 ghost use Rattle.std.specs.Prelude.{◌≡◌, ◌≤◌, ◌+◌, length};
+ghost use Rattle.cm_io.specs.Orders.{PutsInOrder};
 ghost use Rattle.cm_io.specs.Outside.{PutCause, PutsAll};
 
 use crate::{Sink, Took};
@@ -22,6 +23,7 @@ pub enum Put {
 /// room for the bytes.
 pub fn put_all<R: Threads + Wait + Sync, K: Sink>(rt: &R, sink: &mut K, bytes: &[u8]) -> Put
     ensures bytes { PutsAll (K.written sink.old) (K.written sink.new) bytes.now result }
+    ensures order { PutsInOrder (K.order sink.old) (K.order sink.new) bytes.now result }
     ensures beside { K.beside sink.new ≡ K.beside sink.old }
     ensures cause { PutCause (K.faults sink.old) (K.faults sink.new) result }
     ensures room { length bytes.now ≤ K.room sink.old → K.room sink.old ≤ length bytes.now + K.room sink.new }

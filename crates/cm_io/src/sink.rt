@@ -1,6 +1,7 @@
 //! Where bytes go.
 
-ghost use Rattle.std.specs.Prelude.{◌≡◌, ◌<◌, ◌≤◌, ◌+◌, length};
+ghost use Rattle.std.specs.Prelude.{◌≡◌, ◌<◌, ◌≤◌, ◌+◌, ◌∷◌, [], length};
+ghost use Rattle.cm_io.specs.Orders.{Came, wrote, took_bytes};
 ghost use Rattle.cm_io.specs.Outside.{TookAnd, WriteCause, Writes};
 
 use std::sync::Wait;
@@ -17,7 +18,8 @@ pub enum Took {
 
 /// Where bytes go. A sink counts its faults, from 0 to 2^64 - 1, where the count stays.
 pub trait Sink: Drop {
-    ghost use Rattle.std.specs.Prelude.{ℕ, List, Option};
+    ghost use Rattle.std.specs.Prelude.{ℕ, List, Option, None};
+    ghost use Rattle.cm_io.specs.Orders.{Move};
     ghost use Rattle.cm_io.specs.Outside.{AsSource};
 
     /// The bytes that were written, where they are known.
@@ -32,6 +34,9 @@ pub trait Sink: Drop {
     /// What it tells as a source, where it is one as well: no write changes that.
     ghost beside: { Self → AsSource };
 
+    /// In which order it was written, and read and hung up where it is a link, where it tells that.
+    ghost order: { Self → Option (List Move) } = { λ _. None };
+
     /// Writes bytes from the front of the piece, as many as are taken at once.
     ///
     /// `Failed` comes only where the sink failed: then its count of faults rises by one, and
@@ -41,6 +46,7 @@ pub trait Sink: Drop {
         requires { 0 < length bytes.now }
         ensures bytes { Writes (written self.old) (written self.new) bytes.now result }
         ensures beside { beside self.new ≡ beside self.old }
+        ensures order { Came (order self.old) (order self.new) (wrote (took_bytes bytes.now result) ∷ []) }
         ensures cause { WriteCause (faults self.old) (faults self.new) result }
         ensures room { length bytes.now ≤ room self.old →
             TookAnd result (λ n. room self.old ≤ n + room self.new) };

@@ -1,6 +1,7 @@
 //! Unix sockets as doors and links.
 
 ghost use Rattle.std.specs.Prelude.{◌≡◌};
+ghost use Rattle.cm_io.specs.Doors.{nowhere};
 
 use crate::standard::{read_through, write_through};
 use crate::{Accept, Door, Got, Link, Listen, Sink, Source, Took};
@@ -94,6 +95,8 @@ impl Link for SocketLink {
 
     ghost source_apart = { λ _. refl };
 
+    ghost one_order = { λ _. refl };
+
     /// Closes the socket, so that the peer reads its end, and the descriptor is free.
     fn hang_up<R: Threads + Wait + Sync>(&mut self, _rt: &R) {
         if let Some(stream) = self.stream.take() {
@@ -129,7 +132,9 @@ pub struct SocketDoor<N> {
 impl<N: Files<File = File> + Net + Drop> SocketDoor<N> {
     /// A door at which nobody can come yet.
     pub fn new(system: N) -> SocketDoor<N>
-        ensures { ⟦<SocketDoor<N> as Door>⟧.counts result ≡ record { faults = 0; links = 0; closings = 0 } }
+        ensures counts { ⟦<SocketDoor<N> as Door>⟧.counts result ≡
+            record { faults = 0; links = 0; closings = 0 } }
+        ensures place { ⟦<SocketDoor<N> as Door>⟧.place result ≡ nowhere }
     {
         SocketDoor {
             system,
@@ -245,7 +250,11 @@ fn is_passing(error: &io::Error) -> bool {
 }
 
 impl<N: Files<File = File> + Net + Drop> Door for SocketDoor<N> {
+    ghost use Rattle.cm_io.specs.Doors.{place_by};
+
     type Link = SocketLink;
+
+    ghost place = { λ d. place_by d.listener };
 
     ghost counts = { λ d. record { faults = d.faults; links = d.links; closings = 0 } };
 

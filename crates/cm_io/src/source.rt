@@ -1,6 +1,7 @@
 //! Where bytes come from.
 
-ghost use Rattle.std.specs.Prelude.{◌≡◌, ◌≢◌, ◌<◌, length};
+ghost use Rattle.std.specs.Prelude.{◌≡◌, ◌≢◌, ◌<◌, ◌∷◌, [], length};
+ghost use Rattle.cm_io.specs.Orders.{Came, gave as gave_move, got_bytes};
 ghost use Rattle.cm_io.specs.Outside.{Gave, ReadCause, Reads};
 
 use std::sync::Wait;
@@ -19,7 +20,8 @@ pub enum Got {
 
 /// Where bytes come from. A source counts its faults, from 0 to 2^64 - 1, where the count stays.
 pub trait Source: Drop {
-    ghost use Rattle.std.specs.Prelude.{ℕ, List, Option};
+    ghost use Rattle.std.specs.Prelude.{ℕ, List, Option, None};
+    ghost use Rattle.cm_io.specs.Orders.{Move};
     ghost use Rattle.cm_io.specs.Outside.{AsSink};
 
     /// The bytes that are left, where they are known.
@@ -37,6 +39,9 @@ pub trait Source: Drop {
     /// What it tells as a sink, where it is one as well: no read changes that.
     ghost beside: { Self → AsSink };
 
+    /// In which order it was read, and written and hung up where it is a link, where it tells that.
+    ghost order: { Self → Option (List Move) } = { λ _. None };
+
     /// Reads the next bytes, as many as come at once and fit.
     ///
     /// `End` comes only where nothing is left, and `Failed` only where the source failed: then its
@@ -47,6 +52,7 @@ pub trait Source: Drop {
         ensures bytes { Reads (left self.old) (left self.new) into.new result }
         ensures gave { Gave (given self.old) (given self.new) into.new result }
         ensures beside { beside self.new ≡ beside self.old }
+        ensures order { Came (order self.old) (order self.new) (gave_move (got_bytes into.new result) ∷ []) }
         ensures cause { ReadCause (faults self.old) (faults self.new) result }
         ensures quiet { quiet self.old → quiet self.new × (result ≢ Got.Failed) };
 }

@@ -1,5 +1,6 @@
 pub mod Answering
 pub mod Searching
+pub mod Choosing
 pub mod Turns
 pub mod Weights
 pub mod Going

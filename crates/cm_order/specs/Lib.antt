@@ -6,4 +6,5 @@ pub mod Search
 pub mod Glances
 pub mod Plans
 pub mod Picking
+pub mod Ways
 pub mod Laws

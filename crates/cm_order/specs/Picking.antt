@@ -40,3 +40,7 @@ IsPicked rows target Done = IsTrue (is_subtree_shut rows target)
 IsPicked rows target (StopNow y) = PicksNow rows target y true
 IsPicked rows target (ShutNow y) = PicksNow rows target y false
 IsPicked rows target (Waits a) = WaitsFor rows target a
+
+-- not all at and below the target is shut, and a pick for it may choose this row
+abbrev pub MayBePicked : List Row → ℕ → ℕ → Type 0
+MayBePicked rows target y = (on : Bool) × PicksNow rows target y on

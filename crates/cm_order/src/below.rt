@@ -49,8 +49,8 @@ fn is_some_unshut<V: View>(view: &V, inc: Option<u64>) -> bool
     }
 }
 
-/// Whether all instances at and below this one are shut.
-pub(crate) fn all_shut<V: View>(alloc: Global, view: &V, top: u64) -> Result<bool, Memory>
+/// Whether all instances at and below this one are shut. `Err` where memory runs out.
+pub fn all_shut<V: View>(alloc: Global, view: &V, top: u64) -> Result<bool, Memory>
     ensures { IfOk result (λ shut. shut ≡ is_subtree_shut (V.rows view.now) top) }
 {
     if is_unshut(view, top) {

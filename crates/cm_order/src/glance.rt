@@ -263,7 +263,7 @@ fn is_last<V: View>(alloc: Global, view: &V, stand: &mut Stand) -> Result<bool, 
 }
 
 /// Whether an instance lives, isn't shut and has no pending action.
-fn is_idle<V: View>(view: &V, inc: u64) -> bool
+pub(crate) fn is_idle<V: View>(view: &V, inc: u64) -> bool
     ensures { result ≡ option_map_or (λ r. not r.shut && is_none r.pending)
         (row_of (V.rows view.now) inc) false }
 {

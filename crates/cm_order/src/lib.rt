@@ -17,6 +17,7 @@
 //! | `plan` | the ways down that picks took, from one pick to the next |
 //! | `quick` | the way down to an instance that may be picked, by such tests alone |
 //! | `picking` | what a pick comes to |
+//! | `choosing` | whether a pick may choose an instance that is given |
 //! | `laws` | that a shutdown never comes to a dead end |
 //!
 //! That clients stop before what they depend on is the rule of Fuchsia's component lifecycle
@@ -25,6 +26,7 @@
 
 pub(crate) mod above;
 pub(crate) mod below;
+pub mod choosing;
 pub(crate) mod glance;
 pub mod laws;
 pub(crate) mod level;
@@ -36,5 +38,7 @@ pub(crate) mod quick;
 pub(crate) mod search;
 pub(crate) mod stand;
 
+pub use below::all_shut;
+pub use choosing::{may_close, may_pick};
 pub use picking::{Picked, pick, pick_with};
 pub use plan::Plan;

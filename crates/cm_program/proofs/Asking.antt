@@ -15,24 +15,35 @@ is_run (call.Run options) = true
 is_run call.Check = false
 is_run (call.Generate workload) = false
 is_run (call.Serve options) = false
+is_run call.Audit = false
 
 abbrev pub is_check : Call → Bool
 is_check call.Check = true
 is_check (call.Run options) = false
 is_check (call.Generate workload) = false
 is_check (call.Serve options) = false
+is_check call.Audit = false
 
 abbrev pub is_generate : Call → Bool
 is_generate (call.Generate workload) = true
 is_generate (call.Run options) = false
 is_generate call.Check = false
 is_generate (call.Serve options) = false
+is_generate call.Audit = false
 
 abbrev pub is_serve : Call → Bool
 is_serve (call.Serve options) = true
 is_serve (call.Run options) = false
 is_serve call.Check = false
 is_serve (call.Generate workload) = false
+is_serve call.Audit = false
+
+abbrev pub is_audit : Call → Bool
+is_audit call.Audit = true
+is_audit (call.Run options) = false
+is_audit call.Check = false
+is_audit (call.Generate workload) = false
+is_audit (call.Serve options) = false
 
 pub asked : {read : Read Call} {found own : Call} → read ≡ Ok found → found ≡ own → read ≡ Ok own
 asked is same = is ∙ ap Ok same

@@ -1,3 +1,4 @@
+pub mod AuditLemmas
 pub mod CheckLemmas
 pub mod FrontLemmas
 pub mod Nothing

@@ -1,5 +1,5 @@
 -- The headline: what is promised of the run of a script, whoever wrote it and whatever is printed of it.
-use Rattle.std.specs.Prelude.{◌≡◌, ◌≢◌, ◌⊎◌, ℕ, ◌<◌, List, [], map, All}
+use Rattle.std.specs.Prelude.{◌≡◌, ◌≢◌, ◌⊎◌, ℕ, ◌<◌, ◌≤◌, List, [], map, All, length, true}
 use Rattle.std.specs.Prelude.{Option, Some, Err, slice_get}
 use Rattle.std.specs.Io.KnownBytes.{Appends}
 use Rattle.cm_world.specs.declared.answer.Refusal.TheVariants as refusal
@@ -15,10 +15,12 @@ use Rattle.cm_manager.specs.Turns.{own_entries}
 use Rattle.cm_manager.specs.Closed.{HasEnds}
 use Rattle.cm_manager.specs.Work.{Shelf, WorksWith}
 use Rattle.cm_lanes.specs.Script.{Answered, answered_lines, ArePhases}
+use Rattle.cm_audit.specs.Verdict.{IsLegalJournal, journal_limit}
 use Rattle.cm_program.specs.Printed.{wanted_text}
 use Rattle.cm_program.specs.Written.{AppendsFront}
 use Rattle.cm_program.specs.declared.stock.Served.{Served}
 use Rattle.cm_program.specs.declared.wanted.Wanted.{Wanted}
+use Rattle.cm_program.specs.declared.wanted.Wanted.TheVariants.{Answers}
 
 -- where manifests are looked for: in the script's blocks, and then by the gates, in that folder if one is
 -- named
@@ -82,3 +84,6 @@ module _ {G : Type 0} (log_of : G → Option (List Asked)) (faults_of : G → �
     pub no_want : (status ≡ 0) ⊎ (status ≡ 4) → All (All IsNoWant) answered
     -- at 4 and 6 a front of it was written
     pub front : AppendsFront out₀ out₁ text
+    -- at 0, with the journal, it is a legal journal of all entries, where it isn't too large
+    pub legal : status ≡ 0 → wanted ≡ Answers true → length text ≤ journal_limit
+        → IsLegalJournal text (length history)

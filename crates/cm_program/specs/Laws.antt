@@ -1,5 +1,13 @@
--- Laws of scripts that are served.
-use Rattle.std.specs.Prelude.{◌≡◌, ℕ, List}
+-- Laws of scripts that are served, and of runs.
+use Rattle.std.specs.Prelude.{◌≡◌, ℕ, List, Option}
+use Rattle.cm_io.specs.Doors.{Place}
+use Rattle.cm_io.specs.declared.door.DoorCounts.{DoorCounts}
+use Rattle.cm_io.specs.declared.sink.Sink as sink
+use Rattle.cm_io.specs.declared.source.Source as source
+use Rattle.cm_gate.specs.declared.asked.Asked.{Asked}
+use Rattle.cm_session.specs.Links.{LinkView}
+use Rattle.cm_program.specs.Complete.{Completes}
+use Rattle.cm_program.specs.Promise.{Given, Came}
 use Rattle.cm_program.specs.Run.{IsFaulty}
 use Rattle.cm_program.specs.Stock.{Serves}
 use Rattle.cm_program.specs.declared.stock.Served.{Served}
@@ -11,3 +19,10 @@ ServedAreNotRefused = (bytes : List ℕ) (served : Served) → Serves bytes serv
 -- what bytes ask for is one thing
 abbrev pub BytesAskForOne : Type 0
 BytesAskForOne = (bytes : List ℕ) (a b : Served) → Serves bytes a → Serves bytes b → a ≡ b
+
+-- whatever was given and came of it, a run that kept its promise is complete
+abbrev pub RunsAreComplete : {S K E D L G : Type 0} → source.Ghosts S → sink.Ghosts K → sink.Ghosts E
+    → (D → DoorCounts) → (D → Place) → (L → LinkView) → (G → Option (List Asked)) → (G → ℕ) → Type 0
+RunsAreComplete {S} {K} {E} {D} {L} {G} as_source as_out as_err counts_of place_of view log_of faults_of =
+    (was : Given S K E D G) (now : Came S K E D L G)
+    → Completes as_source as_out as_err counts_of place_of view log_of faults_of was now

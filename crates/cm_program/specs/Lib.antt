@@ -3,9 +3,15 @@ pub mod Stock
 pub mod Texts
 pub mod Written
 pub mod Checks
+pub mod Audits
 pub mod Printed
 pub mod Headline
 pub mod Sessions
 pub mod Performing
 pub mod Run
+pub mod Promise
+pub mod Closing
+pub mod Unfailing
+pub mod Complete
 pub mod Laws
+pub mod Audited

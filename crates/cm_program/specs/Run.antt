@@ -96,7 +96,7 @@ IsScriptStatus status = IsScriptRun status ⊎ ((status ≡ 3) ⊎ (status ≡ 7
 abbrev pub IsServeStatus : ℕ → Type 0
 IsServeStatus status = (status ≡ 0) ⊎ ((status ≡ 5) ⊎ (status ≡ 6))
 
--- the status of words of `check`
+-- the status of words of `check`, and of words of `audit`
 abbrev pub IsCheckStatus : ℕ → Type 0
 IsCheckStatus status =
     (status ≡ 0) ⊎ ((status ≡ 1) ⊎ ((status ≡ 3) ⊎ ((status ≡ 4) ⊎ (status ≡ 6))))

@@ -1,11 +1,12 @@
 -- The headline of `serve`: what is promised of the sessions of a run, whoever comes.
-use Rattle.std.specs.Prelude.{◌≡◌, ◌≢◌, ◌⊎◌, ℕ, ◌+◌, ◌<◌, ◌≤◌, nat_eq, cond, List, [], ◌∷◌, All, Contains}
-use Rattle.std.specs.Prelude.{length, map, take, ⊤, Option, Some}
+use Rattle.std.specs.Prelude.{◌≡◌, ◌≢◌, ◌⊎◌, ℕ, ◌+◌, ◌<◌, ◌≤◌, nat_eq, cond, List, [], ◌∷◌, ◌++◌, All}
+use Rattle.std.specs.Prelude.{Contains, length, map, take, ⊤, Option, Some}
 use Rattle.std.specs.List.{AllZip}
 use Rattle.std.specs.Str.{bytes_eq}
 use Rattle.std.specs.Io.KnownBytes.{Appends, IsAtEnd}
 use Rattle.cm_io.specs.declared.door.DoorCounts.{DoorCounts}
 use Rattle.cm_io.specs.Lines.{lines, Moves}
+use Rattle.cm_io.specs.Orders.{Came, InStep, Move, given_in, hung_up}
 use Rattle.cm_io.specs.Outside.{Rose}
 use Rattle.cm_world.specs.declared.frame.Frame.{Frame}
 use Rattle.cm_world.specs.declared.reply.Entry.{Entry}
@@ -22,7 +23,7 @@ use Rattle.cm_session.specs.declared.served.Cause.TheVariants as cause
 use Rattle.cm_session.specs.Links.{Begins, LinkView, whole_lines}
 use Rattle.cm_session.specs.Serving.{IsNewLink, back_view}
 use Rattle.cm_session.specs.Session.{AreEnded, WantsLast, WroteFront, most_lines, quit}
-use Rattle.cm_session.specs.Told.{Told, Reads, replies, done_of, IsNoWant}
+use Rattle.cm_session.specs.Told.{Told, Reads, reply_line, replies, done_of, IsNoWant}
 use Rattle.cm_program.specs.Headline.{EndsWell, WorksEach}
 use Rattle.cm_program.specs.declared.ran.Ran.{Ran}
 use Rattle.cm_program.specs.Run.{IsServeStatus}
@@ -90,6 +91,12 @@ module _ {L : Type 0} (view : L → LinkView) where
     pub no_want : status ≢ 6 → All IsNoWant sat.told
     -- whatever the status, no line but a link's last was answered for want of memory
     pub wants_last : WantsLast sat.told
+    -- the order, where the link tells it: the reads, which gave these bytes, and the writes, so that each
+    -- reply was written before it was read on behind its line; and behind all of them, once, the hang-up
+    pub moves : List Move
+    pub in_step : InStep (map reply_line sat.told) moves
+    pub reads_are : given_in moves ≡ sat.bytes
+    pub order : Came (view came).order now.order (moves ++ hung_up ∷ [])
 
 -- ---- all links
 

@@ -1,7 +1,7 @@
 //! The command `check`: whether a manifest is valid.
 
 ghost use Rattle.std.specs.Prelude.{◌≡◌, ◌≢◌, ◌⊎◌, ◌++◌, codes, Result, Ok, IfOk, IfErr};
-ghost use Rattle.std.specs.Io.KnownBytes.{Appends, Keeps};
+ghost use Rattle.std.specs.Io.KnownBytes.{Appends, IsAtEnd, Keeps};
 ghost use Rattle.cm_io.specs.Outside.{Rose};
 ghost use Rattle.cm_decl.specs.declared.decl.Decl.{Decl};
 ghost use Rattle.cm_read.specs.Reading.{Fails};
@@ -25,18 +25,21 @@ use std::thread::Threads;
 /// The most bytes that a manifest has. The source is read a piece further at most.
 const MANIFEST_LIMIT: usize = 1_048_576;
 
-/// What `check` says of a manifest.
+/// What `check` says of a manifest, or `audit` of a journal.
 #[derive(Drop)]
-struct Verdict {
-    /// 0 for a valid manifest, and else 1.
-    status: u8,
-    line: Text,
+pub struct Verdict {
+    /// 0 for a valid manifest and a legal journal, and else 1.
+    pub status: u8,
+    /// The line that is written.
+    pub line: Text,
 }
 
 /// Why there is no verdict.
 #[derive(Drop)]
-enum NoVerdict {
+pub enum NoVerdict {
+    /// The source failed.
     ReadFault,
+    /// Memory ran out.
     Memory,
 }
 
@@ -126,9 +129,11 @@ fn read_verdict<R: Threads + Wait + Sync, S: Source>(
         (λ verdict. OfSome (λ bytes. IsVerdict bytes verdict.status verdict.line)
         (S.left source.old)) }
     ensures status { IfOk result (λ verdict. (verdict.status ≡ 0) ⊎ (verdict.status ≡ 1)) }
+    ensures ended { IfOk result (λ verdict. verdict.status ≡ 0 → IsAtEnd (S.left source.new)) }
     ensures fault { IfErr result (λ e. e ≡ NoVerdict.ReadFault →
         Rose (S.faults source.old) (S.faults source.new)) }
     ensures heard { IfOk result (λ verdict. S.faults source.new ≡ S.faults source.old) }
+    ensures quiet { S.quiet source.old → S.faults source.new ≡ S.faults source.old }
 {
     let bytes = match read_up_to(rt, alloc, source, MANIFEST_LIMIT) {
         Ok(bytes) => bytes,
@@ -153,8 +158,10 @@ pub fn run_check<R: Threads + Wait + Sync, S: Source, K: Sink, E: Sink>(
 ) -> u8
     ensures read { result ≡ 3 → Rose (S.faults source.old) (S.faults source.new) }
     ensures heard { result ≢ 3 → result ≢ 6 → S.faults source.new ≡ S.faults source.old }
+    ensures quiet { S.quiet source.old → S.faults source.new ≡ S.faults source.old }
     ensures write { result ≡ 4 → Rose (K.faults out.old) (K.faults out.new) }
     ensures whole { result ≢ 4 → result ≢ 6 → K.faults out.new ≡ K.faults out.old }
+    ensures ended { result ≡ 0 → IsAtEnd (S.left source.new) }
     ensures valid { result ≡ 0 →
         OfSome (IsChecked (Appends (K.written out.old) (K.written out.new)) 0)
         (S.left source.old) }

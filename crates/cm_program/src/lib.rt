@@ -1,22 +1,28 @@
 //! The program, as one call: it runs the commands of a script of component manifests, of a workload
-//! that it generates or of links that come at a door, and says whether a manifest is valid.
+//! that it generates or of links that come at a door, and says whether a manifest is valid, and whether a
+//! journal is a legal history.
 //!
 //! [`run::run`] is the top call. What it sees of the outside are a source, two sinks, a door and
 //! sixteen gates. The program above this crate makes the real ones, its tests those in memory.
 //!
 //! | file of `specs/` | says |
 //! |---|---|
+//! | `Promise` | all that the top call promises, as one record |
 //! | `Headline`, `Run` | what is promised of the run of a script, and of each status |
 //! | `Stock`, `Reading` | what a script asks for, and why it is refused |
 //! | `Sessions` | what is promised of sessions |
 //! | `Printed`, `Texts`, `Written` | what is printed, and what is known of bytes written |
-//! | `Checks` | what `check` says of a manifest |
+//! | `Checks`, `Audits` | what `check` says of a manifest, and `audit` of a journal |
 //! | `Performing` | what the lanes made of a script |
-//! | `Laws` | what follows for scripts that are served |
+//! | `Closing` | what the program ends by |
+//! | `Complete`, `Unfailing` | which statuses and answers are left where nothing failed |
+//! | `Laws` | what follows for scripts that are served, and for runs |
 #![tactic(auto)]
 
 mod answers;
+mod audit;
 mod check;
+pub mod closing;
 mod fault;
 mod generate;
 pub mod laws;

@@ -17,8 +17,10 @@ pub struct Ran<D, L, G> {
     /// The status that the program ends with.
     ///
     /// - 0: what the source had left, or each line of the workload, was answered, and everything was
-    ///   written; or as many links were served as were asked for, or no further one comes.
-    /// - 1: the manifest that was checked has a fault, which was written on `out`.
+    ///   written; or as many links were served as were asked for, or no further one comes; or the
+    ///   manifest that was checked is valid, or the journal that was audited legal.
+    /// - 1: the manifest that was checked has a fault, or the journal that was audited isn't legal, and
+    ///   which comes first was written on `out`.
     /// - 2: the words ask for nothing, and `err` tells what they may be; nothing was written on
     ///   `out`.
     /// - 3: the source failed, which `err` tells; nothing was written on `out`.

@@ -6,6 +6,8 @@ ghost use Rattle.cm_io.specs.Outside.{Rose};
 ghost use Rattle.cm_reply.specs.Journal as journal;
 ghost use Rattle.cm_lanes.specs.declared.said.Said.{Said as TheSaid};
 ghost use Rattle.cm_lanes.specs.Script.{IsFit};
+ghost use Rattle.cm_typed.specs.Typed.{IsTypedEntry};
+ghost use Rattle.cm_program.specs.Audited.{MayTell};
 ghost use Rattle.cm_program.specs.Headline.{RunsScript};
 ghost use Rattle.cm_program.specs.Printed.{IsPrinted, printed_text};
 ghost use Rattle.cm_program.specs.Run.{IsScriptRun};
@@ -23,6 +25,7 @@ use cm_lanes::Said;
 use cm_names::{List, Memory, Text};
 use cm_reply::header_text;
 use cm_steps::Realm;
+use cm_typed::entries_fit;
 use cm_world::{Entry, Frame, Refusal};
 use std::alloc::Global;
 use std::sync::Wait;
@@ -158,6 +161,7 @@ fn print_performed<R: Threads + Wait + Sync, K: Sink, E: Sink, G>(
         said result.status (K.written out.old) (K.written out.new) }
     ensures unsaid { done.said ≡ None
         → (result.status ≡ 6) × AppendsFront (K.written out.old) (K.written out.new) [] }
+    ensures typed { All IsTypedEntry done.book.entries }
     ensures book { result.book ≡ done.book }
     ensures gates { result.gates ≡ done.gates }
     ensures cause { result.status ≡ 4 → Rose (K.faults out.old) (K.faults out.new) }
@@ -171,6 +175,7 @@ fn print_performed<R: Threads + Wait + Sync, K: Sink, E: Sink, G>(
         gates,
         said,
     } = done;
+    entries_fit(book.entries());
     let Some(said) = said else {
         return Finished {
             status: want_of_memory(rt, err),
@@ -208,6 +213,7 @@ pub fn run_served<R: Threads + Wait + Sync, K: Sink, E: Sink, G: Gates + Send + 
 ) -> Finished<G>
     requires gates { length gates ≡ 16 }
     requires fit { All (λ lines. All IsFit lines) served.phases }
+    requires tells { MayTell wanted served }
     ensures gates { length result.gates ≡ 16 }
     ensures runs { RunsScript G.log G.faults wanted repo served gates result.gates
         result.book.entries result.status (K.written out.old) (K.written out.new) }

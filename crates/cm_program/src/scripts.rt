@@ -1,9 +1,10 @@
 //! The run of a script that a source gives.
 
 ghost use Rattle.std.specs.Prelude.{◌≡◌, ◌≢◌, ◌⊎◌, All, IfOk, IfErr, length};
-ghost use Rattle.std.specs.Io.KnownBytes.{Keeps};
+ghost use Rattle.std.specs.Io.KnownBytes.{IsAtEnd, Keeps};
 ghost use Rattle.cm_io.specs.Outside.{Rose};
 ghost use Rattle.cm_lanes.specs.Script.{IsFit};
+ghost use Rattle.cm_program.specs.Audited.{IsLegibleServed};
 ghost use Rattle.cm_program.specs.Headline.{IsHistory, RunsNothing, RunsScript};
 ghost use Rattle.cm_program.specs.Run.{IsFaulty, IsRefusal, IsRefused, IsScriptRun};
 ghost use Rattle.cm_program.specs.Run.{IsScriptStatus, RunsAsServed, RunsSome, Stops};
@@ -57,10 +58,13 @@ fn read_served<R: Threads + Wait + Sync, S: Source>(
     ensures good { IfOk result
         (λ served. OfSome (λ bytes. Serves bytes served) (S.left source.old)) }
     ensures fit { IfOk result (λ served. All (λ lines. All IsFit lines) served.phases) }
+    ensures tells { IfOk result IsLegibleServed }
     ensures bad { IfErr result (λ stop. Stops stop (S.left source.old)) }
     ensures fault { IfErr result (λ stop. stop ≡ Stop.ReadFault →
         Rose (S.faults source.old) (S.faults source.new)) }
+    ensures ended { IfOk result (λ served. IsAtEnd (S.left source.new)) }
     ensures heard { IfOk result (λ served. S.faults source.new ≡ S.faults source.old) }
+    ensures quiet { S.quiet source.old → S.faults source.new ≡ S.faults source.old }
     ensures heard_refused { IfErr result (λ stop. stop ≢ Stop.ReadFault → stop ≢ Stop.Memory →
         S.faults source.new ≡ S.faults source.old) }
 {
@@ -118,8 +122,10 @@ pub fn run_script<R: Threads + Wait + Sync, S: Source, K: Sink, E: Sink, G: Gate
     ensures read { result.status ≡ 3 → Rose (S.faults script.old) (S.faults script.new) }
     ensures heard { result.status ≢ 3 → result.status ≢ 6 →
         S.faults script.new ≡ S.faults script.old }
+    ensures quiet { S.quiet script.old → S.faults script.new ≡ S.faults script.old }
     ensures write { result.status ≡ 4 → Rose (K.faults out.old) (K.faults out.new) }
     ensures whole { result.status ≢ 4 → result.status ≢ 6 → K.faults out.new ≡ K.faults out.old }
+    ensures ended { result.status ≡ 0 → IsAtEnd (S.left script.new) }
     ensures refused { result.status ≡ 7 →
         IsRefused E.written E.faults (S.left script.old) err.old err.new }
     ensures faulty { OfKnown (λ bytes. IsFaulty bytes →

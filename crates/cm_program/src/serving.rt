@@ -2,6 +2,7 @@
 
 ghost use Rattle.std.specs.Prelude.{◌≡◌, [], IfOk, length};
 ghost use Rattle.cm_call.specs.Calls.{IsServing};
+ghost use Rattle.cm_io.specs.Doors.{IsAt, IsShut};
 ghost use Rattle.cm_program.specs.Headline.{IsHistory};
 ghost use Rattle.cm_program.specs.Sessions.{Attended, served_frame, served_shelf};
 ghost use Rattle.cm_program.specs.Written.{Says};
@@ -44,7 +45,8 @@ fn service_of(alloc: Global, options: ServeOptions) -> Result<(Text, Service), M
     Ok((socket, service))
 }
 
-/// Lets links come at a door, and serves each by a session over one new realm.
+/// Lets links come at a door, to which none may come yet, and serves each by a session over one new
+/// realm.
 #[tactic(auto, using(crate::proofs::whole::Saying::says, crate::proofs::whole::RunLemmas::idle))]
 pub fn run_sessions<R: Threads + Wait + Sync, E: Sink, D: Door + Send, G: Gates + Send + Drop>(
     rt: &R,
@@ -58,9 +60,11 @@ where
     D::Link: Send,
     requires gates { length gates ≡ 16 }
     requires options { IsServing options }
+    requires shut { IsShut (D.place door) }
     ensures attended { Attended G.log G.faults (view_of D.Link.Source D.Link.Sink) D.counts
         (served_frame options) (served_shelf options) options.sessions options.workers gates
         (D.counts door) result }
+    ensures place { result.status ≡ 0 → IsAt options.socket (D.place result.door) }
     ensures history { IsHistory result.book.entries }
     ensures err { Says E.written E.faults err.old err.new result.status }
 {

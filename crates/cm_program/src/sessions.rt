@@ -1,6 +1,7 @@
 //! The sessions of a run, over one realm.
 
 ghost use Rattle.std.specs.Prelude.{◌≡◌, ◌<◌, ◌≤◌, [], Some, length};
+ghost use Rattle.cm_io.specs.Doors.{IsOpen};
 ghost use Rattle.cm_world.specs.declared.frame.Frame.{Frame as TheFrame};
 ghost use Rattle.cm_turn.specs.Passes.{new_passes};
 ghost use Rattle.cm_manager.specs.Work.{Shelf};
@@ -48,7 +49,8 @@ fn tell_cause<R: Threads + Wait + Sync, E: Sink>(rt: &R, err: &mut E, cause: Cau
     }
 }
 
-/// Serves the links of a door under a manager, closes it, and says why no more came.
+/// Serves the links of a door under a manager, closes it, and says why no more came. Peers may come to
+/// the door.
 #[tactic(auto, using(crate::proofs::whole::Saying::says))]
 fn attend_under<R: Threads + Wait + Sync, E: Sink, D: Door + Send, G: Gates + Send + Drop>(
     rt: &R,
@@ -68,9 +70,11 @@ where
     requires gates { length gates ≡ 16 }
     requires sessions { (0 < sessions) × (sessions ≤ 4096) }
     requires workers { (0 < workers) × (workers ≤ 16) }
+    requires listening { IsOpen (D.place door) }
     ensures attended { (f : TheFrame) → passes ≡ new_passes manager.turn.lock f 16 →
         Attended G.log G.faults (view_of D.Link.Source D.Link.Sink) D.counts
         f manager.shelf sessions workers gates (D.counts door) result }
+    ensures place { D.place result.door ≡ D.place door }
     ensures err { Says E.written E.faults err.old err.new result.status }
 {
     let Served {
@@ -92,7 +96,7 @@ where
 }
 
 /// Serves the links that come at a door, over this realm, with these gates, and says why no more
-/// came.
+/// came. Peers may come to the door.
 #[tactic(auto, using(crate::proofs::whole::Saying::says))]
 pub fn attend<R: Threads + Wait + Sync, E: Sink, D: Door + Send, G: Gates + Send + Drop>(
     rt: &R,
@@ -108,9 +112,11 @@ where
     requires gates { length gates ≡ 16 }
     requires sessions { (0 < service.sessions) × (service.sessions ≤ 4096) }
     requires workers { (0 < service.workers) × (service.workers ≤ 16) }
+    requires listening { IsOpen (D.place door) }
     ensures attended { let shelf : Shelf = record { repo = Some service.folder; blocks = [] } in
         Attended G.log G.faults (view_of D.Link.Source D.Link.Sink) D.counts
         service.realm.frame shelf service.sessions service.workers gates (D.counts door) result }
+    ensures place { D.place result.door ≡ D.place door }
     ensures err { Says E.written E.faults err.old err.new result.status }
 {
     let Service {

@@ -1,3 +1,4 @@
 pub mod Growing
 mod Monikers
 mod Written
+pub mod back

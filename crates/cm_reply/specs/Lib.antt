@@ -6,6 +6,10 @@ pub mod Answers
 pub mod Events
 pub mod Replies
 pub mod Journal
+pub mod Legible
+pub mod Lines
+pub mod EventWords
+pub mod Reading
 pub mod Laws
 pub mod Examples
 pub mod Tables

@@ -104,6 +104,16 @@ fn push_builtins(text: &mut String, builtins: &[Builtin]) -> Result<(), Memory>
     Ok(())
 }
 
+/// The line of a builtin capability, without a line feed, as [`header_text`] has it. `Err` where memory
+/// runs out.
+pub fn builtin_text(alloc: Global, builtin: &Builtin) -> Result<Text, Memory>
+    ensures { IfOk result (λ text. text ≡ spec.builtin_text builtin.now) }
+{
+    let mut text = roomy(alloc)?;
+    push_builtin(&mut text, builtin)?;
+    Text::from_string(text)
+}
+
 /// Puts the builtin capability at the end, as its line says it.
 fn push_builtin(text: &mut String, builtin: &Builtin) -> Result<(), Memory>
     ensures { OnOk result (Gains text.old text.new (spec.builtin_text builtin.now)) }

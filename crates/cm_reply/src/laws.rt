@@ -1,9 +1,11 @@
-//! How a journal grows, and texts that are written out.
+//! How a journal grows and is read back, and texts that are written out.
 //!
 //! These functions do nothing: what each of them promises is a fact about the definitions in
 //! `specs/`, which its proof shows.
 
 ghost use Rattle.cm_reply.specs.Laws as laws;
+ghost use Rattle.cm_reply.specs.Lines.{EntriesReadOneWay};
+ghost use Rattle.cm_reply.specs.EventWords.{EachIsTold};
 ghost use Rattle.cm_reply.specs.Examples as examples;
 ghost use Rattle.cm_reply.specs.Tables as tables;
 
@@ -12,6 +14,16 @@ ghost use Rattle.cm_reply.specs.Tables as tables;
 pub fn journal_grows()
     ensures begins { laws.JournalBegins }
     ensures grows { laws.JournalGrows }
+{}
+
+/// A line of a journal tells of one entry at most.
+pub fn entries_read_one_way()
+    ensures { EntriesReadOneWay }
+{}
+
+/// Each event is told by its first word and what stands behind it.
+pub fn each_is_told()
+    ensures { EachIsTold }
 {}
 
 /// A journal begins with `journal`, the builtin capabilities and the root. The eleven entries

@@ -1,16 +1,27 @@
 //! The texts of replies to events.
 
-ghost use Rattle.std.specs.Prelude.{◌++◌, length, codes, decimal, OnOk};
+ghost use Rattle.std.specs.Prelude.{◌≡◌, ◌++◌, length, codes, decimal, IfOk, OnOk};
 ghost use Rattle.cm_reply.specs.Lists.{Gains, bracketed};
 ghost use Rattle.cm_reply.specs.Replies as spec;
 
-use crate::lists::{Item, push, push_bracketed, push_each, push_moniker, push_value};
+use crate::lists::{Item, push, push_bracketed, push_each, push_moniker, push_value, roomy};
 use crate::refusals::push_cycle;
 use crate::routes::{push_failure, push_route};
 use crate::states::{push_look, push_outcome};
 use crate::words::{push_number, push_numbers};
-use cm_names::Memory;
+use cm_names::{Memory, Text};
 use cm_world::Reply;
+use std::alloc::Global;
+
+/// The reply to an event as a journal has it: what stands behind ` => ` in [`crate::entry_text`]. `Err`
+/// where memory runs out.
+pub fn replied_text(alloc: Global, reply: &Reply) -> Result<Text, Memory>
+    ensures { IfOk result (λ text. text ≡ spec.replied_text reply.now) }
+{
+    let mut text = roomy(alloc)?;
+    push_replied(&mut text, reply)?;
+    Text::from_string(text)
+}
 
 /// Puts the reply at the end as a journal has it. `Err` where memory runs out.
 pub fn push_replied(text: &mut String, reply: &Reply) -> Result<(), Memory>

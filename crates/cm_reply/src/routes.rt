@@ -61,8 +61,8 @@ fn push_hops(text: &mut String, hops: &[Hop]) -> Result<(), Memory>
     push_each(text, ", ", others)
 }
 
-/// Puts who provides the capability at the end.
-fn push_source(text: &mut String, provider: &Provider) -> Result<(), Memory>
+/// Puts who provides the capability at the end. `Err` where memory runs out.
+pub fn push_source(text: &mut String, provider: &Provider) -> Result<(), Memory>
     ensures { OnOk result (Gains text.old text.new (spec.source_text provider.now)) }
 {
     match provider {

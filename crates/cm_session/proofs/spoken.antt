@@ -1,3 +1,4 @@
 pub mod Cutting
+pub mod Order
 pub mod Kept
 pub mod Sessions

@@ -2,6 +2,7 @@
 use Rattle.std.specs.Prelude.{◌≡◌, ℕ, ◌+◌, ◌<◌, ◌≤◌, Bool, true, false, List, [], ◌∷◌, ◌++◌, All, map}
 use Rattle.std.specs.Prelude.{length, Some}
 use Rattle.std.specs.Prelude.{slice_get}
+use Rattle.cm_io.specs.Doors.{Place}
 use Rattle.cm_io.specs.declared.door.DoorCounts.{DoorCounts}
 use Rattle.cm_turn.specs.History.{StartsWith}
 use Rattle.cm_session.specs.declared.doorway.Accepted.{Accepted}
@@ -39,14 +40,15 @@ cause_of false true = cause.DoorFault
 cause_of false false = cause.Done
 
 -- the door was opened so, and comes back with these accepts: it counted them, the passes have seen fronts of
--- them, and the links that come back are as many
-pub record ClosesDoor (passes : List DoorPass) (now : DoorCounts) (links : ℕ) (lost : Bool) (why : Cause)
-    : Type 0 where
+-- them, the links that come back are as many, and peers may come where they could
+pub record ClosesDoor (passes : List DoorPass) (now : DoorCounts) (place_now : Place) (links : ℕ)
+    (lost : Bool) (why : Cause) : Type 0 where
   pub opening : Opening
   pub entries : List Accepted
   pub opened : All (λ p. p.frame ≡ Some opening) passes
   pub seen : All (λ p. StartsWith entries p.seen) passes
   pub counted : IsCounted opening.counts now entries
+  pub place : place_now ≡ opening.place
   pub links_are : links ≡ links_of entries
   pub few : links_of entries ≤ opening.sessions
   pub failed : Bool

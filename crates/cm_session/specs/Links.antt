@@ -1,15 +1,24 @@
 -- What contracts see of a link, and fronts of what it gave and of what was written to it.
 use Rattle.std.specs.Prelude.{◌≡◌, ℕ, List, [], ◌∷◌, ◌++◌, cond, nat_eq, take, Option}
 use Rattle.std.specs.Io.KnownBytes.{Appends}
+use Rattle.cm_io.specs.Orders.{Move}
 use Rattle.cm_io.specs.Outside.{AsSink, AsSource}
 use Rattle.cm_io.specs.declared.sink.Sink as sink
 use Rattle.cm_io.specs.declared.source.Source as source
 use Rattle.cm_reply.specs.Lists.{Text}
 
--- a link as contracts see it: what it tells as a source, and what it tells as a sink
+-- a link as contracts see it: what it tells as a source, what it tells as a sink, and in which order it was
+-- read, written and hung up on, where it tells that
 pub record LinkView : Type 0 where
   pub source : AsSource
   pub sink : AsSink
+  pub order : Option (List Move)
+
+-- what a link tells of what is written to it: the bytes, how often a write failed, and the order
+pub record Side : Type 0 where
+  pub written : Option Text
+  pub faults : ℕ
+  pub order : Option (List Move)
 
 -- what a link tells as a source
 abbrev pub source_view : {L : Type 0} → source.Ghosts L → L → AsSource
@@ -25,7 +34,23 @@ sink_view as_sink l = record { written = as_sink.written l; faults = as_sink.fau
 
 -- all that a link tells
 abbrev pub view_of : {L : Type 0} → source.Ghosts L → sink.Ghosts L → L → LinkView
-view_of as_source as_sink l = record { source = source_view as_source l; sink = sink_view as_sink l }
+view_of as_source as_sink l = record {
+  source = source_view as_source l;
+  sink = sink_view as_sink l;
+  order = as_source.order l;
+}
+
+-- what it tells of what is written to it, where its order was this
+abbrev pub side_with : LinkView → Option (List Move) → Side
+side_with l order = record { written = l.sink.written; faults = l.sink.faults; order = order }
+
+-- what it tells of what is written to it
+abbrev pub side_of : LinkView → Side
+side_of l = side_with l l.order
+
+-- the same of a link itself
+abbrev pub side_view : {L : Type 0} → source.Ghosts L → sink.Ghosts L → L → Side
+side_view as_source as_sink l = side_of (view_of as_source as_sink l)
 
 -- the second list is a front of the first
 abbrev pub Begins : {A : Type 0} → List A → List A → Type 0

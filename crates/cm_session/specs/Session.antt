@@ -1,9 +1,10 @@
 -- One session over a link, by its end.
-use Rattle.std.specs.Prelude.{◌≡◌, ◌≢◌, ◌⊎◌, ◌<◌, ◌≤◌, ℕ, List, [], ◌∷◌, ◌++◌, All, length, take, codes}
+use Rattle.std.specs.Prelude.{◌≡◌, ◌≢◌, ◌⊎◌, ◌<◌, ◌≤◌, ℕ, List, [], ◌∷◌, ◌++◌, All, length, map, take, codes}
 use Rattle.std.specs.Prelude.{Option}
 use Rattle.std.specs.List.{AllZip}
 use Rattle.std.specs.Io.KnownBytes.{Appends, IsAtEnd}
 use Rattle.cm_io.specs.Lines.{lines, Moves}
+use Rattle.cm_io.specs.Orders.{Came, InStep, Move, given_in, hung_up}
 use Rattle.cm_io.specs.Outside.{AsSink, Rose}
 use Rattle.cm_gate.specs.declared.asked.Asked.{Asked}
 use Rattle.cm_reply.specs.Lists.{Text}
@@ -72,9 +73,10 @@ pub record WantsLast (told : List Told) : Type 0 where
   pub one : length last ≤ 1
   pub no_want : All IsNoWant before
 
--- a session over a link, by what the pass, the gates and the link were and are
-pub record Session (shelf : Shelf) (p q : RealmPass) (g h : GatesView) (old new : LinkView) (end : Ended)
-    : Type 0 where
+-- the lines of a link were served, by what the pass, the gates and the link were and are; behind that came
+-- the moves `closing`, and no bytes
+pub record SessionClosedBy (closing : List Move) (shelf : Shelf) (p q : RealmPass) (g h : GatesView)
+    (old new : LinkView) (end : Ended) : Type 0 where
   pub keeps : KeepsOrNot shelf p q g h
   -- the bytes that the link gave
   pub bytes : Text
@@ -95,10 +97,21 @@ pub record Session (shelf : Shelf) (p q : RealmPass) (g h : GatesView) (old new 
   pub no_want : end ≢ ended.Memory → All IsNoWant told
   pub wants_last : WantsLast told
   pub read_fault : end ≡ ended.ReadFault → Rose old.source.faults new.source.faults
+  -- the order, where the link tells it: reads, which gave these bytes, and writes, so that each reply was
+  -- written before it was read on behind its line; and behind them the closing alone
+  pub moves : List Move
+  pub in_step : InStep (map reply_line told) moves
+  pub reads_are : given_in moves ≡ bytes
+  pub came : Came old.order new.order (moves ++ closing)
+
+-- a session over a link: `InStep` has reads and writes alone, so it was hung up on once, behind all of them
+abbrev pub Session : Shelf → RealmPass → RealmPass → GatesView → GatesView → LinkView → LinkView → Ended
+    → Type 0
+Session shelf p q g h old new end = SessionClosedBy (hung_up ∷ []) shelf p q g h old new end
 
 module _ {G L : Type 0} (log_of : G → Option (List Asked)) (faults_of : G → ℕ) (view : L → LinkView) where
-  -- a session over this link, with these gates
-  abbrev pub SessionWith : Shelf → RealmPass → RealmPass → G → G → L → L → Ended → Type 0
-  SessionWith shelf p q gates₀ gates₁ old new end =
-      Session shelf p q (gates_view log_of faults_of gates₀) (gates_view log_of faults_of gates₁)
-      (view old) (view new) end
+  -- the lines of this link were served, with these gates, and `closing` came behind that
+  abbrev pub SessionWith : List Move → Shelf → RealmPass → RealmPass → G → G → L → L → Ended → Type 0
+  SessionWith closing shelf p q gates₀ gates₁ old new end =
+      SessionClosedBy closing shelf p q (gates_view log_of faults_of gates₀)
+      (gates_view log_of faults_of gates₁) (view old) (view new) end

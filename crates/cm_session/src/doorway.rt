@@ -3,6 +3,7 @@
 ghost use Rattle.std.specs.Prelude.{◌≡◌, ◌<◌, ◌≤◌, [], IfErr, IfOk, true, false};
 ghost use Rattle.cm_session.specs.Doorway.{DoorwayView, IsCounted, OnGiven, TurnedBy, came_of};
 ghost use Rattle.cm_session.specs.Doorway.{failures_of, links_of};
+ghost use Rattle.cm_io.specs.Doors.{IsOpen};
 ghost use Rattle.cm_session.specs.Links.{view_of};
 ghost use Rattle.cm_session.specs.Serving.{IsNewLink};
 
@@ -29,16 +30,28 @@ pub struct Accepted {
     pub came: Came,
 }
 
-/// What stays as it is while workers share a door: what the door had counted before, and how many
-/// links were asked for.
-#[derive(Debug, Clone, Copy, PartialEq, Eq)]
+/// A place as contracts see it, of which nothing is there at run time.
+pub struct Whereabouts;
+
+impl Model for Whereabouts {
+    ghost use Rattle.cm_io.specs.Doors.{Place, untold};
+
+    ghost Value = { Place };
+
+    ghost view = { λ _. untold };
+}
+
+/// What stays as it is while workers share a door: what the door had counted before, where peers may
+/// come, and how many links were asked for. Contracts alone have it.
 pub struct Opening {
     pub counts: DoorCounts,
+    pub place: Whereabouts,
     pub sessions: u32,
 }
 
 /// A door with the accepts that were made at it, one entry for each. It has room for as many as may
-/// come: one for each link that was asked for, and one for a closing or a fault.
+/// come: one for each link that was asked for, and one for a closing or a fault. Peers may come to the
+/// door, and where they may doesn't change.
 #[derive(Drop)]
 pub struct Doorway<D: Door> {
     door: D,
@@ -52,6 +65,7 @@ pub struct Doorway<D: Door> {
 
 impl<D: Door> Model for Doorway<D> {
     ghost use Rattle.std.specs.Prelude.{◌≡◌, ◌+◌, ◌<◌, ◌≤◌, length, vec_capacity};
+    ghost use Rattle.cm_io.specs.Doors.{IsOpen};
     ghost use Rattle.cm_session.specs.Doorway.{DoorwayView, IsCounted, closings_of, failures_of, links_of};
 
     ghost Value = { DoorwayView D };
@@ -59,10 +73,16 @@ impl<D: Door> Model for Doorway<D> {
     ghost view = { λ s. record {
       door = s.door;
       entries = s.entries.items;
-      opening = record { counts = D.counts s.first.value; sessions = s.sessions };
+      opening = record {
+        counts = D.counts s.first.value;
+        place = D.place s.first.value;
+        sessions = s.sessions;
+      };
     } };
 
     ghost invariant = { λ s. IsCounted (D.counts s.first.value) (D.counts s.door) s.entries.items
+        × (D.place s.door ≡ D.place s.first.value)
+        × IsOpen (D.place s.door)
         × (s.links ≡ links_of s.entries.items)
         × (s.closings ≡ closings_of s.entries.items)
         × (s.failures ≡ failures_of s.entries.items)
@@ -96,14 +116,15 @@ fn came_of<L>(accept: &Accept<L>) -> Came
 }
 
 impl<D: Door> Doorway<D> {
-    /// The door, at which no accept was made yet, with room for so many links. `Err` means that
-    /// memory ran out, and gives the door back.
+    /// The door, at which no accept was made yet, with room for so many links. Peers may come to it.
+    /// `Err` means that memory ran out, and gives the door back.
     pub fn new(alloc: Global, door: D, sessions: u32) -> Result<Doorway<D>, D>
-        requires { sessions ≤ 4096 }
+        requires sessions { sessions ≤ 4096 }
+        requires listening { IsOpen (D.place door) }
         ensures ok { IfOk result (λ s. s ≡ record {
           door = door;
           entries = [];
-          opening = record { counts = D.counts door; sessions = sessions };
+          opening = record { counts = D.counts door; place = D.place door; sessions = sessions };
         }) }
         ensures err { IfErr result (λ d. d ≡ door) }
     {
@@ -151,6 +172,7 @@ impl<D: Door> Doorway<D> {
     pub fn into_door(self) -> (D, bool)
         ensures door { result.0 ≡ self.door }
         ensures counts { IsCounted self.opening.counts (D.counts result.0) self.entries }
+        ensures place { D.place result.0 ≡ self.opening.place }
         ensures few { links_of self.entries ≤ self.opening.sessions }
         ensures failed { result.1 ≡ true → 0 < failures_of self.entries }
         ensures sound { result.1 ≡ false → failures_of self.entries ≡ 0 }

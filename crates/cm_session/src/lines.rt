@@ -1,12 +1,14 @@
 //! Serving the lines of one link.
 
-ghost use Rattle.std.specs.Prelude.{◌≡◌, ◌≢◌, ◌≤◌, ◌++◌, [], codes, decimal, false, true, length, Err, IfOk};
+ghost use Rattle.std.specs.Prelude.{◌≡◌, ◌≢◌, ◌≤◌, ◌++◌, ◌∷◌, [], codes, decimal, false, true, length, Err};
+ghost use Rattle.std.specs.Prelude.{IfOk};
 ghost use Rattle.cm_reply.specs.Journal.{line as line_of};
 ghost use Rattle.cm_reply.specs.Answers as answers;
 ghost use Rattle.cm_manager.specs.Gated.{gates_view};
-ghost use Rattle.cm_session.specs.Links.{sink_view, source_view, view_of};
+ghost use Rattle.cm_io.specs.Orders.{hung_up};
+ghost use Rattle.cm_session.specs.Links.{side_view, source_view, view_of};
 ghost use Rattle.cm_session.specs.Session.{SessionWith};
-ghost use Rattle.cm_session.specs.Steps.{LineWrote, ServedCommand, ServedOrNot, Stepped};
+ghost use Rattle.cm_session.specs.Steps.{LineWrote, RepliesInOrder, ServedCommand, ServedOrNot, Stepped};
 
 use crate::Ended;
 use cm_command::{Command, CommandFault, read_command};
@@ -70,8 +72,9 @@ fn put_reply<R: Threads + Wait + Sync, L: Link>(
     text: &[u8],
     wanting: bool,
 ) -> Option<Ended>
-    ensures wrote { LineWrote result (sink_view L.Sink link.old) (sink_view L.Sink link.new)
+    ensures wrote { LineWrote result (side_view L.Source L.Sink link.old) (side_view L.Source L.Sink link.new)
         text.now (wanting ≡ false) }
+    ensures ordered { RepliesInOrder result (L.Source.order link.old) (L.Source.order link.new) text.now }
     ensures source { source_view L.Source link.new ≡ source_view L.Source link.old }
 {
     let put = put_all(rt, link, text);
@@ -91,8 +94,10 @@ fn refuse<R: Threads + Wait + Sync, L: Link>(
     link: &mut L,
     at: u32,
 ) -> Option<Ended>
-    ensures wrote { LineWrote result (sink_view L.Sink link.old) (sink_view L.Sink link.new)
+    ensures wrote { LineWrote result (side_view L.Source L.Sink link.old) (side_view L.Source L.Sink link.new)
         (line_of (codes "refused 70 bad-command at " ++ decimal at)) (false ≡ false) }
+    ensures ordered { RepliesInOrder result (L.Source.order link.old) (L.Source.order link.new)
+        (line_of (codes "refused 70 bad-command at " ++ decimal at)) }
     ensures source { source_view L.Source link.new ≡ source_view L.Source link.old }
 {
     match refusal_line(alloc, at) {
@@ -114,7 +119,7 @@ fn serve_command<R: Threads + Wait + Sync, G: Gates, L: Link>(
     requires lock { pass.lock ≡ manager.now.turn.lock }
     ensures served { ServedCommand manager.now.shelf pass result.0
         (gates_view G.log G.faults gates.old) (gates_view G.log G.faults gates.new)
-        command.now (sink_view L.Sink link.old) (sink_view L.Sink link.new) result.1 }
+        command.now (side_view L.Source L.Sink link.old) (side_view L.Source L.Sink link.new) result.1 }
     ensures source { source_view L.Source link.new ≡ source_view L.Source link.old }
 {
     let (pass, answer) = manager.perform(rt, alloc, pass, gates, command);
@@ -141,7 +146,7 @@ fn serve_line<R: Threads + Wait + Sync, G: Gates, L: Link>(
     requires short { length line.now ≤ 65536 }
     ensures served { ServedOrNot manager.now.shelf pass result.0
         (gates_view G.log G.faults gates.old) (gates_view G.log G.faults gates.new)
-        line.now (sink_view L.Sink link.old) (sink_view L.Sink link.new) result.1 }
+        line.now (side_view L.Source L.Sink link.old) (side_view L.Source L.Sink link.new) result.1 }
     ensures source { source_view L.Source link.new ≡ source_view L.Source link.old }
 {
     match read_command(alloc, line) {
@@ -203,7 +208,7 @@ fn serve_lines<R: Threads + Wait + Sync, G: Gates, L: Link>(
 ) -> (Pass<Entry, Frame>, Ended)
     requires lock { pass.lock ≡ manager.now.turn.lock }
     requires fresh { reader.old ≡ record { held = []; over = false } }
-    ensures session { SessionWith G.log G.faults (view_of L.Source L.Sink) manager.now.shelf
+    ensures session { SessionWith G.log G.faults (view_of L.Source L.Sink) [] manager.now.shelf
         pass result.0 gates.old gates.new link.old link.new result.1 }
 {
     let mut pass = pass;
@@ -239,7 +244,7 @@ pub fn session<R: Threads + Wait + Sync, G: Gates, L: Link>(
     link: &mut L,
 ) -> (Pass<Entry, Frame>, Ended)
     requires lock { pass.lock ≡ manager.now.turn.lock }
-    ensures session { SessionWith G.log G.faults (view_of L.Source L.Sink) manager.now.shelf
+    ensures session { SessionWith G.log G.faults (view_of L.Source L.Sink) (hung_up ∷ []) manager.now.shelf
         pass result.0 gates.old gates.new link.old link.new result.1 }
 {
     let (pass, ended) = match LineReader::new(alloc) {

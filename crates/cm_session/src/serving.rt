@@ -2,6 +2,7 @@
 
 ghost use Rattle.std.specs.Prelude.{◌≡◌, ◌⊎◌, ◌+◌, ◌<◌, ◌≤◌, ◌++◌, [], All, IfErr, IfOk, length};
 ghost use Rattle.std.specs.Prelude.{vec_capacity};
+ghost use Rattle.cm_io.specs.Doors.{IsOpen};
 ghost use Rattle.cm_io.specs.Outside.{Rose};
 ghost use Rattle.cm_manager.specs.Closed.{HasEnds};
 ghost use Rattle.cm_manager.specs.Kept.{AreSixteen, IsOwnPass, KeepsEach};
@@ -33,8 +34,9 @@ use std::thread::Threads;
 /// the pass and the gates of its number, one session after another.
 /// While it waits for a link, reads or writes, it holds up no other's session.
 ///
-/// The passes are the manager's of callers 0 to 15, in this order, and there are 16 gates. Whatever
-/// happens, both are handed back, ordered as they were given, and so is the door. All links that came
+/// Peers may come to the door. The passes are the manager's of callers 0 to 15, in this order, and
+/// there are 16 gates. Whatever happens, both are handed back, ordered as they were given, and so is
+/// the door, to which peers may come where they could. All links that came
 /// are handed back with their workers' numbers, worker by worker, and each worker's as its sessions
 /// followed one another. A link that fails ends the session over it and no other.
 ///
@@ -57,6 +59,7 @@ where
     requires gates { length gates ≡ 16 }
     requires sessions { (0 < sessions) × (sessions ≤ 4096) }
     requires workers { (0 < workers) × (workers ≤ 16) }
+    requires listening { IsOpen (D.place door) }
     ensures served { ServedOrNot G.log G.faults (view_of D.Link.Source D.Link.Sink)
         manager.now.shelf workers passes gates door result }
     ensures passes { AreSixteen manager.now.turn result.passes }
@@ -65,6 +68,7 @@ where
         KeepsEach G.log G.faults manager.now.shelf passes result.passes gates result.gates }
     ensures ended { All (λ p. HasEnds p.mine) passes → All (λ p. HasEnds p.mine) result.passes }
     ensures links { (D.counts result.door).links ≡ (D.counts door).links + length result.links }
+    ensures place { D.place result.door ≡ D.place door }
     ensures few { length result.links ≤ sessions }
     ensures done { result.cause ≡ cause.Done → (length result.links ≡ sessions)
         ⊎ Rose (D.counts door).closings (D.counts result.door).closings }
@@ -117,10 +121,12 @@ fn open_door<D: Door>(
     door: D,
     sessions: u32,
 ) -> Result<(Turn<Doorway<D>>, List<Pass<Accepted, Opening>>), D>
-    requires { sessions ≤ 4096 }
+    requires sessions { sessions ≤ 4096 }
+    requires listening { IsOpen (D.place door) }
     ensures count { IfOk result (λ r. r.0.passes ≡ 16) }
     ensures new { IfOk result (λ r. r.1 ≡
-        new_passes r.0.lock (record { counts = D.counts door; sessions = sessions }) 16) }
+        new_passes r.0.lock
+        (record { counts = D.counts door; place = D.place door; sessions = sessions }) 16) }
     ensures err { IfErr result (λ d. d ≡ door) }
 {
     let doorway = match Doorway::new(alloc, door, sessions) {
@@ -183,8 +189,8 @@ fn hand_back<G: Drop, D: Door>(
     ensures passes { result.passes ≡ parts.passes.items }
     ensures gates { result.gates ≡ parts.gates.items }
     ensures links { result.links ≡ links_from 0 parts.links.items }
-    ensures closed { ClosesDoor parts.at_door.items (D.counts result.door) (length result.links)
-        parts.lost result.cause }
+    ensures closed { ClosesDoor parts.at_door.items (D.counts result.door) (D.place result.door)
+        (length result.links) parts.lost result.cause }
 {
     let Parts {
         passes,

@@ -4,3 +4,5 @@ pub mod Joined
 pub mod Numbered
 pub mod Waits
 pub mod Picks
+pub mod Enabled
+pub mod Chosen

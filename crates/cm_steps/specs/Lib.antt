@@ -9,3 +9,5 @@ pub mod Expiring
 pub mod Answers
 pub mod Ends
 pub mod Asking
+pub mod Enabled
+pub mod Chosen

@@ -13,8 +13,10 @@
 
 mod asking;
 mod copies;
+mod enabling;
 pub mod ending;
 mod expiring;
+pub mod laws;
 pub mod nostep;
 mod pending;
 pub mod realm;
@@ -24,5 +26,6 @@ mod rooms;
 mod standing;
 
 pub use ending::Ending;
+pub use laws::enabled_by_both;
 pub use nostep::NoStep;
 pub use realm::Realm;

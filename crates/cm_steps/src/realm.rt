@@ -17,6 +17,7 @@ ghost use Rattle.cm_steps.specs.Steps.{HasRoom, LacksRoom, Refuses, RefusesQuiet
 ghost use Rattle.cm_steps.specs.Steps.{WaitsToBegin, WaitsToExit};
 
 mod creating;
+mod enabling;
 mod ends;
 mod marks;
 mod picking;
@@ -137,6 +138,15 @@ impl Realm {
     {
         let _table = &self.table;
         self.records.book.entries()
+    }
+
+    /// The tree that the history leaves.
+    pub fn tree(&self) -> &Table
+        ensures rows { result.now.rows ≡ (world_of self.now).rows }
+        ensures builtins { result.now.builtins ≡ self.now.frame.builtins }
+    {
+        let _frame = &self.frame;
+        &self.table
     }
 
     /// The history as a book, which takes as many entries as the realm does and keeps room for those
@@ -520,6 +530,7 @@ impl Realm {
         requires unasked { asked_by (world_of self.old) event ≡ None }
         requires undoomed { may_doom event reply ≡ false }
         ensures step { IfOk result (λ told. Tells self.old self.new caller event told) }
+        ensures same { IfOk result (λ told. told ≡ reply) }
         ensures refused { IfErr result (Refuses self.old 2 (λ a. ⊥)) }
         ensures err { OnErr result (self.new ≡ self.old) }
     {

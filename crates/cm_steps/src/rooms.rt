@@ -165,7 +165,7 @@ pub fn add_join(
 }
 
 /// Whether the caller waits for the action.
-fn waits(joins: &[Join], caller: u32, action: u64) -> bool
+pub fn waits(joins: &[Join], caller: u32, action: u64) -> bool
     ensures { result ≡ list_any (step.is_join caller action) joins.now }
 {
     match join_place(joins, caller, action) {

@@ -46,6 +46,13 @@ impl OrderedDecl {
         ensures { IfOk result (λ made. made ≡ decl) }
     {
         let decl = Shared::new(alloc, decl)?;
+        OrderedDecl::of(alloc, decl)
+    }
+
+    /// The same of a declaration that is shared. `Err` where memory runs out.
+    pub fn of(alloc: Global, decl: Shared<Decl>) -> Result<OrderedDecl, Memory>
+        ensures { IfOk result (λ made. made ≡ decl) }
+    {
         let places = order_of(alloc, decl.get().offers.as_slice())?;
         Ok(OrderedDecl { decl, places })
     }

@@ -67,6 +67,23 @@ impl Prepared {
         ensures { IfOk result (λ made. made ≡ record { absolute = absolute; decl = decl }) }
     {
         let decl = OrderedDecl::make(alloc, decl)?;
+        Prepared::ordered(alloc, decl, absolute)
+    }
+
+    /// The same of a declaration that is shared. `Err` where memory runs out.
+    pub fn of(alloc: Global, decl: Shared<Decl>, absolute: Text) -> Result<Prepared, Memory>
+        requires { IsValid decl }
+        ensures { IfOk result (λ made. made ≡ record { absolute = absolute; decl = decl }) }
+    {
+        let decl = OrderedDecl::of(alloc, decl)?;
+        Prepared::ordered(alloc, decl, absolute)
+    }
+
+    /// The same of a declaration with the order of its offers. `Err` where memory runs out.
+    fn ordered(alloc: Global, decl: OrderedDecl, absolute: Text) -> Result<Prepared, Memory>
+        requires { IsValid decl }
+        ensures { IfOk result (λ made. made ≡ record { absolute = absolute; decl = decl }) }
+    {
         let made = made_for(alloc, &absolute, &decl)?;
         let Made {
             kept_absolute,

@@ -7,17 +7,17 @@ use cm_names::ChildName;
 use cm_world::{Steps, Store, View};
 use std::sync::ledger::Ledger;
 
-impl Store for Table {
+impl<L: Ledger> Store<L> for Table {
     ghost rows = { λ (t : Tree). t.rows };
 
     ghost next_inc = { λ (t : Tree). t.next_inc };
 
-    fn is_resolved<L: Ledger>(&self, inc: u64, steps: &mut Steps<L>) -> bool {
+    fn is_resolved(&self, inc: u64, steps: &mut Steps<L>) -> bool {
         steps.tick();
         self.decl(inc).is_some()
     }
 
-    fn child<L: Ledger>(&self, parent: u64, name: &ChildName, steps: &mut Steps<L>) -> Option<u64> {
+    fn child(&self, parent: u64, name: &ChildName, steps: &mut Steps<L>) -> Option<u64> {
         steps.tick();
         View::child(self, parent, name)
     }

@@ -7,4 +7,5 @@ mod PassSteps
 mod Calls
 mod Closing
 mod LawProofs
+mod SlotMoves
 pub mod AllPasses

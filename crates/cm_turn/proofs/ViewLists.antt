@@ -14,7 +14,7 @@ module _ {V : Type 0} where
       (λ (x : (j ≢ id) × (get_elem? views j ≡ some u)). others j u x.0 x.1)
       (at_set views id j w u e)
 
-  at_snoc_here : (l : List V) (a b : V) (j : ℕ) → get_elem? (l ++ a ∷ []) j ≡ some b → (get_elem? l j ≡ some b) ⊎ ((j ≡ length l) × (a ≡ b))
+  pub at_snoc_here : (l : List V) (a b : V) (j : ℕ) → get_elem? (l ++ a ∷ []) j ≡ some b → (get_elem? l j ≡ some b) ⊎ ((j ≡ length l) × (a ≡ b))
   at_snoc_here [] a b zero e = inr (refl, some-injective a b e)
   at_snoc_here [] a b (suc j) e = absurd (some-ne-none b (sym e))
   at_snoc_here (x ∷ xs) a b zero e = inl e

@@ -7,6 +7,10 @@ ghost use Rattle.cm_turn.specs.Laws.{Always, OneTurn, OneCaller, CallersAreMade,
 ghost use Rattle.cm_turn.specs.Laws.{CountsTickets, TicketsFollow, AllAreHeld, OneFrame, HomeFrame};
 ghost use Rattle.cm_turn.specs.Laws.{SeenBegins, OutOnlyInTurn, OutInTurn, HomeIsHistory, TurnHasSeenAll};
 ghost use Rattle.cm_turn.specs.Laws.{EntriesAreMine, NoOtherEntries};
+ghost use Rattle.cm_turn.specs.Moves.{ArrivalsMove, OnlyTurnMoves, StepsMove};
+ghost use Rattle.cm_turn.specs.declared.view.View.{View};
+ghost use Rattle.atomic_table.specs.Table.{State};
+ghost use Rattle.std.specs.Prelude.{Option};
 
 use crate::storied::Storied;
 
@@ -49,6 +53,15 @@ pub fn seen_lists_begin_the_history<S: Storied>()
 pub fn state_is_out_in_a_turn<S: Storied>()
     ensures only { Always S.story S.frame S.by (λ f log s. OutOnlyInTurn s) }
     ensures out { Always S.story S.frame S.by (λ f log s. OutInTurn s) }
+{}
+
+/// Only the seat that has the turn moves the slot: a move of one seat that has the turn neither before
+/// nor after it leaves at home what was there. Each step of a seat on a word is such a move, and so is
+/// the coming of a seat; what cuts a seat in two or joins two of them has nothing at home to change.
+pub fn only_the_turn_moves_the_slot<S: Storied>()
+    ensures only { OnlyTurnMoves S.story S.frame S.by }
+    ensures steps { (s : State (Option S) (View S.Entry S.Frame)) → StepsMove s }
+    ensures arrivals { (s : State (Option S) (View S.Entry S.Frame)) → ArrivalsMove s }
 {}
 
 /// The state at home stands for the history, and a seat with the turn has seen the whole of it.

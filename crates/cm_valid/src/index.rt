@@ -12,7 +12,7 @@ use std::marker::Model;
 
 /// A declaration with its names laid out for look-up, which contracts see as the declaration.
 #[derive(Drop)]
-pub(crate) struct Index<'a> {
+pub struct Index<'a> {
     decl: &'a Decl,
     children: Names<'a>,
     collections: Names<'a>,
@@ -34,7 +34,7 @@ impl<'a> Model for Index<'a> {
 
 impl<'a> Index<'a> {
     /// Lays out the names of a declaration. `Err` where memory runs out.
-    pub(crate) fn new(alloc: Global, decl: &'a Decl) -> Result<Index<'a>, Memory>
+    pub fn new(alloc: Global, decl: &'a Decl) -> Result<Index<'a>, Memory>
         ensures { IfOk result (λ index. index ≡ decl.now) }
     {
         let capabilities = decl.capabilities.as_slice();
@@ -48,14 +48,14 @@ impl<'a> Index<'a> {
     }
 
     /// The declaration.
-    pub(crate) fn decl(&self) -> &'a Decl
+    pub fn decl(&self) -> &'a Decl
         ensures { result.now ≡ self.now }
     {
         self.decl
     }
 
     /// Whether a declared child has the name.
-    pub(crate) fn has_child(&self, name: &'a Name) -> bool
+    pub fn has_child(&self, name: &'a Name) -> bool
         ensures { result ≡ is_child_name self.now name.now }
     {
         self.children.contains(name.as_str())
@@ -69,7 +69,7 @@ impl<'a> Index<'a> {
     }
 
     /// Whether a child or a collection has the name.
-    pub(crate) fn is_target(&self, name: &'a Name) -> bool
+    pub fn is_target(&self, name: &'a Name) -> bool
         ensures { result ≡ rule.is_target self.now name.now }
     {
         self.has_child(name) || self.collections.contains(name.as_str())
@@ -86,7 +86,7 @@ impl<'a> Index<'a> {
     }
 
     /// Whether the source is a child that isn't declared.
-    pub(crate) fn is_unknown(&self, from: &'a Origin) -> bool
+    pub fn is_unknown(&self, from: &'a Origin) -> bool
         ensures { result ≡ rule.is_unknown (rule.is_child self.now) from.now }
     {
         match from {
@@ -97,7 +97,7 @@ impl<'a> Index<'a> {
 
     /// Whether the source is the component itself without such a capability, or the framework
     /// for a directory.
-    pub(crate) fn is_undeclared(&self, kind: Kind, from: &'a Origin, name: &'a Name) -> bool
+    pub fn is_undeclared(&self, kind: Kind, from: &'a Origin, name: &'a Name) -> bool
         ensures { result ≡ rule.is_undeclared self.now kind from.now name.now }
     {
         match from {

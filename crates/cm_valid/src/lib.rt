@@ -8,15 +8,15 @@
 pub(crate) mod clash;
 pub mod fault;
 pub(crate) mod found;
-pub(crate) mod index;
+pub mod index;
 pub(crate) mod key;
 pub(crate) mod keyed;
 pub mod laws;
-pub(crate) mod names;
+pub mod names;
 pub(crate) mod near;
 pub(crate) mod pass;
 pub(crate) mod row;
 pub mod validator;
 
 pub use fault::ValidFault;
-pub use validator::{ValidDecl, is_well_formed, validate};
+pub use validator::{ValidDecl, check, is_well_formed, validate};

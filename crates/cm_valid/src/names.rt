@@ -14,7 +14,7 @@ use std::marker::Model;
 
 /// A set of names, which contracts see as the list of them.
 #[derive(Drop)]
-pub(crate) struct Names<'a> {
+pub struct Names<'a> {
     set: BTreeSet<&'a str>,
 }
 
@@ -28,7 +28,7 @@ impl<'a> Model for Names<'a> {
 
 impl<'a> Names<'a> {
     /// The set of no name.
-    pub(crate) fn new(alloc: Global) -> Names<'a>
+    pub fn new(alloc: Global) -> Names<'a>
         ensures { result ≡ [] }
     {
         Names {
@@ -37,7 +37,7 @@ impl<'a> Names<'a> {
     }
 
     /// Puts a name into the set. `Err` where memory runs out.
-    pub(crate) fn insert(&mut self, name: &'a str) -> Result<(), Memory>
+    pub fn insert(&mut self, name: &'a str) -> Result<(), Memory>
         ensures { OnOk result ((other : List ℕ) →
             has self.new other ≡ (bytes_eq other name.now || has self.old other)) }
     {
@@ -46,7 +46,7 @@ impl<'a> Names<'a> {
     }
 
     /// Whether the name is in the set.
-    pub(crate) fn contains(&self, name: &'a str) -> bool
+    pub fn contains(&self, name: &'a str) -> bool
         ensures { result ≡ has self.now name.now }
     {
         self.set.contains(&name)

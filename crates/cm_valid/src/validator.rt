@@ -191,8 +191,9 @@ fn needs_child(decl: &Decl) -> bool
     uses_child(decl.uses.as_slice()) || offers_child(decl.offers.as_slice())
 }
 
-/// Whether a declaration is valid: its first fault, if it has one.
-fn check(alloc: Global, decl: &Decl) -> Result<(), ValidFault>
+/// Whether a declaration is valid: its first fault, if it has one, as [`validate`] tells it. It is
+/// well-formed as there.
+pub fn check(alloc: Global, decl: &Decl) -> Result<(), ValidFault>
     requires well_formed { IsTrue (valid.is_well_formed decl.now) }
     ensures valid { IfOk result (λ _. IsValid decl.now) }
     ensures fault { IfErr result (Reports decl.now) }

@@ -1,5 +1,7 @@
 //! Doors in memory, and what was written to the links that came.
 
+ghost use Rattle.std.specs.Prelude.{◌≡◌, IfSome, false};
+
 use super::input::{failing_of, input_of, plan_of, push_line};
 use cm_io::{LinkPlan, MemoryDoor, MemoryLink};
 use cm_names::{Bytes, List, Text};
@@ -46,7 +48,9 @@ fn links_of(alloc: Global, case: &str) -> Option<VecDeque<LinkPlan>> {
 }
 
 /// The door of a case.
-pub fn door_of(alloc: Global, case: &str) -> Option<MemoryDoor> {
+pub fn door_of(alloc: Global, case: &str) -> Option<MemoryDoor>
+    ensures { IfSome result (λ door. door.listening ≡ false) }
+{
     match links_of(alloc, case) {
         Some(links) => match failing_of(alloc, case, "door") {
             Some(failing) => Some(MemoryDoor::new(alloc, links, List::from_vec(failing))),
@@ -59,18 +63,30 @@ pub fn door_of(alloc: Global, case: &str) -> Option<MemoryDoor> {
     }
 }
 
-/// Puts down the number of a worker, on a line of its own.
-fn push_worker(alloc: Global, sent: &mut Vec<u8>, worker: u32) -> Option<()> {
+/// Puts down how often one side of a link failed, where it did.
+fn push_faults(line: &mut Text, side: &str, faults: u64) -> Option<()> {
+    if faults == 0 {
+        return Some(());
+    }
+    line.push(format_args!(" {side}-faults {faults}")).ok()
+}
+
+/// Puts down the number of a link's worker, and how often the link failed, on a line of its own.
+fn push_worker(alloc: Global, sent: &mut Vec<u8>, back: &Back<MemoryLink>) -> Option<()> {
+    let worker = back.worker;
     let mut line = Text::new(alloc);
     line.push(format_args!("worker {worker}")).ok()?;
+    push_faults(&mut line, "read", back.link.source.faults())?;
+    push_faults(&mut line, "write", back.link.sink.faults())?;
     push_line(sent, line.as_str())
 }
 
-/// What was written to the links, link by link: the number of its worker, and then the bytes.
+/// What was written to the links, link by link: the number of its worker, how often the link failed where it
+/// did, and then the bytes.
 pub fn sent_of(alloc: Global, links: &[Back<MemoryLink>]) -> Option<Vec<u8>> {
     let mut sent = Vec::new(alloc);
     for back in links {
-        push_worker(alloc, &mut sent, back.worker)?;
+        push_worker(alloc, &mut sent, back)?;
         sent.extend_from_slice(back.link.sink.bytes()).ok()?;
     }
     Some(sent)

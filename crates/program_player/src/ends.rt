@@ -4,6 +4,10 @@
 //! of the output, of the error stream, of what was written to the links, and of what the gates tell
 //! afterwards; `out+`, `err+` and `sent+` a text that no line feed ends; `entries` the length of the
 //! history. The gates and the history are only looked at where a line speaks of them.
+//!
+//! `read-faults`, `write-faults`, `say-faults` and `door-faults` tell how often the input, the output, the
+//! error stream and the door failed. They are looked at in every end: a count of which no line speaks has to
+//! be 0. Those of a link stand in the line of its worker, where they aren't 0.
 
 use super::input::{number_of, push_line, push_text};
 use super::texts::is_one_of;
@@ -11,11 +15,16 @@ use cm_gate::{Asked, Fetched, Gates, PlannedGates};
 use cm_names::{Memory, Text};
 use std::alloc::Global;
 
-/// What came of a run: its status, the length of its history, and what was written and told.
+/// What came of a run: its status, the length of its history, how often each side failed, and what was
+/// written and told.
 #[derive(Drop)]
 pub struct Came<'a> {
     pub status: u8,
     pub entries: usize,
+    pub read_faults: u64,
+    pub write_faults: u64,
+    pub say_faults: u64,
+    pub door_faults: u64,
     pub out: &'a [u8],
     pub err: &'a [u8],
     pub sent: &'a [u8],
@@ -23,7 +32,8 @@ pub struct Came<'a> {
 }
 
 /// The words that a line of an end may begin with.
-const WORDS: &str = "=> out out+ err err+ sent sent+ told entries";
+const WORDS: &str = "=> out out+ err err+ sent sent+ told entries \
+    read-faults write-faults say-faults door-faults";
 
 /// Whether each line of these ends begins with a word that is known, or is a status.
 pub fn are_known_ends(ends: &str) -> bool {
@@ -60,7 +70,20 @@ fn is_end(alloc: Global, came: &Came<'_>, end: &str) -> Option<bool> {
     if came.status != status || came.entries as u64 != entries {
         return Some(false);
     }
-    Some(is_written(alloc, came, lines)? && is_told(alloc, came.told, lines)?)
+    Some(
+        has_faults(came, lines)?
+            && is_written(alloc, came, lines)?
+            && is_told(alloc, came.told, lines)?,
+    )
+}
+
+/// Whether each side of a run failed as often as these lines say.
+fn has_faults(came: &Came<'_>, lines: &str) -> Option<bool> {
+    let is_so = came.read_faults == number_of(lines, "read-faults", 0)?
+        && came.write_faults == number_of(lines, "write-faults", 0)?
+        && came.say_faults == number_of(lines, "say-faults", 0)?
+        && came.door_faults == number_of(lines, "door-faults", 0)?;
+    Some(is_so)
 }
 
 /// Whether a run wrote these lines.
@@ -142,20 +165,22 @@ fn push_log(told: &mut Text, lane: usize, log: Option<&[Asked]>) -> Result<(), M
     Ok(())
 }
 
-fn push_faults(told: &mut Text, lane: usize, faults: u64) -> Result<(), Memory> {
-    if faults == 0 {
+/// Puts down a count of a lane's gates, where it isn't 0.
+fn push_count(told: &mut Text, lane: usize, word: &str, count: u64) -> Result<(), Memory> {
+    if count == 0 {
         return Ok(());
     }
-    told.push(format_args!("{lane} faults {faults}\n"))
+    told.push(format_args!("{lane} {word} {count}\n"))
 }
 
-/// What gates tell, lane by lane: each question that they noted, with the answer, and how often they
-/// failed, if they ever did.
+/// What gates tell, lane by lane: each question that they noted, with the answer, how often they failed,
+/// and for how many questions memory was too short to note them, if these aren't 0.
 pub fn told_by(alloc: Global, gates: &[PlannedGates]) -> Option<Text> {
     let mut told = Text::new(alloc);
     for lane in 0..gates.len() {
         push_log(&mut told, lane, gates[lane].log()).ok()?;
-        push_faults(&mut told, lane, gates[lane].faults()).ok()?;
+        push_count(&mut told, lane, "faults", gates[lane].faults()).ok()?;
+        push_count(&mut told, lane, "short", gates[lane].short()).ok()?;
     }
     Some(told)
 }

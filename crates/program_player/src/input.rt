@@ -14,6 +14,7 @@
 //! - `failing`: a lane, and a call of its gates that fails;
 //! - `room`: how many questions the gates of a lane have room to note;
 //! - `runs`: how often the case is run, each time over new gates;
+//! - `again`: the word of a further run, whose input is what the run wrote, and of which the ends tell;
 //! - `door`: the call of the door that fails, from 0 on, which is the listen;
 //! - `link`: a link that the door gives begins, with any name. What it gives is said by the lines behind
 //!   it as the input is, and `piece`, `read` and `write` among them are its own.
@@ -26,7 +27,8 @@ use cm_names::{Bytes, List, Text};
 use std::alloc::Global;
 
 /// The words that a line may begin with.
-const WORDS: &str = "| + fill names piece read write say held declined failing room runs door link";
+const WORDS: &str =
+    "| + fill names piece read write say held declined failing room runs again door link";
 
 /// Whether each line behind the first begins with a word that is known.
 pub fn are_known(case: &str) -> bool {

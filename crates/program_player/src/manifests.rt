@@ -163,4 +163,72 @@ const TEXTS: &str = "\
     0 route client /in\n\
     == @ask-log\n\
     root fuchsia-pkg://t/a#meta/root.cm\n\
-    0 route mid/client /svc/log\n";
+    0 route mid/client /svc/log\n\
+    == @realistic: a whole realm in the usual spelling, up to its commands\n\
+    manifest fuchsia-boot:///#meta/root.cm\n\
+    // The root realm.\n\
+    {\n\
+    \x20   children: [\n\
+    \x20       { name: \"core\", url: \"fuchsia-pkg://fuchsia.com/core#meta/core.cm\" },\n\
+    \x20   ],\n\
+    \x20   offer: [\n\
+    \x20       {\n\
+    \x20           protocol: [ \"fuchsia.boot.Items\", \"fuchsia.kernel.RootJob\" ],\n\
+    \x20           from: \"parent\",\n\
+    \x20           to: \"#core\",\n\
+    \x20       },\n\
+    \x20   ],\n\
+    }\n\
+    %%\n\
+    manifest fuchsia-pkg://fuchsia.com/core#meta/core.cm\n\
+    {\n\
+    \x20   children: [\n\
+    \x20       { name: \"archivist\", url: \"#meta/archivist.cm\" },\n\
+    \x20       { name: \"session\", url: \"#meta/session.cm\", startup: \"lazy\" },\n\
+    \x20   ],\n\
+    \x20   offer: [\n\
+    \x20       { protocol: [ \"fuchsia.logger.LogSink\", \"fuchsia.diagnostics.ArchiveAccessor\" ],\n\
+    \x20         from: \"#archivist\", to: [ \"#session\" ] },\n\
+    \x20       { protocol: \"fuchsia.boot.Items\", from: \"parent\", to: \"#archivist\" },\n\
+    \x20   ],\n\
+    }\n\
+    %%\n\
+    manifest fuchsia-pkg://fuchsia.com/core#meta/archivist.cm\n\
+    {\n\
+    \x20   program: { runner: \"elf\", binary: \"bin/archivist\" },\n\
+    \x20   capabilities: [ { protocol: [ \"fuchsia.logger.LogSink\", \
+    \"fuchsia.diagnostics.ArchiveAccessor\" ] } ],\n\
+    \x20   use: [ { protocol: \"fuchsia.boot.Items\" } ],\n\
+    \x20   expose: [ { protocol: [ \"fuchsia.logger.LogSink\", \"fuchsia.diagnostics.ArchiveAccessor\" ], \
+    from: \"self\" } ],\n\
+    }\n\
+    %%\n\
+    manifest fuchsia-pkg://fuchsia.com/core#meta/session.cm\n\
+    {\n\
+    \x20   program: { runner: \"elf\", binary: \"bin/session\" },\n\
+    \x20   children: [ { name: \"shell\", url: \"#meta/shell.cm\", startup: \"eager\" } ],\n\
+    \x20   collections: [ { name: \"elements\", durability: \"transient\", allowed_offers: \
+    \"static_and_dynamic\" } ],\n\
+    \x20   offer: [ { protocol: \"fuchsia.logger.LogSink\", from: \"parent\", to: [ \"#shell\", \
+    \"#elements\" ] } ],\n\
+    }\n\
+    %%\n\
+    manifest fuchsia-pkg://fuchsia.com/core#meta/shell.cm\n\
+    {\n\
+    \x20   program: { runner: \"elf\", binary: \"bin/shell\" },\n\
+    \x20   use: [\n\
+    \x20       { protocol: \"fuchsia.logger.LogSink\" },\n\
+    \x20       { protocol: \"fuchsia.component.Realm\", from: \"framework\" },\n\
+    \x20   ],\n\
+    }\n\
+    %%\n\
+    manifest fuchsia-pkg://fuchsia.com/core#meta/element.cm\n\
+    {\n\
+    \x20   program: { runner: \"elf\", binary: \"bin/element\" },\n\
+    \x20   use: [ { protocol: [ \"fuchsia.logger.LogSink\", \"fuchsia.diagnostics.ArchiveAccessor\" ] } ],\
+    \n\
+    }\n\
+    %%\n\
+    builtin protocol fuchsia.boot.Items\n\
+    builtin protocol fuchsia.kernel.RootJob\n\
+    root fuchsia-boot:///#meta/root.cm\n";

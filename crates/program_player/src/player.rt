@@ -5,7 +5,8 @@
 //! word; `input` and `ends` tell of these. Each end that the run may come to begins with `=> ` and
 //! the status. Where `$`, a name and `$` stand, the text of that name in `repeated` is meant.
 
-ghost use Rattle.std.specs.Prelude.{◌≡◌, IfSome, length};
+ghost use Rattle.cm_io.specs.Doors.{IsShut};
+ghost use Rattle.std.specs.Prelude.{◌≡◌, IfSome, false, length};
 
 use super::doors::{door_of, sent_of};
 use super::ends::{Came, are_known_ends, is_an_end, told_by};
@@ -14,10 +15,10 @@ use super::input::{
 };
 use super::repeated::expanded;
 use cm_gate::{GatePlan, Gates, Manifest, PlannedGates};
-use cm_io::{Door, MemoryDoor, MemoryLink, MemorySink, MemorySource};
+use cm_io::{Door, MemoryDoor, MemoryLink, MemorySink, MemorySource, Plan};
 use cm_names::{List, Memory, Text};
 use cm_program::Ran;
-use cm_program::run::perform;
+use cm_program::run::run;
 use std::alloc::Global;
 use std::sync::Wait;
 use std::thread::Threads;
@@ -76,14 +77,18 @@ fn sides_with(alloc: Global, case: &str, input: MemorySource) -> Option<Sides> {
     }
 }
 
-fn arguments_of(alloc: Global, case: &str) -> Option<Arguments> {
+fn arguments_of(alloc: Global, case: &str) -> Option<Arguments>
+    ensures { IfSome result (λ given. given.door.listening ≡ false) }
+{
     match words_of(alloc, case) {
         Some(words) => arguments_with(alloc, case, words),
         None => None,
     }
 }
 
-fn arguments_with(alloc: Global, case: &str, words: Vec<Text>) -> Option<Arguments> {
+fn arguments_with(alloc: Global, case: &str, words: Vec<Text>) -> Option<Arguments>
+    ensures { IfSome result (λ given. given.door.listening ≡ false) }
+{
     match sides_of(alloc, case) {
         Some(sides) => match door_of(alloc, case) {
             Some(door) => Some(Arguments { words, sides, door }),
@@ -100,7 +105,7 @@ fn arguments_with(alloc: Global, case: &str, words: Vec<Text>) -> Option<Argumen
     }
 }
 
-/// A run of these words between these streams.
+/// A run of these words between these streams, with a door to which no peer may come yet.
 pub fn ran<R: Threads + Wait + Sync, D: Door + Send, G: Gates + Send + Drop>(
     rt: &R,
     alloc: Global,
@@ -111,10 +116,11 @@ pub fn ran<R: Threads + Wait + Sync, D: Door + Send, G: Gates + Send + Drop>(
 ) -> Ran<D, D::Link, G>
 where
     D::Link: Send,
-    requires { length gates ≡ 16 }
+    requires gates { length gates ≡ 16 }
+    requires shut { IsShut (D.place door) }
 {
     let Sides { input, out, err } = sides;
-    perform(rt, alloc, words, input, out, err, door, gates)
+    run(rt, alloc, words, input, out, err, door, gates)
 }
 
 /// What comes of a run over these gates.
@@ -141,7 +147,8 @@ fn play<R: Threads + Wait + Sync, G: Gates + Send + Drop>(
     given: Arguments,
     gates: List<G>,
 ) -> Played<G>
-    requires { length gates ≡ 16 }
+    requires gates { length gates ≡ 16 }
+    requires shut { given.door.listening ≡ false }
 {
     let Arguments {
         words,
@@ -151,6 +158,94 @@ fn play<R: Threads + Wait + Sync, G: Gates + Send + Drop>(
     let ran = ran(rt, alloc, words.as_slice(), &mut sides, door, gates);
     drop(words);
     Played { ran, sides }
+}
+
+/// What comes of the further run that a case asks for, if it does, and else what came of its run.
+fn last_played<R: Threads + Wait + Sync>(
+    rt: &R,
+    alloc: Global,
+    case: &str,
+    played: Played<PlannedGates>,
+) -> Option<Played<PlannedGates>> {
+    match values_of(alloc, case, "again") {
+        Some(words) => {
+            if words.is_empty() {
+                drop(words);
+                return Some(played);
+            }
+            let given = arguments_again(alloc, case, words, played.sides.out.bytes());
+            drop(played);
+            play_again(rt, alloc, case, given)
+        }
+        None => {
+            drop(played);
+            None
+        }
+    }
+}
+
+/// What a run of these words is given on what was written.
+fn arguments_again(alloc: Global, case: &str, words: Vec<Text>, wrote: &[u8]) -> Option<Arguments>
+    ensures { IfSome result (λ given. given.door.listening ≡ false) }
+{
+    match wrote.to_vec(alloc) {
+        Ok(bytes) => {
+            let plan = Plan {
+                piece: usize::MAX,
+                failing: List::new(alloc),
+            };
+            let input = MemorySource::new(List::from_vec(bytes), plan);
+            arguments_on(alloc, case, words, input)
+        }
+        Err(_) => {
+            drop(words);
+            None
+        }
+    }
+}
+
+fn arguments_on(
+    alloc: Global,
+    case: &str,
+    words: Vec<Text>,
+    input: MemorySource,
+) -> Option<Arguments>
+    ensures { IfSome result (λ given. given.door.listening ≡ false) }
+{
+    match sides_with(alloc, case, input) {
+        Some(sides) => match door_of(alloc, case) {
+            Some(door) => Some(Arguments { words, sides, door }),
+            None => {
+                drop(sides);
+                drop(words);
+                None
+            }
+        },
+        None => {
+            drop(words);
+            None
+        }
+    }
+}
+
+fn play_again<R: Threads + Wait + Sync>(
+    rt: &R,
+    alloc: Global,
+    case: &str,
+    given: Option<Arguments>,
+) -> Option<Played<PlannedGates>>
+    requires { IfSome given (λ it. it.door.listening ≡ false) }
+{
+    match given {
+        Some(given) => match planned_gates(alloc, case) {
+            Some(gates) => Some(play(rt, alloc, given, gates)),
+            None => {
+                drop(given);
+                None
+            }
+        },
+        None => None,
+    }
 }
 
 /// The plan of the gates of a lane.
@@ -222,13 +317,26 @@ fn odd_run<R: Threads + Wait + Sync>(
 ) -> Option<Option<Text>> {
     match planned_gates(alloc, given) {
         Some(gates) => match come(rt, alloc, given, gates) {
-            Some(played) => {
-                let odd = odd_played(alloc, &played, ends);
-                drop(played);
-                odd
-            }
+            Some(played) => odd_last(rt, alloc, given, played, ends),
             None => None,
         },
+        None => None,
+    }
+}
+
+fn odd_last<R: Threads + Wait + Sync>(
+    rt: &R,
+    alloc: Global,
+    given: &str,
+    played: Played<PlannedGates>,
+    ends: &str,
+) -> Option<Option<Text>> {
+    match last_played(rt, alloc, given, played) {
+        Some(played) => {
+            let odd = odd_played(alloc, &played, ends);
+            drop(played);
+            odd
+        }
         None => None,
     }
 }
@@ -249,6 +357,10 @@ pub fn odd_end<G>(
     let came = Came {
         status: played.ran.status,
         entries: played.ran.book.entries().len(),
+        read_faults: played.sides.input.faults(),
+        write_faults: played.sides.out.faults(),
+        say_faults: played.sides.err.faults(),
+        door_faults: played.ran.door.faults(),
         out: played.sides.out.bytes(),
         err: played.sides.err.bytes(),
         sent: sent.as_slice(),
@@ -299,6 +411,15 @@ fn written(bytes: &[u8]) -> Option<&str> {
     std::str::from_utf8(bytes).ok()
 }
 
+/// Puts down how often each side of a run failed.
+fn push_faults(text: &mut Text, came: &Came<'_>) -> Result<(), Memory> {
+    let read = came.read_faults;
+    let write = came.write_faults;
+    let say = came.say_faults;
+    let door = came.door_faults;
+    text.push(format_args!("faults: read {read}, write {write}, say {say}, door {door}\n"))
+}
+
 /// What came of a run, as a text.
 fn shown(alloc: Global, came: &Came<'_>) -> Option<Text> {
     let status = came.status;
@@ -308,8 +429,10 @@ fn shown(alloc: Global, came: &Came<'_>) -> Option<Text> {
     let sent = written(came.sent)?;
     let told = came.told;
     let mut text = Text::new(alloc);
-    text.push(format_args!("status {status}, {entries} entries\n{out}{err}{sent}{told}"))
+    text.push(format_args!("status {status}, {entries} entries\n"))
         .ok()?;
+    push_faults(&mut text, came).ok()?;
+    text.push(format_args!("{out}{err}{sent}{told}")).ok()?;
     Some(text)
 }
 

@@ -121,7 +121,7 @@ const TEXTS: &str = "\
     == first-line: what a link gives that fails behind its first line, and what is written to it\n\
     $lines$\n\
     => 0\n\
-    sent worker 0\n\
+    sent worker 0 read-faults 1\n\
     sent refused 81 gone incarnation 1\n\
     == long-lines: lines of which two are too long, and what is written to their link\n\
     fill 121 65537\n\
@@ -191,4 +191,48 @@ const TEXTS: &str = "\
     == other-by-1\n\
     sent worker 1\n\
     sent refused 70 bad-command at 0\n\
-    sent refused 70 bad-command at 0\n";
+    sent refused 70 bad-command at 0\n\
+    == ask-root: the declarations of `@root`, `@client` and `@logger`\n\
+    {\"capabilities\":[],\"children\":[{\"name\":\"logger\",\"sta\
+    rtup\":\"lazy\",\"url\":\"#meta/logger.cm\"},{\"name\":\"client\",\"startup\":\"lazy\",\"url\
+    \":\"#meta/client.cm\"}],\"collections\":[],\"expose\":[],\"offer\":[{\"as\":\"fuchsia.logge\
+    r.LogSink\",\"availability\":\"required\",\"dependency\":\"strong\",\"from\":\"#logger\",\"p\
+    rotocol\":\"fuchsia.logger.LogSink\",\"to\":\"#client\"}],\"use\":[]}\n\
+    == ask-client\n\
+    {\"capabilities\":[],\"children\":[],\"collections\":[],\"e\
+    xpose\":[],\"offer\":[],\"program\":{\"runner\":\"elf\"},\"use\":[{\"availability\":\"requir\
+    ed\",\"dependency\":\"strong\",\"from\":\"parent\",\"path\":\"/svc/fuchsia.logger.LogSink\",\
+    \"protocol\":\"fuchsia.logger.LogSink\"}]}\n\
+    == ask-logger\n\
+    {\"capabilities\":[{\"path\":\"/svc/fuchsia.logger.LogSink\
+    \",\"protocol\":\"fuchsia.logger.LogSink\"}],\"children\":[],\"collections\":[],\"expose\":[\
+    {\"as\":\"fuchsia.logger.LogSink\",\"availability\":\"required\",\"from\":\"self\",\"protoco\
+    l\":\"fuchsia.logger.LogSink\"}],\"offer\":[],\"program\":{\"runner\":\"elf\"},\"use\":[]}\n\
+    == asked: the answer of the script `$route$` and its journal, up to entry 2\n\
+    | 0 route /svc/fuchsia.logger.LogSink at logger incarnation 1 through use client, offer ., e\
+    xpose logger, capability logger\n\
+    | journal\n\
+    | root fuchsia-pkg://t/a#meta/root.cm\n\
+    | 1 0 find client => need 0\n\
+    | 2 0 begin resolve 0 => begun 1\n\
+    == resolves-root: what is behind the caller of entry 3\n\
+    end 1 resolved fuchsia-pkg://t/a#meta/root.cm $ask-root$ => ended resolved\n\
+    == entries-5-to-10: the further entries but the last\n\
+    | 5 0 route 2 /svc/fuchsia.logger.LogSink => need 2\n\
+    | 6 0 begin resolve 2 => begun 2\n\
+    | 7 0 end 2 resolved fuchsia-pkg://t/a#meta/client.cm $ask-client$ => ended resolved\n\
+    | 8 0 route 2 /svc/fuchsia.logger.LogSink => need 1\n\
+    | 9 0 begin resolve 1 => begun 3\n\
+    | 10 0 end 3 resolved fuchsia-pkg://t/a#meta/logger.cm $ask-logger$ => ended resolved\n\
+    == entry-11\n\
+    | 11 0 route 2 /svc/fuchsia.logger.LogSink => given /svc/fuchsia.logger.LogSink at logger in\
+    carnation 1 through use client, offer ., expose logger, capability logger\n\
+    == root-resolved: a journal in which the root is resolved, up to its declaration\n\
+    | journal\n\
+    | root fuchsia-pkg://t/a#meta/root.cm\n\
+    | 1 0 begin resolve 0 => begun 1\n\
+    | 2 0 end 1 resolved fuchsia-pkg://t/a#meta/root.cm\n\
+    == two: the declaration of a root with two children that are apart\n\
+    {\"capabilities\":[],\"children\":[{\"name\":\"a\",\"startup\":\"lazy\",\"url\":\"#a\"},{\"n\
+    ame\":\"b\",\"startup\":\"lazy\",\"url\":\"#b\"}],\"collections\":[],\"expose\":[],\"offer\"\
+    :[],\"use\":[]}\n";

@@ -1,5 +1,6 @@
 //! Clients of a real socket, served through the top call.
 
+ghost use Rattle.cm_io.specs.Doors.{IsShut};
 ghost use Rattle.std.specs.Prelude.{◌≡◌, IfSome, length};
 
 use super::input::words_of;
@@ -63,6 +64,7 @@ pub fn serve<R: Threads + Wait + Sync, D: Door + Send>(
 ) -> Option<(u8, usize, D)>
 where
     D::Link: Send,
+    requires { IsShut (D.place door) }
 {
     match quiet_gates(alloc) {
         Some(gates) => match words_of(alloc, SERVE) {
@@ -82,7 +84,8 @@ fn served<R: Threads + Wait + Sync, D: Door + Send>(
 ) -> (u8, usize, D)
 where
     D::Link: Send,
-    requires { length gates ≡ 16 }
+    requires gates { length gates ≡ 16 }
+    requires shut { IsShut (D.place door) }
 {
     let mut sides = quiet_sides(alloc);
     let ran = ran(rt, alloc, words, &mut sides, door, gates);

@@ -1,7 +1,9 @@
 //! The tables of runs, each of which is played as a whole.
 
+mod audits;
 mod checks;
 mod commands;
+mod examples;
 mod gates;
 mod generated;
 mod histories;
@@ -46,13 +48,19 @@ fn table_of(number: u8) -> &'static str {
         21 => routes::RIGHTS,
         22 => routes::AVAILABILITY,
         23 => serving::SERVING,
+        24 => examples::EXAMPLES,
+        25 => examples::REALISTIC,
+        26 => audits::AUDITS,
+        27 => audits::ENTRIES,
+        28 => audits::PICKS,
+        29 => audits::AGAIN,
         _ => "",
     }
 }
 
 #[test]
 fn runs_come_to_their_ends(rt: HostRuntime) -> Result<(), Fail> {
-    for number in 0..24 {
+    for number in 0..30 {
         let odd = odd_cases(&rt, rt.alloc(), table_of(number))?;
         assert!(rt; odd.is_empty(), "table {number}: {odd}");
     }
@@ -95,6 +103,7 @@ const ODD: &str = "\
     => 2\n\
     err usage\n\
     status 2, 0 entries\n\
+    faults: read 0, write 0, say 0, door 0\n\
     usage: run, check, serve, audit, generate\n\
     line 8: serve\n\
     peace 1\n\

@@ -2,6 +2,9 @@
 //! sinks, lines and doors is shown by runs, above the top call, and what comes of sockets by a server's
 //! clients.
 
+ghost use Rattle.cm_io.specs.Doors.{IsOpen, IsShut};
+ghost use Rattle.std.specs.Prelude.{◌≡◌};
+
 use cm_io::{Accept, Door, Link, Listen, MemorySink, Plan, Put, SocketDoor, put_all};
 use std::alloc::Global;
 use std::io::{Read, Write};
@@ -26,7 +29,10 @@ fn puts_into_room(rt: HostRuntime) {
 }
 
 /// Whether a client came, and can't be written to: once it was hung up on, or since it went away.
-fn loses_next<R: Threads + Wait + Sync, D: Door>(rt: &R, door: &mut D, hangs_up: bool) -> bool {
+fn loses_next<R: Threads + Wait + Sync, D: Door>(rt: &R, door: &mut D, hangs_up: bool) -> bool
+    requires { IsOpen (D.place door.old) }
+    ensures { D.place door.new ≡ D.place door.old }
+{
     match door.accept(rt) {
         Accept::Link(mut link) => {
             if hangs_up {
@@ -53,7 +59,10 @@ fn is_hung_up<R: Threads + Wait + Sync + Net, D: Door>(
     alloc: Global,
     door: &mut D,
     at: &str,
-) -> bool {
+) -> bool
+    requires { IsOpen (D.place door.old) }
+    ensures { D.place door.new ≡ D.place door.old }
+{
     match UnixStream::connect(rt, at) {
         Ok(mut client) => {
             let is_so = client.write_all(b"one\n").is_ok()
@@ -67,7 +76,9 @@ fn is_hung_up<R: Threads + Wait + Sync + Net, D: Door>(
 }
 
 /// Whether a client that went away before it was let in can't be written to.
-fn is_gone<R: Threads + Wait + Sync + Net, D: Door>(rt: &R, door: &mut D, at: &str) -> bool {
+fn is_gone<R: Threads + Wait + Sync + Net, D: Door>(rt: &R, door: &mut D, at: &str) -> bool
+    requires { IsOpen (D.place door.old) }
+{
     match UnixStream::connect(rt, at) {
         Ok(client) => {
             drop(client);
@@ -77,30 +88,20 @@ fn is_gone<R: Threads + Wait + Sync + Net, D: Door>(rt: &R, door: &mut D, at: &s
     }
 }
 
-/// Whether a door lets nobody in before it listens.
-fn is_shut<R: Threads + Wait + Sync, D: Door>(rt: &R, door: &mut D) -> bool {
-    match door.accept(rt) {
-        Accept::Link(link) => {
-            drop(link);
-            false
-        }
-        Accept::Closed => false,
-        Accept::Failed => true,
-    }
-}
-
-/// Whether a door lets nobody in before it listens at a path, then hangs up on a client that comes, and
-/// can't write to one that went away.
+/// Whether a door listens at a path, then hangs up on a client that comes, and can't write to one that
+/// went away.
 fn loses_clients<R: Threads + Wait + Sync + Net, D: Door>(
     rt: &R,
     alloc: Global,
     door: &mut D,
     at: &str,
-) -> bool {
-    is_shut(rt, door)
-        && door.listen(rt, at) == Listen::Ready
-        && is_hung_up(rt, alloc, door, at)
-        && is_gone(rt, door, at)
+) -> bool
+    requires { IsShut (D.place door.old) }
+{
+    match door.listen(rt, at) {
+        Listen::Ready => is_hung_up(rt, alloc, door, at) && is_gone(rt, door, at),
+        Listen::Failed => false,
+    }
 }
 
 #[test]

@@ -487,3 +487,21 @@ pub const LOCATED: &str = "\
     protocol:'fuchsia.boot.Items',from:'parent',to:'#archivist'}]}\n\
     =>\n\
     missing 1 in 4\n";
+
+/// Realm graphs: a client before its source; two that offer each other something; the same where the second
+/// offer is weak; a component that uses its child.
+pub const GRAPHS: &str = "\
+    == graph {children:[{name:'a',url:'u'},{name:'b',url:'u'}],offer:[{protocol:'p',from:'#a',to:'#b'}]}\n\
+    =>\n\
+    order b a self\n\
+    == graph {children:[{name:'a',url:'u'},{name:'b',url:'u'}],offer:[{protocol:'p',from:'#a',to:'#b'},\
+    {protocol:'q',from:'#b',to:'#a'}]}\n\
+    =>\n\
+    cycle a b a\n\
+    == graph {children:[{name:'a',url:'u'},{name:'b',url:'u'}],offer:[{protocol:'p',from:'#a',to:'#b'},\
+    {protocol:'q',from:'#b',to:'#a',dependency:'weak'}]}\n\
+    =>\n\
+    order b a self\n\
+    == graph {children:[{name:'a',url:'u'}],use:[{protocol:'p',from:'#a'}]}\n\
+    =>\n\
+    order self a\n";

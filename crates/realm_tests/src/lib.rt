@@ -18,6 +18,8 @@ mod declarations;
 #[cfg(test)]
 mod endings;
 #[cfg(test)]
+mod graphs;
+#[cfg(test)]
 mod locating;
 #[cfg(test)]
 mod meanwhile;

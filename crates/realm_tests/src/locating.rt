@@ -29,17 +29,17 @@ impl Counted {
     }
 }
 
-impl Store for Counted {
+impl<L: Ledger> Store<L> for Counted {
     ghost rows = { λ c. c.table.rows };
 
     ghost next_inc = { λ c. c.table.next_inc };
 
-    fn is_resolved<L: Ledger>(&self, inc: u64, steps: &mut Steps<L>) -> bool {
+    fn is_resolved(&self, inc: u64, steps: &mut Steps<L>) -> bool {
         self.count();
         self.table.is_resolved(inc, steps)
     }
 
-    fn child<L: Ledger>(&self, parent: u64, name: &ChildName, steps: &mut Steps<L>) -> Option<u64> {
+    fn child(&self, parent: u64, name: &ChildName, steps: &mut Steps<L>) -> Option<u64> {
         self.count();
         Store::child(&self.table, parent, name, steps)
     }

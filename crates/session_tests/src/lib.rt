@@ -5,6 +5,8 @@
 #[cfg(test)]
 mod cases;
 #[cfg(test)]
+mod lock_step;
+#[cfg(test)]
 mod meeting;
 #[cfg(test)]
 mod player;

@@ -1,12 +1,12 @@
 //! Two links of a door in memory whose commands have to meet in their fetches, served by two workers over
 //! one realm. What comes of links that needn't meet is shown by runs, above the top call.
 
-ghost use Rattle.std.specs.Prelude.{◌≡◌, [], IfSome, length};
+ghost use Rattle.std.specs.Prelude.{◌≡◌, [], IfSome, length, true};
 ghost use Rattle.cm_manager.specs.Kept.{AreSixteen};
 
 use crate::player::{add, new_realm};
 use cm_gate::{Manifest, MeetingGates};
-use cm_io::{LinkPlan, MemoryDoor, MemoryLink, Plan};
+use cm_io::{Door, LinkPlan, Listen, MemoryDoor, MemoryLink, Plan};
 use cm_manager::Manager;
 use cm_names::{Bytes, List, Text};
 use cm_repo::Repository;
@@ -110,6 +110,30 @@ fn door(alloc: Global) -> Option<MemoryDoor> {
     Some(MemoryDoor::new(alloc, waiting, List::new(alloc)))
 }
 
+/// The door, once peers may come.
+fn listening<R: Threads + Wait + Sync>(rt: &R, door: MemoryDoor) -> Option<MemoryDoor>
+    ensures { IfSome result (λ door. door.listening ≡ true) }
+{
+    let mut door = door;
+    match door.listen(rt, "somewhere") {
+        Listen::Ready => Some(door),
+        Listen::Failed => {
+            drop(door);
+            None
+        }
+    }
+}
+
+/// A door with the links, to which peers may come.
+fn open_door<R: Threads + Wait + Sync>(rt: &R, alloc: Global) -> Option<MemoryDoor>
+    ensures { IfSome result (λ door. door.listening ≡ true) }
+{
+    match door(alloc) {
+        Some(door) => listening(rt, door),
+        None => None,
+    }
+}
+
 /// Serves two links with two workers, of which no caller has to read what it promises.
 fn served<R: Threads + Wait + Sync>(
     rt: &R,
@@ -121,6 +145,7 @@ fn served<R: Threads + Wait + Sync>(
 ) -> Served<MemoryDoor, MemoryLink, MeetingGates>
     requires passes { AreSixteen manager.now.turn passes }
     requires gates { length gates ≡ 16 }
+    requires door { door.listening ≡ true }
 {
     serve_sessions(rt, alloc, manager, passes, gates, door, 2, 2)
 }
@@ -136,6 +161,7 @@ fn meet_in<R: Threads + Wait + Sync>(
 ) -> bool
     requires empty { realm.entries ≡ [] }
     requires gates { length gates ≡ 16 }
+    requires door { door.listening ≡ true }
 {
     match Manager::new(alloc, realm, repository, None, 16) {
         Ok((manager, passes)) => {
@@ -181,7 +207,9 @@ fn meet_over<R: Threads + Wait + Sync>(
     alloc: Global,
     repository: Repository,
     door: MemoryDoor,
-) -> bool {
+) -> bool
+    requires { door.listening ≡ true }
+{
     match new_realm(alloc, 1000) {
         Some(realm) => match meeting_gates(alloc) {
             Some(gates) => meet_in(rt, alloc, realm, repository, gates, door),
@@ -202,7 +230,7 @@ fn meet_over<R: Threads + Wait + Sync>(
 
 fn meet<R: Threads + Wait + Sync>(rt: &R, alloc: Global) -> bool {
     match repository(alloc) {
-        Some(repository) => match door(alloc) {
+        Some(repository) => match open_door(rt, alloc) {
             Some(door) => meet_over(rt, alloc, repository, door),
             None => {
                 drop(repository);

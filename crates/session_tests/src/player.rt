@@ -6,7 +6,7 @@ ghost use Rattle.cm_turn.specs.Passes.{LockView};
 
 use crate::cases::{ENDS, LIMITS, STOP, answer_of};
 use cm_gate::QuietGates;
-use cm_io::{MemoryLink, MemorySink, MemorySource, Plan};
+use cm_io::{Link, MemoryLink, MemorySink, MemorySource, Plan, StepLog};
 use cm_manager::Manager;
 use cm_names::{Bytes, List, Text};
 use cm_repo::Repository;
@@ -59,6 +59,7 @@ fn link_of(alloc: Global, head: &str, input: &str) -> Option<MemoryLink> {
         Some(source) => Some(MemoryLink {
             source,
             sink: MemorySink::new(alloc, plan),
+            log: StepLog::new(alloc),
         }),
         None => None,
     }
@@ -113,12 +114,12 @@ fn last(passes: List<Pass<Entry, Frame>>) -> Option<Pass<Entry, Frame>>
 }
 
 /// A session over this link, of which no caller has to read what it promises.
-fn served<R: Threads + Wait + Sync>(
+fn served<R: Threads + Wait + Sync, L: Link>(
     rt: &R,
     alloc: Global,
     manager: &Manager,
     pass: Pass<Entry, Frame>,
-    link: &mut MemoryLink,
+    link: &mut L,
 ) -> (Pass<Entry, Frame>, Ended)
     requires { pass.lock ≡ manager.now.turn.lock }
 {
@@ -126,12 +127,12 @@ fn served<R: Threads + Wait + Sync>(
 }
 
 /// The end of a session over this link, with the last of these passes of a manager.
-fn end_by<R: Threads + Wait + Sync>(
+fn end_by<R: Threads + Wait + Sync, L: Link>(
     rt: &R,
     alloc: Global,
     manager: &Manager,
     passes: List<Pass<Entry, Frame>>,
-    link: &mut MemoryLink,
+    link: &mut L,
 ) -> Option<Ended>
     requires { All (λ p. p.lock ≡ manager.now.turn.lock) passes }
 {
@@ -146,12 +147,12 @@ fn end_by<R: Threads + Wait + Sync>(
 }
 
 /// The end of a session over this link, with a new manager of a realm and its manifests.
-fn end_of<R: Threads + Wait + Sync>(
+fn end_of<R: Threads + Wait + Sync, L: Link>(
     rt: &R,
     alloc: Global,
     realm: Realm,
     manifests: Repository,
-    link: &mut MemoryLink,
+    link: &mut L,
 ) -> Option<Ended>
     requires empty { realm.entries ≡ [] }
 {
@@ -169,11 +170,11 @@ fn end_of<R: Threads + Wait + Sync>(
 }
 
 /// The end of the session of a case.
-fn end_of_case<R: Threads + Wait + Sync>(
+pub fn end_of_case<R: Threads + Wait + Sync, L: Link>(
     rt: &R,
     alloc: Global,
     head: &str,
-    link: &mut MemoryLink,
+    link: &mut L,
 ) -> Option<Ended> {
     let entries = word_of(head, 0).parse().ok()?;
     match new_realm(alloc, entries) {

@@ -17,6 +17,16 @@ data.entries.forEach((entry, index) => {
   }
 });
 
+const askingsOf = new Map();
+for (const [entry, index] of data.askings) {
+  const route = data.routes[index];
+  for (const one of new Set([route.client, route.provider])) {
+    if (one === null) continue;
+    if (!askingsOf.has(one)) askingsOf.set(one, []);
+    askingsOf.get(one).push({ ...route, entry });
+  }
+}
+
 // What is shown: the chosen instance, what is folded, what is searched, and the moment.
 const view = { chosen: null, folded: new Set(), query: "", now: data.at, only: false };
 
@@ -44,16 +54,24 @@ function dot(state) {
   return element("span", "dot s-" + state);
 }
 
-function link(incarnation) {
-  const made = element("a", "", byIncarnation.get(incarnation).moniker);
-  made.addEventListener("click", () => choose(incarnation, true));
+// A link that the keyboard reaches too; what it does is done here, without another page.
+function anchor(text, address, act) {
+  const made = element("a", "", text);
+  made.href = address;
+  made.addEventListener("click", (event) => {
+    event.preventDefault();
+    act();
+  });
   return made;
 }
 
+function link(incarnation) {
+  const moniker = byIncarnation.get(incarnation).moniker;
+  return anchor(moniker, "#i=" + incarnation, () => choose(incarnation, true));
+}
+
 function entryLink(number) {
-  const made = element("a", "", "entry " + number);
-  made.addEventListener("click", () => showEntry(number));
-  return made;
+  return anchor("entry " + number, "#n=" + number, () => showEntry(number));
 }
 
 // A list of rows of one height, of which only those in sight are in the page.
@@ -107,7 +125,49 @@ class Rows {
 function matches(instance) {
   const query = view.query;
   if (query.startsWith("@")) return "@" + instance.incarnation === query;
-  return rooted(instance).includes(query);
+  return rooted(instance).includes(query) || capabilityOf(instance) !== "";
+}
+
+const KINDS = ["protocol", "directory", "storage"];
+const declaredNames = new Map();
+const lowered = new Map();
+
+// The capabilities that an instance's declaration names, each as its section and its name.
+function namesOf(instance) {
+  const known = declaredNames.get(instance.incarnation);
+  if (known) return known;
+  const found = new Map();
+  const declaration = JSON.parse(data.declarations[instance.incarnation] || "{}");
+  for (const section of ["capabilities", "use", "offer", "expose"]) {
+    for (const row of declaration[section] || []) {
+      for (const name of [...KINDS.map((kind) => row[kind]), row.as]) {
+        if (name && !found.has(name)) found.set(name, section === "capabilities" ? "has" : section);
+      }
+    }
+  }
+  declaredNames.set(instance.incarnation, found);
+  return found;
+}
+
+// What of an instance's capabilities is searched, as `use NAME`; nothing before it is resolved.
+function capabilityOf(instance) {
+  if (view.query.length < 2 || !mayName(instance) || !isResolved(instance)) return "";
+  for (const [name, section] of namesOf(instance)) {
+    if (name.toLowerCase().includes(view.query)) return section + " " + name;
+  }
+  return "";
+}
+
+// Whether the text is somewhere in the declaration: most are read no further.
+function mayName(instance) {
+  const text = data.declarations[instance.incarnation];
+  if (!text) return false;
+  if (!lowered.has(instance.incarnation)) lowered.set(instance.incarnation, text.toLowerCase());
+  return lowered.get(instance.incarnation).includes(view.query);
+}
+
+function isResolved(instance) {
+  return instance.changes.some(([entry, state]) => entry <= view.now && state === "resolved");
 }
 
 // The moniker with a slash in front, as one may also write it.
@@ -151,7 +211,9 @@ function treeItems() {
 function tellFound(kept) {
   const there = data.instances.filter(isThere).length;
   const all = there + (there === 1 ? " instance" : " instances");
-  at("found").textContent = kept ? kept.count + " of " + all : all;
+  const none = "nothing is found for “" + view.query + "”";
+  at("found").textContent = !kept ? all : kept.count ? kept.count + " of " + all : none;
+  at("found").className = kept && !kept.count ? "bad" : "";
 }
 
 function named(instance) {
@@ -182,7 +244,8 @@ function drawInstance({ instance, depth, isOpen }) {
     event.stopPropagation();
     toggle(instance.incarnation);
   });
-  const told = state + " · @" + instance.incarnation;
+  const capability = view.query && !view.query.startsWith("@") ? capabilityOf(instance) : "";
+  const told = state + " · @" + instance.incarnation + (capability && " · " + capability);
   row.append(fold, dot(state), named(instance), element("span", "state", told));
   row.addEventListener("click", () => choose(instance.incarnation, false));
   return row;
@@ -288,12 +351,13 @@ function drawDetails() {
     box.replaceChildren(element("p", "quiet", wish));
     return;
   }
-  const told = data.routes.filter((route) => route.entry <= view.now);
+  const told = routesNow(instance.incarnation);
   const asked = told.filter((route) => route.client === instance.incarnation);
   const given = told.filter((route) => route.provider === instance.incarnation);
   box.replaceChildren(
     element("h2", "", instance.moniker === "." ? ". (the root)" : instance.moniker),
     facts(instance, stateAt(instance, view.now)),
+    ...graphed(instance, asked, given),
     ...listed("States", changeItems(instance)),
     ...listed("Routes that it asked for", asked.map(clientRoute)),
     ...listed("Routes that lead to it", given.map(providedRoute)),
@@ -301,6 +365,86 @@ function drawDetails() {
     ...listed("Entries", entryItems(instance)),
   );
   box.scrollTop = 0;
+}
+
+// What was last told of each route of an instance by now: its own, and those that led to it then.
+function routesNow(incarnation) {
+  const last = new Map();
+  for (const asking of askingsOf.get(incarnation) || []) {
+    if (asking.entry <= view.now) last.set(asking.client + " " + asking.asked, asking);
+  }
+  return [...last.values()];
+}
+
+// ---- the graph of routes
+
+const SHOWN = 12;
+const SVG = ["http", "//www.w3.org/2000/svg"].join(":");
+
+function shape(tag, values, text) {
+  const made = document.createElementNS(SVG, tag);
+  for (const [name, value] of Object.entries(values)) made.setAttribute(name, value);
+  if (text !== undefined) made.textContent = text;
+  return made;
+}
+
+function cut(text, length) {
+  return text.length > length ? "…" + text.slice(1 - length) : text;
+}
+
+function node(x, y, text, act) {
+  const group = shape("g", act ? { class: "node", tabindex: 0, role: "link" } : { class: "node" });
+  group.append(shape("title", {}, text), shape("rect", { x, y: y - 11, width: 150, height: 22, rx: 5 }),
+    shape("text", { x: x + 75, y: y + 4, "text-anchor": "middle" }, cut(text, 22)));
+  if (!act) return group;
+  group.addEventListener("click", act);
+  group.addEventListener("keydown", (event) => {
+    if (event.key === "Enter") act();
+  });
+  return group;
+}
+
+// A line from the side of the instance in the middle, which fans out and then is level, with its label there.
+function edge(hub, end, label, isRefused) {
+  const [x, y] = end, level = hub[0] + Math.sign(x - hub[0]) * 40, half = (hub[0] + level) / 2;
+  const way = `M${hub[0]},${hub[1]} C${half},${hub[1]} ${half},${y} ${level},${y} L${x},${y}`;
+  const group = shape("g", { class: isRefused ? "edge refused" : "edge" });
+  const text = cut(label.replace(/^exposed /, ""), 28);
+  group.append(shape("title", {}, label), shape("path", { d: way }),
+    shape("text", { x: (level + x) / 2, y: y - 4, "text-anchor": "middle" }, text));
+  return group;
+}
+
+// The clients of an instance at the left, and at the right what its own uses lead to, refused ones dashed.
+function graphed(instance, asked, given) {
+  const clients = given.filter((route) => route.client !== instance.incarnation).slice(0, SHOWN);
+  const uses = asked.slice(0, SHOWN);
+  const rows = Math.max(clients.length, uses.length);
+  if (!rows) return [];
+  const height = rows * 34 + 12, middle = height / 2;
+  const box = shape("svg", { class: "graph", viewBox: `0 0 860 ${height}`, role: "img" });
+  box.append(shape("title", {}, "the routes of " + instance.moniker));
+  clients.forEach((route, index) => {
+    const y = 22 + index * 34;
+    box.append(edge([355, middle], [150, y], route.asked, false),
+      node(0, y, byIncarnation.get(route.client).moniker, () => choose(route.client, true)));
+  });
+  uses.forEach((route, index) => {
+    const y = 22 + index * 34, isRefused = !route.hops.length;
+    const told = isRefused ? route.told : route.provider === null ? route.source : monikerOf(route.provider);
+    const act = route.provider === null ? null : () => choose(route.provider, true);
+    box.append(edge([505, middle], [710, y], route.asked, isRefused), node(710, y, told, act));
+  });
+  box.append(node(355, middle, instance.moniker, null));
+  const left = given.length + asked.length - clients.length - uses.length;
+  const more = left > 0 ? [element("p", "quiet", left + " further routes stand below")] : [];
+  const frame = element("div", "frame");
+  frame.append(box);
+  return [element("h3", "", "Routes as a graph"), frame, ...more];
+}
+
+function monikerOf(incarnation) {
+  return byIncarnation.get(incarnation).moniker;
 }
 
 function declared(instance) {
@@ -365,6 +509,7 @@ function choose(incarnation, fromElsewhere, entry) {
   drawDetails();
   if (view.only) timeline.fill(entryNumbers());
   showEntry(entry || (entriesOf.get(incarnation) || []).find((number) => number <= view.now));
+  keepAddress();
 }
 
 function drawCounts() {
@@ -386,16 +531,19 @@ function drawCounts() {
 function moveTo(moment) {
   view.now = moment;
   at("slider").value = moment;
-  at("now").textContent = moment + " of " + data.total;
+  at("number").value = moment;
+  at("now").textContent = "of " + data.total;
   drawCounts();
   drawTree();
   drawDetails();
   timeline.paint();
+  keepAddress();
 }
 
 function search(text) {
   view.query = text.trim().toLowerCase();
   drawTree();
+  keepAddress();
 }
 
 function chooseFirstFound() {
@@ -430,23 +578,81 @@ function setTheme(theme) {
   document.documentElement.dataset.theme = theme;
 }
 
+// ---- the address
+
+// What the address asks for, and what in it is nonsense, in words.
+function readAddress(hash) {
+  const wish = new URLSearchParams(hash.replace(/^#/, ""));
+  const wrong = [...wish.keys()].filter((key) => !["m", "i", "q", "n", "theme"].includes(key))
+    .map((key) => "“" + key + "” is no word of it");
+  const theme = wish.get("theme");
+  const asked = { query: wish.get("q") || "", moment: data.at, chosen: null, theme, wrong };
+  if (wish.has("n")) {
+    const number = /^[0-9]+$/.test(wish.get("n")) ? Number(wish.get("n")) : -1;
+    if (number < 0 || number > data.at) wrong.push("there is no entry " + wish.get("n") + " of " + data.at);
+    else asked.moment = number;
+  }
+  if (asked.theme && !["dark", "light"].includes(asked.theme)) {
+    wrong.push("there is no theme " + asked.theme);
+    asked.theme = null;
+  }
+  if (wish.has("m") || wish.has("i")) asked.chosen = instanceOf(wish, wrong);
+  return asked;
+}
+
+function instanceOf(wish, wrong) {
+  const moniker = (wish.get("m") || "").replace(/^\/(?=.)/, "");
+  const found = wish.has("i") ? byIncarnation.get(Number(wish.get("i")))
+    : data.instances.filter((one) => one.moniker === moniker).pop();
+  if (found) return found.incarnation;
+  wrong.push("there is no instance " + (wish.has("i") ? "@" + wish.get("i") : wish.get("m")));
+  return null;
+}
+
+function tellWrong(place, wrong) {
+  at("wrong").textContent = wrong.length ? place + ": " + wrong.join("; ") + "." : "";
+  at("wrong").hidden = !wrong.length;
+}
+
+// Shows what the address asks for.
+function follow() {
+  const asked = readAddress(location.hash);
+  if (asked.theme) setTheme(asked.theme);
+  tellWrong("In the address", asked.wrong);
+  at("search").value = asked.query;
+  view.query = asked.query.trim().toLowerCase();
+  view.chosen = asked.chosen;
+  moveTo(asked.moment);
+  if (asked.chosen !== null) choose(asked.chosen, true);
+  if (asked.moment !== data.at) showEntry(view.now);
+}
+
+// Puts what is shown into the address, so that it can be given away.
+function keepAddress() {
+  const words = new URLSearchParams();
+  if (view.chosen !== null) {
+    const moniker = byIncarnation.get(view.chosen).moniker;
+    const isLast = data.instances.filter((one) => one.moniker === moniker).pop().incarnation === view.chosen;
+    words.set(isLast ? "m" : "i", isLast ? moniker : String(view.chosen));
+  }
+  if (view.query) words.set("q", view.query);
+  if (view.now !== data.at) words.set("n", String(view.now));
+  try {
+    history.replaceState(null, "", "#" + words);
+  } catch {
+    // Some browsers let a page of a file change nothing there.
+  }
+}
+
 function begin() {
-  const wish = new URLSearchParams(location.hash.slice(1));
-  const dark = matchMedia("(prefers-color-scheme: dark)").matches;
-  setTheme(wish.get("theme") || (dark ? "dark" : "light"));
+  setTheme(matchMedia("(prefers-color-scheme: dark)").matches ? "dark" : "light");
   at("root").textContent = data.root;
   at("slider").max = data.at;
+  at("number").max = data.at;
   foldAtFirst();
   drawLanes();
   timeline.fill(entryNumbers());
-  moveTo(wish.has("n") ? Math.min(data.at, Number(wish.get("n"))) : data.at);
-  if (wish.has("q")) {
-    at("search").value = wish.get("q");
-    search(wish.get("q"));
-  }
-  const chosen = data.instances.filter((one) => one.moniker === wish.get("m")).pop();
-  if (chosen) choose(chosen.incarnation, true);
-  if (wish.has("n")) showEntry(view.now);
+  follow();
 }
 
 const tree = new Rows(at("tree"), drawInstance);
@@ -469,6 +675,15 @@ at("slider").addEventListener("input", (event) => {
   moveTo(Number(event.target.value));
   showEntry(view.now);
 });
+at("number").addEventListener("change", (event) => {
+  const number = Number(event.target.value);
+  const isRight = /^[0-9]+$/.test(event.target.value) && number <= data.at;
+  const told = "there is no entry " + (event.target.value || "without a number") + " of " + data.at;
+  tellWrong("The moment", isRight ? [] : [told]);
+  moveTo(isRight ? number : view.now);
+  if (isRight) showEntry(number);
+});
+window.addEventListener("hashchange", follow);
 at("theme").addEventListener("click", () => {
   setTheme(document.documentElement.dataset.theme === "dark" ? "light" : "dark");
 });

@@ -59,7 +59,7 @@ one_lane t m n rest more h k =
     let behind : codes " " ++ rest ≡ codes " " ++ more = append_cancel_left k.digits _ _ whole in
     (sym h.number.1 ∙ ap (value_behind 0) same ∙ k.number.1, append_cancel_left (codes " ") rest more behind)
 
-words_one_way : (ws : List Text) (b c : Builtin) → BuiltinWords ws b → BuiltinWords ws c → b ≡ c
+pub words_one_way : (ws : List Text) (b c : Builtin) → BuiltinWords ws b → BuiltinWords ws c → b ≡ c
 words_one_way ws b c (BuiltinWords.protocol h) (BuiltinWords.protocol k) = refl
 words_one_way ws b c (BuiltinWords.directory h p r) (BuiltinWords.directory k q s) = cc
 

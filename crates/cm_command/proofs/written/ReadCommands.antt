@@ -94,7 +94,7 @@ words_some [] r e = absurd (cc e)
 words_some (w ∷ ws) r e = behind_some (rights_of_word w) [] w (rights_behind ([] ++ w ∷ []) ws) r (word_some w) e
 
 -- rights that are read are not none
-rights_are : (t : Text) (r : RightSet) → IsRightsText t r → r ≢ no_rights
+pub rights_are : (t : Text) (r : RightSet) → IsRightsText t r → r ≢ no_rights
 rights_are t r h =
     let some = words_some (slice_split (λ b. b == 44) t) r h in
     λ e. true≢false (sym some.1 ∙ ap (λ s. has s some.0) e ∙ none_has some.0)

@@ -52,7 +52,7 @@ module _ (rows : List Row) (next : ℕ) (orderly : IsOrderly rows next) (wanted 
       let here : AllFree rows p (line_up_to rows p p) = subst (λ z. AllFree rows z (line_up_to rows p z)) same free in
       let both : IsFree rows p p × Unit {0} = subst (AllFree rows p) (path_top rows next orderly p r there) here in both.0
 
-  kid_leads : (p c y : ℕ) (r : Row) → IsKid rows p c → IsTrue (is_below rows c y) → row_of rows y ≡ Some r → r.shut ≡ false → IsFree rows p c → Leads rows p c
+  pub kid_leads : (p c y : ℕ) (r : Row) → IsKid rows p c → IsTrue (is_below rows c y) → row_of rows y ≡ Some r → r.shut ≡ false → IsFree rows p c → Leads rows p c
   kid_leads p c y r kid below lives unshut free = record {
     free = free;
     unshut = kid_shut rows next orderly p c kid ∙ not_true (is_subtree_shut rows c) (λ all. true_not_false r.shut (shut_each rows next orderly c y r all lives below) unshut);

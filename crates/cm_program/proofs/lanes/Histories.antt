@@ -44,7 +44,7 @@ frames_new turn f passes is c low =
     ∙ ap frame_in (all_at (IsNew f) passes c p.0 new p.1).frame
 
 module _ {G : Type 0} where
-  some_of : (xs : List G) (k : ℕ) → k < length xs → (x : G) × (slice_get xs k ≡ Some x)
+  pub some_of : (xs : List G) (k : ℕ) → k < length xs → (x : G) × (slice_get xs k ≡ Some x)
   some_of [] k lt = absurd (omega arith)
   some_of (x ∷ xs) k lt = (get_or (x ∷ xs) k x, slice_get-get_or (x ∷ xs) k x lt)
 

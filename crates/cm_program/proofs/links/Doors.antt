@@ -1,8 +1,8 @@
 -- What is said of a door whose links were served, or that gave none.
-use Rattle.std.proofs.Common.{◌≡◌, ◌≢◌, ◌⊎◌, inl, inr, ℕ, ◌≤◌, ◌+◌, List, [], map, length, Option, Some, refl, sym, ap, subst, ◌∙◌}
+use Rattle.std.proofs.Common.{◌≡◌, ◌≢◌, ◌⊎◌, inl, inr, ℕ, ◌≤◌, ◌+◌, List, [], map, length, Option, Some, refl, sym, ap, subst, ◌∙◌, arith}
 use Rattle.std.proofs.Math.Nat.{le_refl}
 use Rattle.cm_io.specs.Counts.{one_more}
-use Rattle.cm_io.specs.Doors.{CountsFault}
+use Rattle.cm_io.specs.Doors.{CountsFault, IsAt, IsOpen, Place, at, nowhere, somewhere, untold}
 use Rattle.cm_io.specs.Outside.{Rose}
 use Rattle.cm_io.specs.declared.door.DoorCounts.{DoorCounts}
 use Rattle.cm_call.specs.declared.call.ServeOptions.{ServeOptions}
@@ -37,6 +37,21 @@ pub serves : (why : Cause) → IsServeStatus (status_of why)
 serves cause.Done = inl refl
 serves cause.DoorFault = inr (inl refl)
 serves cause.Memory = inr (inr refl)
+
+-- ---- where peers may come
+
+pub at_is_open : (wanted : List ℕ) (place : Place) → IsAt wanted place → IsOpen place
+at_is_open wanted untold is = tt
+at_is_open wanted nowhere is = absurd is
+at_is_open wanted somewhere is = tt
+at_is_open wanted (at there) is = tt
+
+pub at_same : (wanted named : List ℕ) (now then : Place) → named ≡ wanted → then ≡ now → IsAt named now → IsAt wanted then
+at_same wanted named now then same kept is = subst (λ (p : Place). IsAt wanted p) (sym kept) (subst (λ (t : List ℕ). IsAt t now) same is)
+
+-- a run that failed doesn't end with 0
+pub failed_run : {A : Type 0} {status told : ℕ} (n : ℕ) → status ≡ told → told ≡ n + 1 → status ≡ 0 → A
+failed_run n same told is = absurd (omega (arith, same, told, is))
 
 module _ {D L G : Type 0} (log_of : G → Option (List Asked)) (faults_of : G → ℕ) (view : L → LinkView) (counts_of : D → DoorCounts) where
   abbrev IsSo : Frame → Shelf → ℕ → ℕ → List G → DoorCounts → Ran D L G → Type 0

@@ -97,6 +97,10 @@ module _ {L : Type 0} (view : L → LinkView) (status : ℕ) where
       front = front_of end (view came).sink now.sink s.told s.wrote;
       no_want = λ other. s.no_want (well other);
       wants_last = s.wants_last;
+      moves = s.moves;
+      in_step = s.in_step;
+      reads_are = s.reads_are;
+      order = s.came;
     };
     follows = s.follows;
   }

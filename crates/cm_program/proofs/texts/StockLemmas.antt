@@ -11,6 +11,10 @@ use Rattle.cm_command.specs.declared.script.Line.{Line}
 use Rattle.cm_command.specs.declared.script.Script.{Script}
 use Rattle.cm_command.specs.declared.script_reader.Draft.{Draft}
 use Rattle.cm_lanes.specs.Script.{IsFit}
+use Rattle.cm_reply.specs.Legible.{IsLegibleFrame}
+use Rattle.cm_journal.specs.Asked.{AreWritableLines, IsLegibleScript}
+use Rattle.cm_journal.proofs.Scripts.{scripts_are_legible}
+use Rattle.cm_program.specs.Audited.{IsLegibleServed}
 use Rattle.cm_program.specs.Reading.{Read, Gives}
 use Rattle.cm_program.specs.Run.{Stops, stop_of}
 use Rattle.cm_program.specs.Stock.{frame_of, accepted, stocked, stock_of, served_script, IsFault, Serves}
@@ -115,10 +119,24 @@ unfolding served_script
 phases_of_script s served is = served_by s (stock_of [] s.manifests) served is
 
 -- each has a lane of the sixteen
-served_fit : (bytes : List ℕ) (served : Served) → Serves bytes served → All (λ lines. All IsFit lines) served.phases
+pub served_fit : (bytes : List ℕ) (served : Served) → Serves bytes served → All (λ lines. All IsFit lines) served.phases
 unfolding served_script
 served_fit bytes served is =
     subst (All (λ lines. All IsFit lines)) (sym (served_by is.script (stock_of [] is.script.manifests) served is.asks)) (fit_phases is.script.phases (script_low bytes is.script is.reads))
+
+served_frame : (s : Script) (stock : Read Blocks) (served : Served) → (stock >>= λ repository. Ok (record { repository = repository; frame = frame_of s; phases = s.phases })) ≡ Ok served → served.frame ≡ frame_of s
+served_frame s (Ok blocks) served is = cc
+served_frame s (Err e) served is = absurd (cc is)
+
+-- what is served can be told of
+pub served_tells : (bytes : List ℕ) (served : Served) → Serves bytes served → IsLegibleServed served
+unfolding served_script
+served_tells bytes served is =
+    let fit : IsLegibleScript is.script = scripts_are_legible bytes is.script is.reads in
+    record {
+      frame = subst IsLegibleFrame (sym (served_frame is.script (stock_of [] is.script.manifests) served is.asks)) (record { root = fit.root; builtins = fit.builtins; rows = refl });
+      phases = subst (All AreWritableLines) (sym (phases_of_script is.script served is.asks)) fit.phases;
+    }
 
 -- the same of what a script gave
 pub fit_of_script : (bytes : List ℕ) (s : Script) (r : Read Served) → IsScript bytes s → Gives r (served_script s) → IfOk r (λ served. All (λ lines. All IsFit lines) served.phases)

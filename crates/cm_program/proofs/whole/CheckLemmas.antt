@@ -1,5 +1,5 @@
 -- What is said of a manifest that was read.
-use Rattle.std.proofs.Common.{◌≡◌, ℕ, List, ◌++◌, Option, Result, Ok, Err, IfOk, codes, sym, ap, subst, ◌∙◌}
+use Rattle.std.proofs.Common.{◌≤◌, length, Bool, true, false, if◌then◌else◌, nat_lt, refl, arith, ◌≡◌, ℕ, List, ◌++◌, Option, Result, Ok, Err, IfOk, codes, sym, ap, subst, ◌∙◌}
 use Rattle.cm_decl.specs.declared.decl.Decl.{Decl}
 use Rattle.cm_decl.specs.Clashes.{Place}
 use Rattle.cm_decl.specs.Faults.{Fault}
@@ -16,7 +16,33 @@ use Rattle.cm_valid.specs.Reports.{Reports, reported}
 use Rattle.cm_valid.specs.Texts as valid_text
 use Rattle.cm_valid.specs.declared.fault.ValidFault.{ValidFault}
 use Rattle.cm_valid.specs.declared.fault.ValidFault.TheVariants as valid_fault
-use Rattle.cm_program.specs.Checks.{IsJudged}
+use Rattle.cm_program.specs.Checks.{IsJudged, IsVerdict}
+use Rattle.std.specs.Io.KnownBytes.{IsAtEnd}
+use Rattle.std.proofs.lemmas.Bool.Decides.{nat_tests}
+use Rattle.cm_names.specs.Steps.{◌>>=◌}
+use Rattle.cm_read.specs.Manifest.{decl_of_bytes, decl_of_text}
+use Rattle.cm_read.specs.Numbers.{max_bytes}
+
+-- ---- what is valid was read whole
+
+short_by : (b : Bool) (e : ReadFault) (r : Result (List ℕ) ReadFault) (f : List ℕ → Result Decl ReadFault) (d : Decl)
+    → ((if b then Err e else r) >>= f) ≡ Ok d → b ≡ false
+short_by true e r f d is = absurd (cc (is))
+short_by false e r f d is = refl
+
+short_read : (bytes : List ℕ) (d : Decl) → decl_of_bytes bytes ≡ Ok d → length bytes ≤ 1048576
+short_read bytes d is =
+    let no : nat_lt max_bytes (length bytes) ≡ false = short_by (nat_lt max_bytes (length bytes)) _ _ decl_of_text d is in
+    grind (arith, nat_tests, no)
+
+judged_read : (read : Result Decl ReadFault) (status : ℕ) (line : List ℕ) → IsJudged read status line → status ≡ 0 → (d : Decl) × (read ≡ Ok d)
+judged_read read status line (IsJudged.valid {d = d} is valid) none = (d, is)
+judged_read read status line (IsJudged.unread is) none = absurd (cc (none))
+judged_read read status line (IsJudged.invalid is valid) none = absurd (cc (none))
+
+pub judged_ended : (bytes : List ℕ) (status : ℕ) (line : List ℕ) (left : Option (List ℕ)) → (length bytes ≤ 1048576 → IsAtEnd left) → IsVerdict bytes status line → status ≡ 0 → IsAtEnd left
+judged_ended bytes status line left all judged none =
+    let read = judged_read (decl_of_bytes bytes) status line judged none in all (short_read bytes read.0 read.1)
 
 judged_valid : (read : Result Decl ReadFault) (d : Decl) (line : List ℕ)
     → read ≡ Ok d → IsValid d → line ≡ codes "valid\n" → IsJudged read 0 line

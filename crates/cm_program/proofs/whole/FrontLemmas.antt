@@ -62,6 +62,10 @@ reads_within size {place} (Reads.one_more {t = t} {ts = ts} fits takes rest) h p
 pub script_within : (bytes : List ℕ) (s : Script) → IsScript bytes s → length bytes ≤ script_limit
 script_within bytes s h = reads_within (length bytes) h.reads (omega (arith, lines_total bytes)) (lit≤ tt)
 
+-- what was read of a script that is served is all that its source had
+pub served_ended : (bytes : List ℕ) (served : Served) (left : Option (List ℕ)) → (length bytes ≤ 67174401 → IsAtEnd left) → Serves bytes served → IsAtEnd left
+served_ended bytes served left all h = all (omega (arith, script_within bytes h.script h.reads))
+
 -- ---- a fault of a front that passes the limit by far is one of the whole
 
 -- the second lines go on where the first end

@@ -1,5 +1,5 @@
 -- What a run of a script promises, from what its parts did.
-use Rattle.std.proofs.Common.{◌≡◌, ◌≢◌, ◌⊎◌, inl, inr, ℕ, List, [], ◌++◌, All, map, flat_map, length, Option, Some, None, IfSome, Result, Ok, Err, refl, sym, ap, subst, ◌∙◌}
+use Rattle.std.proofs.Common.{◌≡◌, ◌≢◌, ◌⊎◌, inl, inr, ℕ, ◌<◌, ◌≤◌, List, [], ◌++◌, All, map, flat_map, length, Option, Some, None, IfSome, Result, Ok, Err, refl, sym, ap, subst, ◌∙◌}
 use Rattle.cm_turn.specs.Passes.{LockView, new_passes}
 use Rattle.cm_world.specs.declared.answer.Refusal.TheVariants as refusal
 use Rattle.cm_world.specs.declared.frame.Frame.{Frame}
@@ -12,7 +12,14 @@ use Rattle.cm_cache.specs.Keeping.{IsKeptNumber}
 use Rattle.cm_command.specs.declared.script.Line.{Line}
 use Rattle.cm_command.specs.declared.script.Script.{Script}
 use Rattle.cm_gate.specs.declared.asked.Asked.{Asked}
-use Rattle.cm_reply.specs.Journal.{header_text}
+use Rattle.cm_reply.specs.Journal.{header_text, journal_text}
+use Rattle.cm_audit.specs.Verdict.{IsLegalJournal, journal_limit}
+use Rattle.cm_typed.specs.Typed.{IsTypedEntry}
+use Rattle.cm_journal.specs.Front.{said_text}
+use Rattle.cm_journal.specs.Legible.{IsRun}
+use Rattle.cm_journal.proofs.Brought.{works_bring_all}
+use Rattle.cm_journal.proofs.Runs.{runs_write}
+use Rattle.cm_manager.specs.Turns.{own_entries}
 use Rattle.cm_manager.specs.Asking.{no_frame}
 use Rattle.cm_manager.specs.Closed.{HasEnds}
 use Rattle.cm_manager.specs.Contract.{RealmPass}
@@ -20,12 +27,13 @@ use Rattle.cm_manager.specs.Managers.{Closes}
 use Rattle.cm_manager.specs.Work.{Shelf}
 use Rattle.cm_lanes.specs.declared.said.Said.{Said}
 use Rattle.cm_lanes.specs.declared.said.Lanes.{Lanes}
-use Rattle.cm_lanes.specs.Script.{Answered, said_of, answered_lines}
+use Rattle.cm_lanes.specs.Script.{Answered, IsFit, said_of, answered_lines}
 use Rattle.cm_manager.specs.Kept.{AreSixteen}
 use Rattle.cm_lanes.specs.Lanes.{RanOrNot}
 use Rattle.cm_program.specs.Headline.{IsHistory, RunsScript, shelf_of}
 use Rattle.cm_program.specs.Performing.{Performs}
-use Rattle.cm_program.specs.Printed.{IsPrinted, journal_of, printed_text, summary_text, texts_of, wanted_text}
+use Rattle.cm_program.specs.Audited.{IsLegibleServed, MayTell}
+use Rattle.cm_program.specs.Printed.{IsPrinted, journal_of, line_text, phases_text, printed_text, summary_text, texts_of, wanted_text}
 use Rattle.cm_call.specs.Calls.{words_of}
 use Rattle.cm_program.specs.Run.{AsksScript, IsFaulty, IsScriptRun, RunsAsServed, RunsOwn, RunsSome}
 use Rattle.cm_program.specs.Stock.{IsFault, Serves, served_script}
@@ -39,7 +47,7 @@ use Rattle.cm_program.specs.declared.stock.Served.{Served}
 use Rattle.cm_program.specs.declared.wanted.Wanted.{Wanted}
 use Rattle.cm_program.specs.declared.wanted.Wanted.TheVariants.{Answers, Summary}
 use Rattle.cm_program.proofs.whole.Nothing.{ends_well, nothing_ends, nothing_kept, nothing_legal, works_nothing}
-use Rattle.cm_program.proofs.lanes.Histories.{makes_by, works_by, frame_by, frame_same, nothing_happened, legal_nothing}
+use Rattle.cm_program.proofs.lanes.Histories.{some_of, makes_by, works_by, frame_by, frame_same, nothing_happened, legal_nothing}
 use Rattle.cm_program.proofs.lanes.Printing.{texts_all, results_all, no_want_all, nothing_written, front_of_nothing}
 use Rattle.cm_program.proofs.texts.ScriptLaws.{served_are_not_refused_lem, bytes_ask_for_one_lem}
 use Rattle.cm_program.proofs.lanes.Wanting.{all_wanting, makes_nothing}
@@ -80,6 +88,11 @@ not_six status is (inr four) = absurd (cc (is, four))
 kept_by : (f : Frame) (history : List Entry) (n : ℕ) (realm : Story) → realm.frame ≡ f → history ≡ realm.entries → IsKeptNumber realm.frame realm.entries n → IsKeptNumber f history n
 kept_by f history n realm framed same kept =
     subst (λ (g : Frame). IsKeptNumber g history n) framed (subst (λ (l : List Entry). IsKeptNumber realm.frame l n) (sym same) kept)
+
+-- the texts of the answers, by two names
+said_same : (answered : List (List Answered)) → phases_text answered ≡ said_text answered
+unfolding line_text
+said_same answered = refl
 
 module _ {G : Type 0} (log_of : G → Option (List Asked)) (faults_of : G → ℕ) where
   -- the history of a script's run
@@ -150,12 +163,35 @@ module _ {G : Type 0} (log_of : G → Option (List Asked)) (faults_of : G → �
   text_is (Summary instances) served answered said history kept lines is =
       ap (λ l. summary_text instances l kept) (ap (map (λ (s : Said). s.result)) is ∙ results_all answered)
 
+  -- what is written with the journal
+  journal_is : (folder : Option (List ℕ)) (served : Served) (gates : List G) (done : Performed G) (p : Performs log_of faults_of (shelf_of folder served) served.frame served.phases gates done)
+      → All (λ (lines : List Line). All IsFit lines) served.phases → All IsTypedEntry done.book.entries → length gates ≡ 16 → length done.gates ≡ 16 → IsLegibleServed served
+      → (text : List ℕ) → text ≡ phases_text p.answered ++ journal_text served.frame done.book.entries → length text ≤ journal_limit → IsLegalJournal text (length done.book.entries)
+  journal_is folder served gates done p fit typed count count₁ tells text is short =
+      let same : text ≡ said_text p.answered ++ journal_text served.frame done.book.entries = is ∙ ap (λ t. t ++ journal_text served.frame done.book.entries) (said_same p.answered) in
+      let run : IsRun served.frame served.phases p.answered done.book.entries = record {
+        lines = p.makes.lines;
+        writable = tells.phases;
+        fit = fit;
+        legal = p.makes.legal;
+        performed = p.makes.performed;
+        callers = p.makes.callers;
+        typed = typed;
+        works = λ c small.
+            (let old = some_of gates c (subst (λ (n : ℕ). c < n) (sym count) small) in
+            let new = some_of done.gates c (subst (λ (n : ℕ). c < n) (sym count₁) small) in
+            works_bring_all (shelf_of folder served) (own_entries c done.book.entries) _ _ _ _ (p.work c old.0 new.0 old.1 new.1));
+      } in
+      subst (λ (t : List ℕ). IsLegalJournal t (length done.book.entries)) (sym same)
+      (runs_write served.frame served.phases p.answered done.book.entries run tells.frame (subst (λ (t : List ℕ). length t ≤ journal_limit) same short))
+
   -- what is said of a script's run
   pub runs_by : (wanted : Wanted) (folder : Option (List ℕ)) (served : Served) (gates : List G) (done : Performed G) (status : ℕ) (old new : Option (List ℕ)) → Performs log_of faults_of (shelf_of folder served) served.frame served.phases gates done
       → ((said : List Said) → done.said ≡ Some said → IsPrinted (printed_text served.phases said wanted (header_text served.frame) done.book.entries done.kept) said status old new)
       → (done.said ≡ None → (status ≡ 6) × AppendsFront old new [])
+      → All (λ (lines : List Line). All IsFit lines) served.phases → All IsTypedEntry done.book.entries → length gates ≡ 16 → length done.gates ≡ 16 → MayTell wanted served
       → RunsScript log_of faults_of wanted folder served gates done.gates done.book.entries status old new
-  runs_by wanted folder served gates done status old new p told untold = by done.said refl p.said
+  runs_by wanted folder served gates done status old new p told untold fit typed count count₁ tells = by done.said refl p.said
     where
       text : List ℕ
       text = wanted_text wanted served.frame p.answered done.book.entries done.kept
@@ -163,7 +199,7 @@ module _ {G : Type 0} (log_of : G → Option (List Asked)) (faults_of : G → �
       by : (o : Option (List Said)) → done.said ≡ o → IfSome o (λ said. said ≡ flat_map (λ phase. map said_of phase) p.answered) → RunsScript log_of faults_of wanted folder served gates done.gates done.book.entries status old new
       by None is said =
           let none = untold is in
-          record { answered = p.answered; makes = p.makes; laws = ends_well served.frame done.book.entries p.makes.legal p.ends; work = p.work; kept = done.kept; counts = p.kept; text = text; prints = refl; all = λ ended. absurd (cc (ended, none.0)); no_want = λ ended. absurd (not_six status none.0 ended); front = front_of_nothing old new text none.1 }
+          record { answered = p.answered; makes = p.makes; laws = ends_well served.frame done.book.entries p.makes.legal p.ends; work = p.work; kept = done.kept; counts = p.kept; text = text; prints = refl; all = λ ended. absurd (cc (ended, none.0)); no_want = λ ended. absurd (not_six status none.0 ended); front = front_of_nothing old new text none.1; legal = λ ended wants short. absurd (cc (ended, none.0)) }
       by (Some said) is same =
           let printed = told said is in
           let the_text : printed_text served.phases said wanted (header_text served.frame) done.book.entries done.kept ≡ text = text_is wanted served p.answered said done.book.entries done.kept p.makes.lines same in
@@ -179,6 +215,8 @@ module _ {G : Type 0} (log_of : G → Option (List Asked)) (faults_of : G → �
             all = printed.all;
             no_want = λ ended. no_want_all p.answered (subst (All (λ s. s.result ≢ Err refusal.Memory)) same (printed.no_want ended));
             front = printed.front;
+            legal = λ ended wants short. journal_is folder served gates done p fit typed count count₁ (tells wants) _
+                (the_text ∙ ap (λ (w : Wanted). wanted_text w served.frame p.answered done.book.entries done.kept) wants) short;
           }
 
   -- the same of what a run hands back, whose parts were moved and borrowed
@@ -186,15 +224,17 @@ module _ {G : Type 0} (log_of : G → Option (List Asked)) (faults_of : G → �
       → Performs log_of faults_of (shelf_of folder served) frame phases gates done → frame ≡ served.frame → phases ≡ served.phases
       → ((said : List Said) → done.said ≡ Some said → IsPrinted (printed_text others said wanted head done.book.entries done.kept) said status old new) → others ≡ served.phases → head ≡ header_text served.frame
       → (done.said ≡ None → (status ≡ 6) × AppendsFront old new [])
-      → book ≡ done.book → gates₁ ≡ done.gates → RunsScript log_of faults_of wanted folder served gates gates₁ book.entries status old new
-  runs_back wanted folder served gates gates₁ done book status old new frame phases others head performs framed lined told lined_too headed untold is same =
+      → book ≡ done.book → gates₁ ≡ done.gates
+      → All (λ (lines : List Line). All IsFit lines) served.phases → All IsTypedEntry done.book.entries → length gates ≡ 16 → length done.gates ≡ 16 → MayTell wanted served
+      → RunsScript log_of faults_of wanted folder served gates gates₁ book.entries status old new
+  runs_back wanted folder served gates gates₁ done book status old new frame phases others head performs framed lined told lined_too headed untold is same fit typed count count₁ tells =
       let p = subst (λ (f : Frame). Performs log_of faults_of (shelf_of folder served) f served.phases gates done) framed (subst (λ (l : List (List Line)). Performs log_of faults_of (shelf_of folder served) frame l gates done) lined performs) in
       let printed : (said : List Said) → done.said ≡ Some said → IsPrinted (printed_text served.phases said wanted (header_text served.frame) done.book.entries done.kept) said status old new = λ said some.
       subst (λ (h : List ℕ). IsPrinted (printed_text served.phases said wanted h done.book.entries done.kept) said status old new) headed
       (subst (λ (l : List (List Line)). IsPrinted (printed_text l said wanted head done.book.entries done.kept) said status old new) lined_too (told said some)) in
       subst (λ (b : History). RunsScript log_of faults_of wanted folder served gates gates₁ b.entries status old new) (sym is)
       (subst (λ (gs : List G). RunsScript log_of faults_of wanted folder served gates gs done.book.entries status old new) (sym same)
-      (runs_by wanted folder served gates done status old new p printed untold))
+      (runs_by wanted folder served gates done status old new p printed untold fit typed count count₁ tells))
 
   -- a script of which no line was run
   pub runs_nothing : (wanted : Wanted) (folder : Option (List ℕ)) (served : Served) (gates₀ gates₁ : List G) (history : List Entry) (status : ℕ) (out : Option (List ℕ)) → history ≡ [] → gates₁ ≡ gates₀ → status ≡ 6 → RunsScript log_of faults_of wanted folder served gates₀ gates₁ history status out out
@@ -214,6 +254,7 @@ module _ {G : Type 0} (log_of : G → Option (List Asked)) (faults_of : G → �
         all = λ ended. absurd (cc (ended, is));
         no_want = λ ended. absurd (not_six status is ended);
         front = nothing_written out text;
+        legal = λ ended wants short. absurd (cc (ended, is));
       }
 
   pub known_nothing : (left : Option (List ℕ)) (wanted : Wanted) (folder : Option (List ℕ)) (gates₀ gates₁ : List G) (history : List Entry) (status : ℕ) (out : Option (List ℕ)) → history ≡ [] → gates₁ ≡ gates₀ → status ≡ 6

@@ -6,6 +6,7 @@ use Rattle.cm_turn.specs.History.{StartsWith}
 use Rattle.cm_turn.specs.Passes.{HasCaller}
 use Rattle.cm_session.specs.declared.doorway.Accepted.{Accepted}
 use Rattle.cm_session.specs.declared.doorway.Opening.{Opening}
+use Rattle.cm_io.specs.Doors.{Place}
 use Rattle.cm_io.specs.declared.door.DoorCounts.{DoorCounts}
 use Rattle.cm_session.specs.declared.served.Back.{Back}
 use Rattle.cm_session.specs.declared.served.Cause.{Cause}
@@ -52,13 +53,14 @@ module _ {L : Type 0} (passes : List DoorPass) (links : List (Links L)) (room : 
       grind (arith, few, sessions, fits, all_counted)
 
   -- all that the closed door says
-  pub closes_door : (now : DoorCounts) (all : List (Back L)) (lost failed : Bool) (why : Cause) → IsCounted o.counts now entries → links_of entries ≤ o.sessions → all ≡ links_from 0 links → (failed ≡ true → 0 < failures_of entries) → (failed ≡ false → failures_of entries ≡ 0) → why ≡ cause_of lost failed → ClosesDoor passes now (length all) lost why
-  closes_door now all lost failed why counted few all_is failure no_failure why_is = record {
+  pub closes_door : (now : DoorCounts) (place_now : Place) (all : List (Back L)) (lost failed : Bool) (why : Cause) → IsCounted o.counts now entries → place_now ≡ o.place → links_of entries ≤ o.sessions → all ≡ links_from 0 links → (failed ≡ true → 0 < failures_of entries) → (failed ≡ false → failures_of entries ≡ 0) → why ≡ cause_of lost failed → ClosesDoor passes now place_now (length all) lost why
+  closes_door now place_now all lost failed why counted place few all_is failure no_failure why_is = record {
     opening = o;
     entries = entries;
     opened = λ k d lt. (known k d lt).0;
     seen = λ k d lt. (known k d lt).1;
     counted = counted;
+    place = place;
     links_are = ap (λ (l : List (Back L)). length l) all_is ∙ all_counted;
     few = few;
     failed = failed;
@@ -78,5 +80,5 @@ module _ {L : Type 0} (passes closed : List DoorPass) (same : closed ≡ passes)
   pub fit_closed : links_of entries ≤ o.sessions → length (links_from 0 links) ≤ room
   fit_closed few = all_fit passes links room counts o entries known_here callers_here few
 
-  pub closed_door : (now : DoorCounts) (all : List (Back L)) (lost failed : Bool) (why : Cause) → IsCounted o.counts now entries → links_of entries ≤ o.sessions → all ≡ links_from 0 links → (failed ≡ true → 0 < failures_of entries) → (failed ≡ false → failures_of entries ≡ 0) → why ≡ cause_of lost failed → ClosesDoor passes now (length all) lost why
-  closed_door now all lost failed why counted few all_is failure no_failure why_is = closes_door passes links room counts o entries known_here callers_here now all lost failed why counted few all_is failure no_failure why_is
+  pub closed_door : (now : DoorCounts) (place_now : Place) (all : List (Back L)) (lost failed : Bool) (why : Cause) → IsCounted o.counts now entries → place_now ≡ o.place → links_of entries ≤ o.sessions → all ≡ links_from 0 links → (failed ≡ true → 0 < failures_of entries) → (failed ≡ false → failures_of entries ≡ 0) → why ≡ cause_of lost failed → ClosesDoor passes now place_now (length all) lost why
+  closed_door now place_now all lost failed why counted place few all_is failure no_failure why_is = closes_door passes links room counts o entries known_here callers_here now place_now all lost failed why counted place few all_is failure no_failure why_is

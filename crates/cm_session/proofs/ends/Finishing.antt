@@ -4,6 +4,7 @@ use Rattle.std.specs.List.{slice_get}
 use Rattle.std.proofs.lemmas.List.{length-map, map-append}
 use Rattle.std.proofs.lemmas.Option.{slice_get_within}
 use Rattle.cm_gate.specs.declared.asked.Asked.{Asked}
+use Rattle.cm_io.specs.Doors.{Place}
 use Rattle.cm_io.specs.Outside.{Rose}
 use Rattle.cm_io.specs.declared.door.DoorCounts.{DoorCounts}
 use Rattle.cm_manager.specs.Closed.{HasEnds}
@@ -127,7 +128,7 @@ module _ {G L : Type 0} (log_of : G → Option (List Asked)) (faults_of : G → 
 
   -- ---- what the closed door says
 
-  module _ (first : DoorCounts) (opened : o.counts ≡ first) (some_worker : 0 < workers) (now : DoorCounts) (links : ℕ) (why : Cause) (is : ClosesDoor parts.at_door.items now links parts.lost why) where
+  module _ (first : DoorCounts) (opened : o.counts ≡ first) (some_worker : 0 < workers) (now : DoorCounts) (place_now : Place) (links : ℕ) (why : Cause) (is : ClosesDoor parts.at_door.items now place_now links parts.lost why) where
     zero_at : (e : DoorPass) × (slice_get parts.at_door.items 0 ≡ Some e)
     zero_at = there_at parts.at_door.items 0 (grind (arith, pl.doors_long, sixteen))
 
@@ -136,6 +137,10 @@ module _ {G L : Type 0} (log_of : G → Option (List Asked)) (faults_of : G → 
 
     pub counts_first : is.opening.counts ≡ first
     counts_first = ap (λ (x : Opening). x.counts) opening_is ∙ opened
+
+    -- peers may come where they could
+    pub place_kept : place_now ≡ o.place
+    place_kept = is.place ∙ ap (λ (x : Opening). x.place) opening_is
 
     pub links_counted : now.links ≡ first.links + links
     links_counted = is.counted.links ∙ ap (λ (x : DoorCounts). x.links + links_of is.entries) counts_first ∙ ap (λ (n : ℕ). first.links + n) (sym is.links_are)

@@ -1,5 +1,6 @@
 -- Lemmas on a session, step by step.
-use Rattle.std.proofs.Common.{◌≡◌, ◌≢◌, ◌≤◌, ◌<◌, ◌⊎◌, inl, inr, ℕ, ◌+◌, Bool, true, false, List, [], ◌∷◌, ◌++◌, take, length, length-append, refl, ap, sym, ◌∙◌, subst, append_assoc, append-nil, true≢false, Option, Some, None, Result, Err, All, arith}
+use Rattle.std.proofs.Common.{◌≡◌, ◌≢◌, ◌≤◌, ◌<◌, ◌⊎◌, inl, inr, ℕ, ◌+◌, Bool, true, false, List, [], ◌∷◌, ◌++◌, take, length, length-append, refl, ap, sym, ◌∙◌, subst, append_assoc, append-nil, true≢false, Option, Some, None, Result, Err, All, map, arith}
+use Rattle.std.proofs.lemmas.List.{map-append}
 use Rattle.std.specs.List.{AllZip}
 use lib.Seq.{take_all}
 use Rattle.std.proofs.lemmas.List.Concat.{flat_map-append}
@@ -7,7 +8,9 @@ use Rattle.std.proofs.lemmas.List.Elements.{All-append, All-from_recursion}
 use Rattle.std.specs.Io.KnownBytes.{Appends, IsAtEnd}
 use Rattle.std.proofs.KnownBytes.{Appends-trans, Consumes-nil, Consumes-trans}
 use Rattle.cm_io.specs.Lines.{EndsOnce, IsFirstLine, Moves, Reader, lines}
+use Rattle.cm_io.specs.Orders.{Came, InStep, Move, Pulled, given_in, hung_up}
 use Rattle.cm_io.specs.Outside.{AsSink, AsSource, PutsAll, Rose}
+use Rattle.cm_io.proofs.Ordering.{came-none, came-trans}
 use Rattle.cm_io.specs.declared.output.Put.{Put}
 use Rattle.cm_io.specs.declared.output.Put.TheVariants as put
 use Rattle.cm_world.specs.declared.answer.Answer.{Answer}
@@ -29,11 +32,12 @@ use Rattle.cm_manager.specs.Work.{Shelf}
 use Rattle.cm_manager.proofs.calling.Keeping.{keeps_helps}
 use Rattle.cm_session.specs.declared.ended.Ended.{Ended}
 use Rattle.cm_session.specs.declared.ended.Ended.TheVariants as ended
-use Rattle.cm_session.specs.Links.{Begins, GrowsByFront, LinkView, whole_lines}
+use Rattle.cm_session.specs.Links.{Begins, GrowsByFront, LinkView, Side, side_of, side_with, whole_lines}
 use Rattle.cm_session.specs.Told.{Told, performed, bad, too_long, Reads, reply_line, replies, done_of, IsNoWant}
-use Rattle.cm_session.specs.Session.{AreEnded, BreaksOff, KeepsOrNot, Served, Session, WantsLast, Wrote, most_lines, quit}
-use Rattle.cm_session.specs.Steps.{IsSilent, LineDone, LineWrote, ServedCommand, ServedLine, ServedOrNot, StepBy, Stepped}
+use Rattle.cm_session.specs.Session.{AreEnded, BreaksOff, KeepsOrNot, Served, Session, SessionClosedBy, WantsLast, Wrote, most_lines, quit}
+use Rattle.cm_session.specs.Steps.{IsSilent, LineDone, LineWrote, RepliesInOrder, ServedCommand, ServedLine, ServedOrNot, StepBy, Stepped}
 use Rattle.cm_session.proofs.spoken.Cutting.{Cut, cut-begins, cut-end, cut-ended, cut-ended-so-far, cut-fault, cut-more, cut-next, cut-none}
+use Rattle.cm_session.proofs.spoken.Order.{HasRead, InHand, has-read, in-hand-more, in-hand-none, moves_behind, moves_with, read-came, read-given, reply-came, reply-given, reply-in_step}
 use Rattle.cm_session.proofs.spoken.Kept.{GoesOn, does_as, goes_all, goes_more, goes_none, kept_same, kept_then}
 
 bool_or : (b : Bool) → (b ≡ true) ⊎ (b ≡ false)
@@ -70,8 +74,8 @@ spent-is-no-fault e = cc
 rose-later : (a b c : ℕ) → a ≤ b → Rose b c → Rose a c
 rose-later a b c le rose = omega (arith, le, rose)
 
-same-sink : (old now then : AsSink) (text : Text) → Appends old.written now.written text → then ≡ now → Appends old.written then.written text
-same-sink old now then text wrote same = subst (λ (s : AsSink). Appends old.written s.written text) (sym same) wrote
+same-sink : (old : Option Text) (now then : LinkView) (mid : Option (List Move)) (text : Text) → Appends old now.sink.written text → side_of then ≡ side_with now mid → Appends old then.sink.written text
+same-sink old now then mid text wrote same = subst (λ (s : Side). Appends old s.written text) (sym same) wrote
 
 -- all of the earlier replies and a front of the next one
 breaks-off : (a b c : Option Text) (told : List Told) (t : Told) → Appends a b (replies told) → GrowsByFront b c (reply_line t) → BreaksOff a c (told ++ t ∷ [])
@@ -129,6 +133,9 @@ pub record Going (shelf : Shelf) (p q : RealmPass) (g h : GatesView) (old now : 
   pub wrote : Appends old.sink.written now.sink.written (replies told)
   pub unfailed : now.sink.faults ≡ old.sink.faults
   pub no_want : All IsNoWant told
+  pub moves : List Move
+  pub came_by : Came old.order now.order moves
+  pub in_hand : InHand (map reply_line told) moves bytes reader
 
 -- the end is known, once it came
 end-more : (before after : Reader) (old new : AsSource) (given : Text) → (before.over ≡ true → IsAtEnd old.left) → EndsOnce before after old new given
@@ -156,13 +163,24 @@ going-none shelf p g link reader none not = record {
   wrote = appends-nil link.sink.written;
   unfailed = refl;
   no_want = λ k d lt. absurd (omega arith);
+  moves = [];
+  came_by = came-none link.order;
+  in_hand = in-hand-none reader none;
 }
+
+-- the reads of a step
+reads-of : (shelf : Shelf) (p q r : RealmPass) (g h k : GatesView) (old now then : LinkView) (before after : Reader) (n : ℕ) (e : Option Ended)
+    → (go : Going shelf p q g h old now before n) → (s : Stepped shelf q r h k before after now then e) → HasRead (map reply_line go.told) go.moves now.order s.mid s.given
+reads-of shelf p q r g h k old now then before after n e go s =
+    has-read (map reply_line go.told) go.moves go.bytes s.given before now.order s.mid go.in_hand s.pulled s.still (λ over. (s.once.still over).0)
 
 pub going-more : (shelf : Shelf) (p q r : RealmPass) (g h k : GatesView) (old now then : LinkView) (before after : Reader) (n : ℕ)
     → Going shelf p q g h old now before n → Stepped shelf q r h k before after now then None → Going shelf p r g k old then after (n + 1)
 going-more shelf p q r g h k old now then before after n go s =
     let l = s.by in
-    let v = l.served in record {
+    let v = l.served in
+    let rs = map reply_line go.told in
+    let read = reads-of shelf p q r g h k old now then before after n None go s in record {
       keeps = kept_then shelf p q r g h k go.keeps v.keeps;
       bytes = go.bytes ++ s.given;
       gave = moves-trans old.source now.source then.source go.bytes s.given go.gave s.gave;
@@ -179,20 +197,28 @@ going-more shelf p q r g h k old now then before after n go s =
           (Appends-trans old.sink.written now.sink.written then.sink.written (replies go.told) (reply_line v.told) go.wrote v.wrote.0);
       unfailed = v.wrote.1 ∙ go.unfailed;
       no_want = all-push IsNoWant go.told v.told go.no_want v.wrote.2;
+      moves = moves_with rs go.moves now.order s.mid then.order s.given (reply_line v.told) None read v.ordered;
+      came_by = reply-came rs go.moves old.order now.order s.mid then.order s.given (reply_line v.told) None read v.ordered go.came_by;
+      in_hand = subst (λ (l : List Text). InHand l (moves_with rs go.moves now.order s.mid then.order s.given (reply_line v.told) None read v.ordered) (go.bytes ++ s.given) after)
+          (sym (map-append reply_line go.told (v.told ∷ [])))
+          (in-hand-more rs go.moves go.bytes before after now.order s.mid then.order s.given l.line (reply_line v.told) read v.ordered go.in_hand (λ over. (s.once.still over).1) l.first);
     }
 
 -- ---- the end
 
 -- what comes of a session that ends with a line
 with-line : (shelf : Shelf) (p q r : RealmPass) (g h k : GatesView) (old now then : LinkView) (before after : Reader) (n : ℕ) (e : Ended)
-    → (go : Going shelf p q g h old now before n) → (s : Stepped shelf q r h k before after now then (Some e)) → (l : LineDone shelf q r h k (before.held ++ s.given) after now.sink then.sink (Some e))
+    → (go : Going shelf p q g h old now before n) → (s : Stepped shelf q r h k before after now then (Some e)) → (l : LineDone shelf q r h k (before.held ++ s.given) after (side_with now s.mid) (side_of then) (Some e))
     → ((bytes : Text) (lines_done : List Text) (left : Option Text) → Begins (lines bytes) lines_done → Served e bytes lines_done left)
     → Wrote e old.sink then.sink (go.told ++ l.served.told ∷ []) → (e ≢ ended.Memory → IsNoWant l.served.told) → (e ≡ ended.ReadFault → ⊥) → n < most_lines
-    → Session shelf p r g k old then e
+    → SessionClosedBy [] shelf p r g k old then e
 with-line shelf p q r g h k old now then before after n e go s l served wrote want none lt =
     let v = l.served in
     let count : length (go.lines_done ++ l.line ∷ []) ≡ n + 1 = length-append go.lines_done (l.line ∷ []) ∙ ap (λ (m : ℕ). m + 1) go.count in
     let next = cut-next go.bytes s.given before after go.lines_done l.line go.cut (λ over. (s.once.still over).0) l.first in
+    let rs = map reply_line go.told in
+    let read = reads-of shelf p q r g h k old now then before after n (Some e) go s in
+    let moves = moves_with rs go.moves now.order s.mid then.order s.given (reply_line v.told) (Some e) read v.ordered in
     record {
       keeps = kept_then shelf p q r g h k go.keeps v.keeps;
       bytes = go.bytes ++ s.given;
@@ -211,39 +237,52 @@ with-line shelf p q r g h k old now then before after n e go s l served wrote wa
       no_want = λ other. all-push IsNoWant go.told v.told go.no_want (want other);
       wants_last = last-wants go.told v.told go.no_want;
       read_fault = λ fault. absurd (none fault);
+      moves = moves;
+      in_step = subst (λ (l : List Text). InStep l moves) (sym (map-append reply_line go.told (v.told ∷ []))) (reply-in_step rs go.moves now.order s.mid then.order s.given (reply_line v.told) (Some e) read v.ordered);
+      reads_are = reply-given rs go.moves go.bytes now.order s.mid then.order s.given (reply_line v.told) (Some e) read v.ordered go.in_hand.given;
+      came = subst (Came old.order then.order) (sym (append-nil moves)) (reply-came rs go.moves old.order now.order s.mid then.order s.given (reply_line v.told) (Some e) read v.ordered go.came_by);
     }
 
 -- what comes of a session that ends without a line
 without-line : (shelf : Shelf) (p q r : RealmPass) (g h k : GatesView) (old now then : LinkView) (before after : Reader) (n : ℕ) (e : Ended)
-    → (go : Going shelf p q g h old now before n) → (s : Stepped shelf q r h k before after now then (Some e)) → IsSilent q r h k now.sink then.sink
+    → (go : Going shelf p q g h old now before n) → (s : Stepped shelf q r h k before after now then (Some e)) → IsSilent q r h k (side_with now s.mid) (side_of then)
     → Served e (go.bytes ++ s.given) go.lines_done then.source.left → Wrote e old.sink then.sink go.told
-    → (e ≡ ended.ReadFault → Rose now.source.faults then.source.faults) → n < most_lines → Session shelf p r g k old then e
-without-line shelf p q r g h k old now then before after n e go s silent served wrote fault lt = record {
-  keeps = kept_then shelf p q r g h k go.keeps (inl (silent.pass, silent.gates));
-  bytes = go.bytes ++ s.given;
-  gave = moves-trans old.source now.source then.source go.bytes s.given go.gave s.gave;
-  lines_done = go.lines_done;
-  few = omega (arith, lt, go.count);
-  told = go.told;
-  reads = go.reads;
-  no_quit = go.no_quit;
-  served = served;
-  ended_lines = ended-by (go.bytes ++ s.given) go.lines_done before.over then.source.left (λ over. subst (λ (x : AsSource). IsAtEnd x.left) (sym (s.once.still over).2) (go.end over))
-      (cut-ended go.bytes s.given before go.lines_done go.cut);
-  follows = subst (λ (x : RealmPass). Follows (frame_of p) p.caller (done_of go.told) p.seen x.seen) (sym silent.pass) (goes_all (frame_of p) p.caller (done_of go.told) p.seen q.seen go.goes_on);
-  wrote = wrote;
-  no_want = λ other. go.no_want;
-  wants_last = none-wants go.told go.no_want;
-  read_fault = λ is. rose-later old.source.faults now.source.faults then.source.faults go.later (fault is);
-}
+    → (e ≡ ended.ReadFault → Rose now.source.faults then.source.faults) → n < most_lines → SessionClosedBy [] shelf p r g k old then e
+without-line shelf p q r g h k old now then before after n e go s silent served wrote fault lt =
+    let rs = map reply_line go.told in
+    let read = reads-of shelf p q r g h k old now then before after n (Some e) go s in
+    let moves = moves_behind rs go.moves now.order s.mid s.given read in
+    record {
+      keeps = kept_then shelf p q r g h k go.keeps (inl (silent.pass, silent.gates));
+      bytes = go.bytes ++ s.given;
+      gave = moves-trans old.source now.source then.source go.bytes s.given go.gave s.gave;
+      lines_done = go.lines_done;
+      few = omega (arith, lt, go.count);
+      told = go.told;
+      reads = go.reads;
+      no_quit = go.no_quit;
+      served = served;
+      ended_lines = ended-by (go.bytes ++ s.given) go.lines_done before.over then.source.left (λ over. subst (λ (x : AsSource). IsAtEnd x.left) (sym (s.once.still over).2) (go.end over))
+          (cut-ended go.bytes s.given before go.lines_done go.cut);
+      follows = subst (λ (x : RealmPass). Follows (frame_of p) p.caller (done_of go.told) p.seen x.seen) (sym silent.pass) (goes_all (frame_of p) p.caller (done_of go.told) p.seen q.seen go.goes_on);
+      wrote = wrote;
+      no_want = λ other. go.no_want;
+      wants_last = none-wants go.told go.no_want;
+      read_fault = λ is. rose-later old.source.faults now.source.faults then.source.faults go.later (fault is);
+      moves = moves;
+      in_step = read.in_step;
+      reads_are = read-given rs go.moves go.bytes s.given now.order s.mid read go.in_hand.given;
+      came = subst (Came old.order then.order) (sym (append-nil moves))
+          (subst (λ (x : Side). Came old.order x.order moves) (sym silent.sink) (read-came rs go.moves s.given old.order now.order s.mid read go.came_by));
+    }
 
 pub going-ends : (shelf : Shelf) (p q r : RealmPass) (g h k : GatesView) (old now then : LinkView) (before after : Reader) (n : ℕ) (e : Ended)
-    → Going shelf p q g h old now before n → n < most_lines → Stepped shelf q r h k before after now then (Some e) → Session shelf p r g k old then e
+    → Going shelf p q g h old now before n → n < most_lines → Stepped shelf q r h k before after now then (Some e) → SessionClosedBy [] shelf p r g k old then e
 going-ends shelf p q r g h k old now then before after n ended.End go lt s =
     let few : length go.lines_done < most_lines = omega (arith, lt, go.count) in
     without-line shelf p q r g h k old now then before after n ended.End go s s.by.2
     (cut-end go.bytes s.given before go.lines_done go.cut s.by.0, few, end-more before after now.source then.source s.given go.end s.once s.by.1)
-    (same-sink old.sink now.sink then.sink (replies go.told) go.wrote s.by.2.sink)
+    (same-sink old.sink.written now then s.mid (replies go.told) go.wrote s.by.2.sink)
     (λ is. absurd (end-is-no-fault is)) lt
 going-ends shelf p q r g h k old now then before after n ended.Quit go lt s =
     let few : length go.lines_done < most_lines = omega (arith, lt, go.count) in
@@ -255,12 +294,12 @@ going-ends shelf p q r g h k old now then before after n ended.Quit go lt s =
       ended-by (go.bytes ++ s.given) (go.lines_done ++ quit ∷ []) after.over then.source.left (end-more before after now.source then.source s.given go.end s.once)
           (cut-ended-so-far (go.bytes ++ s.given) after (go.lines_done ++ quit ∷ []) (cut-more go.bytes s.given before after go.lines_done quit go.cut (λ over. (s.once.still over).0) s.by.0)),
     )
-    (same-sink old.sink now.sink then.sink (replies go.told) go.wrote s.by.1.sink)
+    (same-sink old.sink.written now then s.mid (replies go.told) go.wrote s.by.1.sink)
     (λ is. absurd (quit-is-no-fault is)) lt
 going-ends shelf p q r g h k old now then before after n ended.ReadFault go lt s =
     without-line shelf p q r g h k old now then before after n ended.ReadFault go s s.by.2
     (cut-begins go.bytes s.given before go.lines_done go.cut (λ over. (s.once.still over).0), cut-fault go.bytes s.given before go.lines_done go.cut (λ over. (s.once.still over).0) s.by.0)
-    (same-sink old.sink now.sink then.sink (replies go.told) go.wrote s.by.2.sink)
+    (same-sink old.sink.written now then s.mid (replies go.told) go.wrote s.by.2.sink)
     (λ is. s.by.1) lt
 going-ends shelf p q r g h k old now then before after n ended.WriteFault go lt s =
     let l = s.by in
@@ -272,14 +311,14 @@ going-ends shelf p q r g h k old now then before after n ended.Memory go lt s =
     elim s.by [
       | inl silent ↦ without-line shelf p q r g h k old now then before after n ended.Memory go s silent
           (cut-begins go.bytes s.given before go.lines_done go.cut (λ over. (s.once.still over).0))
-          (inl (same-sink old.sink now.sink then.sink (replies go.told) go.wrote silent.sink))
+          (inl (same-sink old.sink.written now then s.mid (replies go.told) go.wrote silent.sink))
           (λ is. absurd (memory-is-no-fault is)) lt
       | inr l ↦ with-line shelf p q r g h k old now then before after n ended.Memory go s l (λ bytes ls left begins. begins)
           (inr (breaks-off old.sink.written now.sink.written then.sink.written go.told l.served.told go.wrote l.served.wrote))
           (λ other. absurd (other refl)) memory-is-no-fault lt
     ]
 
-pub going-spent : (shelf : Shelf) (p q : RealmPass) (g h : GatesView) (old now : LinkView) (reader : Reader) (n : ℕ) → n ≡ most_lines → Going shelf p q g h old now reader n → Session shelf p q g h old now ended.LinesSpent
+pub going-spent : (shelf : Shelf) (p q : RealmPass) (g h : GatesView) (old now : LinkView) (reader : Reader) (n : ℕ) → n ≡ most_lines → Going shelf p q g h old now reader n → SessionClosedBy [] shelf p q g h old now ended.LinesSpent
 going-spent shelf p q g h old now reader n all go = record {
   keeps = go.keeps;
   bytes = go.bytes;
@@ -296,10 +335,14 @@ going-spent shelf p q g h old now reader n all go = record {
   no_want = λ other. go.no_want;
   wants_last = none-wants go.told go.no_want;
   read_fault = λ is. absurd (spent-is-no-fault is);
+  moves = go.moves;
+  in_step = go.in_hand.in_step;
+  reads_are = go.in_hand.given;
+  came = subst (Came old.order now.order) (sym (append-nil go.moves)) go.came_by;
 }
 
 -- nothing was done, for want of memory
-pub session-none : (shelf : Shelf) (p : RealmPass) (g : GatesView) (link : LinkView) → Session shelf p p g g link link ended.Memory
+pub session-none : (shelf : Shelf) (p : RealmPass) (g : GatesView) (link : LinkView) → SessionClosedBy [] shelf p p g g link link ended.Memory
 session-none shelf p g link = record {
   keeps = kept_same shelf p g;
   bytes = [];
@@ -316,13 +359,43 @@ session-none shelf p g link = record {
   no_want = λ other. absurd (other refl);
   wants_last = none-wants [] (λ k d lt. absurd (omega arith));
   read_fault = λ is. absurd (memory-is-no-fault is);
+  moves = [];
+  in_step = InStep.begun;
+  reads_are = refl;
+  came = came-none link.order;
 }
 
--- what a link tells stays as it is when it is hung up
+-- what a link tells of its bytes stays as it is when it is hung up on, and that is one move
+session-same : (shelf : Shelf) (p q : RealmPass) (g h : GatesView) (old mid new : LinkView) (end : Ended) → new.source ≡ mid.source → new.sink ≡ mid.sink
+    → SessionClosedBy [] shelf p q g h old mid end → SessionClosedBy [] shelf p q g h old (record { source = new.source; sink = new.sink; order = mid.order }) end
+session-same shelf p q g h old mid new end source sink s =
+    subst (λ (x : LinkView). SessionClosedBy [] shelf p q g h old x end) (λ i. record { source = sym source i; sink = sym sink i; order = mid.order }) s
+
 pub session-over : (shelf : Shelf) (p q : RealmPass) (g h : GatesView) (old mid new : LinkView) (end : Ended) → new.source ≡ mid.source → new.sink ≡ mid.sink
-    → Session shelf p q g h old mid end → Session shelf p q g h old new end
-session-over shelf p q g h old mid new end source sink s =
-    subst (λ (x : LinkView). Session shelf p q g h old x end) (λ i. record { source = sym source i; sink = sym sink i }) s
+    → Came mid.order new.order (hung_up ∷ []) → SessionClosedBy [] shelf p q g h old mid end → Session shelf p q g h old new end
+session-over shelf p q g h old mid new end source sink hung before =
+    let s = session-same shelf p q g h old mid new end source sink before in
+    record {
+      keeps = s.keeps;
+      bytes = s.bytes;
+      gave = s.gave;
+      lines_done = s.lines_done;
+      few = s.few;
+      told = s.told;
+      reads = s.reads;
+      no_quit = s.no_quit;
+      served = s.served;
+      ended_lines = s.ended_lines;
+      follows = s.follows;
+      wrote = s.wrote;
+      no_want = s.no_want;
+      wants_last = s.wants_last;
+      read_fault = s.read_fault;
+      moves = s.moves;
+      in_step = s.in_step;
+      reads_are = s.reads_are;
+      came = subst (Came old.order new.order) (append_assoc s.moves [] (hung_up ∷ [])) (came-trans old.order mid.order new.order (s.moves ++ []) (hung_up ∷ []) s.came hung);
+    }
 
 -- ---- one reply
 
@@ -332,7 +405,7 @@ put-front a b text put.Done h = whole-front a b text h
 put-front a b text (put.WriteFault n) h = (n, h.1)
 
 -- a reply that says so much tells what follows of it
-pub wrote-as : (V W : Type 0) (end : Option Ended) (old new : AsSink) (text : Text) → (V → W) → LineWrote end old new text V → LineWrote end old new text W
+pub wrote-as : (V W : Type 0) (end : Option Ended) (old new : Side) (text : Text) → (V → W) → LineWrote end old new text V → LineWrote end old new text W
 wrote-as V W None old new text f w = (w.0, w.1, f w.2)
 wrote-as V W (Some ended.WriteFault) old new text f w = (w.0, w.1, f w.2)
 wrote-as V W (Some ended.Memory) old new text f w = w
@@ -344,30 +417,32 @@ wrote-as V W (Some ended.LinesSpent) old new text f w = absurd w
 -- ---- one line
 
 -- a command was performed, and its reply was put
-pub command-put : (shelf : Shelf) (p q : RealmPass) (g h : GatesView) (command : Command) (answer : Result Answer Refusal) (old new : AsSink) (end : Option Ended) (text : Text) (wanting : Bool)
+pub command-put : (shelf : Shelf) (p q : RealmPass) (g h : GatesView) (command : Command) (answer : Result Answer Refusal) (old new : Side) (end : Option Ended) (text : Text) (wanting : Bool)
     → Performs shelf (frame_of p) command p q g h answer → (wanting ≡ false → answer ≢ Err refusal.Memory) → text ≡ line (reply_text command answer)
-    → LineWrote end old new text (wanting ≡ false) → ServedCommand shelf p q g h command old new end
-command-put shelf p q g h command answer old new end text wanting way want is wrote = record {
+    → LineWrote end old new text (wanting ≡ false) → RepliesInOrder end old.order new.order text → ServedCommand shelf p q g h command old new end
+command-put shelf p q g h command answer old new end text wanting way want is wrote ordered = record {
   answer = answer;
   keeps = keeps_helps shelf (frame_of p) (λ a b. Calls (frame_of p) p.caller command a b answer) p q g h way;
   goes = inl way.way;
   wrote = wrote-as (wanting ≡ false) (answer ≢ Err refusal.Memory) end old new (line (reply_text command answer)) want
       (subst (λ (t : Text). LineWrote end old new t (wanting ≡ false)) is wrote);
+  ordered = subst (λ (t : Text). RepliesInOrder end old.order new.order t) is ordered;
 }
 
 -- a command was performed, and its answer is lost, since memory ran out for the reply
-pub command-lost : (shelf : Shelf) (p q : RealmPass) (g h : GatesView) (command : Command) (answer : Result Answer Refusal) (old new : AsSink) (end : Option Ended)
+pub command-lost : (shelf : Shelf) (p q : RealmPass) (g h : GatesView) (command : Command) (answer : Result Answer Refusal) (old new : Side) (end : Option Ended)
     → Performs shelf (frame_of p) command p q g h answer
-    → LineWrote end old new (line (refusal_text refusal.Memory)) (true ≡ false) → ServedCommand shelf p q g h command old new end
-command-lost shelf p q g h command answer old new end way wrote = record {
+    → LineWrote end old new (line (refusal_text refusal.Memory)) (true ≡ false) → RepliesInOrder end old.order new.order (line (refusal_text refusal.Memory)) → ServedCommand shelf p q g h command old new end
+command-lost shelf p q g h command answer old new end way wrote ordered = record {
   answer = Err refusal.Memory;
   keeps = keeps_helps shelf (frame_of p) (λ a b. Calls (frame_of p) p.caller command a b answer) p q g h way;
   goes = inr (refl, (answer, way.way));
   wrote = wrote-as (true ≡ false) (Err refusal.Memory ≢ Err refusal.Memory) end old new (line (refusal_text refusal.Memory)) (λ is. absurd (true≢false is)) wrote;
+  ordered = ordered;
 }
 
 -- a line with a command was served
-pub line-command : (shelf : Shelf) (p q : RealmPass) (g h : GatesView) (t : Text) (command : Command) (old new : AsSink) (end : Option Ended)
+pub line-command : (shelf : Shelf) (p q : RealmPass) (g h : GatesView) (t : Text) (command : Command) (old new : Side) (end : Option Ended)
     → length t ≤ 65536 → CommandText t command → ServedCommand shelf p q g h command old new end → ServedOrNot shelf p q g h t old new end
 line-command shelf p q g h t command old new end short is s = inl (record {
   told = performed (record { command = command; result = s.answer });
@@ -375,6 +450,7 @@ line-command shelf p q g h t command old new end short is s = inl (record {
   keeps = inr s.keeps;
   does = s.goes;
   wrote = s.wrote;
+  ordered = s.ordered;
 })
 
 bad-is-no-want : (n : ℕ) → BadCommand n ≡ OutOfMemory → ⊥
@@ -385,86 +461,104 @@ pub bad-fault : (t : Text) (fault : CommandFault) (at : ℕ) → fault ≡ BadCo
 bad-fault t fault at is of = subst (λ (x : CommandFault). IsCommandFault t x) is (of (λ e. bad-is-no-want at (sym is ∙ e)))
 
 -- a line that is no command was answered
-pub line-bad : (shelf : Shelf) (p : RealmPass) (g : GatesView) (t : Text) (at : ℕ) (old new : AsSink) (end : Option Ended)
-    → length t ≤ 65536 → IsCommandFault t (BadCommand at) → LineWrote end old new (reply_line (bad at)) (false ≡ false) → ServedOrNot shelf p p g g t old new end
-line-bad shelf p g t at old new end short is wrote = inl (record {
+pub line-bad : (shelf : Shelf) (p : RealmPass) (g : GatesView) (t : Text) (at : ℕ) (old new : Side) (end : Option Ended)
+    → length t ≤ 65536 → IsCommandFault t (BadCommand at) → LineWrote end old new (reply_line (bad at)) (false ≡ false) → RepliesInOrder end old.order new.order (reply_line (bad at)) → ServedOrNot shelf p p g g t old new end
+line-bad shelf p g t at old new end short is wrote ordered = inl (record {
   told = bad at;
   reads = (short, is);
   keeps = kept_same shelf p g;
   does = refl;
   wrote = wrote-as (false ≡ false) (IsNoWant (bad at)) end old new (reply_line (bad at)) (λ same. tt) wrote;
+  ordered = ordered;
 })
 
 -- ---- one step
 
-step-by : (shelf : Shelf) (p q : RealmPass) (g h : GatesView) (taken : Text) (reader : Reader) (old new : LinkView) (end : Option Ended)
-    → LineDone shelf p q g h taken reader old.sink new.sink end → StepBy shelf p q g h taken reader old new end
-step-by shelf p q g h taken reader old new None l = l
-step-by shelf p q g h taken reader old new (Some ended.WriteFault) l = l
-step-by shelf p q g h taken reader old new (Some ended.Memory) l = inr l
-step-by shelf p q g h taken reader old new (Some ended.End) l = absurd l.served.wrote
-step-by shelf p q g h taken reader old new (Some ended.Quit) l = absurd l.served.wrote
-step-by shelf p q g h taken reader old new (Some ended.ReadFault) l = absurd l.served.wrote
-step-by shelf p q g h taken reader old new (Some ended.LinesSpent) l = absurd l.served.wrote
+step-by : (shelf : Shelf) (p q : RealmPass) (g h : GatesView) (taken : Text) (reader : Reader) (old : LinkView) (mid : Option (List Move)) (new : LinkView) (end : Option Ended)
+    → LineDone shelf p q g h taken reader (side_with old mid) (side_of new) end → StepBy shelf p q g h taken reader old mid new end
+step-by shelf p q g h taken reader old mid new None l = l
+step-by shelf p q g h taken reader old mid new (Some ended.WriteFault) l = l
+step-by shelf p q g h taken reader old mid new (Some ended.Memory) l = inr l
+step-by shelf p q g h taken reader old mid new (Some ended.End) l = absurd l.served.wrote
+step-by shelf p q g h taken reader old mid new (Some ended.Quit) l = absurd l.served.wrote
+step-by shelf p q g h taken reader old mid new (Some ended.ReadFault) l = absurd l.served.wrote
+step-by shelf p q g h taken reader old mid new (Some ended.LinesSpent) l = absurd l.served.wrote
 
-step-or : (shelf : Shelf) (p q : RealmPass) (g h : GatesView) (taken line : Text) (reader : Reader) (old new : LinkView) (end : Option Ended)
-    → IsFirstLine taken reader line → (line ≡ quit → ⊥) → ServedOrNot shelf p q g h line old.sink new.sink end → StepBy shelf p q g h taken reader old new end
-step-or shelf p q g h taken line reader old new end first other (inl v) =
-    step-by shelf p q g h taken reader old new end (record { line = line; first = first; other = other; served = v })
-step-or shelf p q g h taken line reader old new end first other (inr (is, silent)) =
-    subst (λ (x : Option Ended). StepBy shelf p q g h taken reader old new x) (sym is) (inl silent)
+step-or : (shelf : Shelf) (p q : RealmPass) (g h : GatesView) (taken line : Text) (reader : Reader) (old : LinkView) (mid : Option (List Move)) (new : LinkView) (end : Option Ended)
+    → IsFirstLine taken reader line → (line ≡ quit → ⊥) → ServedOrNot shelf p q g h line (side_with old mid) (side_of new) end → StepBy shelf p q g h taken reader old mid new end
+step-or shelf p q g h taken line reader old mid new end first other (inl v) =
+    step-by shelf p q g h taken reader old mid new end (record { line = line; first = first; other = other; served = v })
+step-or shelf p q g h taken line reader old mid new end first other (inr (is, silent)) =
+    subst (λ (x : Option Ended). StepBy shelf p q g h taken reader old mid new x) (sym is) (inl silent)
+
+-- what the line reader did: the link was `old` before it and is `new` behind it
+pub record Took (before after : Reader) (old new : LinkView) (given : Text) : Type 0 where
+  pub gave : Moves old.source new.source given
+  pub later : old.source.faults ≤ new.source.faults
+  pub once : EndsOnce before after old.source new.source given
+  pub same : new.sink ≡ old.sink
+  pub pulled : Pulled old.order new.order before.held given
+  pub still : before.over ≡ true → new.order ≡ old.order
 
 -- a line was taken, and then it was served
 pub line-step : (shelf : Shelf) (p q : RealmPass) (g h : GatesView) (before after : Reader) (old mid new : LinkView) (line given : Text) (end : Option Ended)
-    → Moves old.source mid.source given → old.source.faults ≤ mid.source.faults → EndsOnce before after old.source mid.source given → mid.sink ≡ old.sink
-    → IsFirstLine (before.held ++ given) after line → (line ≡ quit → ⊥) → ServedOrNot shelf p q g h line mid.sink new.sink end → new.source ≡ mid.source
+    → Took before after old mid given
+    → IsFirstLine (before.held ++ given) after line → (line ≡ quit → ⊥) → ServedOrNot shelf p q g h line (side_of mid) (side_of new) end → new.source ≡ mid.source
     → Stepped shelf p q g h before after old new end
-line-step shelf p q g h before after old mid new line given end gave later once same first other v source = record {
+line-step shelf p q g h before after old mid new line given end took first other v source = record {
   given = given;
-  gave = subst (λ (x : AsSource). Moves old.source x given) (sym source) gave;
-  later = subst (λ (x : AsSource). old.source.faults ≤ x.faults) (sym source) later;
-  once = subst (λ (x : AsSource). EndsOnce before after old.source x given) (sym source) once;
-  by = step-or shelf p q g h (before.held ++ given) line after old new end first other
-      (subst (λ (x : AsSink). ServedOrNot shelf p q g h line x new.sink end) same v);
+  gave = subst (λ (x : AsSource). Moves old.source x given) (sym source) took.gave;
+  later = subst (λ (x : AsSource). old.source.faults ≤ x.faults) (sym source) took.later;
+  once = subst (λ (x : AsSource). EndsOnce before after old.source x given) (sym source) took.once;
+  mid = mid.order;
+  pulled = took.pulled;
+  still = took.still;
+  by = step-or shelf p q g h (before.held ++ given) line after old mid.order new end first other
+      (subst (λ (x : AsSink). ServedOrNot shelf p q g h line (record { written = x.written; faults = x.faults; order = mid.order }) (side_of new) end) took.same v);
 }
 
 -- no line was served
 pub silent-step : (shelf : Shelf) (p : RealmPass) (g : GatesView) (before after : Reader) (old new : LinkView) (given : Text) (end : Option Ended)
-    → Moves old.source new.source given → old.source.faults ≤ new.source.faults → EndsOnce before after old.source new.source given → new.sink ≡ old.sink
-    → (IsSilent p p g g old.sink new.sink → StepBy shelf p p g g (before.held ++ given) after old new end) → Stepped shelf p p g g before after old new end
-silent-step shelf p g before after old new given end gave later once same by = record {
+    → Took before after old new given
+    → (IsSilent p p g g (side_with old new.order) (side_of new) → StepBy shelf p p g g (before.held ++ given) after old new.order new end) → Stepped shelf p p g g before after old new end
+silent-step shelf p g before after old new given end took by = record {
   given = given;
-  gave = gave;
-  later = later;
-  once = once;
-  by = by (record { pass = refl; gates = refl; sink = same });
+  gave = took.gave;
+  later = took.later;
+  once = took.once;
+  mid = new.order;
+  pulled = took.pulled;
+  still = took.still;
+  by = by (record { pass = refl; gates = refl; sink = λ i. record { written = (took.same i).written; faults = (took.same i).faults; order = new.order } });
 }
 
 -- the line that ends the session was taken
 pub quit-step : (shelf : Shelf) (p : RealmPass) (g : GatesView) (before after : Reader) (old new : LinkView) (line given : Text)
-    → Moves old.source new.source given → old.source.faults ≤ new.source.faults → EndsOnce before after old.source new.source given → new.sink ≡ old.sink
+    → Took before after old new given
     → IsFirstLine (before.held ++ given) after line → line ≡ quit → Stepped shelf p p g g before after old new (Some ended.Quit)
-quit-step shelf p g before after old new line given gave later once same first is =
-    silent-step shelf p g before after old new given (Some ended.Quit) gave later once same (λ silent. (subst (λ (t : Text). IsFirstLine (before.held ++ given) after t) is first, silent))
+quit-step shelf p g before after old new line given took first is =
+    silent-step shelf p g before after old new given (Some ended.Quit) took (λ silent. (subst (λ (t : Text). IsFirstLine (before.held ++ given) after t) is first, silent))
 
 -- a line that is too long isn't the one that ends the session
 long-is-no-quit : (line : Text) → 65536 < length line → line ≡ quit → ⊥
 long-is-no-quit line long is = absurd (omega (arith, long, ap length is))
 
 -- a line that is too long was served
-pub served-long : (shelf : Shelf) (p : RealmPass) (g : GatesView) (line : Text) (old new : AsSink) (end : Option Ended) → 65536 < length line
-    → LineWrote end old new (reply_line too_long) (false ≡ false) → ServedLine shelf p p g g line old new end
-served-long shelf p g line old new end long wrote = record {
+served-long : (shelf : Shelf) (p : RealmPass) (g : GatesView) (line : Text) (old new : Side) (end : Option Ended) → 65536 < length line
+    → LineWrote end old new (reply_line too_long) (false ≡ false) → RepliesInOrder end old.order new.order (reply_line too_long) → ServedLine shelf p p g g line old new end
+served-long shelf p g line old new end long wrote ordered = record {
   told = too_long;
   reads = long;
   keeps = kept_same shelf p g;
   does = refl;
   wrote = wrote-as (false ≡ false) (IsNoWant too_long) end old new (reply_line too_long) (λ is. tt) wrote;
+  ordered = ordered;
 }
 
 pub long-step : (shelf : Shelf) (p : RealmPass) (g : GatesView) (before after : Reader) (old mid new : LinkView) (line given : Text) (end : Option Ended)
-    → Moves old.source mid.source given → old.source.faults ≤ mid.source.faults → EndsOnce before after old.source mid.source given → mid.sink ≡ old.sink
-    → IsFirstLine (before.held ++ given) after line → 65536 < length line → LineWrote end mid.sink new.sink (reply_line too_long) (false ≡ false) → new.source ≡ mid.source
+    → Took before after old mid given
+    → IsFirstLine (before.held ++ given) after line → 65536 < length line → LineWrote end (side_of mid) (side_of new) (reply_line too_long) (false ≡ false)
+    → RepliesInOrder end mid.order new.order (reply_line too_long) → new.source ≡ mid.source
     → Stepped shelf p p g g before after old new end
-long-step shelf p g before after old mid new line given end gave later once same first long wrote source =
-    line-step shelf p p g g before after old mid new line given end gave later once same first (long-is-no-quit line long) (inl (served-long shelf p g line mid.sink new.sink end long wrote)) source
+long-step shelf p g before after old mid new line given end took first long wrote ordered source =
+    line-step shelf p p g g before after old mid new line given end took first (long-is-no-quit line long) (inl (served-long shelf p g line (side_of mid) (side_of new) end long wrote ordered)) source

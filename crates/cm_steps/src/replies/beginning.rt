@@ -66,7 +66,8 @@ pub fn begin_answer(
     }
 }
 
-fn is_same(one: ActKind, other: ActKind) -> bool
+/// Whether both are the same action.
+pub fn is_same(one: ActKind, other: ActKind) -> bool
     ensures { result ≡ same_act one other }
 {
     one == other

@@ -308,6 +308,7 @@ pub const PIECES: &str = "\
     @root-line\n\
     | 0 show @1\n\
     => 4\n\
+    write-faults 1\n\
     out+ 0 r\n\
     == run\n\
     piece 2\n\
@@ -315,6 +316,7 @@ pub const PIECES: &str = "\
     @root-line\n\
     | 0 show @1\n\
     => 4\n\
+    write-faults 1\n\
     out+ 0 refu\n\
     == run\n\
     piece 7\n\
@@ -322,6 +324,7 @@ pub const PIECES: &str = "\
     @root-line\n\
     | 0 show @1\n\
     => 4\n\
+    write-faults 1\n\
     out+ 0 refused 81 g\n\
     == check\n\
     piece 1\n\
@@ -354,6 +357,7 @@ pub const PIECES: &str = "\
     read 3\n\
     + {facets:1}\n\
     => 3\n\
+    read-faults 1\n\
     err read fault\n\
     == check\n\
     piece 1\n\
@@ -439,7 +443,7 @@ pub const PIECES: &str = "\
     write 1\n\
     $lines$\n\
     => 0\n\
-    sent worker 0\n\
+    sent worker 0 write-faults 1\n\
     sent+ refused\n\
     == $serve$\n\
     link one\n\
@@ -447,7 +451,7 @@ pub const PIECES: &str = "\
     write 0\n\
     $lines$\n\
     => 0\n\
-    sent worker 0\n\
+    sent worker 0 write-faults 1\n\
     == $serve$\n\
     link one\n\
     piece 3\n\

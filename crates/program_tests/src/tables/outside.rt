@@ -15,6 +15,7 @@ pub const OUTSIDE: &str = "\
     read 0\n\
     $route$\n\
     => 3\n\
+    read-faults 1\n\
     entries 0\n\
     err read fault\n\
     == run\n\
@@ -22,6 +23,7 @@ pub const OUTSIDE: &str = "\
     read 3\n\
     $route$\n\
     => 3\n\
+    read-faults 1\n\
     entries 0\n\
     err read fault\n\
     == run\n\
@@ -29,6 +31,7 @@ pub const OUTSIDE: &str = "\
     read 7\n\
     $route$\n\
     => 3\n\
+    read-faults 1\n\
     entries 0\n\
     err read fault\n\
     == run\n\
@@ -36,20 +39,24 @@ pub const OUTSIDE: &str = "\
     write 0\n\
     $route$\n\
     => 4\n\
+    write-faults 1\n\
     entries 11\n\
     == run\n\
     piece 7\n\
     write 1\n\
     $route$\n\
     => 4\n\
+    write-faults 1\n\
     entries 11\n\
     out+ 0 route\n\
     == run\n\
     piece 100\n\
     say 0\n\
     => 7\n\
+    say-faults 1\n\
     == run\n\
     piece 4\n\
     say 1\n\
     => 7\n\
+    say-faults 1\n\
     err+ line\n";

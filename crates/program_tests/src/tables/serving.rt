@@ -28,7 +28,7 @@ pub const SERVING: &str = "\
     | quit\n\
     | show .\n\
     => 0\n\
-    sent worker 0\n\
+    sent worker 0 write-faults 1\n\
     sent+ sh\n\
     sent worker 0\n\
     sent shown . incarnation 0 url fuchsia-pkg://t/a#meta/root.cm unresolved off\n\
@@ -43,7 +43,7 @@ pub const SERVING: &str = "\
     | foo\n\
     + show .\n\
     => 0\n\
-    sent worker 0\n\
+    sent worker 0 read-faults 1\n\
     sent shown . incarnation 0 url fuchsia-pkg://t/a#meta/root.cm unresolved off\n\
     sent worker 0\n\
     sent refused 70 bad-command at 0\n\
@@ -70,6 +70,7 @@ pub const SERVING: &str = "\
     link one\n\
     | show .\n\
     => 5\n\
+    door-faults 1\n\
     entries 0\n\
     err door fault\n\
     == $serve$\n\
@@ -78,12 +79,15 @@ pub const SERVING: &str = "\
     link one\n\
     | show .\n\
     => 5\n\
+    door-faults 1\n\
+    say-faults 1\n\
     entries 0\n\
     == $serve$\n\
     door 1\n\
     link one\n\
     | show .\n\
     => 5\n\
+    door-faults 1\n\
     entries 0\n\
     err door fault\n\
     == serve s --root fuchsia-pkg://t/a#meta/root.cm --repo r --workers 1 --sessions 2\n\
@@ -93,6 +97,7 @@ pub const SERVING: &str = "\
     link other\n\
     | show .\n\
     => 5\n\
+    door-faults 1\n\
     entries 2\n\
     err door fault\n\
     sent worker 0\n\
@@ -252,6 +257,7 @@ pub const SERVING: &str = "\
     == serve s --root fuchsia-pkg://t/a#meta/root.cm --repo r --sessions 4096 --workers 16\n\
     door 0\n\
     => 5\n\
+    door-faults 1\n\
     entries 0\n\
     err door fault\n\
     == run\n\

@@ -7,6 +7,7 @@ use Rattle.cm_program.specs.Headline.{RunsNothing, RunsScript}
 use Rattle.cm_program.specs.Run.{IsCheckStatus, IsRefusal, RunsAsServed, RunsOwn, RunsSome}
 use Rattle.cm_program.specs.Stock.{served_script}
 use Rattle.cm_program.specs.Written.{OfKnown, Says}
+use Rattle.cm_io.specs.Doors.{IsAt}
 use Rattle.cm_io.specs.Outside.{Rose}
 use Rattle.cm_program.specs.Sessions.{RunsSessions}
 use Rattle.cm_call.specs.declared.call.RunOptions.{RunOptions}
@@ -20,7 +21,7 @@ use Rattle.cm_program.proofs.links.Attending.{runs_no_session}
 use Rattle.cm_program.proofs.whole.RunLemmas.{empty_history, known_nothing, of_faulty, own_nothing, some_unread}
 use Rattle.cm_program.proofs.whole.Saying.{says_usage, says_want}
 use Rattle.cm_program.proofs.Statuses.{at_six, at_told, but_told, check_idles, few_given, none_given, not_check, not_six, not_two, not_run, not_script, not_serve, run_isnt_idle, script_idles, serve_isnt_idle}
-use Rattle.cm_program.proofs.Asking.{asked, is_check, is_generate, is_run, is_serve, no_call, no_fault, no_other, same_options, same_serving, same_workload, unusable}
+use Rattle.cm_program.proofs.Asking.{asked, is_audit, is_check, is_generate, is_run, is_serve, no_call, no_fault, no_other, same_options, same_serving, same_workload, unusable}
 use Rattle.cm_program.proofs.run.run.Goals as goal
 
 pub returns-in-Ok-Run : goal.returns-in-Ok-Run
@@ -34,6 +35,7 @@ returns-in-Ok-Run g c =
       sound = λ none. refl;
       heard = c.run_script-ran.ensures.heard;
       whole = c.run_script-ran.ensures.whole;
+      quiet = c.run_script-ran.ensures.quiet;
       silent = script_idles c.run_script-ran.result.status c.run_script-ran.ensures.others c.run_script-ran.ensures.silent;
       kept = λ none. absurd (none (inl (c.in-Ok-Run.options, asked c.in-Ok-Run.ensures.gives c.in-Ok-Run.field-0-is)));
       err = c.run_script-ran.ensures.err;
@@ -44,29 +46,23 @@ returns-in-Ok-Run g c =
       unserved = λ no_workload no_door. c.run_script-ran.ensures.unserved;
       given = none_given (g.D.Door.counts c.args.door).links c.new.result c.new.ensures;
       unopened = λ none. (c.new.ensures, refl);
-      refused = λ asks. c.run_script-ran.ensures.refused;
-      faulty = λ asks. c.run_script-ran.ensures.faulty;
-      script = λ asks. c.run_script-ran.ensures.others;
-      headline = λ options asks ended.
-          subst (λ (o : RunOptions). OfKnown (RunsAsServed (λ served. RunsScript g.G.Gates.log g.G.Gates.faults (Answers o.journal) o.repository served c.args.gates c.run_script-ran.result.gates c.run_script-ran.result.book.entries c.run_script-ran.result.status (g.K.Sink.written c.args.out.now) (g.K.Sink.written c.run_script-ran.new.out))) (g.S.Source.left c.args.input.now))
-          (same_options c.in-Ok-Run.ensures.gives c.in-Ok-Run.field-0-is asks) (c.run_script-ran.ensures.headline ended);
-      some = λ options asks ended.
-          subst (λ (o : RunOptions). RunsSome (λ served. RunsScript g.G.Gates.log g.G.Gates.faults (Answers o.journal) o.repository served c.args.gates c.run_script-ran.result.gates c.run_script-ran.result.book.entries c.run_script-ran.result.status (g.K.Sink.written c.args.out.now) (g.K.Sink.written c.run_script-ran.new.out))
-          (RunsNothing c.run_script-ran.result.book.entries c.args.gates c.run_script-ran.result.gates × Keeps (g.K.Sink.written c.args.out.now) (g.K.Sink.written c.run_script-ran.new.out)) c.run_script-ran.result.status (g.S.Source.left c.args.input.now))
-          (same_options c.in-Ok-Run.ensures.gives c.in-Ok-Run.field-0-is asks) (c.run_script-ran.ensures.some ended);
-      workload = λ w asks. no_other is_run c.in-Ok-Run.ensures.gives c.in-Ok-Run.field-0-is asks refl refl;
-      unmade = λ w asks. no_other is_run c.in-Ok-Run.ensures.gives c.in-Ok-Run.field-0-is asks refl refl;
-      generate = λ asks. no_other is_run c.in-Ok-Run.ensures.gives c.in-Ok-Run.field-0-is asks.1 refl refl;
-      unread = λ asks. no_other is_run c.in-Ok-Run.ensures.gives c.in-Ok-Run.field-0-is asks.1 refl refl;
-      sessions = λ o asks. no_other is_run c.in-Ok-Run.ensures.gives c.in-Ok-Run.field-0-is asks refl refl;
-      few = λ o asks. no_other is_run c.in-Ok-Run.ensures.gives c.in-Ok-Run.field-0-is asks refl refl;
-      done = λ o asks. no_other is_run c.in-Ok-Run.ensures.gives c.in-Ok-Run.field-0-is asks refl refl;
-      serve = λ asks. no_other is_run c.in-Ok-Run.ensures.gives c.in-Ok-Run.field-0-is asks.1 refl refl;
-      untouched = λ asks. no_other is_run c.in-Ok-Run.ensures.gives c.in-Ok-Run.field-0-is asks.1 refl refl;
-      valid = λ asks. no_other is_run c.in-Ok-Run.ensures.gives c.in-Ok-Run.field-0-is asks refl refl;
-      invalid = λ asks. no_other is_run c.in-Ok-Run.ensures.gives c.in-Ok-Run.field-0-is asks refl refl;
-      told = λ asks. no_other is_run c.in-Ok-Run.ensures.gives c.in-Ok-Run.field-0-is asks refl refl;
-      check = λ asks. no_other is_run c.in-Ok-Run.ensures.gives c.in-Ok-Run.field-0-is asks refl refl;
+      of_run = λ options asks. record {
+        status = c.run_script-ran.ensures.others;
+        refused = c.run_script-ran.ensures.refused;
+        read_out = c.run_script-ran.ensures.ended;
+        faulty = c.run_script-ran.ensures.faulty;
+        headline = λ ended.
+            subst (λ (o : RunOptions). OfKnown (RunsAsServed (λ served. RunsScript g.G.Gates.log g.G.Gates.faults (Answers o.journal) o.repository served c.args.gates c.run_script-ran.result.gates c.run_script-ran.result.book.entries c.run_script-ran.result.status (g.K.Sink.written c.args.out.now) (g.K.Sink.written c.run_script-ran.new.out))) (g.S.Source.left c.args.input.now))
+            (same_options c.in-Ok-Run.ensures.gives c.in-Ok-Run.field-0-is asks) (c.run_script-ran.ensures.headline ended);
+        some = λ ended.
+            subst (λ (o : RunOptions). RunsSome (λ served. RunsScript g.G.Gates.log g.G.Gates.faults (Answers o.journal) o.repository served c.args.gates c.run_script-ran.result.gates c.run_script-ran.result.book.entries c.run_script-ran.result.status (g.K.Sink.written c.args.out.now) (g.K.Sink.written c.run_script-ran.new.out))
+            (RunsNothing c.run_script-ran.result.book.entries c.args.gates c.run_script-ran.result.gates × Keeps (g.K.Sink.written c.args.out.now) (g.K.Sink.written c.run_script-ran.new.out)) c.run_script-ran.result.status (g.S.Source.left c.args.input.now))
+            (same_options c.in-Ok-Run.ensures.gives c.in-Ok-Run.field-0-is asks) (c.run_script-ran.ensures.some ended);
+      };
+      of_check = λ asks. no_other is_run c.in-Ok-Run.ensures.gives c.in-Ok-Run.field-0-is asks refl refl;
+      of_audit = λ asks. no_other is_run c.in-Ok-Run.ensures.gives c.in-Ok-Run.field-0-is asks refl refl;
+      of_generate = λ w asks. no_other is_run c.in-Ok-Run.ensures.gives c.in-Ok-Run.field-0-is asks refl refl;
+      of_serve = λ o asks. no_other is_run c.in-Ok-Run.ensures.gives c.in-Ok-Run.field-0-is asks refl refl;
     }
 
 pub returns-in-Ok-Generate : goal.returns-in-Ok-Generate
@@ -80,6 +76,7 @@ returns-in-Ok-Generate g c =
       sound = λ none. refl;
       heard = λ three six. refl;
       whole = c.run_generated-ran.ensures.whole;
+      quiet = λ never. refl;
       silent = run_isnt_idle c.run_generated-ran.result.status c.run_generated-ran.ensures.others;
       kept = λ none. absurd (none (inr (c.in-Ok-Generate.workload, asked c.in-Ok-Generate.ensures.gives c.in-Ok-Generate.field-0-is)));
       err = c.run_generated-ran.ensures.err;
@@ -90,27 +87,19 @@ returns-in-Ok-Generate g c =
       unserved = λ no_workload. absurd (no_workload (c.in-Ok-Generate.workload, asked c.in-Ok-Generate.ensures.gives c.in-Ok-Generate.field-0-is));
       given = none_given (g.D.Door.counts c.args.door).links c.new-in-Ok-Generate.result c.new-in-Ok-Generate.ensures;
       unopened = λ none. (c.new-in-Ok-Generate.ensures, refl);
-      refused = λ asks. no_other is_generate c.in-Ok-Generate.ensures.gives c.in-Ok-Generate.field-0-is asks.1 refl refl;
-      faulty = λ asks. no_other is_generate c.in-Ok-Generate.ensures.gives c.in-Ok-Generate.field-0-is asks.1 refl refl;
-      script = λ asks. no_other is_generate c.in-Ok-Generate.ensures.gives c.in-Ok-Generate.field-0-is asks.1 refl refl;
-      headline = λ options asks. no_other is_generate c.in-Ok-Generate.ensures.gives c.in-Ok-Generate.field-0-is asks refl refl;
-      some = λ options asks. no_other is_generate c.in-Ok-Generate.ensures.gives c.in-Ok-Generate.field-0-is asks refl refl;
-      workload = λ w asks.
-          subst (λ (w : Workload). RunsOwn (λ served. RunsScript g.G.Gates.log g.G.Gates.faults (Summary w.size) None served c.args.gates c.run_generated-ran.result.gates c.run_generated-ran.result.book.entries c.run_generated-ran.result.status (g.K.Sink.written c.args.out.now) (g.K.Sink.written c.run_generated-ran.new.out)) (script_of w.seed w.size) c.run_generated-ran.result.status)
-          (same_workload c.in-Ok-Generate.ensures.gives c.in-Ok-Generate.field-0-is asks) c.run_generated-ran.ensures.runs;
-      unmade = λ w asks none.
-          c.run_generated-ran.ensures.unmade (λ served is. none served (subst (λ (x : Workload). served_script (script_of x.seed x.size) ≡ Ok served) (same_workload c.in-Ok-Generate.ensures.gives c.in-Ok-Generate.field-0-is asks) is));
-      generate = λ asks. c.run_generated-ran.ensures.others;
-      unread = λ asks. refl;
-      sessions = λ o asks. no_other is_generate c.in-Ok-Generate.ensures.gives c.in-Ok-Generate.field-0-is asks refl refl;
-      few = λ o asks. no_other is_generate c.in-Ok-Generate.ensures.gives c.in-Ok-Generate.field-0-is asks refl refl;
-      done = λ o asks. no_other is_generate c.in-Ok-Generate.ensures.gives c.in-Ok-Generate.field-0-is asks refl refl;
-      serve = λ asks. no_other is_generate c.in-Ok-Generate.ensures.gives c.in-Ok-Generate.field-0-is asks.1 refl refl;
-      untouched = λ asks. no_other is_generate c.in-Ok-Generate.ensures.gives c.in-Ok-Generate.field-0-is asks.1 refl refl;
-      valid = λ asks. no_other is_generate c.in-Ok-Generate.ensures.gives c.in-Ok-Generate.field-0-is asks refl refl;
-      invalid = λ asks. no_other is_generate c.in-Ok-Generate.ensures.gives c.in-Ok-Generate.field-0-is asks refl refl;
-      told = λ asks. no_other is_generate c.in-Ok-Generate.ensures.gives c.in-Ok-Generate.field-0-is asks refl refl;
-      check = λ asks. no_other is_generate c.in-Ok-Generate.ensures.gives c.in-Ok-Generate.field-0-is asks refl refl;
+      of_run = λ options asks. no_other is_generate c.in-Ok-Generate.ensures.gives c.in-Ok-Generate.field-0-is asks refl refl;
+      of_check = λ asks. no_other is_generate c.in-Ok-Generate.ensures.gives c.in-Ok-Generate.field-0-is asks refl refl;
+      of_audit = λ asks. no_other is_generate c.in-Ok-Generate.ensures.gives c.in-Ok-Generate.field-0-is asks refl refl;
+      of_generate = λ w asks. record {
+        status = c.run_generated-ran.ensures.others;
+        runs =
+            subst (λ (w : Workload). RunsOwn (λ served. RunsScript g.G.Gates.log g.G.Gates.faults (Summary w.size) None served c.args.gates c.run_generated-ran.result.gates c.run_generated-ran.result.book.entries c.run_generated-ran.result.status (g.K.Sink.written c.args.out.now) (g.K.Sink.written c.run_generated-ran.new.out)) (script_of w.seed w.size) c.run_generated-ran.result.status)
+            (same_workload c.in-Ok-Generate.ensures.gives c.in-Ok-Generate.field-0-is asks) c.run_generated-ran.ensures.runs;
+        unmade = λ none.
+            c.run_generated-ran.ensures.unmade (λ served is. none served (subst (λ (x : Workload). served_script (script_of x.seed x.size) ≡ Ok served) (same_workload c.in-Ok-Generate.ensures.gives c.in-Ok-Generate.field-0-is asks) is));
+        unread = refl;
+      };
+      of_serve = λ o asks. no_other is_generate c.in-Ok-Generate.ensures.gives c.in-Ok-Generate.field-0-is asks refl refl;
     }
 
 pub returns-in-Ok-Serve : goal.returns-in-Ok-Serve
@@ -124,6 +113,7 @@ returns-in-Ok-Serve g c =
       sound = c.run_sessions.ensures.attended.sound;
       heard = λ three six. refl;
       whole = λ four six. refl;
+      quiet = λ never. refl;
       silent = serve_isnt_idle c.run_sessions.result.status c.run_sessions.ensures.attended.others;
       kept = λ none six. Keeps-refl _;
       err = c.run_sessions.ensures.err;
@@ -134,29 +124,25 @@ returns-in-Ok-Serve g c =
       unserved = λ no_workload no_door. absurd (no_door (c.in-Ok-Serve.options, asked c.in-Ok-Serve.ensures.gives c.in-Ok-Serve.field-0-is));
       given = c.run_sessions.ensures.attended.given;
       unopened = λ none. absurd (none (c.in-Ok-Serve.options, asked c.in-Ok-Serve.ensures.gives c.in-Ok-Serve.field-0-is));
-      refused = λ asks. no_other is_serve c.in-Ok-Serve.ensures.gives c.in-Ok-Serve.field-0-is asks.1 refl refl;
-      faulty = λ asks. no_other is_serve c.in-Ok-Serve.ensures.gives c.in-Ok-Serve.field-0-is asks.1 refl refl;
-      script = λ asks. no_other is_serve c.in-Ok-Serve.ensures.gives c.in-Ok-Serve.field-0-is asks.1 refl refl;
-      headline = λ options asks. no_other is_serve c.in-Ok-Serve.ensures.gives c.in-Ok-Serve.field-0-is asks refl refl;
-      some = λ options asks. no_other is_serve c.in-Ok-Serve.ensures.gives c.in-Ok-Serve.field-0-is asks refl refl;
-      workload = λ w asks. no_other is_serve c.in-Ok-Serve.ensures.gives c.in-Ok-Serve.field-0-is asks refl refl;
-      unmade = λ w asks. no_other is_serve c.in-Ok-Serve.ensures.gives c.in-Ok-Serve.field-0-is asks refl refl;
-      generate = λ asks. no_other is_serve c.in-Ok-Serve.ensures.gives c.in-Ok-Serve.field-0-is asks.1 refl refl;
-      unread = λ asks. no_other is_serve c.in-Ok-Serve.ensures.gives c.in-Ok-Serve.field-0-is asks.1 refl refl;
-      sessions = λ o asks.
-          subst (λ (x : ServeOptions). RunsSessions g.G.Gates.log g.G.Gates.faults (view_of g.D.Link.Source g.D.Link.Sink) (served_frame x) (served_shelf x) x.workers c.args.gates c.run_sessions.result.gates c.run_sessions.result.book.entries
-          (map (back_view (view_of g.D.Link.Source g.D.Link.Sink)) c.run_sessions.result.links) c.run_sessions.result.status)
-          (same_serving c.in-Ok-Serve.ensures.gives c.in-Ok-Serve.field-0-is asks) c.run_sessions.ensures.attended.runs;
-      few = λ o asks. subst (λ (x : ServeOptions). length c.run_sessions.result.links ≤ x.sessions) (same_serving c.in-Ok-Serve.ensures.gives c.in-Ok-Serve.field-0-is asks) c.run_sessions.ensures.attended.few;
-      done = λ o asks.
-          subst (λ (x : ServeOptions). c.run_sessions.result.status ≡ 0 → (length c.run_sessions.result.links ≡ x.sessions) ⊎ Rose (g.D.Door.counts c.args.door).closings (g.D.Door.counts c.run_sessions.result.door).closings)
-          (same_serving c.in-Ok-Serve.ensures.gives c.in-Ok-Serve.field-0-is asks) c.run_sessions.ensures.attended.done;
-      serve = λ asks. c.run_sessions.ensures.attended.others;
-      untouched = λ asks. (refl, refl);
-      valid = λ asks. no_other is_serve c.in-Ok-Serve.ensures.gives c.in-Ok-Serve.field-0-is asks refl refl;
-      invalid = λ asks. no_other is_serve c.in-Ok-Serve.ensures.gives c.in-Ok-Serve.field-0-is asks refl refl;
-      told = λ asks. no_other is_serve c.in-Ok-Serve.ensures.gives c.in-Ok-Serve.field-0-is asks refl refl;
-      check = λ asks. no_other is_serve c.in-Ok-Serve.ensures.gives c.in-Ok-Serve.field-0-is asks refl refl;
+      of_run = λ options asks. no_other is_serve c.in-Ok-Serve.ensures.gives c.in-Ok-Serve.field-0-is asks refl refl;
+      of_check = λ asks. no_other is_serve c.in-Ok-Serve.ensures.gives c.in-Ok-Serve.field-0-is asks refl refl;
+      of_audit = λ asks. no_other is_serve c.in-Ok-Serve.ensures.gives c.in-Ok-Serve.field-0-is asks refl refl;
+      of_generate = λ w asks. no_other is_serve c.in-Ok-Serve.ensures.gives c.in-Ok-Serve.field-0-is asks refl refl;
+      of_serve = λ o asks. record {
+        status = c.run_sessions.ensures.attended.others;
+        sessions =
+            subst (λ (x : ServeOptions). RunsSessions g.G.Gates.log g.G.Gates.faults (view_of g.D.Link.Source g.D.Link.Sink) (served_frame x) (served_shelf x) x.workers c.args.gates c.run_sessions.result.gates c.run_sessions.result.book.entries
+            (map (back_view (view_of g.D.Link.Source g.D.Link.Sink)) c.run_sessions.result.links) c.run_sessions.result.status)
+            (same_serving c.in-Ok-Serve.ensures.gives c.in-Ok-Serve.field-0-is asks) c.run_sessions.ensures.attended.runs;
+        few = subst (λ (x : ServeOptions). length c.run_sessions.result.links ≤ x.sessions) (same_serving c.in-Ok-Serve.ensures.gives c.in-Ok-Serve.field-0-is asks) c.run_sessions.ensures.attended.few;
+        done =
+            subst (λ (x : ServeOptions). c.run_sessions.result.status ≡ 0 → (length c.run_sessions.result.links ≡ x.sessions) ⊎ Rose (g.D.Door.counts c.args.door).closings (g.D.Door.counts c.run_sessions.result.door).closings)
+            (same_serving c.in-Ok-Serve.ensures.gives c.in-Ok-Serve.field-0-is asks) c.run_sessions.ensures.attended.done;
+        place =
+            subst (λ (x : ServeOptions). c.run_sessions.result.status ≡ 0 → IsAt x.socket (g.D.Door.place c.run_sessions.result.door))
+            (same_serving c.in-Ok-Serve.ensures.gives c.in-Ok-Serve.field-0-is asks) c.run_sessions.ensures.place;
+        untouched = (refl, refl);
+      };
     }
 
 pub returns-in-Err-Memory : goal.returns-in-Err-Memory
@@ -170,6 +156,7 @@ returns-in-Err-Memory g c =
       sound = λ is. not_six c.stopped-in-Err-Memory.ensures.status c.want_of_memory.ensures.status is refl;
       heard = λ three six. refl;
       whole = λ four six. refl;
+      quiet = λ never. refl;
       silent = λ idle. Keeps-refl _;
       kept = λ none six. Keeps-refl _;
       err = says_want g.E.Sink.written g.E.Sink.faults c.args.err.now c.want_of_memory.new.err c.stopped-in-Err-Memory.result.status (at_six c.stopped-in-Err-Memory.ensures.status c.want_of_memory.ensures.status) c.want_of_memory.ensures.said;
@@ -180,31 +167,49 @@ returns-in-Err-Memory g c =
       unserved = λ no_workload no_door. of_faulty (RunsNothing c.stopped-in-Err-Memory.result.book.entries c.args.gates c.stopped-in-Err-Memory.result.gates) (g.S.Source.left c.args.input.now) (c.stopped-in-Err-Memory.ensures.empty, c.stopped-in-Err-Memory.ensures.gates);
       given = search rules;
       unopened = λ none. (c.stopped-in-Err-Memory.ensures.links, c.stopped-in-Err-Memory.ensures.door);
-      refused = λ asks is. not_six c.stopped-in-Err-Memory.ensures.status c.want_of_memory.ensures.status is refl;
-      faulty = λ asks. of_faulty (IsRefusal c.stopped-in-Err-Memory.result.status) (g.S.Source.left c.args.input.now) (inr (inr (at_six c.stopped-in-Err-Memory.ensures.status c.want_of_memory.ensures.status)));
-      script = λ asks. inl (inr (inr (at_six c.stopped-in-Err-Memory.ensures.status c.want_of_memory.ensures.status)));
-      headline = λ options asks ran.
-          known_nothing g.G.Gates.log g.G.Gates.faults (g.S.Source.left c.args.input.now) (Answers options.journal) options.repository c.args.gates c.stopped-in-Err-Memory.result.gates c.stopped-in-Err-Memory.result.book.entries c.stopped-in-Err-Memory.result.status (g.K.Sink.written c.args.out.now)
-          c.stopped-in-Err-Memory.ensures.empty c.stopped-in-Err-Memory.ensures.gates (at_six c.stopped-in-Err-Memory.ensures.status c.want_of_memory.ensures.status);
-      some = λ options asks ran. some_unread _ _ _ _ (at_six c.stopped-in-Err-Memory.ensures.status c.want_of_memory.ensures.status) ((c.stopped-in-Err-Memory.ensures.empty, c.stopped-in-Err-Memory.ensures.gates), Keeps-refl _);
-      workload = λ w asks.
-          own_nothing g.G.Gates.log g.G.Gates.faults (Summary w.size) None (script_of w.seed w.size) c.args.gates c.stopped-in-Err-Memory.result.gates c.stopped-in-Err-Memory.result.book.entries c.stopped-in-Err-Memory.result.status (g.K.Sink.written c.args.out.now)
-          c.stopped-in-Err-Memory.ensures.empty c.stopped-in-Err-Memory.ensures.gates (at_six c.stopped-in-Err-Memory.ensures.status c.want_of_memory.ensures.status);
-      unmade = λ w asks none. ((c.stopped-in-Err-Memory.ensures.empty, c.stopped-in-Err-Memory.ensures.gates), refl);
-      generate = λ asks. inr (inr (at_six c.stopped-in-Err-Memory.ensures.status c.want_of_memory.ensures.status));
-      unread = λ asks. refl;
-      sessions = λ o asks.
-          runs_no_session g.G.Gates.log g.G.Gates.faults (view_of g.D.Link.Source g.D.Link.Sink) (served_frame o) (served_shelf o) o.workers c.args.gates c.stopped-in-Err-Memory.result.gates c.stopped-in-Err-Memory.result.book.entries
-          (map (back_view (view_of g.D.Link.Source g.D.Link.Sink)) c.stopped-in-Err-Memory.result.links) c.stopped-in-Err-Memory.result.status
-          c.stopped-in-Err-Memory.ensures.empty c.stopped-in-Err-Memory.ensures.gates (ap (map (back_view (view_of g.D.Link.Source g.D.Link.Sink))) c.stopped-in-Err-Memory.ensures.links);
-      few = λ o asks. few_given c.stopped-in-Err-Memory.result.links o.sessions c.stopped-in-Err-Memory.ensures.links;
-      done = λ o asks is. not_six c.stopped-in-Err-Memory.ensures.status c.want_of_memory.ensures.status is refl;
-      serve = λ asks. inr (inr (at_six c.stopped-in-Err-Memory.ensures.status c.want_of_memory.ensures.status));
-      untouched = λ asks. (refl, refl);
-      valid = λ asks is. not_six c.stopped-in-Err-Memory.ensures.status c.want_of_memory.ensures.status is refl;
-      invalid = λ asks is. not_six c.stopped-in-Err-Memory.ensures.status c.want_of_memory.ensures.status is refl;
-      told = λ asks is. not_six c.stopped-in-Err-Memory.ensures.status c.want_of_memory.ensures.status is refl;
-      check = λ asks. inr (inr (inr (inr (at_six c.stopped-in-Err-Memory.ensures.status c.want_of_memory.ensures.status))));
+      of_run = λ options asks. record {
+        status = inl (inr (inr (at_six c.stopped-in-Err-Memory.ensures.status c.want_of_memory.ensures.status)));
+        refused = λ is. not_six c.stopped-in-Err-Memory.ensures.status c.want_of_memory.ensures.status is refl;
+        read_out = λ is. not_six c.stopped-in-Err-Memory.ensures.status c.want_of_memory.ensures.status is refl;
+        faulty = of_faulty (IsRefusal c.stopped-in-Err-Memory.result.status) (g.S.Source.left c.args.input.now) (inr (inr (at_six c.stopped-in-Err-Memory.ensures.status c.want_of_memory.ensures.status)));
+        headline = λ ran.
+            known_nothing g.G.Gates.log g.G.Gates.faults (g.S.Source.left c.args.input.now) (Answers options.journal) options.repository c.args.gates c.stopped-in-Err-Memory.result.gates c.stopped-in-Err-Memory.result.book.entries c.stopped-in-Err-Memory.result.status (g.K.Sink.written c.args.out.now)
+            c.stopped-in-Err-Memory.ensures.empty c.stopped-in-Err-Memory.ensures.gates (at_six c.stopped-in-Err-Memory.ensures.status c.want_of_memory.ensures.status);
+        some = λ ran. some_unread _ _ _ _ (at_six c.stopped-in-Err-Memory.ensures.status c.want_of_memory.ensures.status) ((c.stopped-in-Err-Memory.ensures.empty, c.stopped-in-Err-Memory.ensures.gates), Keeps-refl _);
+      };
+      of_check = λ asks. record {
+        status = inr (inr (inr (inr (at_six c.stopped-in-Err-Memory.ensures.status c.want_of_memory.ensures.status))));
+        read_out = λ is. not_six c.stopped-in-Err-Memory.ensures.status c.want_of_memory.ensures.status is refl;
+        valid = λ is. not_six c.stopped-in-Err-Memory.ensures.status c.want_of_memory.ensures.status is refl;
+        invalid = λ is. not_six c.stopped-in-Err-Memory.ensures.status c.want_of_memory.ensures.status is refl;
+        told = λ is. not_six c.stopped-in-Err-Memory.ensures.status c.want_of_memory.ensures.status is refl;
+      };
+      of_audit = λ asks. record {
+        status = inr (inr (inr (inr (at_six c.stopped-in-Err-Memory.ensures.status c.want_of_memory.ensures.status))));
+        read_out = λ is. not_six c.stopped-in-Err-Memory.ensures.status c.want_of_memory.ensures.status is refl;
+        legal = λ is. not_six c.stopped-in-Err-Memory.ensures.status c.want_of_memory.ensures.status is refl;
+        illegal = λ is. not_six c.stopped-in-Err-Memory.ensures.status c.want_of_memory.ensures.status is refl;
+        told = λ is. not_six c.stopped-in-Err-Memory.ensures.status c.want_of_memory.ensures.status is refl;
+      };
+      of_generate = λ w asks. record {
+        status = inr (inr (at_six c.stopped-in-Err-Memory.ensures.status c.want_of_memory.ensures.status));
+        runs =
+            own_nothing g.G.Gates.log g.G.Gates.faults (Summary w.size) None (script_of w.seed w.size) c.args.gates c.stopped-in-Err-Memory.result.gates c.stopped-in-Err-Memory.result.book.entries c.stopped-in-Err-Memory.result.status (g.K.Sink.written c.args.out.now)
+            c.stopped-in-Err-Memory.ensures.empty c.stopped-in-Err-Memory.ensures.gates (at_six c.stopped-in-Err-Memory.ensures.status c.want_of_memory.ensures.status);
+        unmade = λ none. ((c.stopped-in-Err-Memory.ensures.empty, c.stopped-in-Err-Memory.ensures.gates), refl);
+        unread = refl;
+      };
+      of_serve = λ o asks. record {
+        status = inr (inr (at_six c.stopped-in-Err-Memory.ensures.status c.want_of_memory.ensures.status));
+        sessions =
+            runs_no_session g.G.Gates.log g.G.Gates.faults (view_of g.D.Link.Source g.D.Link.Sink) (served_frame o) (served_shelf o) o.workers c.args.gates c.stopped-in-Err-Memory.result.gates c.stopped-in-Err-Memory.result.book.entries
+            (map (back_view (view_of g.D.Link.Source g.D.Link.Sink)) c.stopped-in-Err-Memory.result.links) c.stopped-in-Err-Memory.result.status
+            c.stopped-in-Err-Memory.ensures.empty c.stopped-in-Err-Memory.ensures.gates (ap (map (back_view (view_of g.D.Link.Source g.D.Link.Sink))) c.stopped-in-Err-Memory.ensures.links);
+        few = few_given c.stopped-in-Err-Memory.result.links o.sessions c.stopped-in-Err-Memory.ensures.links;
+        done = λ is. not_six c.stopped-in-Err-Memory.ensures.status c.want_of_memory.ensures.status is refl;
+        place = λ is. not_six c.stopped-in-Err-Memory.ensures.status c.want_of_memory.ensures.status is refl;
+        untouched = (refl, refl);
+      };
     }
 
 pub returns-in-Err-Usage : goal.returns-in-Err-Usage
@@ -218,6 +223,7 @@ returns-in-Err-Usage g c =
       sound = λ is. not_two c.stopped-in-Err-Usage.ensures.status is refl;
       heard = λ three six. refl;
       whole = λ four six. refl;
+      quiet = λ never. refl;
       silent = λ idle. Keeps-refl _;
       kept = λ none six. Keeps-refl _;
       err = says_usage g.E.Sink.written g.E.Sink.faults c.args.err.now c.tell.new.err c.stopped-in-Err-Usage.result.status c.stopped-in-Err-Usage.ensures.status c.tell.ensures;
@@ -228,24 +234,11 @@ returns-in-Err-Usage g c =
       unserved = λ no_workload no_door. of_faulty (RunsNothing c.stopped-in-Err-Usage.result.book.entries c.args.gates c.stopped-in-Err-Usage.result.gates) (g.S.Source.left c.args.input.now) (c.stopped-in-Err-Usage.ensures.empty, c.stopped-in-Err-Usage.ensures.gates);
       given = search rules;
       unopened = λ none. (c.stopped-in-Err-Usage.ensures.links, c.stopped-in-Err-Usage.ensures.door);
-      refused = λ asks is. not_two c.stopped-in-Err-Usage.ensures.status is refl;
-      faulty = λ asks. no_call c.in-Err-Usage.field-0 c.in-Err-Usage.ensures.gives c.in-Err-Usage.field-0-is asks.1;
-      script = λ asks. no_call c.in-Err-Usage.field-0 c.in-Err-Usage.ensures.gives c.in-Err-Usage.field-0-is asks.1;
-      headline = λ options asks. no_call c.in-Err-Usage.field-0 c.in-Err-Usage.ensures.gives c.in-Err-Usage.field-0-is asks;
-      some = λ options asks. no_call c.in-Err-Usage.field-0 c.in-Err-Usage.ensures.gives c.in-Err-Usage.field-0-is asks;
-      workload = λ w asks. no_call c.in-Err-Usage.field-0 c.in-Err-Usage.ensures.gives c.in-Err-Usage.field-0-is asks;
-      unmade = λ w asks. no_call c.in-Err-Usage.field-0 c.in-Err-Usage.ensures.gives c.in-Err-Usage.field-0-is asks;
-      generate = λ asks. no_call c.in-Err-Usage.field-0 c.in-Err-Usage.ensures.gives c.in-Err-Usage.field-0-is asks.1;
-      unread = λ asks. refl;
-      sessions = λ o asks. no_call c.in-Err-Usage.field-0 c.in-Err-Usage.ensures.gives c.in-Err-Usage.field-0-is asks;
-      few = λ o asks. no_call c.in-Err-Usage.field-0 c.in-Err-Usage.ensures.gives c.in-Err-Usage.field-0-is asks;
-      done = λ o asks. no_call c.in-Err-Usage.field-0 c.in-Err-Usage.ensures.gives c.in-Err-Usage.field-0-is asks;
-      serve = λ asks. no_call c.in-Err-Usage.field-0 c.in-Err-Usage.ensures.gives c.in-Err-Usage.field-0-is asks.1;
-      untouched = λ asks. (refl, refl);
-      valid = λ asks. no_call c.in-Err-Usage.field-0 c.in-Err-Usage.ensures.gives c.in-Err-Usage.field-0-is asks;
-      invalid = λ asks. no_call c.in-Err-Usage.field-0 c.in-Err-Usage.ensures.gives c.in-Err-Usage.field-0-is asks;
-      told = λ asks. no_call c.in-Err-Usage.field-0 c.in-Err-Usage.ensures.gives c.in-Err-Usage.field-0-is asks;
-      check = λ asks. no_call c.in-Err-Usage.field-0 c.in-Err-Usage.ensures.gives c.in-Err-Usage.field-0-is asks;
+      of_run = λ options asks. no_call c.in-Err-Usage.field-0 c.in-Err-Usage.ensures.gives c.in-Err-Usage.field-0-is asks;
+      of_check = λ asks. no_call c.in-Err-Usage.field-0 c.in-Err-Usage.ensures.gives c.in-Err-Usage.field-0-is asks;
+      of_audit = λ asks. no_call c.in-Err-Usage.field-0 c.in-Err-Usage.ensures.gives c.in-Err-Usage.field-0-is asks;
+      of_generate = λ w asks. no_call c.in-Err-Usage.field-0 c.in-Err-Usage.ensures.gives c.in-Err-Usage.field-0-is asks;
+      of_serve = λ o asks. no_call c.in-Err-Usage.field-0 c.in-Err-Usage.ensures.gives c.in-Err-Usage.field-0-is asks;
     }
 
 pub returns-in-Ok-Check : goal.returns-in-Ok-Check
@@ -259,6 +252,7 @@ returns-in-Ok-Check g c =
       sound = λ none. ap (λ d. (g.D.Door.counts d).faults) c.stopped.ensures.door;
       heard = but_told c.stopped.ensures.status c.run_check.ensures.heard;
       whole = but_told c.stopped.ensures.status c.run_check.ensures.whole;
+      quiet = c.run_check.ensures.quiet;
       silent = check_idles c.stopped.ensures.status c.run_check.ensures.others c.run_check.ensures.silent;
       kept = λ none six. c.run_check.ensures.silent (inr (sym c.stopped.ensures.status ∙ six));
       err = subst (λ (s : ℕ). Says g.E.Sink.written g.E.Sink.faults c.args.err.now c.run_check.new.err s) (sym c.stopped.ensures.status) c.run_check.ensures.err;
@@ -269,22 +263,50 @@ returns-in-Ok-Check g c =
       unserved = λ no_workload no_door. of_faulty (RunsNothing c.stopped.result.book.entries c.args.gates c.stopped.result.gates) (g.S.Source.left c.args.input.now) (c.stopped.ensures.empty, c.stopped.ensures.gates);
       given = search rules;
       unopened = λ none. (c.stopped.ensures.links, c.stopped.ensures.door);
-      refused = λ asks. no_other is_check c.in-Ok-Check.ensures.gives c.in-Ok-Check.field-0-is asks.1 refl refl;
-      faulty = λ asks. no_other is_check c.in-Ok-Check.ensures.gives c.in-Ok-Check.field-0-is asks.1 refl refl;
-      script = λ asks. no_other is_check c.in-Ok-Check.ensures.gives c.in-Ok-Check.field-0-is asks.1 refl refl;
-      headline = λ options asks. no_other is_check c.in-Ok-Check.ensures.gives c.in-Ok-Check.field-0-is asks refl refl;
-      some = λ options asks. no_other is_check c.in-Ok-Check.ensures.gives c.in-Ok-Check.field-0-is asks refl refl;
-      workload = λ w asks. no_other is_check c.in-Ok-Check.ensures.gives c.in-Ok-Check.field-0-is asks refl refl;
-      unmade = λ w asks. no_other is_check c.in-Ok-Check.ensures.gives c.in-Ok-Check.field-0-is asks refl refl;
-      generate = λ asks. no_other is_check c.in-Ok-Check.ensures.gives c.in-Ok-Check.field-0-is asks.1 refl refl;
-      unread = λ asks. no_other is_check c.in-Ok-Check.ensures.gives c.in-Ok-Check.field-0-is asks.1 refl refl;
-      sessions = λ o asks. no_other is_check c.in-Ok-Check.ensures.gives c.in-Ok-Check.field-0-is asks refl refl;
-      few = λ o asks. no_other is_check c.in-Ok-Check.ensures.gives c.in-Ok-Check.field-0-is asks refl refl;
-      done = λ o asks. no_other is_check c.in-Ok-Check.ensures.gives c.in-Ok-Check.field-0-is asks refl refl;
-      serve = λ asks. no_other is_check c.in-Ok-Check.ensures.gives c.in-Ok-Check.field-0-is asks.1 refl refl;
-      untouched = λ asks. no_other is_check c.in-Ok-Check.ensures.gives c.in-Ok-Check.field-0-is asks.1 refl refl;
-      valid = λ asks. at_told c.stopped.ensures.status c.run_check.ensures.valid;
-      invalid = λ asks. at_told c.stopped.ensures.status c.run_check.ensures.invalid;
-      told = λ asks. at_told c.stopped.ensures.status c.run_check.ensures.front;
-      check = λ asks. subst IsCheckStatus (sym c.stopped.ensures.status) c.run_check.ensures.others;
+      of_run = λ options asks. no_other is_check c.in-Ok-Check.ensures.gives c.in-Ok-Check.field-0-is asks refl refl;
+      of_check = λ asks. record {
+        status = subst IsCheckStatus (sym c.stopped.ensures.status) c.run_check.ensures.others;
+        read_out = at_told c.stopped.ensures.status c.run_check.ensures.ended;
+        valid = at_told c.stopped.ensures.status c.run_check.ensures.valid;
+        invalid = at_told c.stopped.ensures.status c.run_check.ensures.invalid;
+        told = at_told c.stopped.ensures.status c.run_check.ensures.front;
+      };
+      of_audit = λ asks. no_other is_check c.in-Ok-Check.ensures.gives c.in-Ok-Check.field-0-is asks refl refl;
+      of_generate = λ w asks. no_other is_check c.in-Ok-Check.ensures.gives c.in-Ok-Check.field-0-is asks refl refl;
+      of_serve = λ o asks. no_other is_check c.in-Ok-Check.ensures.gives c.in-Ok-Check.field-0-is asks refl refl;
+    }
+
+pub returns-in-Ok-Audit : goal.returns-in-Ok-Audit
+returns-in-Ok-Audit g c =
+    record {
+      usage = not_check 2 refl c.stopped-in-Ok-Audit.ensures.status c.run_audit.ensures.others;
+      unusable = no_fault c.in-Ok-Audit.ensures.gives c.in-Ok-Audit.field-0-is;
+      read = at_told c.stopped-in-Ok-Audit.ensures.status c.run_audit.ensures.read;
+      write = at_told c.stopped-in-Ok-Audit.ensures.status c.run_audit.ensures.write;
+      door = not_check 5 refl c.stopped-in-Ok-Audit.ensures.status c.run_audit.ensures.others;
+      sound = λ none. ap (λ d. (g.D.Door.counts d).faults) c.stopped-in-Ok-Audit.ensures.door;
+      heard = but_told c.stopped-in-Ok-Audit.ensures.status c.run_audit.ensures.heard;
+      whole = but_told c.stopped-in-Ok-Audit.ensures.status c.run_audit.ensures.whole;
+      quiet = c.run_audit.ensures.quiet;
+      silent = check_idles c.stopped-in-Ok-Audit.ensures.status c.run_audit.ensures.others c.run_audit.ensures.silent;
+      kept = λ none six. c.run_audit.ensures.silent (inr (sym c.stopped-in-Ok-Audit.ensures.status ∙ six));
+      err = subst (λ (s : ℕ). Says g.E.Sink.written g.E.Sink.faults c.args.err.now c.run_audit.new.err s) (sym c.stopped-in-Ok-Audit.ensures.status) c.run_audit.ensures.err;
+      history = empty_history c.stopped-in-Ok-Audit.result.book.entries c.stopped-in-Ok-Audit.ensures.empty;
+      gates = ap length c.stopped-in-Ok-Audit.ensures.gates ∙ c.requires.gates;
+      empty = λ idle. (c.stopped-in-Ok-Audit.ensures.empty, c.stopped-in-Ok-Audit.ensures.gates);
+      other = λ none. (c.stopped-in-Ok-Audit.ensures.empty, c.stopped-in-Ok-Audit.ensures.gates);
+      unserved = λ no_workload no_door. of_faulty (RunsNothing c.stopped-in-Ok-Audit.result.book.entries c.args.gates c.stopped-in-Ok-Audit.result.gates) (g.S.Source.left c.args.input.now) (c.stopped-in-Ok-Audit.ensures.empty, c.stopped-in-Ok-Audit.ensures.gates);
+      given = search rules;
+      unopened = λ none. (c.stopped-in-Ok-Audit.ensures.links, c.stopped-in-Ok-Audit.ensures.door);
+      of_run = λ options asks. no_other is_audit c.in-Ok-Audit.ensures.gives c.in-Ok-Audit.field-0-is asks refl refl;
+      of_check = λ asks. no_other is_audit c.in-Ok-Audit.ensures.gives c.in-Ok-Audit.field-0-is asks refl refl;
+      of_audit = λ asks. record {
+        status = subst IsCheckStatus (sym c.stopped-in-Ok-Audit.ensures.status) c.run_audit.ensures.others;
+        read_out = at_told c.stopped-in-Ok-Audit.ensures.status c.run_audit.ensures.ended;
+        legal = at_told c.stopped-in-Ok-Audit.ensures.status c.run_audit.ensures.legal;
+        illegal = at_told c.stopped-in-Ok-Audit.ensures.status c.run_audit.ensures.illegal;
+        told = at_told c.stopped-in-Ok-Audit.ensures.status c.run_audit.ensures.front;
+      };
+      of_generate = λ w asks. no_other is_audit c.in-Ok-Audit.ensures.gives c.in-Ok-Audit.field-0-is asks refl refl;
+      of_serve = λ o asks. no_other is_audit c.in-Ok-Audit.ensures.gives c.in-Ok-Audit.field-0-is asks refl refl;
     }

@@ -1,8 +1,8 @@
-use Rattle.std.proofs.Common.{◌∙◌}
+use Rattle.std.proofs.Common.{◌≡◌, ◌∙◌}
 use Rattle.cm_session.specs.Links.{view_of}
 use Rattle.cm_session.specs.Serving.{back_view}
 use Rattle.cm_program.specs.Sessions.{served_frame, served_shelf}
-use Rattle.cm_program.proofs.links.Doors.{attended_by, unattended_for_fault, unattended_for_want}
+use Rattle.cm_program.proofs.links.Doors.{at_is_open, at_same, attended_by, failed_run, unattended_for_fault, unattended_for_want}
 use Rattle.cm_program.proofs.serving.run_sessions.Goals as goal
 
 pub returns-in_default-clause-attended : goal.returns-in_default-clause-attended
@@ -23,3 +23,17 @@ returns-clause-attended g c =
     (served_frame c.args.options) (served_shelf c.args.options) c.args.options.sessions c.args.options.workers c.args.gates (g.D.Door.counts c.args.door) c.listen.new.self c.stopped-in-Failed.result
     c.requires.gates c.stopped-in-Failed.ensures.empty c.stopped-in-Failed.ensures.gates c.stopped-in-Failed.ensures.links c.stopped-in-Failed.ensures.door (c.stopped-in-Failed.ensures.status ∙ c.door_fault.ensures.status)
     c.in-Failed.ensures.counts
+
+pub attend-requires-clause-listening : goal.attend-requires-clause-listening
+attend-requires-clause-listening g c κs within = at_is_open _ _ c.in-Ready.ensures.place
+
+pub returns-in_default-clause-place : goal.returns-in_default-clause-place
+returns-in_default-clause-place g c = λ is. failed_run 5 c.stopped.ensures.status c.want_of_memory.ensures.status is
+
+pub returns-in-Ready-clause-place : goal.returns-in-Ready-clause-place
+returns-in-Ready-clause-place g c =
+    let named : c.as_str.result.now ≡ c.args.options.socket = c.as_str.ensures ∙ c.in-Ok.ensures.0 in
+    λ is. at_same _ _ _ _ named c.attend.ensures.place c.in-Ready.ensures.place
+
+pub returns-clause-place : goal.returns-clause-place
+returns-clause-place g c = λ is. failed_run 4 c.stopped-in-Failed.ensures.status c.door_fault.ensures.status is

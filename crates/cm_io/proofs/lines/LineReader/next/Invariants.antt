@@ -10,7 +10,7 @@ invariant-parts g l =
     let now : AsSource = record { left = g.S.Source.left l.source; given = g.S.Source.given l.source; faults = g.S.Source.faults l.source } in
     record {
       more : (goal.iterator-parts g).can_next l.iterator' × (goal.iterator-parts g).is_finite l.iterator';
-      passed : Passed first now l.fn.self.over l.fn.self.held l.self.held l.line.items;
+      passed : Passed first now (g.S.Source.order l.fn.source) (g.S.Source.order l.source) l.fn.self.over l.fn.self.held l.self.held l.line.items;
       over : l.self.over ≡ l.fn.self.over;
       ready : Contains l.fn.self.held 10 → (l.self.held ≡ l.fn.self.held) × (l.source ≡ l.fn.source);
       untouched : l.fn.self.over ≡ true → l.source ≡ l.fn.source;

@@ -1,0 +1,63 @@
+#!/usr/bin/env python3
+"""Runs a host for real: the example, the intruder, kills, and a gate that meets wrong runners.
+
+    .ci/host.py [NAME ..]
+
+The component manager is the one that COMPONENT_MANAGER names. Where bubblewrap or user namespaces aren't
+there it says so, and ends with 0. As root it goes on as another user, since a host refuses root. With names
+it runs the parts of these names alone: demo, attacks, edits, kills, inputs, gate, live, stress, document.
+"""
+
+from __future__ import annotations
+
+import os
+import sys
+import unittest
+from pathlib import Path
+
+TOP = Path(__file__).resolve().parent.parent
+PARTS = ("demo", "attacks", "edits", "kills", "inputs", "gate", "live", "stress", "document")
+
+
+class Told(unittest.TextTestResult):
+    """Prints a line for each test, by what it says that it checks."""
+
+    def startTest(self, test: unittest.TestCase) -> None:
+        unittest.TestResult.startTest(self, test)
+
+    def addSuccess(self, test: unittest.TestCase) -> None:
+        unittest.TestResult.addSuccess(self, test)
+        self.stream.writeln(f"checked: {test.shortDescription() or test.id()}")
+        self.stream.flush()
+
+
+def main() -> int:
+    """Runs the parts that are named, or all."""
+    sys.dont_write_bytecode = True
+    sys.path.insert(0, str(TOP / "tools"))
+    from tests.hosting.user import as_another_user, reason_to_skip
+
+    why = reason_to_skip()
+    if why:
+        print(f"skipped: a host can't run here, since {why}")
+        return 0
+    if os.getuid() == 0:
+        return as_another_user(__file__)
+    from cm_tools.console import Unusable
+    from cm_tools.host.front import check_sandbox
+
+    try:
+        check_sandbox()
+    except Unusable as fault:
+        print(f"skipped: a host can't run here, since {fault}")
+        return 0
+    suite = unittest.TestSuite()
+    for part in sys.argv[1:] or PARTS:
+        if (TOP / f"tools/tests/hosting/run_{part}.py").exists():
+            suite.addTests(unittest.defaultTestLoader.loadTestsFromName(f"tests.hosting.run_{part}"))
+    runner = unittest.TextTestRunner(stream=sys.stdout, resultclass=Told, verbosity=0)
+    return 0 if runner.run(suite).wasSuccessful() else 1
+
+
+if __name__ == "__main__":
+    sys.exit(main())

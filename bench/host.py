@@ -1,0 +1,216 @@
+#!/usr/bin/env python3
+"""Measures a host beside what it stands on: plain sockets, and plain bubblewrap.
+
+    bench/host.py [COUNT]
+
+The component manager is the one that COMPONENT_MANAGER names. COUNT is how many instances are started and
+stopped, 200 where it isn't said. As root it goes on as another user. What it prints was taken in one run.
+"""
+
+from __future__ import annotations
+
+import os
+import subprocess
+import sys
+import threading
+import time
+from pathlib import Path
+
+TOP = Path(__file__).resolve().parent.parent
+PROVIDER = """#!/usr/bin/python3
+import os, socket, threading
+os.makedirs("/out/svc", exist_ok=True)
+door = socket.socket(socket.AF_UNIX)
+door.bind("/out/svc/bench.Door")
+door.listen(64)
+def serve(link):
+    with link:
+        while data := link.recv(1 << 16):
+            if data.endswith(b"\\n"):
+                link.sendall(b"1\\n")
+while True:
+    threading.Thread(target=serve, args=(door.accept()[0],), daemon=True).start()
+"""
+CLIENT = """#!/usr/bin/python3
+import os, socket, threading, time
+def show(what, times):
+    times.sort()
+    n = len(times)
+    middle, most = 1e6 * times[n // 2], 1e6 * times[n * 99 // 100]
+    print(f"{what}: median {middle:.0f} us, 99 of 100 within {most:.0f} us", flush=True)
+def connects(path, count):
+    times = []
+    for _ in range(count):
+        begun = time.perf_counter()
+        with socket.socket(socket.AF_UNIX) as link:
+            link.connect(path)
+            link.sendall(b"x\\n")
+            assert link.recv(100)
+        times.append(time.perf_counter() - begun)
+    return times
+def lines(path, count):
+    times = []
+    with socket.socket(socket.AF_UNIX) as link:
+        link.connect(path)
+        for _ in range(count):
+            begun = time.perf_counter()
+            link.sendall(b"x\\n")
+            assert link.recv(100)
+            times.append(time.perf_counter() - begun)
+    return times
+def carried(path, size):
+    piece = bytes(1 << 16)
+    with socket.socket(socket.AF_UNIX) as link:
+        link.connect(path)
+        begun = time.perf_counter()
+        for _ in range(size >> 16):
+            link.sendall(piece)
+        link.sendall(b"\\n")
+        link.recv(100)
+        return size / (time.perf_counter() - begun) / 1e9
+def direct():
+    door = socket.socket(socket.AF_UNIX)
+    door.bind(os.path.join("/tmp", "direct"))
+    door.listen(64)
+    def serve(link):
+        with link:
+            while data := link.recv(1 << 16):
+                if data.endswith(b"\\n"):
+                    link.sendall(b"1\\n")
+    while True:
+        threading.Thread(target=serve, args=(door.accept()[0],), daemon=True).start()
+if os.fork() == 0:
+    direct()
+time.sleep(0.3)
+through, plain = "/svc/bench.Door", os.path.join("/tmp", "direct")
+connects(through, 3)
+for what, path in ("through the runner", through), ("plain sockets     ", plain):
+    show(f"connect, a line, its answer, {what}", connects(path, 1000))
+for what, path in ("through the runner", through), ("plain sockets     ", plain):
+    show(f"a line and its answer,       {what}", lines(path, 2000))
+for what, path in ("through the runner", through), ("plain sockets     ", plain):
+    print(f"bytes of one connection,     {what}: {carried(path, 1 << 29):.2f} GB/s", flush=True)
+print("done", flush=True)
+os.read(os.pipe()[0], 1)
+"""
+P = '{program:{runner:"elf",binary:"bin/x"%s}%s}'
+NOTIFY = ',lifecycle:{stop_event:"notify"}'
+SLEEPER = "#!/bin/sh\nexec sleep 1000000\n"
+STUBBORN = "#!/bin/sh\ntrap '' TERM\nwhile :; do sleep 1; done\n"
+PLAIN = ("bwrap", "--unshare-all", "--die-with-parent", "--ro-bind", "/usr", "/usr",
+         "--symlink", "usr/bin", "/bin", "--symlink", "usr/lib", "/lib", "--symlink", "usr/lib64", "/lib64",
+         "--proc", "/proc", "--dev", "/dev", "/usr/bin/sleep", "1000000")
+
+
+def in_lanes(host, lines, lanes):
+    """Gives commands to a host over so many sessions. How long it took, in seconds."""
+    threads = [threading.Thread(target=host.ask, args=lines[lane::lanes]) for lane in range(lanes)]
+    begun = time.monotonic()
+    for thread in threads:
+        thread.start()
+    for thread in threads:
+        thread.join()
+    return time.monotonic() - begun
+
+
+def memory(pid):
+    """The memory of a process, in megabytes."""
+    for line in Path(f"/proc/{pid}/status").read_text().splitlines():
+        if line.startswith("VmRSS:"):
+            return int(line.split()[1]) / 1024
+    return 0.0
+
+
+def connections(Host, folder, package, root_of):
+    """Connects and lines, through the runner and without one."""
+    base = folder()
+    repo = base / "repo"
+    package(repo, "door", P % ("", ',capabilities:[{protocol:"bench.Door"}],'
+                               'expose:[{protocol:"bench.Door",from:"self"}]'), PROVIDER)
+    package(repo, "client", P % ("", ',use:[{protocol:"bench.Door"}]'), CLIENT)
+    root = root_of(repo, "door", "client", more=',offer:[{protocol:"bench.Door",from:"#door",to:"#client"}]')
+    host = Host(repo, root, run=base / "r", options=("--quiet",), waits=False)
+    host.wait_until(lambda: (host.run / "cm").exists(), "socket")
+    host.ask("start client")
+    host.wait_until(lambda: "done\n" in host.said("client"), "measurement")
+    print(host.said("client").replace("done\n", ""), end="", flush=True)
+    host.end()
+    host.remove()
+
+
+def instances(Host, folder, package, root_of, count):
+    """Instances up and down, and plain sandboxes beside."""
+    begun = time.monotonic()
+    plain = [subprocess.Popen(PLAIN) for _ in range(count)]
+    while True:
+        inside = [len(Path(f"/proc/{one.pid}/task/{one.pid}/children").read_text()) > 0 for one in plain]
+        if all(inside):
+            break
+        time.sleep(0.005)
+    up = time.monotonic() - begun
+    begun = time.monotonic()
+    for one in plain:
+        one.kill()
+    for one in plain:
+        one.wait()
+    print(f"{count} sandboxes, plain bubblewrap:  up in {up:.2f} s, down in {time.monotonic() - begun:.2f} s")
+    base = folder()
+    names = [f"c{number}" for number in range(count)]
+    for name in names:
+        package(base / "repo", name, P % ("", ""), SLEEPER)
+    host = Host(base / "repo", root_of(base / "repo", *names), run=base / "r")
+    for lanes in 1, 4:
+        took = in_lanes(host, [f"start {name}" for name in names], lanes)
+        used = memory(host.runner_pid())
+        begun = time.monotonic()
+        host.ask(*[f"stop {name}" for name in names]) if lanes == 1 else None
+        print(f"{count} instances by {lanes} session{'s' * (lanes > 1)}: up in {took:.2f} s, the runner has "
+              f"{used:.0f} MB" + (f"; stopped one by one in {time.monotonic() - begun:.2f} s" * (lanes == 1)))
+    begun = time.monotonic()
+    host.own("replace")
+    host.wait(r"^replaced ")
+    held = host.events("replaced")[0]["held_ms"]
+    begun = time.monotonic()
+    host.end()
+    print(f"{count} instances: connects held {held:.0f} ms by another manager; all shut down in "
+          f"{time.monotonic() - begun:.2f} s")
+    host.remove()
+
+
+def stubborn(Host, folder, package, root_of, count=20):
+    """A shutdown of programs that don't heed it."""
+    base = folder()
+    names = [f"c{number}" for number in range(count)]
+    for name in names:
+        package(base / "repo", name, P % (NOTIFY, ""), STUBBORN)
+    host = Host(base / "repo", root_of(base / "repo", *names), run=base / "r")
+    in_lanes(host, [f"start {name}" for name in names], 4)
+    time.sleep(0.5)
+    begun = time.monotonic()
+    host.end()
+    print(f"{count} programs that ignore their stop: all shut down in {time.monotonic() - begun:.2f} s")
+    host.remove()
+
+
+def main():
+    """Measures all."""
+    sys.dont_write_bytecode = True
+    sys.path.insert(0, str(TOP / "tools"))
+    from tests.hosting.trial import Host, folder, package, root_of
+    from tests.hosting.user import as_another_user, reason_to_skip
+
+    why = reason_to_skip()
+    if why:
+        print(f"skipped: a host can't run here, since {why}")
+        return 0
+    if os.getuid() == 0:
+        return as_another_user(__file__)
+    count = int(sys.argv[1]) if len(sys.argv) > 1 else 200
+    connections(Host, folder, package, root_of)
+    instances(Host, folder, package, root_of, count)
+    stubborn(Host, folder, package, root_of)
+    return 0
+
+
+if __name__ == "__main__":
+    sys.exit(main())

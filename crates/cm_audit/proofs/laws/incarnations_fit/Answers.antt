@@ -1,0 +1,5 @@
+use Rattle.cm_audit.proofs.Fitting.{incarnations_fit}
+use Rattle.cm_audit.proofs.laws.incarnations_fit.Goals as goal
+
+pub returns : goal.returns
+returns c = incarnations_fit

@@ -1,0 +1,5 @@
+use Rattle.cm_audit.proofs.Telling.{texts_tell_replies}
+use Rattle.cm_audit.proofs.laws.texts_tell_replies.Goals as goal
+
+pub returns : goal.returns
+returns c = texts_tell_replies

@@ -1,0 +1,71 @@
+-- Laws of verdicts.
+use Rattle.std.specs.Prelude.{◌≡◌, ℕ, ◌≤◌, ◌<◌, ◌^◌, ◌==◌, false, List, ◌++◌, flat_map, length, All}
+use Rattle.cm_world.specs.declared.event.Event.{Event}
+use Rattle.cm_world.specs.declared.frame.Frame.{Frame}
+use Rattle.cm_world.specs.declared.reply.Entry.{Entry}
+use Rattle.cm_world.specs.declared.reply.Reply.{Reply}
+use Rattle.cm_world.specs.World.{start}
+use Rattle.cm_world.specs.Step.{Allowed}
+use Rattle.cm_world.specs.Legal.{Legal, replay}
+use Rattle.cm_reply.specs.Lists.{Text}
+use Rattle.cm_reply.specs.Journal.{journal_text, line}
+use Rattle.cm_reply.specs.Replies.{replied_text}
+use Rattle.cm_reply.specs.Legible.{IsLegible, IsLegibleReply, IsLegibleFrame}
+use Rattle.cm_audit.specs.declared.verdict.Audit.{Audit}
+use Rattle.cm_audit.specs.Journal.{journal_line}
+use Rattle.cm_audit.specs.Verdict.{IsVerdict, IsLegalJournal, journal_limit}
+
+-- a text has one verdict at most
+abbrev pub OneVerdict : Type 0
+OneVerdict = (bytes : Text) (v u : Audit) → IsVerdict bytes v → IsVerdict bytes u → v ≡ u
+
+-- of the replies that an event may get behind a legal history no two have one text
+abbrev pub TextsTellReplies : Type 0
+TextsTellReplies =
+    (f : Frame) (es : List Entry) (caller : ℕ) (e : Event) (r q : Reply)
+    → Legal (start f) es
+    → Allowed (replay (start f) es) caller e r
+    → Allowed (replay (start f) es) caller e q
+    → replied_text r ≡ replied_text q
+    → r ≡ q
+
+-- the verdict on a front that passes the limit is the verdict on all
+abbrev pub FrontsTell : Type 0
+FrontsTell =
+    (front rest : Text) (v : Audit)
+    → journal_limit < length front
+    → IsVerdict front v
+    → IsVerdict (front ++ rest) v
+
+-- behind a legal history each incarnation, and so each that an entry names, has 64 bits
+abbrev pub IncarnationsFit : Type 0
+IncarnationsFit =
+    (f : Frame) (es : List Entry) → Legal (start f) es → (replay (start f) es).next_inc < 2 ^ 64
+
+-- ---- the journal of a legal history
+
+-- a history of few callers, all whose events are legible
+pub record IsLegibleHistory (es : List Entry) : Type 0 where
+  pub callers : All (λ (e : Entry). e.caller < 2 ^ 32) es
+  pub events : All (λ (e : Entry). IsLegible e.event) es
+  pub few : length es < 2 ^ 64
+
+-- in a legal history of legible events all replies are legible
+abbrev pub RepliesAreLegible : Type 0
+RepliesAreLegible =
+    (f : Frame) (es : List Entry) → IsLegibleFrame f → Legal (start f) es → IsLegibleHistory es
+    → All (λ (e : Entry). IsLegibleReply e.reply) es
+
+-- what stands in front of a journal: whole lines, none of which is the one that a journal begins with
+pub record IsInFront (front : Text) : Type 0 where
+  pub lines : List Text
+  pub whole : front ≡ flat_map line lines
+  pub clean : All (λ (t : Text). All (λ b. (b == 10) ≡ false) t) lines
+  pub others : All (λ (t : Text). t ≡ journal_line → ⊥) lines
+
+-- the journal of a legal history of legible events is legal, whatever lines stand in front of it
+abbrev pub JournalsAreLegal : Type 0
+JournalsAreLegal =
+    (front : Text) (f : Frame) (es : List Entry) → IsInFront front → IsLegibleFrame f → Legal (start f) es
+    → IsLegibleHistory es → length (front ++ journal_text f es) ≤ journal_limit
+    → IsLegalJournal (front ++ journal_text f es) (length es)

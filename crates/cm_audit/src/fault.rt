@@ -1,0 +1,82 @@
+//! What ends the reading of a journal before its last line.
+
+ghost use Rattle.std.specs.Prelude.{◌≡◌};
+ghost use Rattle.cm_audit.specs.Reading as reading;
+
+use crate::verdict::Audit;
+use cm_names::{Memory, Text};
+
+/// Why the reading ends before the last line.
+#[derive(Drop)]
+pub enum Stop {
+    /// There is a verdict already.
+    Verdict(Audit),
+    /// Memory ran out.
+    Memory,
+}
+
+impl From<Memory> for Stop {
+    ghost use Rattle.std.specs.Prelude.{◌≡◌};
+    ghost use Rattle.cm_audit.specs.declared.fault.Stop.TheVariants.{Memory as OutOfMemory};
+
+    ghost from_gives = { λ _ e. e ≡ OutOfMemory };
+
+    fn from(_: Memory) -> Stop {
+        Stop::Memory
+    }
+}
+
+/// What is wrong with a line behind that of the root.
+#[derive(Drop)]
+pub enum LineFault {
+    /// It is no entry.
+    Bad,
+    /// It is an entry that isn't legal there, as [`Audit::Illegal`] tells of it.
+    Illegal {
+        /// The number that stands there.
+        number: u64,
+        /// The reply that stands there.
+        given: Text,
+        /// What is expected in its place.
+        expected: Text,
+    },
+    /// Memory ran out.
+    Memory,
+}
+
+impl From<Memory> for LineFault {
+    ghost use Rattle.std.specs.Prelude.{◌≡◌};
+    ghost use Rattle.cm_audit.specs.declared.fault.LineFault.TheVariants.{Memory as OutOfMemory};
+
+    ghost from_gives = { λ _ e. e ≡ OutOfMemory };
+
+    fn from(_: Memory) -> LineFault {
+        LineFault::Memory
+    }
+}
+
+/// Why the reading ends at the line of that number.
+pub fn stop_at(line: u32, fault: LineFault) -> Stop
+    ensures { result ≡ reading.stop_at line fault }
+{
+    match fault {
+        LineFault::Bad => bad_text(line),
+        LineFault::Illegal {
+            number,
+            given,
+            expected,
+        } => Stop::Verdict(Audit::Illegal {
+            number,
+            given,
+            expected,
+        }),
+        LineFault::Memory => Stop::Memory,
+    }
+}
+
+/// The line of that number isn't in the grammar, or passes the limit.
+pub fn bad_text(line: u32) -> Stop
+    ensures { result ≡ Stop.Verdict (Audit.BadText line) }
+{
+    Stop::Verdict(Audit::BadText(line))
+}

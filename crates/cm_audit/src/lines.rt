@@ -1,0 +1,33 @@
+//! The lines of a journal.
+
+ghost use Rattle.std.specs.Prelude.{◌<◌, ◌≤◌, length, MatchOption};
+ghost use Rattle.cm_audit.specs.Reading.{IsCut, PassesLimit};
+
+use cm_command::cut_line;
+
+/// The most bytes of a journal, with all that stands in front of it.
+const JOURNAL_LIMIT: usize = 268_435_456;
+
+/// A line, and what stands behind it.
+#[derive(Clone, Copy)]
+pub struct Cut<'a> {
+    /// The line, without its line feed.
+    pub line: &'a [u8],
+    /// What stands behind it.
+    pub behind: &'a [u8],
+}
+
+/// The first line of the rest of so many bytes, and what stands behind it; nothing where the line
+/// passes the limit.
+pub fn cut_within(size: usize, rest: &[u8]) -> Option<Cut<'_>>
+    requires some { 0 < length rest.now }
+    requires within { length rest.now ≤ size }
+    ensures { MatchOption result (PassesLimit size rest.now)
+        (λ cut. IsCut size rest.now cut.line.now cut.behind.now) }
+{
+    let (line, behind) = cut_line(rest);
+    if size - behind.len() > JOURNAL_LIMIT {
+        return None;
+    }
+    Some(Cut { line, behind })
+}

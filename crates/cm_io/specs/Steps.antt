@@ -1,0 +1,20 @@
+-- The moves of a link in memory.
+use Rattle.std.specs.Prelude.{ℕ, List, map, Option, option_map}
+use Rattle.cm_io.specs.Orders.{Move, gave, wrote, hung_up}
+use Rattle.cm_io.specs.declared.steps.Step.{Step}
+use Rattle.cm_io.specs.declared.steps.Step.TheVariants as step
+
+abbrev pub move_of : Step → Move
+move_of (step.Gave bytes) = gave bytes
+move_of (step.Wrote bytes) = wrote bytes
+move_of step.HungUp = hung_up
+
+abbrev pub gave_of : List ℕ → Move
+gave_of bytes = gave bytes
+
+abbrev pub wrote_of : List ℕ → Move
+wrote_of bytes = wrote bytes
+
+-- the order, where it is told
+abbrev pub order_of : Option (List Step) → Option (List Move)
+order_of steps = option_map (λ s. map move_of s) steps

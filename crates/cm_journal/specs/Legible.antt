@@ -1,0 +1,41 @@
+-- The events of a run can be told of.
+use Rattle.std.specs.Prelude.{◌≡◌, ℕ, ◌<◌, ◌≤◌, List, [], ◌++◌, All, length, map}
+use Rattle.cm_world.specs.declared.event.Event.{Event}
+use Rattle.cm_world.specs.declared.frame.Frame.{Frame}
+use Rattle.cm_world.specs.declared.reply.Entry.{Entry}
+use Rattle.cm_world.specs.World.{start}
+use Rattle.cm_world.specs.Legal.{Legal}
+use Rattle.cm_manager.specs.Turns.{own_entries}
+use Rattle.cm_command.specs.declared.script.Line.{Line}
+use Rattle.cm_lanes.specs.Script.{Answered, ArePhases, IsFit, answered_lines}
+use Rattle.cm_reply.specs.Journal.{journal_text}
+use Rattle.cm_reply.specs.Legible.{IsLegible, IsLegibleFrame}
+use Rattle.cm_audit.specs.Verdict.{IsLegalJournal, journal_limit}
+use Rattle.cm_typed.specs.Typed.{IsTyped, IsTypedEntry}
+use Rattle.cm_journal.specs.Asked.{AreWritableLines}
+use Rattle.cm_journal.specs.Front.{said_text}
+use Rattle.cm_journal.specs.Made.{IsAsked, IsBrought}
+
+-- what types, commands and works say is all that has to be said
+abbrev pub SaidIsLegible : Type 0
+SaidIsLegible = (e : Event) → IsTyped e → IsAsked e → IsBrought e → IsLegible e
+
+-- what lanes made of lines that can be written, with their works
+pub record IsRun (f : Frame) (phases : List (List Line)) (answered : List (List Answered))
+    (history : List Entry) : Type 0 where
+  pub lines : map answered_lines answered ≡ phases
+  pub writable : All AreWritableLines phases
+  pub fit : All (λ (lines : List Line). All IsFit lines) phases
+  pub legal : Legal (start f) history
+  pub performed : ArePhases (λ c. f) answered [] history
+  pub callers : All (λ (e : Entry). e.caller < 16) history
+  pub typed : All IsTypedEntry history
+  pub works : (c : ℕ) → c < 16 → All (λ (e : Entry). IsBrought e.event) (own_entries c history)
+
+-- what is written of a run, with its journal, is a legal journal where it isn't too large
+abbrev pub RunsWriteLegalJournals : Type 0
+RunsWriteLegalJournals =
+    (f : Frame) (phases : List (List Line)) (answered : List (List Answered)) (history : List Entry)
+    → IsRun f phases answered history → IsLegibleFrame f
+    → length (said_text answered ++ journal_text f history) ≤ journal_limit
+    → IsLegalJournal (said_text answered ++ journal_text f history) (length history)

@@ -1,0 +1,61 @@
+-- Answers that can be told of, and what a run writes in front of its journal.
+use Rattle.std.specs.Prelude.{◌<◌, List, [], All, IfSome, IsTrue, Result, Ok, Err}
+use Rattle.cm_names.specs.Name.{IsName}
+use Rattle.cm_names.specs.Path.{is_path}
+use Rattle.cm_names.specs.Urls.{is_url_text}
+use Rattle.cm_world.specs.declared.answer.Answer.{Answer}
+use Rattle.cm_world.specs.declared.answer.Answer.TheVariants as answer
+use Rattle.cm_world.specs.declared.answer.Checked.{Checked}
+use Rattle.cm_world.specs.declared.answer.Refusal.{Refusal}
+use Rattle.cm_world.specs.declared.answer.Refusal.TheVariants as refusal
+use Rattle.cm_world.specs.declared.frame.Frame.{Frame}
+use Rattle.cm_world.specs.declared.reply.Entry.{Entry}
+use Rattle.cm_world.specs.declared.route.Route.{Route}
+use Rattle.cm_reply.specs.Legible.{IsOfNames, IsOfName, IsLegibleReply, IsLegibleRoute, IsLegibleSurvey}
+use Rattle.cm_lanes.specs.Script.{Answered, ArePhases}
+
+abbrev pub IsLegibleRefusal : Refusal → Type 0
+IsLegibleRefusal (refusal.NotFound m) = IsOfNames m
+IsLegibleRefusal (refusal.OfferCycle nodes) = All IsOfName nodes
+IsLegibleRefusal (refusal.NoRoute hop why) = IsOfNames hop.moniker
+IsLegibleRefusal (refusal.VoidSource hop) = IsOfNames hop.moniker
+IsLegibleRefusal _ = Unit {0}
+
+abbrev pub IsLegibleFound : Result Route Refusal → Type 0
+IsLegibleFound (Ok route) = IsLegibleRoute route
+IsLegibleFound (Err x) = IsLegibleRefusal x
+
+pub record IsLegibleChecked (c : Checked) : Type 0 where
+  pub moniker : IsOfNames c.moniker
+  pub path : IfSome c.path (λ p. IsTrue (is_path p))
+  pub result : IsLegibleFound c.result
+
+abbrev pub IsLegibleAnswer : Answer → Type 0
+IsLegibleAnswer (answer.Children kids) = All (λ k. IsName k.name) kids
+IsLegibleAnswer (answer.Opened route) = IsLegibleRoute route
+IsLegibleAnswer (answer.Routed route) = IsLegibleRoute route
+IsLegibleAnswer (answer.Shown look) = IsTrue (is_url_text look.url)
+IsLegibleAnswer (answer.Surveyed rows) = All IsLegibleSurvey rows
+IsLegibleAnswer (answer.Doctored lines) = All IsLegibleChecked lines
+IsLegibleAnswer _ = Unit {0}
+
+abbrev pub IsLegibleResult : Result Answer Refusal → Type 0
+IsLegibleResult (Ok a) = IsLegibleAnswer a
+IsLegibleResult (Err x) = IsLegibleRefusal x
+
+abbrev pub OfReplies : List Entry → Type 0
+OfReplies es = All (λ (e : Entry). IsLegibleReply e.reply) es
+
+-- the lanes of all lines are of the sixteen
+abbrev pub AreOfLanes : List (List Answered) → Type 0
+AreOfLanes answered = All (All (λ (a : Answered). a.line.lane < 16)) answered
+
+abbrev pub AreLegibleAnswers : List (List Answered) → Type 0
+AreLegibleAnswers answered = All (All (λ (a : Answered). IsLegibleResult a.result)) answered
+
+-- what lanes answer is made of replies
+abbrev pub ResultsAreLegible : Type 0
+ResultsAreLegible =
+    (f : Frame) (answered : List (List Answered)) (history : List Entry) → OfReplies history
+    → AreOfLanes answered
+    → ArePhases (λ c. f) answered [] history → AreLegibleAnswers answered

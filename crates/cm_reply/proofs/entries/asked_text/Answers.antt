@@ -1,0 +1,1 @@
+use Rattle.cm_reply.proofs.entries.asked_text.Goals as goal

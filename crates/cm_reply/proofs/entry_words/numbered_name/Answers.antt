@@ -1,0 +1,1 @@
+use Rattle.cm_reply.proofs.entry_words.numbered_name.Goals as goal

@@ -1,0 +1,1 @@
+use Rattle.cm_reply.proofs.outcome_words.note.Goals as goal

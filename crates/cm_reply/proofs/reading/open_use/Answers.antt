@@ -1,0 +1,1 @@
+use Rattle.cm_reply.proofs.reading.open_use.Goals as goal

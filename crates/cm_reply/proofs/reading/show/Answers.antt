@@ -1,0 +1,1 @@
+use Rattle.cm_reply.proofs.reading.show.Goals as goal

@@ -1,0 +1,133 @@
+-- What the readers of a journal's line promise: whatever legible text stands there is found, or memory ran
+-- out. That nothing else is found is then tested at the whole line, which is written again and compared.
+use Rattle.std.specs.Prelude.{◌≡◌, ℕ, ◌<◌, ◌^◌, List, [], ◌++◌, codes, decimal, if◌then◌else◌}
+use Rattle.std.specs.Prelude.{Option, Some, None, Result, MatchResult}
+use Rattle.std.specs.Str.{bytes_eq}
+use Rattle.cm_decl.specs.declared.section.Section.{Section}
+use Rattle.cm_decl.specs.declared.section.Section.TheVariants as section
+use Rattle.cm_decl.specs.Words.{section_word}
+use Rattle.cm_read.specs.declared.fault.ReadFault.{ReadFault}
+use Rattle.cm_read.specs.declared.fault.ReadFault.TheVariants as read_fault
+use Rattle.cm_world.specs.declared.action.FaultNote.{FaultNote}
+use Rattle.cm_world.specs.declared.action.Outcome.{Outcome}
+use Rattle.cm_world.specs.declared.action.Outcome.TheVariants as outcome
+use Rattle.cm_decl.specs.declared.rows.Give.{Give}
+use Rattle.cm_world.specs.declared.event.Event.{Event}
+use Rattle.cm_world.specs.declared.event.Event.TheVariants.{Create}
+use Rattle.cm_world.specs.declared.event.Target.{Target}
+use Rattle.cm_world.specs.declared.event.Target.TheVariants.{Inc}
+use Rattle.cm_command.specs.declared.tokens.WordFault.{WordFault}
+use Rattle.cm_command.specs.declared.tokens.WordFault.TheVariants as word_fault
+use Rattle.cm_reply.specs.Lists.{Text}
+use Rattle.cm_reply.specs.Legible.{IsLegible}
+use Rattle.cm_reply.specs.Lines.{asked_text, IsEntryLine}
+use Rattle.cm_reply.specs.EventWords.{Told, event_of, told_text}
+use Rattle.cm_reply.specs.declared.event_words.EventWord.{EventWord}
+use Rattle.cm_reply.specs.declared.entries.JournalLine.{JournalLine}
+use Rattle.cm_reply.specs.declared.entry_words.EntryFault.{EntryFault}
+use Rattle.cm_reply.specs.declared.entry_words.EntryFault.TheVariants.{NotAnEntry, Memory}
+use Rattle.cm_reply.specs.declared.reading.Asked.{Asked}
+
+-- ---- words
+
+-- the result is that value, unless memory ran out
+abbrev pub IsOr : {A : Type 0} → Result A EntryFault → A → Type 0
+IsOr result a = MatchResult result (λ x. x ≡ a) (λ e. e ≡ Memory)
+
+-- the fault of a line whose word has that fault
+abbrev pub fault_of : WordFault → EntryFault
+fault_of (word_fault.Bad n) = NotAnEntry
+fault_of word_fault.Memory = Memory
+
+-- the fault of a line whose declaration has that fault
+abbrev pub decl_fault : ReadFault → EntryFault
+decl_fault (read_fault.Bad number section index field) = NotAnEntry
+decl_fault read_fault.Memory = Memory
+
+-- the outcome of that word; one that has a fault with it has none
+abbrev pub outcome_named : Text → Option Outcome
+outcome_named t =
+    if bytes_eq t (codes "resolved") then Some outcome.Resolved
+    else if bytes_eq t (codes "started") then Some outcome.Started
+    else if bytes_eq t (codes "stopped") then Some outcome.Stopped
+    else if bytes_eq t (codes "killed") then Some outcome.Killed
+    else if bytes_eq t (codes "absent") then Some outcome.Absent
+    else if bytes_eq t (codes "bad-url") then Some outcome.BadUrl
+    else if bytes_eq t (codes "declined") then Some outcome.Declined
+    else if bytes_eq t (codes "gate-failed") then Some outcome.GateFailed
+    else if bytes_eq t (codes "full") then Some outcome.Full
+    else if bytes_eq t (codes "no-memory") then Some outcome.NoMemory
+    else None
+
+-- an outcome that is one word
+abbrev pub IsPlain : Outcome → Type 0
+IsPlain (outcome.Invalid note) = ⊥
+IsPlain _ = Unit {0}
+
+-- the fault of a manifest behind its word `invalid`
+abbrev pub note_words : FaultNote → Text
+note_words note =
+    decimal note.number
+    ++ (codes " " ++ (section_word note.section ++ (codes " " ++ (decimal note.index ++ []))))
+
+-- the section of that word
+abbrev pub section_named : Text → Option Section
+section_named t =
+    if bytes_eq t (codes "manifest") then Some section.Manifest
+    else if bytes_eq t (codes "program") then Some section.Program
+    else if bytes_eq t (codes "children") then Some section.Children
+    else if bytes_eq t (codes "collections") then Some section.Collections
+    else if bytes_eq t (codes "capabilities") then Some section.Capabilities
+    else if bytes_eq t (codes "use") then Some section.Uses
+    else if bytes_eq t (codes "offer") then Some section.Offers
+    else if bytes_eq t (codes "expose") then Some section.Exposes
+    else if bytes_eq t (codes "environments") then Some section.Environments
+    else if bytes_eq t (codes "graph") then Some section.Graph
+    else None
+
+-- ---- events
+
+-- whatever legible event of that word has the text behind it, it is found
+abbrev pub Finds : EventWord → Text → Result Event EntryFault → Type 0
+Finds v t result = (x : Told v) → IsLegible (event_of v x) → t ≡ told_text v x → IsOr result (event_of v x)
+
+-- the event creates a child of the parent, which is told by its number
+pub record IsCreatedIn (parent : Target) (coll name url : Text) (gives : List Give) (e : Event) : Type 0 where
+  pub inc : ℕ
+  pub by_number : parent ≡ Inc inc
+  pub event : e ≡ Create inc coll name url gives
+
+-- ---- what stands before the arrow
+
+-- a number, a caller and an event that a line can tell of
+pub record IsAskable (a : Asked) : Type 0 where
+  pub of_64_bits : a.number < 2 ^ 64
+  pub of_32_bits : a.caller < 2 ^ 32
+  pub legible : IsLegible a.event
+
+-- how they are written
+abbrev pub text_of_asked : Asked → Text
+text_of_asked a = asked_text a.number a.caller a.event
+
+-- whatever such three have the text, they are found
+abbrev pub FindsAsked : Text → Result Asked EntryFault → Type 0
+FindsAsked t result = (a : Asked) → IsAskable a → t ≡ text_of_asked a → IsOr result a
+
+-- the three that have the text, or that there are none
+abbrev pub IsAsked : Text → Result Asked EntryFault → Type 0
+IsAsked t result =
+    MatchResult result (λ a. IsAskable a × (t ≡ text_of_asked a))
+    (λ f. f ≡ NotAnEntry → (a : Asked) → IsAskable a → t ≡ text_of_asked a → ⊥)
+
+-- ---- lines
+
+-- the line that says these four
+abbrev pub line_of : ℕ → ℕ → Event → Text → JournalLine
+line_of number caller event reply =
+    record { number = number; caller = caller; event = event; reply = reply }
+
+-- whatever entry the line tells of, it is found
+abbrev pub FindsEntry : Text → Result JournalLine EntryFault → Type 0
+FindsEntry t result =
+    (number caller : ℕ) (event : Event) (reply : Text) → IsEntryLine t number caller event reply
+    → IsOr result (line_of number caller event reply)

@@ -1,0 +1,309 @@
+"""What the programs use: sockets and directories, each decided by the manager."""
+
+from __future__ import annotations
+
+import asyncio
+import json
+import os
+import re
+import socket
+import time
+from pathlib import Path
+from typing import TYPE_CHECKING
+
+from cm_tools.host import sandbox
+from cm_tools.host.carried import Carried
+from cm_tools.host.instance import Instance
+from cm_tools.host.programs import Unfit
+from cm_tools.host.realm import REPLACED, Realm
+from cm_tools.host.sandbox import Bound
+from cm_tools.host.sessions import Gone
+
+if TYPE_CHECKING:
+    from cm_tools.host.manager import Manager
+    from cm_tools.host.runner import Runner
+
+OPENED = re.compile(r"(?:opened|route) (\S+) at (?:(\S+) incarnation (\d+)|framework|builtin)"
+                    r"(?: rights (\S+))?(?: |\Z)")
+PUT_OFF = re.compile(r"refused 84 cannot-start action (\d+) declined")
+REALM = "/svc/fuchsia.component.Realm"
+# Of one use: connections at once, new ones at once, and new ones a second. Each is an entry of the history.
+CONNECTIONS, AT_ONCE, A_SECOND = 32, 2000, 20
+# How long a connection waits for a provider to listen, for a start to be in the history, or for the end of a
+# provider's pause, in seconds.
+PATIENCE = 5.0
+LONGEST_LINE, PIECE = 8192, 1 << 16
+READING = {"connect", "enumerate", "traverse", "read_bytes", "get_attributes"}
+WRITING = {"connect", "enumerate", "traverse", "write_bytes", "modify_directory", "update_attributes"}
+WRITES = {"write_bytes", "modify_directory", "update_attributes"}
+
+
+class Doors:
+    """Listens for what the programs connect to, asks, connects, and carries bytes."""
+
+    def __init__(self, runner: Runner) -> None:
+        self.runner = runner
+        self.numbers = 0
+
+    # Sockets.
+
+    def listen(self, it: Instance, number: int, path: str) -> Path:
+        """A socket for a use. Each connection to it is asked for at the manager."""
+        place = it.folder / f"use{number}"
+        place.unlink(missing_ok=True)
+        door = socket.socket(socket.AF_UNIX, socket.SOCK_STREAM)
+        door.bind(str(place))
+        door.listen(16)
+        door.setblocking(False)
+        it.task(self._accept(it, door, path))
+        return place
+
+    async def _accept(self, it: Instance, door: socket.socket, path: str) -> None:
+        """Takes connections of a use, as many at once and in a second as it may have."""
+        slots = asyncio.Semaphore(CONNECTIONS)
+        room, since = float(AT_ONCE), time.monotonic()
+        with door:
+            while True:
+                await slots.acquire()
+                client = await _accepted(door)
+                it.task(self._connect(it, client, path)).add_done_callback(lambda _: slots.release())
+                now = time.monotonic()
+                room, since = min(AT_ONCE, room + A_SECOND * (now - since)) - 1, now
+                if room < 1:
+                    await asyncio.sleep((1 - room) / A_SECOND)
+
+    async def _connect(self, it: Instance, client: socket.socket, path: str) -> None:
+        """Decides one connection, and carries it."""
+        log = self.runner.log
+        try:
+            with client:
+                reply, manager = await self.opened(it, path)
+                if not reply.startswith("opened "):
+                    log.event("refused", moniker=it.moniker, path=path, manager=manager.number, why=reply)
+                elif reply == f"opened {REALM} at framework":
+                    log.event("opened", moniker=it.moniker, path=path, manager=manager.number,
+                              provider="framework")
+                    await self._realm(it, client)
+                else:
+                    await self._carry(it, path, client, reply, manager)
+        except OSError as fault:
+            log.event("broken", moniker=it.moniker, path=path, why=fault.strerror or str(fault))
+
+    async def opened(self, it: Instance, path: str) -> tuple[str, Manager]:
+        """The manager's answer, and which manager that was. Right behind a launch the start may not have come
+        into its history. While there is none, it waits."""
+        reply, pause, waited = "refused: nobody answers", 0.001, 0.0
+        manager = await self.runner.ready()
+        while waited < PATIENCE:
+            manager = await self.runner.ready()
+            if it.manager is not manager:
+                return "refused: the program is none of the present manager's", manager
+            try:
+                reply = (await manager.asked.opens.ask(f"open @{it.inc} {path}"))[0]
+            except Gone:
+                await asyncio.sleep(0.001)
+                waited += 0.001
+                continue
+            wait = self._pause_behind(manager, reply, pause)
+            if wait is None or waited + wait > PATIENCE:
+                break
+            await asyncio.sleep(wait)
+            waited += wait
+            pause = min(2 * pause, 0.2)
+        return reply, manager
+
+    def _pause_behind(self, manager: Manager, reply: str, pause: float) -> float | None:
+        """How long to wait before it is asked again; None where the answer stands."""
+        if reply.startswith("refused 85"):
+            return pause
+        found = PUT_OFF.match(reply)
+        due = manager.put_off.pop(int(found[1]), None) if found else None
+        return max(0.01, due - time.monotonic() + 0.005) if due is not None else None
+
+    async def _carry(self, it: Instance, path: str, client: socket.socket, reply: str, manager: Manager,
+                     first: bytes = b"") -> None:
+        """Connects to the provider that the manager names, and hands bytes on, both ways. No descriptor
+        is handed on: none is received."""
+        found = OPENED.match(reply)
+        provider = manager.instances.get(int(found[3])) if found and found[3] else None
+        if found is None or provider is None:
+            raise ConnectionRefusedError(f"what is opened is nothing that runs here: {reply}")
+        manager.monikers[int(found[3])] = found[2]
+        with await self._reach(provider, found[1]) as far:
+            self.numbers += 1
+            number = self.numbers
+            if not self.runner.log.event("opened", moniker=it.moniker, path=path, manager=manager.number,
+                                         provider=provider.moniker, connection=number):
+                return
+            if first:
+                await asyncio.get_running_loop().sock_sendall(far, first)
+            it.open[number] = path, provider.moniker
+            try:
+                # It ends with the provider too.
+                carried = Carried(client, far)
+                carried.done.add_done_callback(provider.tasks.discard)
+                provider.tasks.add(carried.done)
+                await carried.done
+            finally:
+                it.open.pop(number, None)
+                self.runner.log.note("closed", moniker=it.moniker, connection=number)
+
+    async def open_from_outside(self, moniker: str, name: str, reader: asyncio.StreamReader,
+                                writer: asyncio.StreamWriter) -> None:
+        """Opens what an instance exposes, for a client outside of all sandboxes: a line of JSON, and behind
+        `opened` the bytes."""
+        manager = await self.runner.ready()
+        try:
+            reply = (await manager.asked.opens.ask(f"open-exposed {moniker} {name}"))[0]
+        except Gone:
+            reply = REPLACED
+        found = OPENED.match(reply)
+        provider = manager.instances.get(int(found[3])) if found and found[3] else None
+        if found is None or provider is None:
+            self.runner.log.event("refused", moniker="(outside)", path=f"{moniker} {name}", why=reply)
+            writer.write(json.dumps({"refused": reply}).encode() + b"\n")
+            await writer.drain()
+            return
+        try:
+            far = await self._reach(provider, found[1])
+        except OSError as fault:
+            writer.write(json.dumps({"refused": fault.strerror or str(fault)}).encode() + b"\n")
+            return
+        far_reader, far_writer = await asyncio.open_unix_connection(sock=far)
+        self.runner.log.event("opened", moniker="(outside)", path=f"{moniker} {name}",
+                              provider=provider.moniker)
+        writer.write(json.dumps({"opened": reply}).encode() + b"\n")
+        try:
+            await provider.task(_between(reader, writer, far_reader, far_writer))
+        finally:
+            far_writer.close()
+
+    async def _reach(self, provider: Instance, path: str) -> socket.socket:
+        """A connection to what a provider has at a path. Right behind its start it may not listen yet."""
+        until, wait = time.monotonic() + PATIENCE, 0.001
+        while provider.process and time.monotonic() < until:
+            far = socket.socket(socket.AF_UNIX, socket.SOCK_STREAM)
+            far.setblocking(False)
+            try:
+                _connect_beneath(far, provider, path)
+                return far
+            except (FileNotFoundError, ConnectionRefusedError, BlockingIOError):
+                far.close()
+                await asyncio.sleep(wait)
+                wait = min(2 * wait, 0.05)
+            except OSError:
+                far.close()
+                raise
+        raise ConnectionRefusedError(f"nobody listens at {path} of {provider.moniker}")
+
+    async def _realm(self, it: Instance, client: socket.socket) -> None:
+        """Lines of a program to its own realm, until it opens something."""
+        loop, realm, rest = asyncio.get_running_loop(), Realm(self.runner, it), b""
+        while len(rest) < LONGEST_LINE and (piece := await loop.sock_recv(client, 4096)):
+            rest += piece
+            while b"\n" in rest:
+                line, _, rest = rest.partition(b"\n")
+                lines, opened = await realm.answer(line.decode("ascii", "replace"))
+                await loop.sock_sendall(client, "".join(text + "\n" for text in lines).encode())
+                if opened:
+                    await self._carry(it, line.decode("ascii"), client, opened, realm.manager, rest)
+                    return
+
+    # Directories.
+
+    async def directory(self, manager: Manager, it: Instance, path: str) -> Bound | None:
+        """The directory that a use leads to, decided at the launch; none where it leads nowhere. `Unfit`
+        where its rights can't be kept here."""
+        reply = (await manager.asked.routes.ask(f"route @{it.inc} {path}"))[0]
+        found = OPENED.match(reply)
+        if not found or not found[3]:
+            self.runner.log.event("refused", moniker=it.moniker, path=path, manager=manager.number, why=reply)
+            return None
+        rights = set((found[4] or "").split(","))
+        may_write = bool(rights & WRITES)
+        if not self.runner.settings.coarse_rights and not can_be_kept(rights):
+            raise Unfit(f"the rights {found[4]} at {path} can't be kept here: a directory is read as a "
+                        "whole, or read and written as a whole")
+        provider = self.runner.gate.instance(manager, int(found[3]), found[2])
+        try:
+            descriptor = sandbox.beneath(provider.out, found[1], make=True)
+        except OSError as fault:
+            self.runner.log.event("refused", moniker=it.moniker, path=path, manager=manager.number,
+                                  why=f"{found[1]} of {found[2]}: {fault.strerror}")
+            return None
+        bound = Bound(descriptor, path, may_write)
+        if not may_write and not self.runner.settings.plain:
+            try:
+                bound.layer = self._layer(it, descriptor, path)
+            except (OSError, Unfit):
+                os.close(descriptor)
+                raise
+        return bound
+
+    def _layer(self, it: Instance, descriptor: int, path: str) -> str:
+        """Lays a read-only directory for an instance. Where it is laid."""
+        if not self.runner.lays_layers:
+            raise Unfit(f"the read-only directory at {path} needs a layer, which this system doesn't lay; "
+                        "--plain-directories binds it without one")
+        self.numbers += 1
+        place = str(self.runner.places.layers / str(self.numbers))
+        self.runner.layers.lay(descriptor, place)
+        it.layers.append(place)
+        return place
+
+    async def open_directory(self, it: Instance, path: str) -> None:
+        """Has the provider of a directory started, as an opening does."""
+        reply, manager = await self.opened(it, path)
+        found = OPENED.match(reply)
+        if found:
+            self.runner.log.event("opened", moniker=it.moniker, path=path, manager=manager.number,
+                                  provider=found[2] or "framework", rights=found[4] or "")
+        else:
+            self.runner.log.event("refused", moniker=it.moniker, path=path, manager=manager.number, why=reply)
+
+
+async def _accepted(door: socket.socket) -> socket.socket:
+    """The next connection of a socket."""
+    loop = asyncio.get_running_loop()
+    while True:
+        try:
+            client, _ = door.accept()
+            client.setblocking(False)
+            return client
+        except BlockingIOError:
+            coming = asyncio.Event()
+            loop.add_reader(door.fileno(), coming.set)
+            try:
+                await coming.wait()
+            finally:
+                loop.remove_reader(door.fileno())
+
+
+def can_be_kept(rights: set[str]) -> bool:
+    """Whether a mount says just these rights: to read all, or to read and write all. To execute is never more
+    than to read: what can be read can be copied and run."""
+    told = rights - {"execute"}
+    return told in (READING, READING | WRITING)
+
+
+def _connect_beneath(far: socket.socket, provider: Instance, path: str) -> None:
+    """Connects to a provider's socket, without following a link."""
+    place = sandbox.beneath(provider.out, path, last=0)
+    try:
+        if not sandbox.is_socket(place):
+            raise PermissionError(1, f"{path} of {provider.moniker} is no socket")
+        far.connect(f"/proc/self/fd/{place}")
+    finally:
+        os.close(place)
+
+
+async def _between(reader: asyncio.StreamReader, writer: asyncio.StreamWriter,
+                   far_reader: asyncio.StreamReader, far_writer: asyncio.StreamWriter) -> None:
+    """Hands bytes on, both ways, until both ends have said all."""
+    async def hand_on(source: asyncio.StreamReader, sink: asyncio.StreamWriter) -> None:
+        while piece := await source.read(PIECE):
+            sink.write(piece)
+            await sink.drain()
+        sink.write_eof()
+
+    await asyncio.gather(hand_on(reader, far_writer), hand_on(far_reader, writer))

@@ -1,0 +1,218 @@
+"""The log of a host: JSON lines that outlive it, and lines for a person."""
+
+from __future__ import annotations
+
+import hashlib
+import json
+import os
+import sys
+import time
+from pathlib import Path
+from typing import Any, Callable, TextIO
+
+# A file of events that has grown so far is put aside, and so many of these are kept.
+LARGEST_LOG = 32 << 20
+KEPT_LOGS = 4
+EVENTS = "events.jsonl"
+PLAIN = ("at", "event", "moniker", "manager")
+
+
+class Room:
+    """How many lines may still be shown: so many at once, and so many a second."""
+
+    def __init__(self, a_second: int) -> None:
+        self.a_second = a_second
+        self.room, self.since, self.left_out = float(a_second), time.monotonic(), 0
+
+    def take(self) -> bool:
+        """Takes the room of one line, if there is any; else counts it as left out."""
+        now = time.monotonic()
+        self.room, self.since = min(self.a_second, self.room + self.a_second * (now - self.since)), now
+        if self.room < 1:
+            self.left_out += 1
+            return False
+        self.room -= 1
+        return True
+
+    def missed(self) -> int:
+        """How many were left out since it was asked last."""
+        missed, self.left_out = self.left_out, 0
+        return missed
+
+
+class Log:
+    """Writes each event as a JSON line before it is answered, and shows it.
+
+    `snapshot` gives the events that say what runs, with which each further file begins.
+    """
+
+    def __init__(self, folder: Path, screen: TextIO = sys.stdout, quiet: bool = False) -> None:
+        folder.mkdir(mode=0o700, parents=True, exist_ok=True)
+        self.folder, self.screen, self.quiet = folder, screen, quiet
+        self.snapshot: Callable[[], list[dict[str, Any]]] = list
+        self.is_full = False
+        self.rooms = {word: Room(50) for word in ("opened", "refused", "broken")}
+        self._open()
+
+    def event(self, word: str, **fields: Any) -> bool:
+        """Writes and shows an event. False where it can't be written."""
+        line = {"at": round(time.time(), 6), "event": word, **fields}
+        written = self._write(line)
+        room = self.rooms.get(word)
+        if room is None or room.take():
+            missed = room.missed() if room is not None else 0
+            self.show(told(line) + (f" (and {missed} {word} before, which the log has)" if missed else ""))
+        return written
+
+    def note(self, word: str, **fields: Any) -> bool:
+        """Writes an event, and doesn't show it."""
+        return self._write({"at": round(time.time(), 6), "event": word, **fields})
+
+    def show(self, text: str) -> None:
+        """Shows a line to the person who looks on, if any still does."""
+        if self.quiet:
+            return
+        try:
+            self.screen.write(text + "\n")
+            self.screen.flush()
+        except (OSError, ValueError):
+            self.quiet = True
+
+    def _open(self) -> None:
+        how = os.O_WRONLY | os.O_APPEND | os.O_CREAT | os.O_CLOEXEC
+        self.file = os.open(self.folder / EVENTS, how, 0o600)
+        self.size = os.fstat(self.file).st_size
+
+    def _write(self, line: dict[str, Any]) -> bool:
+        data = json.dumps(line, separators=(",", ":")).encode() + b"\n"
+        try:
+            if self.size > LARGEST_LOG:
+                self._turn()
+            done = os.write(self.file, data)
+            if done < len(data):
+                os.write(self.file, b"\n")
+                raise OSError(28, "No space left on device")
+            self.size += done
+            self.is_full = False
+            return True
+        except OSError as fault:
+            if not self.is_full:
+                self.is_full = True
+                self.show(f"host: the log can't be written: {fault.strerror}; nothing is launched or opened")
+            return False
+
+    def _turn(self) -> None:
+        """Puts the file aside, and begins another with what runs."""
+        base = self.folder / EVENTS
+        for number in range(KEPT_LOGS - 1, 0, -1):
+            older = base.with_suffix(f".{number}.jsonl")
+            if older.exists():
+                older.replace(base.with_suffix(f".{number + 1}.jsonl"))
+        base.replace(base.with_suffix(".1.jsonl"))
+        os.close(self.file)
+        self._open()
+        for line in self.snapshot():
+            self._write({"at": round(time.time(), 6), **line})
+
+
+def told(line: dict[str, Any]) -> str:
+    """An event as a line for a person: a word, whose it is, and what else it says."""
+    form = FORMS.get(str(line["event"]))
+    if form is None:
+        rest = " ".join(f"{key} {value}" for key, value in line.items() if key not in PLAIN)
+        return f"{line['event']:9} {line.get('moniker', '')} {rest}".rstrip()
+    word, rest = form(line)
+    return f"{word:9} {line.get('moniker', '')}{rest}"
+
+
+def _launch(line: dict[str, Any]) -> tuple[str, str]:
+    if line["answer"] == "running":
+        return "started", f" in {line['ms']} ms"
+    return line["answer"], f": {line.get('why', '')}"
+
+
+def _halt(line: dict[str, Any]) -> tuple[str, str]:
+    return line["answer"], f" behind {line['ms']} ms"
+
+
+def _exited(line: dict[str, Any]) -> tuple[str, str]:
+    pause = line.get("again_behind_s")
+    again = f"; it can start again in {pause} s" if pause else ""
+    return "exited", f" with status {line['status']}{again}"
+
+
+def _opened(line: dict[str, Any]) -> tuple[str, str]:
+    rights = f" with {line['rights']}" if line.get("rights") else ""
+    return "opened", f" {line['path']} at {line['provider']}{rights}"
+
+
+def _refused(line: dict[str, Any]) -> tuple[str, str]:
+    why = str(line["why"]).removeprefix("refused").lstrip(": ")
+    return "refused", f" {line['path']}: {why}"
+
+
+def _broken(line: dict[str, Any]) -> tuple[str, str]:
+    return "broken", f" {line['path']}: {line['why']}"
+
+
+FORMS: dict[str, Callable[[dict[str, Any]], tuple[str, str]]] = {
+    "launch": _launch, "halt": _halt, "exited": _exited, "opened": _opened, "refused": _refused,
+    "broken": _broken,
+}
+
+
+class Said:
+    """What one instance prints: in a file that is kept, of which at most two times `LARGEST` stands.
+
+    A person is shown at most `A_SECOND` lines of it in a second.
+    """
+
+    LARGEST = 4 << 20
+    A_SECOND = 50
+
+    def __init__(self, log: Log, moniker: str) -> None:
+        self.log, self.moniker, self.place = log, moniker, place_of(log.folder, moniker)
+        self.room = Room(self.A_SECOND)
+        self.behind = b""
+
+    def take(self, piece: bytes) -> None:
+        """Keeps and shows a piece. A line that isn't ended yet waits, up to 4,096 bytes of it."""
+        self._keep(piece)
+        *lines, self.behind = (self.behind + piece).split(b"\n")
+        if len(self.behind) > 4096:
+            lines.append(self.behind)
+            self.behind = b""
+        for line in lines:
+            self._show(line.decode(errors="replace"))
+
+    def end(self) -> None:
+        """Shows what stands behind the last line end."""
+        if self.behind:
+            self._show(self.behind.decode(errors="replace"))
+            self.behind = b""
+
+    def _keep(self, piece: bytes) -> None:
+        try:
+            if self.place.exists() and self.place.stat().st_size > self.LARGEST:
+                self.place.replace(self.place.with_suffix(".1"))
+            with open(self.place, "ab") as file:
+                file.write(piece)
+        except OSError:
+            # A full disk: what a program prints is the first to be left out.
+            pass
+
+    def _show(self, line: str) -> None:
+        if not self.room.take():
+            return
+        missed = self.room.missed()
+        if missed:
+            self.log.show(f"said      {self.moniker} .. and {missed} lines before, which the log has")
+        self.log.show(f"said      {self.moniker} | {line[:500]}")
+
+
+def place_of(folder: Path, moniker: str) -> Path:
+    """The file of what an instance prints; its name is the moniker's, as far as a file may be named so."""
+    name = moniker.replace("/", "%2F") if moniker != "." else "root"
+    if len(name) > 200:
+        name = f"{name[:160]}-{hashlib.sha256(moniker.encode()).hexdigest()[:16]}"
+    return folder / f"said-{name}.log"

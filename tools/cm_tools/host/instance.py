@@ -1,0 +1,70 @@
+"""An instance whose program was started at least once, or into which a directory leads."""
+
+from __future__ import annotations
+
+import asyncio
+import time
+from pathlib import Path
+from typing import TYPE_CHECKING, Any, Coroutine
+
+if TYPE_CHECKING:
+    from cm_tools.host.manager import Manager
+    from cm_tools.host.sandbox import Process
+
+# A program that ran so long, in seconds, counts as one that had not crashed before.
+SOUND = 10.0
+FIRST_PAUSE, LONGEST_PAUSE = 0.2, 10.0
+
+
+class Instance:
+    """An instance by a number of the runner's own; its folder outlives its program.
+
+    `manager` is the one that knows it by the incarnation `inc`, and `counted` the one that counts on its
+    program. It is `gone` where it was destroyed: another one may have its moniker by then.
+    """
+
+    def __init__(self, key: int, moniker: str, folder: Path) -> None:
+        self.key, self.moniker, self.folder = key, moniker, folder
+        self.inc: int | None = None
+        self.manager: Manager | None = None
+        self.counted: Manager | None = None
+        self.url, self.digest = "", b""
+        self.gone = self.stopping = self.notify = False
+        self.out = folder / "out"
+        # Where a program listens for what it provides below /svc.
+        (self.out / "svc").mkdir(parents=True, exist_ok=True)
+        self.process: Process | None = None
+        self.starts = 0
+        self.since = 0.0
+        self.tasks: set[asyncio.Future[Any]] = set()
+        self.ends: asyncio.Future[None] | None = None
+        self.crashes, self.due = 0, 0.0
+        # Where read-only directories are laid for it.
+        self.layers: list[str] = []
+        # What its uses hold open: path and provider.
+        self.open: dict[int, tuple[str, str]] = {}
+
+    def lives(self) -> bool:
+        """Whether its program runs, and nobody has begun to stop it."""
+        return bool(self.process and self.ends and not self.stopping)
+
+    def task(self, work: Coroutine[Any, Any, Any]) -> asyncio.Future[Any]:
+        """Begins something that ends with the program."""
+        task = asyncio.ensure_future(work)
+        self.tasks.add(task)
+        task.add_done_callback(self.tasks.discard)
+        return task
+
+    def part(self) -> None:
+        """Ends all that goes on for it: its connections, and the sockets of its uses."""
+        for task in list(self.tasks):
+            task.cancel()
+
+    def note_crash(self) -> float:
+        """Its program ended by itself. How long the next start has to wait, in seconds: a first one not at
+        all, one that comes again and again up to ten."""
+        now = time.monotonic()
+        self.crashes = 1 if now - self.since > SOUND else self.crashes + 1
+        pause = min(LONGEST_PAUSE, FIRST_PAUSE * 2 ** (self.crashes - 2)) if self.crashes > 1 else 0.0
+        self.due = now + pause
+        return pause

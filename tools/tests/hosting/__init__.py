@@ -1,0 +1,1 @@
+"""Runs of a whole host, which `.ci/host.py` starts."""

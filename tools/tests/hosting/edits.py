@@ -1,0 +1,68 @@
+"""Changes of a host's sources, each of which takes one defence away. The attack has to come through then."""
+
+from __future__ import annotations
+
+import shutil
+from pathlib import Path
+
+from tests.hosting.trial import TOOLS
+
+# What is replaced by what in which file, and the try of the intruder that comes through.
+FOLLOWS = [
+    ("sandbox.py", "os.O_PATH | os.O_NOFOLLOW | os.O_CLOEXEC | kind", "os.O_PATH | os.O_CLOEXEC | kind")]
+EDITS: dict[str, tuple[list[tuple[str, str, str]], str]] = {
+    "a refusal is taken for an opening": (
+        [("doors.py", 'if not reply.startswith("opened "):',
+          'if reply.startswith("refused 87"):\n'
+          '                    await manager.asked.consoles.ask("start logger")\n'
+          '                    reply = "opened /svc/demo.LogSink at logger incarnation 1"\n'
+          '                if not reply.startswith("opened "):')], "LogSink, which isn't offered"),
+    "links are followed to a socket": (FOLLOWS, "a friend's link to the manager"),
+    "links are followed to a folder": (FOLLOWS, "a friend's link to the host's root"),
+    "no layer over read-only folders": (
+        [("doors.py", "if not may_write and not self.runner.settings.plain:", "if False:")],
+        "a friend's socket in a read-only folder"),
+    "read-only folders are bound for writing": (
+        [("doors.py", "may_write = bool(rights & WRITES)", "may_write = True")],
+        "write to a read-only folder"),
+    "the network is shared": (
+        [("sandbox.py", '"--unshare-all",', '"--unshare-all", "--share-net",')], "interfaces"),
+    "processes are shared": (
+        [("sandbox.py", '"--unshare-all", "--unshare-user",',
+          '"--unshare-user", "--unshare-ipc", "--unshare-net", "--unshare-uts",')], "processes"),
+    "user namespaces may be made": (
+        [("sandbox.py", '"--disable-userns",', ""), ("sandbox.py", "if filter_at is not None:\n        told",
+                                                     "if False:\n        told")], "a user namespace"),
+    "the root can be written": (
+        [("sandbox.py", '["--remount-ro", "/", "--chdir"', '["--chdir"')], "write to the root"),
+    "the package can be written": (
+        [("sandbox.py", '"--ro-bind", str(program.package)', '"--bind", str(program.package)')],
+        "write to /pkg"),
+    "no filter of system calls": (
+        [("sandbox.py", "if filter_at is not None:\n        told", "if False:\n        told")],
+        "a ring of the kernel"),
+    "more processes": ([("sandbox.py", '"--nproc=64"', '"--nproc=200"')], "processes of a bomb"),
+    "files of any size": (
+        [("sandbox.py", "--fsize=67108864", "--fsize=unlimited")], "64 MB and more into /out"),
+    "temporary files of any size": (
+        [("sandbox.py", '"--size", TEMPORARY,', "")], "64 MB into its own memory"),
+    "a descriptor is left open": (
+        [("sandbox.py", "passed.append(filter_at)", "passed += [filter_at, os.open('/', os.O_RDONLY)]")],
+        "descriptors"),
+    "the host's files are shown": (
+        [("sandbox.py", '"--ro-bind", "/usr", "/usr", "--symlink"',
+          '"--ro-bind", "/usr", "/usr", "--ro-bind", "/etc", "/etc", "--symlink"')], "the host's files"),
+}
+
+
+def changed(base: Path, name: str) -> Path:
+    """A copy of the tools with one of these changes."""
+    tools = base / "tools"
+    shutil.copytree(TOOLS, tools, ignore=shutil.ignore_patterns("tests", "__pycache__"))
+    for file, old, new in EDITS[name][0]:
+        place = tools / "cm_tools/host" / file
+        text = place.read_text()
+        if text.count(old) != 1:
+            raise AssertionError(f"{name}: {file} has {text.count(old)} times what is to be changed")
+        place.write_text(text.replace(old, new))
+    return tools

@@ -1,0 +1,56 @@
+"""The example, run for real."""
+
+from __future__ import annotations
+
+import unittest
+
+from tests.hosting.trial import Host, folder, lay
+
+
+class Demo(unittest.TestCase):
+    """The product from its start to its shutdown."""
+
+    def setUp(self) -> None:
+        self.base = folder()
+        self.host = Host(lay(self.base), run=self.base / "r")
+        self.addCleanup(self.host.remove)
+
+    def order(self, *lines: str) -> None:
+        """Lines of the screen stand in this order."""
+        text = self.host.text()
+        places = [text.rindex(line) for line in lines]
+        self.assertEqual(places, sorted(places), lines)
+
+    def test_demo(self) -> None:
+        """a product runs: providers start by a connect, crash and come back; children come and go"""
+        host = self.host
+        host.wait(r"said      browser \| .*line 1 of the log")
+        host.ask("start client")
+        host.wait(r"said      client \| next line has number")
+        self.assertEqual(len([one for one in host.events("launch") if one["moniker"] == "logger"]), 2)
+        host.ask("start reader")
+        host.wait(r"said      reader \| .*Read-only|reader \| : Read-only")
+        self.assertIn("written by client", host.said("reader"))
+        host.ask("start shell")
+        host.wait(r"said      shell \| shutdown @0 ->")
+        self.assertIn("destroy tasks:one -> destroyed tasks:one", host.said("shell"))
+        self.assertIn("the connection to the job is closed", host.said("shell"))
+        self.assertIn("show . -> refused bad-command", host.said("shell"))
+        self.assertIn("destroy tasks:one -> refused not-found", host.said("shell"))
+        self.assertEqual(host.ask("create . jobs j fuchsia-pkg://demo/client#meta/client.cm", "start jobs:j",
+                                  "destroy jobs:j", "start jobs:j")[2:], ["destroyed jobs:j",
+                                                                         "refused 80 not-found in ."])
+        self.assertEqual(host.end(), 0)
+        self.assertEqual(host.left(), [])
+        self.order("stopped   client", "stopped   logger")
+        self.order("stopped   client", "stopped   store")
+        self.order("killed    reader", "stopped   store")
+        self.assertIn("last words", host.said("client"))
+        running = {}
+        for event in host.events():
+            if event["event"] == "launch" and event["answer"] == "running":
+                running[event["instance"]] = event["moniker"]
+            elif event["event"] in ("halt", "exited"):
+                running.pop(event["instance"])
+        self.assertEqual(running, {}, "what the log says that still runs")
+        self.assertFalse((host.run / "tree").exists())

@@ -1,0 +1,71 @@
+"""The commands of docs/HOST.md, in their order, against what it says that they print."""
+
+from __future__ import annotations
+
+import os
+import re
+import shutil
+import subprocess
+import unittest
+
+from tests.hosting.trial import TOOLS, folder, mine
+
+DOCUMENT = TOOLS.parent / "docs/HOST.md"
+# A command that runs longer than that, in seconds, hangs.
+PATIENCE = 120
+
+
+def commands(text: str) -> list[tuple[str, list[str]]]:
+    """Each command of the fenced blocks, with the lines that it is said to print."""
+    found: list[tuple[str, list[str]]] = []
+    for block in re.findall(r"^```console\n(.*?)^```", text, re.M | re.S):
+        for line in block.splitlines():
+            if line.startswith("$ "):
+                found.append((line[2:], []))
+            else:
+                found[-1][1].append(line)
+    return found
+
+
+def fits(wanted: list[str], lines: list[str]) -> bool:
+    """Whether lines are as they are said: `...` stands for any text, and as a line for any lines."""
+    text = "".join(r"(?:.*\n)*" if line == "..." else re.escape(line).replace(re.escape("..."), ".*") + "\n"
+                   for line in wanted)
+    return re.fullmatch(text, "".join(line + "\n" for line in lines)) is not None
+
+
+class Document(unittest.TestCase):
+    """A reader who follows the page."""
+
+    def test_document(self) -> None:
+        """each command of docs/HOST.md does what the page says"""
+        base = folder()
+        self.addCleanup(shutil.rmtree, base, True)
+        for name in "tools", "examples", "docs":
+            (base / name).symlink_to(TOOLS.parent / name)
+        shell = subprocess.Popen(["bash"], stdin=subprocess.PIPE, stdout=subprocess.PIPE, text=True, cwd=base,
+                                 stderr=subprocess.STDOUT, env={**os.environ, "DIR": str(base / "r")})
+        self.addCleanup(self.stop, shell)
+        assert shell.stdin is not None and shell.stdout is not None
+        for command, wanted in commands(DOCUMENT.read_text("utf-8")):
+            shell.stdin.write(f"{command}\necho '== end'\n")
+            shell.stdin.flush()
+            lines = []
+            while (line := shell.stdout.readline()) not in ("== end\n", ""):
+                lines.append(line.rstrip("\n"))
+            self.assertTrue(fits(wanted, lines), f"{command}\nis said to print {wanted}\nand prints {lines}")
+        shell.stdin.close()
+        self.assertEqual(shell.wait(PATIENCE), 0)
+        self.assertEqual(mine(str(base)), [])
+
+    def stop(self, shell: subprocess.Popen[str]) -> None:
+        """Ends what a command that failed has left."""
+        if shell.stdin is not None and not shell.stdin.closed:
+            shell.stdin.close()
+        if shell.stdout is not None:
+            shell.stdout.close()
+        try:
+            shell.wait(1)
+        except subprocess.TimeoutExpired:
+            shell.kill()
+            shell.wait()

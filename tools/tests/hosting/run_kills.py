@@ -1,0 +1,85 @@
+"""Hosts whose parts are killed: nothing is left, and what is remembered comes back."""
+
+from __future__ import annotations
+
+import os
+import re
+import signal
+import unittest
+
+from tests.hosting.trial import Host, folder, lay
+
+
+class Kills(unittest.TestCase):
+    """KILL to the manager, to the runner, and to what stands in front."""
+
+    def setUp(self) -> None:
+        self.base = folder()
+        self.host = Host(lay(self.base), run=self.base / "r")
+        self.addCleanup(self.host.remove)
+        self.host.ask("start client")
+        self.host.wait(r"said      client \| next line has number")
+
+    def test_manager(self) -> None:
+        """a manager that is killed is followed by another, and no program is started again"""
+        host = self.host
+        before = sorted(host.sandboxes())
+        running = host.on()
+        os.kill(host.manager_pids()[0], signal.SIGKILL)
+        host.wait(r"^replaced ")
+        self.assertEqual(host.on(), running)
+        self.assertEqual(sorted(host.sandboxes()), before)
+        self.assertEqual(host.end(), 0)
+        self.assertEqual(host.left(), [])
+
+    def test_hanging_manager(self) -> None:
+        """a manager that hangs is noticed, and followed by another"""
+        host = self.host
+        before = sorted(host.sandboxes())
+        hanging = host.manager_pids()[0]
+        os.kill(hanging, signal.SIGSTOP)
+        host.wait(r"^replaced .*hangs")
+        self.assertEqual(sorted(host.sandboxes()), before)
+        self.assertNotIn(hanging, host.manager_pids())
+        self.assertEqual(host.end(), 0)
+        self.assertEqual(host.left(), [])
+
+    def test_runner(self) -> None:
+        """a runner that is killed leaves nothing, and another one comes back to the same tree"""
+        host = self.host
+        host.ask("create . jobs kept fuchsia-pkg://demo/store#meta/store.cm", "start jobs:kept",
+                 "create . jobs idle fuchsia-pkg://demo/client#meta/client.cm",
+                 "create . jobs gone fuchsia-pkg://demo/client#meta/client.cm", "destroy jobs:gone",
+                 "shutdown reader", "stop browser")
+        running, before = host.on(), host.sandboxes()
+        os.kill(host.runner_pid(), signal.SIGKILL)
+        host.wait(r"^resumed ")
+        self.assertFalse(set(before) & set(host.below()), "programs of the killed runner")
+        self.assertEqual(host.on(), running)
+        rows = host.ask("survey .")[0]
+        self.assertIn("jobs:idle", rows)
+        self.assertNotIn("jobs:gone", rows)
+        self.assertIn("refused 82", host.ask("start reader")[0])
+        self.assertEqual(host.end(), 0)
+        self.assertEqual(host.left(), [])
+
+    def test_front(self) -> None:
+        """a host that is killed leaves nothing but its log, which tells what ran, and the next one resumes"""
+        host = self.host
+        running = host.on()
+        host.kill()
+        self.assertEqual(host.left(), [])
+        on: dict[int, str] = {}
+        for event in host.events():
+            if event["event"] == "launch" and event["answer"] == "running":
+                on[event["instance"]] = event["moniker"]
+            elif event["event"] in ("halt", "exited"):
+                on.pop(event["instance"], None)
+        self.assertEqual(sorted(on.values()), running)
+        # In the place of the killed one its tree is resumed.
+        again = Host(self.base / "repo", run=self.base / "r")
+        self.addCleanup(again.remove)
+        self.assertTrue(re.search("^resumed ", again.text(), re.M), again.text())
+        self.assertEqual(again.on(), running)
+        self.assertEqual(again.end(), 0)
+        self.assertEqual(again.left(), [])

@@ -1,0 +1,233 @@
+"""What the runs of a host share: a folder of packages, a host in a process of its own, and what it left."""
+
+from __future__ import annotations
+
+import json
+import os
+import re
+import shutil
+import signal
+import socket
+import subprocess
+import sys
+import tempfile
+import time
+from pathlib import Path
+from typing import Any, Callable
+
+TOOLS = Path(__file__).resolve().parent.parent.parent
+EXAMPLE = TOOLS.parent / "examples/host"
+ROOT = "fuchsia-pkg://demo/root#meta/root.cm"
+# All waits are that patient, in seconds: other work may fill the machine.
+PATIENCE = 240.0
+
+
+def program() -> str:
+    """The component manager that the runs take."""
+    return os.environ["COMPONENT_MANAGER"]
+
+
+def folder() -> Path:
+    """A new folder with a short path, for this user alone."""
+    return Path(tempfile.mkdtemp(prefix="host-"))
+
+
+def package(repo: Path, name: str, manifest: str, script: str = "", host: str = "t") -> str:
+    """Writes a package of one manifest and one program, `bin/x`. Its URL."""
+    place = repo / host / name
+    (place / "meta").mkdir(parents=True, exist_ok=True)
+    (place / "bin").mkdir(exist_ok=True)
+    (place / "meta" / f"{name}.cm").write_text(manifest)
+    if script:
+        (place / "bin/x").write_text(script)
+        (place / "bin/x").chmod(0o755)
+    return f"fuchsia-pkg://{host}/{name}#meta/{name}.cm"
+
+
+def root_of(repo: Path, *names: str, more: str = "", host: str = "t") -> str:
+    """Writes a root with these packages as its children. Its URL."""
+    rows = [f'{{name:"{name}",url:"fuchsia-pkg://{host}/{name}#meta/{name}.cm"}}' for name in names]
+    children = ",".join(rows)
+    return package(repo, "root", f"{{children:[{children}]{more}}}", host=host)
+
+
+def lay(base: Path) -> Path:
+    """A copy of the example, in which the intruder is told where the manager's sockets are."""
+    repo = base / "repo"
+    shutil.copytree(EXAMPLE, repo)
+    for manifest in repo.glob("demo/*/meta/*.cm"):
+        text = manifest.read_text()
+        if "HOST_SOCKET" in text:
+            manifest.chmod(0o644)
+            sockets = f'"{base}/r/cm"'
+            if "intruder" in manifest.name:
+                sockets += f', "{base}/r/live/m1/manager"'
+            manifest.write_text(text.replace('"HOST_SOCKET"', sockets))
+    return repo
+
+
+class Host:
+    """A host that runs, with the folder that it keeps."""
+
+    def __init__(self, repo: Path, root: str = ROOT, run: Path | None = None, options: tuple[str, ...] = (),
+                 tools: Path = TOOLS, environment: dict[str, str] | None = None, waits: bool = True,
+                 before: tuple[str, ...] = ()) -> None:
+        self.base = run.parent if run else folder()
+        self.run = run or self.base / "r"
+        self.screen = self.base / f"screen-{time.monotonic_ns()}"
+        words = [*before, sys.executable, str(tools / "host"), str(repo), root, "--run", str(self.run),
+                 *options]
+        with open(self.screen, "wb") as out:
+            self.process = subprocess.Popen(
+                words, stdout=out, stderr=subprocess.STDOUT, stdin=subprocess.DEVNULL,
+                env={**os.environ, **(environment or {})}, start_new_session=True)
+        if waits:
+            self.wait(r"^(root|resumed) ")
+
+    def text(self) -> str:
+        """What it showed so far."""
+        return self.screen.read_text(errors="replace")
+
+    def events(self, word: str = "") -> list[dict[str, Any]]:
+        """Its log so far, or the events of one word."""
+        found = []
+        for line in (self.run / "log/events.jsonl").read_text().splitlines():
+            event = json.loads(line)
+            if word in ("", event["event"]):
+                found.append(event)
+        return found
+
+    def said(self, moniker: str) -> str:
+        """What an instance printed."""
+        place = self.run / "log" / f"said-{moniker.replace('/', '%2F')}.log"
+        return place.read_text(errors="replace") if place.exists() else ""
+
+    def wait(self, pattern: str, times: int = 1, seconds: float = PATIENCE) -> None:
+        """Waits for so many such lines on its screen."""
+        self.wait_until(lambda: len(re.findall(pattern, self.text(), re.M)) >= times,
+                        f"{pattern!r} on the screen", seconds)
+
+    def wait_until(self, holds: Callable[[], bool], what: str, seconds: float = PATIENCE) -> None:
+        """Waits until something holds."""
+        until = time.monotonic() + seconds
+        while not holds():
+            if time.monotonic() > until or self.process.poll() is not None and not holds():
+                raise AssertionError(f"no {what}; its screen:\n{self.text()[-3000:]}")
+            time.sleep(0.02)
+
+    def ask(self, *lines: str) -> list[str]:
+        """The replies to commands, each with its further lines."""
+        with socket.socket(socket.AF_UNIX) as link:
+            link.settimeout(PATIENCE)
+            link.connect(str(self.run / "cm"))
+            link.sendall("".join(line + "\n" for line in (*lines, "quit")).encode())
+            text = link.makefile().read()
+        return [one for one in re.split(r"\n(?! )", text) if one]
+
+    def on(self) -> list[str]:
+        """The monikers that the manager counts as on, but for the root."""
+        rows = self.ask("survey .")[0].split("\n")[1:]
+        return sorted(row.split()[0] for row in rows if row.split()[4] == "on" and row.split()[0] != ".")
+
+    def own(self, words: str) -> Any:
+        """What the runner itself answers."""
+        with socket.socket(socket.AF_UNIX) as link:
+            link.settimeout(PATIENCE)
+            link.connect(str(self.run / "host"))
+            link.sendall(words.encode() + b"\n")
+            return json.loads(link.makefile().readline())
+
+    def below(self) -> list[int]:
+        """All processes below it."""
+        return below(self.process.pid)
+
+    def find(self, *words: str) -> list[int]:
+        """The processes below it whose command line has all these words."""
+        return [pid for pid in self.below() if set(words) <= set(cmdline(pid))]
+
+    def manager_pids(self) -> list[int]:
+        """The processes of managers."""
+        return [pid for pid in self.below() if cmdline(pid)[1:2] == ["serve"]]
+
+    def runner_pid(self) -> int:
+        """The process of the runner."""
+        return next(pid for pid in self.below() if cmdline(pid)[1:3] == ["-m", "cm_tools.host.runner"])
+
+    def sandboxes(self) -> list[int]:
+        """The processes in sandboxes, bwrap's own among them; each sandbox has two or more."""
+        return [pid for pid in self.below() if any("bwrap" in word for word in cmdline(pid)[:1])]
+
+    def end(self, seconds: float = PATIENCE) -> int:
+        """Ends it in order. Its status."""
+        if self.process.poll() is None:
+            self.process.send_signal(signal.SIGINT)
+        try:
+            return self.process.wait(seconds)
+        except subprocess.TimeoutExpired:
+            self.kill()
+            raise AssertionError(f"it doesn't end; its screen:\n{self.text()[-3000:]}") from None
+
+    def kill(self) -> None:
+        """Ends it by force, with all below it."""
+        self.process.kill()
+        self.process.wait()
+
+    def left(self) -> list[str]:
+        """What it left behind that it shouldn't: processes, mounts, sockets."""
+        found = []
+        for _ in range(250):
+            found = [f"process {pid} {' '.join(cmdline(pid))[:80]}" for pid in mine(str(self.base))]
+            if not found:
+                break
+            time.sleep(0.02)
+        if str(self.run) in Path("/proc/self/mountinfo").read_text():
+            found.append("a mount")
+        return found
+
+    def remove(self) -> None:
+        """Ends it if it still runs, and removes its folder."""
+        if self.process.poll() is None:
+            self.kill()
+        shutil.rmtree(self.base, ignore_errors=True)
+
+
+def cmdline(pid: int) -> list[str]:
+    """The words of a process; none where it has ended."""
+    try:
+        return Path(f"/proc/{pid}/cmdline").read_bytes().decode(errors="replace").split("\0")[:-1]
+    except OSError:
+        return []
+
+
+def below(top: int) -> list[int]:
+    """All processes below one."""
+    parents: dict[int, list[int]] = {}
+    for entry in Path("/proc").iterdir():
+        if entry.name.isdigit():
+            try:
+                rest = (entry / "stat").read_text().rpartition(")")[2].split()
+            except OSError:
+                continue
+            if rest[0] != "Z":
+                parents.setdefault(int(rest[1]), []).append(int(entry.name))
+    found, more = [], [top]
+    while more:
+        for pid in parents.get(more.pop(), []):
+            found.append(pid)
+            more.append(pid)
+    return found
+
+
+def mine(base: str) -> list[int]:
+    """Processes of this user that have this folder in a word of theirs."""
+    found = []
+    for entry in Path("/proc").iterdir():
+        if entry.name.isdigit() and int(entry.name) != os.getpid():
+            try:
+                if entry.stat().st_uid != os.getuid() or "State:\tZ" in (entry / "status").read_text():
+                    continue
+            except OSError:
+                continue
+            if any(base in word for word in cmdline(int(entry.name))):
+                found.append(int(entry.name))
+    return found

@@ -1,0 +1,240 @@
+"""Tests of what `explain` advises, of transcripts, and of its walk along routes beside the program's."""
+
+from __future__ import annotations
+
+import os
+import random
+import re
+import subprocess
+import tempfile
+import unittest
+from pathlib import Path
+
+from cm_tools.curing import FORMS
+from cm_tools.said import Refusal, read_said
+from cm_tools.scripts import Sketch, read_script
+from cm_tools.tracing import trace
+from tests.support import ROOT, SECONDS, run
+from tests.test_session import Server
+
+# A manifest, what the program says of it, and what is advised.
+MANIFESTS = [
+    ("{children:[{name:'client',url:'#c'}],offer:[{protocol:'p',from:'parent',to:'#cliemt'}]}",
+     "invalid 51 offer 0", "Did you mean #client?"),
+    ("{offer:[{protocol:'p',from:'#loger',to:'#a'}],children:[{name:'logger',url:'#l'},{name:'a',url:'#a'}]}",
+     "invalid 51 offer 0", "Did you mean #logger?"),
+    ("{capabilities:[{protocol:'a.Log'}],expose:[{protocol:'a.Lag',from:'self'}]}",
+     "invalid 52 expose 0", "Did you mean a.Log?"),
+    ("{use:[{protocol:'p',dependancy:'weak'}]}", "invalid 33 use 0 dependancy", "Did you mean dependency?"),
+    ("{capabilites:[]}", "invalid 33 manifest 0 capabilites", "Did you mean capabilities?"),
+    ("{include:['a.shard.cml']}", "invalid 33 manifest 0 include", "`tools/merge`"),
+    ("{use:[{service:'s'}]}", "invalid 40 use 0", "It has a service, which isn't read here"),
+    ("{use:[{dictionary:'d'}]}", "invalid 40 use 0", "`tools/merge --without dictionary`"),
+    ("{config:{}}", "invalid 33 manifest 0 config", "--without config`"),
+    ("{use:[{protocol:'p',from:'parent/d'}]}", "invalid 39 use 0 from", "a source within a dictionary"),
+    ("{use:[{event_stream:'started'}]}", "invalid 40 use 0", "an event stream"),
+    ("{use:[{protocol:'p',path:'svc/p'}]}", "invalid 37 use 0 path", "Did you mean /svc/p?"),
+    ("{use:[{directory:'d',path:'/d',rights:['read_byte']}]}", "invalid 38 use 0 rights", "mean read_bytes"),
+    ("{children:[{name:'a',url:'#a'}],expose:[{protocol:'p',from:'a'}]}", "invalid 39 expose 0 from",
+     "Did you mean #a?"),
+    ("\ufeff{}", "invalid 31 manifest 0", "a byte order mark (BOM)"),
+]
+HEAD = "root fuchsia-pkg://t/a#meta/root.cm\n"
+# A script, what the program says of it, and what is advised.
+SCRIPTS = [
+    (HEAD + "0 rote a /p\n", "line 2: 70 bad-command at 3", "It could have been: route T PATH"),
+    (HEAD + "0 route a\n", "line 2: 70 bad-command at 9", "The form is: 0 route T PATH"),
+    (HEAD + "0 zzz\n", "line 2: 70 bad-command at 2", "The commands are: "),
+    (HEAD + "0 show .\r\n", "line 2: 70 bad-command at 8", "carriage returns (CRLF)"),
+    (HEAD + "0 create . c n #u + protocol p #x + protocol q self\n", "0 refused 63 bad-offer 1 52",
+     "The group 1, counted from 0: + protocol q self\nIt has 52 not-declared"),
+    (HEAD + "0 show .\n0 show a\n", "0 shown . x\n", "it has 2 commands"),
+]
+ROUTED = """manifest fuchsia-pkg://t/a#meta/root.cm
+{children:[{name:'a',url:'#meta/a.cm'},{name:'b',url:'#meta/b.cm'}],
+ offer:[{protocol:['p','q'],from:'#b',to:'#a'},{directory:'d',from:'#b',to:'#a',rights:['r*']}]}
+%%
+manifest fuchsia-pkg://t/a#meta/a.cm
+{use:[{protocol:'pp'},{protocol:'q'},{directory:'d',path:'/d',rights:['rw*']}]}
+%%
+manifest fuchsia-pkg://t/a#meta/b.cm
+{capabilities:[{protocol:'q1'},{directory:'d',path:'/d',rights:['rw*']}],
+ expose:[{protocol:'q1',from:'self'},{directory:'d',from:'self'}]}
+%%
+root fuchsia-pkg://t/a#meta/root.cm
+0 route a /svc/pp
+0 route a /svc/q
+0 route a /d
+"""
+
+
+class CureTests(unittest.TestCase):
+    """What is advised."""
+
+    def explained(self, text: str, said: str) -> tuple[int, str]:
+        with tempfile.TemporaryDirectory() as folder:
+            path = Path(folder, "file")
+            path.write_bytes(text.encode())
+            ran = run("explain", str(path), data=said.encode())
+        self.assertEqual(ran.err, "", said)
+        return ran.status, ran.out
+
+    def test_manifests(self) -> None:
+        """names that are nearly right, paths and rights, and what isn't read here; the status is 1"""
+        for text, said, told in MANIFESTS:
+            status, out = self.explained(text, said)
+            self.assertEqual(status, 1, said)
+            self.assertIn(told, out, said)
+
+    def test_scripts(self) -> None:
+        """commands that are nearly right, carriage returns, the number within 63; another script's replies"""
+        for text, said, told in SCRIPTS:
+            status, out = self.explained(text, said if "shown" not in said else said * 3)
+            self.assertEqual(status, 7 if said.startswith("line ") else 0, said)
+            self.assertIn(told, out, said)
+
+    def test_forms(self) -> None:
+        """the forms of commands are those of the reference"""
+        text = (ROOT / "docs" / "REFERENCE.md").read_text("utf-8")
+        table = text.partition("\n## Commands\n")[2].partition("\n### ")[0]
+        told = re.findall(r"^\| `([^`]+)`", table, re.M)
+        self.assertEqual(sorted(told), sorted(FORMS.values()))
+
+    def test_routes(self) -> None:
+        """the hops with the one that fails, the nearest name there, and the rights that are missing"""
+        said = ("0 refused 87 no-offer at offer .\n0 refused 87 no-expose at expose b\n"
+                "0 refused 87 rights-too-weak at offer .\n")
+        status, out = self.explained(ROUTED, said)
+        self.assertEqual(status, 0)
+        for told in ("The way: use a -> offer . ✗\n", "Did you mean p", "use a -> offer . -> expose b ✗\n",
+                     "Did you mean q1?", "The offer of . lacks modify_directory, update_attributes, write"):
+            self.assertIn(told, out)
+        _, out = self.explained(ROUTED, said.replace("offer .", "offer c", 1))
+        self.assertIn("is ", out)
+        self.assertIn("the script that was run?", out)
+
+    def test_eager_children(self) -> None:
+        """an eager child that failed is told from the journal, with the fault of its manifest"""
+        children = "{children:[{name:'e',url:'#meta/e.cm',startup:'eager'}]}"
+        text = (f"manifest fuchsia-pkg://t/a#meta/root.cm\n{children}\n"
+                "%%\nmanifest fuchsia-pkg://t/a#meta/e.cm\n{use:[7]}\n%%\n" + HEAD + "0 start .\n")
+        declared = '{"children":[{"name":"e","url":"#meta/e.cm","startup":"eager"}],"collections":[]}'
+        journal = [
+            "0 find . => found 0", "0 begin start 0 => need 0", "0 begin resolve 0 => begun 1",
+            f"0 end 1 resolved fuchsia-pkg://t/a#meta/root.cm {declared} => ended resolved",
+            "0 begin start 0 => begun 2", "0 end 2 started => ended started", "0 begin resolve 1 => begun 3",
+            "0 end 3 invalid 35 use 0 => ended invalid 35 use 0",
+        ]
+        lines = [f"{number} {line}" for number, line in enumerate(journal, 1)]
+        said = "\n".join(["0 started . action 2", "journal", HEAD.strip(), *lines]) + "\n"
+        _, out = self.explained(text, said)
+        self.assertIn("the eager child e failed: invalid 35 use 0", out)
+        self.assertIn("35 wrong-type", out)
+
+    def test_lines_with_files(self) -> None:
+        """the lines of check-all, without a file"""
+        path = ROOT / "examples" / "undeclared-child.cml"
+        ran = run("explain", data=f"{path}: invalid 51 offer 0\na.cml: valid\n".encode())
+        self.assertEqual((ran.status, ran.err), (1, ""))
+        self.assertIn("Did you mean #client?", ran.out)
+        self.assertEqual(run("explain", data=b"a.cml: valid\n").status, 0)
+
+    def test_transcript(self) -> None:
+        """a session's transcript has commands and replies with their times, and is explained"""
+        with tempfile.TemporaryDirectory() as folder:
+            path, kept = Path(folder, "s"), Path(folder, "kept")
+            Server(path).start()
+            ran = run("session", "--transcript", str(kept), str(path), "show .", "stop x", "quit")
+            self.assertEqual(ran.status, 1)
+            text = kept.read_text("utf-8")
+            lines = re.sub(r"[0-9]+\.[0-9]{6}", "T", text).split("\n")
+            asked = [line for line in lines if line.startswith("T > ")]
+            self.assertEqual(asked, ["T > show .", "T > stop x", "T > quit"])
+            self.assertEqual(text.count(" < "), 2)
+            ran = run("explain", str(kept))
+            self.assertEqual((ran.status, ran.err), (0, ""))
+            self.assertRegex(ran.out, r"kept:[0-9]:1: 80 not-found in \.\n")
+            self.assertEqual(run("session", "--transcript", folder, str(path), "show .").status, 2)
+            lines = "0.1 > rote a /p\n0.2 < refused 70 bad-command at 1\n"
+            kept.write_text(f"# transcript of a session at s\n{lines}", "utf-8")
+            self.assertIn("It could have been: route T PATH", run("explain", str(kept)).out)
+
+
+def random_script(source: random.Random) -> str:
+    """A script with a route through instances whose offers and exposes are drawn."""
+    monikers = [".", "a", "b", "a/c", "a/d", "b/e"]
+    blocks = []
+    for moniker in monikers:
+        front = "" if moniker == "." else f"{moniker}/"
+        children = [one.removeprefix(front) for one in monikers
+                    if one != moniker and one.startswith(front) and "/" not in one.removeprefix(front)
+                    and one != "."]
+        blocks.append((moniker, _manifest(source, children, moniker == ".")))
+    text = "".join(
+        f"manifest fuchsia-pkg://t/p#meta/{moniker.replace('/', '-')}.cm\n{manifest}\n%%\n"
+        for moniker, manifest in blocks
+    )
+    for moniker in monikers[1:]:
+        name, file = moniker.rpartition("/")[2], moniker.replace("/", "-")
+        text = text.replace(f"url:'{name}'", f"url:'#meta/{file}.cm'")
+    builtin = "builtin protocol p\n" if source.random() < 0.3 else ""
+    client = source.choice(monikers[1:])
+    return f"{text}{builtin}root fuchsia-pkg://t/p#meta/..cm\n0 route {client} /svc/{source.choice('pq')}\n"
+
+
+def _manifest(source: random.Random, children: list[str], is_root: bool) -> str:
+    """A manifest: it uses p and q, may have them, and offers and exposes them from here and there."""
+    def origin(*more: str) -> str:
+        return source.choice([*(f"#{child}" for child in children), "self", *more])
+
+    own = [name for name in "pq" if source.random() < 0.6]
+    offers = []
+    for child in children:
+        for name in "pq":
+            where = origin("parent", "parent")
+            if source.random() < 0.8 and where != f"#{child}":
+                kept = source.choice("pq")
+                if where == "self" and kept not in own:
+                    continue
+                ends = f"to:'#{child}',as:'{name}',dependency:'weak'"
+                offers.append(f"{{protocol:'{kept}',from:'{where}',{ends}}}")
+    exposes = []
+    for name in "pq":
+        where, kept = origin(), source.choice("pq")
+        if source.random() < 0.8 and not is_root and not (where == "self" and kept not in own):
+            exposes.append(f"{{protocol:'{kept}',from:'{where}',as:'{name}'}}")
+    uses = "[]" if is_root else "[{protocol:'p',dependency:'weak'},{protocol:'q',dependency:'weak'}]"
+    listed = ",".join(f"{{name:'{child}',url:'{child}'}}" for child in children)
+    capabilities = ",".join(f"{{protocol:'{name}'}}" for name in own)
+    return (f"{{children:[{listed}],capabilities:[{capabilities}],use:{uses},"
+            f"offer:[{','.join(offers)}],expose:[{','.join(exposes)}]}}")
+
+
+@unittest.skipUnless("COMPONENT_MANAGER" in os.environ, "COMPONENT_MANAGER names no program")
+class WalkTests(unittest.TestCase):
+    """The walk along a route beside the program's."""
+
+    def test_walks(self) -> None:
+        """over 500 made scripts the walk ends at the hop that the program names"""
+        source, kinds = random.Random(7), set()
+        for number in range(500):
+            text = random_script(source)
+            ran = subprocess.run([os.environ["COMPONENT_MANAGER"], "run"], input=text.encode(), check=False,
+                                 timeout=SECONDS, capture_output=True)
+            said = ran.stdout.decode().strip()
+            self.assertEqual(ran.returncode, 0, (number, ran.stderr, text))
+            script = read_script("script", text)
+            command = script.commands[0]
+            stops = [(one.step, one.moniker) for one in trace(Sketch(script), *command.words[1:3])]
+            refusal = read_said(said)
+            kinds.add(said.split(" ")[3] if isinstance(refusal, Refusal) else said.split(" ")[1])
+            if isinstance(refusal, Refusal) and refusal.number == 87:
+                self.assertEqual(stops[-1], (refusal.step, refusal.moniker), (number, said, text))
+            elif not isinstance(refusal, Refusal):
+                hops = said.partition(" through ")[2].split(", ")
+                self.assertEqual([" ".join(stop) for stop in stops], hops, (number, said, text))
+        self.assertLessEqual({"route", "no-offer", "no-expose"}, kinds)
+
+
+if __name__ == "__main__":
+    unittest.main()

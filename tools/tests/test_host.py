@@ -1,0 +1,320 @@
+"""Tests of the parts of `host` that need no sandbox: what it reads, remembers, counts and writes."""
+
+from __future__ import annotations
+
+import io
+import json
+import socket
+import struct
+import tempfile
+import time
+import unittest
+from pathlib import Path
+
+from cm_tools.console import Unusable
+from cm_tools.host import making, programs, seccomp
+from cm_tools.host.doors import OPENED, PUT_OFF, can_be_kept
+from cm_tools.host.events import EVENTS, Log, Said, place_of, told
+from cm_tools.host.gate import removed_sockets
+from cm_tools.host.instance import Instance
+from cm_tools.host.programs import Unfit
+from cm_tools.host.realm import Room
+from cm_tools.host.sessions import Tally
+from cm_tools.host.settings import Settings
+from cm_tools.host.tree import Tree, commands
+
+PARENT = """{ // relaxed
+    children: [ { name: 'a', url: '#meta/a.cm' }, { name: "b", url: "fuchsia-pkg://h/b#meta/b.cm" } ],
+    collections: [ { name: "c", durability: "transient" }, { name: "once", durability: "single_run" } ],
+}"""
+ROOT = "fuchsia-pkg://h/r#meta/r.cm"
+
+
+class InFolder(unittest.TestCase):
+    """With a folder of its own."""
+
+    def setUp(self) -> None:
+        kept = tempfile.TemporaryDirectory()
+        self.addCleanup(kept.cleanup)
+        self.folder = Path(kept.name)
+
+    def put(self, place: str, text: str, mode: int = 0o644) -> None:
+        path = self.folder / place
+        path.parent.mkdir(parents=True, exist_ok=True)
+        path.write_text(text)
+        path.chmod(mode)
+
+
+class Programs(InFolder):
+    """What is read of manifests."""
+
+    def read(self, manifest: str) -> programs.Program:
+        self.put("h/p/meta/p.cm", manifest)
+        return programs.read(self.folder, "fuchsia-pkg://h/p#meta/p.cm")
+
+    def test_read(self) -> None:
+        """host: a program with its words, its environment, its stop and its uses is read"""
+        self.put("h/p/bin/x", "#!/bin/sh\n", 0o755)
+        read = self.read('{program:{runner:"elf",binary:"bin/x",args:["a b"],environ:["K=V=W"],'
+                         'lifecycle:{stop_event:"notify"}},use:[{protocol:["p","q"]},'
+                         '{directory:"d",path:"/d"},{protocol:"r",path:"/svc/s",from:"framework"}]}')
+        self.assertEqual((read.binary, read.args, read.environ, read.notify),
+                         ("bin/x", ("a b",), (("K", "V=W"),), True))
+        self.assertEqual([(use.kind, use.path, use.source) for use in read.uses], [
+            ("protocol", "/svc/p", "parent"), ("protocol", "/svc/q", "parent"),
+            ("directory", "/d", "parent"), ("protocol", "/svc/s", "framework")])
+
+    def test_links(self) -> None:
+        """host: a binary that is a link out of its package is refused"""
+        self.put("h/other", "#!/bin/sh\n", 0o755)
+        (self.folder / "h/p/bin").mkdir(parents=True)
+        (self.folder / "h/p/bin/x").symlink_to("../../other")
+        with self.assertRaisesRegex(Unfit, "leads out of the package"):
+            self.read('{program:{runner:"elf",binary:"bin/x"}}')
+
+    def test_places(self) -> None:
+        """host: a URL names a file below the repository, or none"""
+        for url in ("fuchsia-pkg://h/../x#meta/x.cm", "fuchsia-pkg://h/p", "fuchsia-pkg://h/p#../x",
+                    "fuchsia-pkg:///p#m", "x", "fuchsia-pkg://h//p#m", "http://[x/p#m"):
+            with self.assertRaises(Unfit, msg=url):
+                programs.place_of(self.folder, url)
+
+
+class Remembered(InFolder):
+    """The tree, as a further manager gets it."""
+
+    def tree(self) -> Tree:
+        self.put("h/r/meta/r.cm", PARENT)
+        return Tree(ROOT, str(self.folder), self.folder / "tree")
+
+    def test_commands(self) -> None:
+        """host: children come back in their order, with those that a standing offer names"""
+        tree = self.tree()
+        tree.open()
+        tree.created(".", "c", "gone", "#meta/a.cm", [])
+        tree.created(".", "c", "one", "#meta/a.cm", ["+", "protocol", "p", "#c:gone"])
+        tree.created("c:one", "d", "two", "#meta/a.cm", [])
+        tree.created(".", "c", "alone", "#meta/a.cm", [])
+        tree.destroyed("c:gone")
+        tree.destroyed("c:alone")
+        self.assertEqual(commands(tree.needed()), [
+            "create . c gone #meta/a.cm", "create . c one #meta/a.cm + protocol p #c:gone",
+            "create c:one d two #meta/a.cm", "destroy c:gone"])
+
+    def test_resumed(self) -> None:
+        """host: what is remembered is read again, also behind a cut, and not for another root"""
+        tree = self.tree()
+        self.assertFalse(tree.open())
+        tree.created(".", "c", "one", "#meta/a.cm", [])
+        for name in "a", "b", "c:one":
+            tree.started(name)
+        tree.off("b")
+        tree.shut_down("a")
+        with open(self.folder / "tree", "a", encoding="utf-8") as file:
+            file.write('["created", "."')
+        again = self.tree()
+        self.assertTrue(again.open())
+        self.assertEqual((list(again.children), list(again.on), again.shut), (["c:one"], ["c:one"], ["a"]))
+        self.assertFalse(Tree(ROOT + "x", str(self.folder), self.folder / "tree").open())
+
+    def test_stops(self) -> None:
+        """host: a stop takes children of collections along, and what runs once goes itself"""
+        tree = self.tree()
+        tree.created(".", "once", "x", "#meta/a.cm", [])
+        tree.created(".", "c", "y", "#meta/a.cm", [])
+        self.assertEqual(tree.stopped("once:x"), ["once:x"])
+        self.assertEqual(tree.stopped("."), ["c:y"])
+        self.assertEqual(list(tree.children), [])
+        self.assertTrue(tree.stands("a"))
+        self.assertFalse(tree.stands("c:y/a"))
+
+    def test_bounded(self) -> None:
+        """host: the file of what is remembered doesn't grow with what has gone"""
+        tree = self.tree()
+        tree.open()
+        for count in range(5000):
+            tree.created(".", "c", f"x{count}", "#meta/a.cm", [])
+            tree.destroyed(f"c:x{count}")
+        self.assertLess((self.folder / "tree").stat().st_size, 200_000)
+        self.assertLess(len(tree.steps), 200)
+
+    def test_urls(self) -> None:
+        """host: the URL of a child is found by manifests alone"""
+        tree = self.tree()
+        tree.created(".", "c", "y", "#meta/y.cm", [])
+        self.assertEqual([tree.url_of(name) for name in (".", "a", "b", "c:y")], [
+            ROOT, "fuchsia-pkg://h/r#meta/a.cm", "fuchsia-pkg://h/b#meta/b.cm",
+            "fuchsia-pkg://h/r#meta/y.cm"])
+
+
+class Written(InFolder):
+    """The log, and what programs print."""
+
+    def test_log(self) -> None:
+        """host: an event is a line of JSON and a line for a person, and a full disk is told once"""
+        screen = io.StringIO()
+        log = Log(self.folder, screen)
+        why = "refused 87 no-offer at offer ."
+        self.assertTrue(log.event("refused", moniker="a", path="/svc/p", why=why))
+        line = json.loads((self.folder / EVENTS).read_text())
+        self.assertEqual((line["event"], line["moniker"]), ("refused", "a"))
+        self.assertEqual(screen.getvalue(), "refused   a /svc/p: 87 no-offer at offer .\n")
+        with open("/dev/full", "wb") as full:
+            log.file = full.fileno()
+            self.assertFalse(log.event("launch", moniker="a", answer="running", ms=1))
+            self.assertFalse(log.event("launch", moniker="a", answer="running", ms=1))
+        self.assertEqual(screen.getvalue().count("the log can't be written"), 1)
+
+    def test_snapshot(self) -> None:
+        """host: a file of events that is put aside is followed by one that says what runs"""
+        log = Log(self.folder, io.StringIO())
+        log.snapshot = lambda: [{"event": "runs", "moniker": "a"}]
+        log.size = 1 << 30
+        log.event("ready")
+        events = [json.loads(line)["event"] for line in (self.folder / EVENTS).read_text().splitlines()]
+        self.assertEqual(events, ["runs", "ready"])
+        self.assertTrue((self.folder / "events.1.jsonl").exists())
+
+    def test_said(self) -> None:
+        """host: what a program prints is shown by lines, few of them, and kept up to a size"""
+        screen = io.StringIO()
+        said = Said(Log(self.folder, screen), "a/b:c")
+        said.take(b"one\ntw")
+        said.take(b"o\nthree")
+        said.end()
+        self.assertEqual(screen.getvalue().splitlines(),
+                         ["said      a/b:c | one", "said      a/b:c | two", "said      a/b:c | three"])
+        begun = time.monotonic()
+        for _ in range(200):
+            said.take(b"x" * 65535 + b"\n")
+        self.assertLess(len(screen.getvalue().splitlines()), 110 + 100 * (time.monotonic() - begun))
+        self.assertLess(sum(place.stat().st_size for place in self.folder.glob("said-*")), 9 << 20)
+        self.assertNotEqual(place_of(self.folder, "a/" * 200 + "b"), place_of(self.folder, "a/" * 200 + "c"))
+
+    def test_told(self) -> None:
+        """host: an event that has no form of its own is told by its fields"""
+        self.assertEqual(told({"at": 1, "event": "shut", "manager": 1, "in_order": True}),
+                         "shut       in_order True")
+
+
+class Sockets(InFolder):
+    """What is left of the last start."""
+
+    def test_removed(self) -> None:
+        """host: sockets of the last start are removed; files and what links lead to stay"""
+        kept = self.folder / "kept"
+        inside = self.folder / "out/svc"
+        inside.mkdir(parents=True)
+        for place in kept, inside / "p":
+            with socket.socket(socket.AF_UNIX) as door:
+                door.bind(str(place))
+        (inside / "link").symlink_to(kept)
+        (inside / "up").symlink_to(self.folder)
+        (inside / "file").write_text("x")
+        self.assertTrue(removed_sockets(self.folder / "out"))
+        self.assertEqual(sorted(place.name for place in inside.iterdir()), ["file", "link", "up"])
+        self.assertTrue(kept.is_socket())
+        self.assertFalse(removed_sockets(self.folder / "out", 3))
+
+
+class Small(InFolder):
+    """Rooms, rights, replies, filters, settings."""
+
+    def test_replies(self) -> None:
+        """host: replies of openings are read, and nothing else is taken for one"""
+        found = OPENED.match("opened /svc/p at a/c:b incarnation 17")
+        assert found is not None
+        self.assertEqual(found.groups(), ("/svc/p", "a/c:b", "17", None))
+        found = OPENED.match("route /d at a incarnation 1 rights read_bytes,traverse through use b")
+        assert found is not None
+        self.assertEqual(found[4], "read_bytes,traverse")
+        for reply in ("refused 87 no-offer at offer .", "opened", "refused opened /svc/p at a incarnation 1"):
+            self.assertIsNone(OPENED.match(reply))
+        self.assertIsNotNone(PUT_OFF.match("refused 84 cannot-start action 12 declined"))
+
+    def test_rights(self) -> None:
+        """host: a mount says all reading, or all reading and writing"""
+        reading = {"connect", "enumerate", "traverse", "read_bytes", "get_attributes"}
+        writing = {"write_bytes", "modify_directory", "update_attributes"}
+        for rights in reading, reading | {"execute"}, reading | writing:
+            self.assertTrue(can_be_kept(rights), rights)
+        for rights in {"read_bytes"}, writing, reading - {"enumerate"}, reading | {"write_bytes"}:
+            self.assertFalse(can_be_kept(rights), rights)
+
+    def test_room(self) -> None:
+        """host: a realm takes so many commands at once"""
+        room = Room()
+        self.assertEqual([room.take() for _ in range(200)], [True] * 200)
+        room.since += 60
+        self.assertFalse(room.take())
+
+    def test_pauses(self) -> None:
+        """host: a program that crashes again and again has pauses that double; one that ran long has none"""
+        it = Instance(1, "a", self.folder / "i")
+        it.since = 1e12
+        self.assertEqual([round(it.note_crash(), 1) for _ in range(9)],
+                         [0.0, 0.2, 0.4, 0.8, 1.6, 3.2, 6.4, 10.0, 10.0])
+        it.since = -1e12
+        self.assertEqual(it.note_crash(), 0.0)
+
+    def test_filter(self) -> None:
+        """host: the filter of system calls judges as its table says, on each machine that it knows"""
+        for column, machine in enumerate(seccomp.MACHINES):
+            steps = list(struct.iter_unpack("=HBBI", seccomp.program(machine)))
+            judged = {number: judge(steps, seccomp.MACHINES[machine], number) for number in range(600)}
+            refused = {calls[column] for calls in seccomp.REFUSED.values()} - {-1}
+            self.assertEqual({number for number in judged if judged[number] == seccomp.EPERM}, refused)
+            self.assertEqual(judge(steps, 1, 0), seccomp.KILL)
+            self.assertEqual(judge(steps, seccomp.MACHINES[machine], 0x40000001), seccomp.EPERM)
+        self.assertEqual(seccomp.program("vax"), b"")
+
+    def test_tally(self) -> None:
+        """host: entries and bytes are counted up with each command and each start"""
+        tally = Tally()
+        tally.count("open @1 /svc/p", ["opened /svc/p at a incarnation 1"])
+        tally.count("start a", ["started a action 17"])
+        before = tally.entries, tally.bytes
+        self.assertEqual((tally.commands, tally.actions, tally.instances), (2, 17, 2))
+        tally.started(18, 5, 1000)
+        self.assertGreater(tally.entries, before[0])
+        self.assertGreater(tally.bytes, before[1] + 1000)
+        tally.count("show @1", ["refused 81 gone incarnation 1"])
+        self.assertEqual((tally.commands, tally.actions, tally.instances), (3, 18, 6))
+
+    def test_settings(self) -> None:
+        """host: settings are one line, from which the same are read"""
+        settings = Settings("p", "r e", "u\"", "d", True, roll_entries=7)
+        self.assertEqual(Settings.from_text(settings.to_text()), settings)
+
+    def test_unit(self) -> None:
+        """host: a unit quotes what its reader would take for something else"""
+        self.assertIn('"50%% of $$x \\"y\\""', making.unit(Path("t"), "python3", "p", ['50% of $x "y"']))
+
+    def test_new(self) -> None:
+        """host: packages for one's own programs share a root, which offers what is provided and used"""
+        making.make(self.folder, "gives", ["cat"], [], ["me.P"])
+        lines = making.make(self.folder, "takes", ["cat", "-n"], ["me.P", "me.Q"], [])
+        self.assertEqual(lines, ["takes can open:", "  /svc/me.P  of gives",
+                                 "  /svc/me.Q  which nobody provides yet, so it is refused"])
+        root = (self.folder / "local/root/meta/root.cm").read_text().partition("\n")[2]
+        self.assertEqual(json.loads(root)["offer"],
+                         [{"protocol": "me.P", "from": "#gives", "to": ["#takes"]}])
+        self.put("local/root/meta/root.cm", "{}")
+        for name in "more", "root", "A":
+            with self.assertRaises(Unusable):
+                making.make(self.folder, name, ["cat"], [], [])
+
+
+def judge(steps: list[tuple[int, int, int, int]], machine: int, number: int) -> int:
+    """What a filter answers to a call."""
+    place, loaded = 0, 0
+    while True:
+        code, yes, no, value = steps[place]
+        place += 1
+        if code == seccomp.LOAD:
+            loaded = machine if value == 4 else number
+        elif code == seccomp.ANSWER:
+            return value
+        else:
+            holds = loaded == value if code == seccomp.EQUAL else loaded >= value
+            place += yes if holds else no
