@@ -2,14 +2,11 @@
 
 from __future__ import annotations
 
-import os
 import subprocess
-from pathlib import Path
 
 from cm_tools.console import Unusable
+from cm_tools.program import program_at_hand
 
-VARIABLE = "COMPONENT_MANAGER"
-BUILT = Path(__file__).resolve().parents[2] / "crates/component_manager/out/component_manager"
 LEGAL, OTHER = 0, 1
 
 
@@ -25,11 +22,11 @@ def require_legal(data: bytes) -> None:
 
 def verdict_on(data: bytes) -> str | None:
     """What the program says of the journal, without its line feed; None where it can't be asked."""
-    program = Path(os.environ.get(VARIABLE) or BUILT)
-    if not os.access(program, os.X_OK) or program.is_dir():
+    program = program_at_hand()
+    if program is None:
         return None
     try:
-        ran = subprocess.run([program.absolute(), "audit"], input=data, capture_output=True)
+        ran = subprocess.run([program, "audit"], input=data, capture_output=True)
     except OSError:
         return None
     if ran.returncode not in (LEGAL, OTHER):

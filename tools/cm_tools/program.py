@@ -9,6 +9,7 @@ from pathlib import Path
 from cm_tools.console import Unusable
 
 BESIDE = Path(__file__).resolve().parent.parent.parent / "component_manager"
+PROVED = BESIDE.parent / "crates/component_manager/out/component_manager"
 VARIABLE = "COMPONENT_MANAGER"
 HELP = f"the component manager; by default what {VARIABLE} names, or the one beside tools/"
 
@@ -23,6 +24,12 @@ def chosen_program(named: str | None = None) -> Path:
     if program.is_dir() or not os.access(program, os.X_OK):
         raise Unusable(f"{program} is no program that can be run; name it with --program")
     return _program_of_script(program) if program == BESIDE and _is_script(program) else program
+
+
+def program_at_hand() -> Path | None:
+    """The program that the variable names, or else the proved one of this checkout; none is made for it."""
+    program = Path(os.environ.get(VARIABLE) or PROVED).absolute()
+    return program if os.access(program, os.X_OK) and not program.is_dir() else None
 
 
 def _is_script(program: Path) -> bool:

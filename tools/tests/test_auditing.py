@@ -8,7 +8,7 @@ import unittest
 from pathlib import Path
 from unittest import mock
 
-from cm_tools.auditing import VARIABLE
+from cm_tools.program import VARIABLE
 from tests.support import JOURNALS, run
 
 ROUTE = JOURNALS / "route.txt"
