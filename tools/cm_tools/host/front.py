@@ -20,6 +20,7 @@ from cm_tools.host import programs
 from cm_tools.host.programs import Unfit
 from cm_tools.host.sandbox import BARE
 from cm_tools.host.settings import Places, Settings
+from cm_tools.program import chosen_program
 
 TOOLS = Path(__file__).resolve().parent.parent.parent
 NAMESPACES = ("unshare", "--user", "--map-current-user", "--keep-caps", "--mount", "--pid", "--fork",
@@ -71,22 +72,9 @@ def check_sandbox() -> None:
 
 
 def find_program() -> str:
-    """The component manager: what COMPONENT_MANAGER names, what was built here, or the script at the top."""
-    named = os.environ.get("COMPONENT_MANAGER")
-    here = TOOLS.parent
-    built = here / "crates/component_manager/out/component_manager"
-    program = Path(named) if named else built if built.exists() else here / "component_manager"
-    if not program.is_file() or not os.access(program, os.X_OK):
-        raise Unusable(f"{program} is no program that can be run; COMPONENT_MANAGER names the component "
-                       "manager")
+    """The component manager that all tools take, which has to know a runner."""
+    program = chosen_program()
     data = program.read_bytes()
-    if data[:2] == b"#!" and b"--where" in data:
-        # The script at the top tells which program it runs, and makes one where there is none.
-        told = subprocess.run([program, "--where"], stdin=subprocess.DEVNULL, stdout=subprocess.PIPE)
-        if told.returncode != 0:
-            raise Unusable("there is no program, and none was made")
-        program = Path(os.fsdecode(told.stdout.rstrip(b"\n")))
-        data = program.read_bytes()
     if data[:4] == b"\x7fELF" and b"COMPONENT_RUNNER" not in data:
         raise Unusable(f"{program} knows no COMPONENT_RUNNER: it is older than this tool")
     return str(program.resolve())
