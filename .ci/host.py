@@ -5,18 +5,22 @@
 
 The component manager is the one that COMPONENT_MANAGER names. Where bubblewrap or user namespaces aren't
 there it says so, and ends with 0. As root it goes on as another user, since a host refuses root. With names
-it runs the parts of these names alone: demo, attacks, edits, kills, inputs, gate, live, stress, document.
+it runs the parts of these names alone: demo, attacks, edits, kills, inputs, words, groups, journals, gate,
+live, stress, document. What this system or this component manager doesn't let be tried is told as left out.
 """
 
 from __future__ import annotations
 
 import os
+import subprocess
 import sys
+import tempfile
 import unittest
 from pathlib import Path
 
 TOP = Path(__file__).resolve().parent.parent
-PARTS = ("demo", "attacks", "edits", "kills", "inputs", "gate", "live", "stress", "document")
+PARTS = ("demo", "attacks", "edits", "kills", "inputs", "words", "groups", "journals", "gate", "live",
+         "stress", "document")
 
 
 class Told(unittest.TextTestResult):
@@ -30,6 +34,25 @@ class Told(unittest.TextTestResult):
         self.stream.writeln(f"checked: {test.shortDescription() or test.id()}")
         self.stream.flush()
 
+    def addSkip(self, test: unittest.TestCase, reason: str) -> None:
+        unittest.TestResult.addSkip(self, test, reason)
+        self.stream.writeln(f"left out: {test.shortDescription() or test.id()}, since {reason}")
+        self.stream.flush()
+
+
+def is_root_refused() -> bool:
+    """Whether a host refuses root, with the reason, and makes nothing."""
+    with tempfile.TemporaryDirectory() as place:
+        words = [sys.executable, TOP / "tools/host", TOP / "examples/host",
+                 "fuchsia-pkg://demo/root#meta/root.cm", "--run", f"{place}/r"]
+        done = subprocess.run(words, capture_output=True, text=True, timeout=60)
+        refused = done.returncode == 2 and "as root a sandboxed program could write" in done.stderr
+        if refused and not os.listdir(place):
+            print("checked: root is refused, with the reason", flush=True)
+            return True
+    print(f"root isn't refused: {done}")
+    return False
+
 
 def main() -> int:
     """Runs the parts that are named, or all."""
@@ -42,7 +65,7 @@ def main() -> int:
         print(f"skipped: a host can't run here, since {why}")
         return 0
     if os.getuid() == 0:
-        return as_another_user(__file__)
+        return as_another_user(__file__) if is_root_refused() else 1
     from cm_tools.console import Unusable
     from cm_tools.host.front import check_sandbox
 

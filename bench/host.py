@@ -32,7 +32,7 @@ while True:
     threading.Thread(target=serve, args=(door.accept()[0],), daemon=True).start()
 """
 CLIENT = """#!/usr/bin/python3
-import os, socket, threading, time
+import os, socket, sys, threading, time
 def show(what, times):
     times.sort()
     n = len(times)
@@ -79,17 +79,22 @@ def direct():
                     link.sendall(b"1\\n")
     while True:
         threading.Thread(target=serve, args=(door.accept()[0],), daemon=True).start()
+through, plain = "/svc/bench.Door", os.path.join("/tmp", "direct")
+connects(through, 3)
 if os.fork() == 0:
     direct()
 time.sleep(0.3)
-through, plain = "/svc/bench.Door", os.path.join("/tmp", "direct")
-connects(through, 3)
-for what, path in ("through the runner", through), ("plain sockets     ", plain):
-    show(f"connect, a line, its answer, {what}", connects(path, 1000))
-for what, path in ("through the runner", through), ("plain sockets     ", plain):
-    show(f"a line and its answer,       {what}", lines(path, 2000))
-for what, path in ("through the runner", through), ("plain sockets     ", plain):
-    print(f"bytes of one connection,     {what}: {carried(path, 1 << 29):.2f} GB/s", flush=True)
+print("ready", flush=True)
+time.sleep(1)
+if sys.argv[1] == "connects":
+    show("connect, a line, its answer, through the runner", connects(through, 1000))
+elif sys.argv[1] == "lines":
+    show("a line and its answer,       through the runner", lines(through, 2000))
+else:
+    show("connect, a line, its answer, plain sockets     ", connects(plain, 1000))
+    show("a line and its answer,       plain sockets     ", lines(plain, 2000))
+    for what, path in ("through the runner", through), ("plain sockets     ", plain):
+        print(f"bytes of one connection,     {what}: {carried(path, 1 << 29):.2f} GB/s", flush=True)
 print("done", flush=True)
 os.read(os.pipe()[0], 1)
 """
@@ -121,21 +126,49 @@ def memory(pid):
     return 0.0
 
 
+def processor(pid):
+    """The processor time that a process has taken so far, in microseconds."""
+    threads = Path(f"/proc/{pid}/task").iterdir()
+    return sum(int((thread / "schedstat").read_text().split()[0]) for thread in threads) / 1000
+
+
 def connections(Host, folder, package, root_of):
-    """Connects and lines, through the runner and without one."""
+    """Connects and lines, through the runner and without one; what they cost the runner and the manager."""
     base = folder()
     repo = base / "repo"
     package(repo, "door", P % ("", ',capabilities:[{protocol:"bench.Door"}],'
                                'expose:[{protocol:"bench.Door",from:"self"}]'), PROVIDER)
-    package(repo, "client", P % ("", ',use:[{protocol:"bench.Door"}]'), CLIENT)
-    root = root_of(repo, "door", "client", more=',offer:[{protocol:"bench.Door",from:"#door",to:"#client"}]')
+    phases = {"connects": 1000, "lines": 2000, "plain": 0}
+    for name in phases:
+        package(repo, name, P % (f',args:["{name}"]', ',use:[{protocol:"bench.Door"}]'), CLIENT)
+    targets = ",".join(f'"#{name}"' for name in phases)
+    root = root_of(repo, "door", *phases,
+                   more=f',offer:[{{protocol:"bench.Door",from:"#door",to:[{targets}]}}]')
     host = Host(repo, root, run=base / "r", options=("--quiet",), waits=False)
     host.wait_until(lambda: (host.run / "cm").exists(), "socket")
-    host.ask("start client")
-    host.wait_until(lambda: "done\n" in host.said("client"), "measurement")
-    print(host.said("client").replace("done\n", ""), end="", flush=True)
+    for name, count in phases.items():
+        host.ask(f"start {name}")
+        host.wait_until(lambda: "ready\n" in host.said(name), "begin")
+        pids = host.runner_pid(), host.manager_pids()[0]
+        before = [processor(pid) for pid in pids]
+        host.wait_until(lambda: "done\n" in host.said(name), "measurement")
+        print(host.said(name).replace("done\n", "").replace("ready\n", ""), end="")
+        if count:
+            runner, manager = ((processor(pid) - was) / count for pid, was in zip(pids, before))
+            print(f"  of the processor a {name[:-1]} takes {runner:.0f} us of the runner, {manager:.0f} of "
+                  "the manager")
+        sys.stdout.flush()
+        host.ask(f"stop {name}")
     host.end()
     host.remove()
+
+
+def spin():
+    """How long a million steps of a plain loop take here and now, in milliseconds of the processor."""
+    begun, count = time.process_time(), 0
+    while count < 1_000_000:
+        count += 1
+    return 1000 * (time.process_time() - begun)
 
 
 def instances(Host, folder, package, root_of, count):
@@ -206,6 +239,8 @@ def main():
     if os.getuid() == 0:
         return as_another_user(__file__)
     count = int(sys.argv[1]) if len(sys.argv) > 1 else 200
+    print(f"load {os.getloadavg()[0]:.0f} on {os.cpu_count()} processors; a million steps of Python's loop "
+          f"take {spin():.0f} ms", flush=True)
     connections(Host, folder, package, root_of)
     instances(Host, folder, package, root_of, count)
     stubborn(Host, folder, package, root_of)

@@ -536,7 +536,7 @@ def words_are_checked(folder):
     for words in (whole[:1], whole[:4], [*whole, "--sessions", "0"], [*whole, "--sessions", "4097"],
                   [*whole, "--workers", "17"], [*whole, "--workers", "many"], [*whole, path]):
         done = subprocess.run([PROGRAM, *words], stdin=subprocess.DEVNULL, capture_output=True, check=False)
-        usage = b"usage: run, check, serve, audit, generate\n"
+        usage = b"usage: run, check, serve, audit, generate, environments, storage\n"
         what = " ".join(words[6:]) or "few words"
         check((done.returncode, done.stdout, done.stderr), (2, b"", usage), what)
     check(os.path.exists(path), False, "a socket file")

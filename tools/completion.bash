@@ -11,7 +11,7 @@ _component_files() {
     mapfile -t COMPREPLY < <(compgen "${1:--f}" -- "${COMP_WORDS[COMP_CWORD]}")
 }
 
-_component_words_of_program="check run generate serve audit prove"
+_component_words_of_program="check run generate serve audit environments storage prove"
 
 _component_manager() {
     local before=${COMP_WORDS[COMP_CWORD - 1]} command=${COMP_WORDS[1]}
@@ -28,6 +28,7 @@ _component_manager() {
     case $command in
         help) _component_words "$_component_words_of_program" ;;
         run) _component_words "--journal --repo --help" ;;
+        environments | storage) _component_words "--repo --help" ;;
         check) _component_files ;;
         serve)
             [ "$COMP_CWORD" -eq 2 ] && _component_files || \
@@ -66,7 +67,7 @@ _component_tool() {
 }
 
 _component_commands="resolve start stop shutdown create destroy list open open-exposed route doctor show"
-_component_commands+=" survey exited quit"
+_component_commands+=" survey events exited quit"
 
 # The socket, behind options that have a value, and then words of commands.
 _component_session() {

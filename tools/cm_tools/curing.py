@@ -21,7 +21,8 @@ LIKENESS = 0.6
 FORMS = {
     "resolve": "resolve T", "start": "start T", "stop": "stop T", "list": "list T COLL",
     "open": "open T PATH", "open-exposed": "open-exposed T NAME", "route": "route T PATH",
-    "doctor": "doctor T", "show": "show T", "survey": "survey T", "exited": "exited T",
+    "doctor": "doctor T", "show": "show T", "survey": "survey T", "events": "events T FROM",
+    "exited": "exited T",
     "shutdown": "shutdown T", "create": "create T COLL NAME URL GROUPS", "destroy": "destroy T",
 }
 BYTE_ORDER_MARK = "\ufeff"

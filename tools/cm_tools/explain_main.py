@@ -10,12 +10,12 @@ import sys
 from cm_tools.auditing import require_legal
 from cm_tools.console import Unusable, Words, read_bytes, write_text
 from cm_tools.explaining import (
-    advice, command_of, explain_manifest, explain_refusal, explain_script, heading,
+    advice, command_of, explain_manifest, explain_no_place, explain_refusal, explain_script, heading,
 )
 from cm_tools.instances import Instance
 from cm_tools.numbers import NUMBERS
 from cm_tools.pointing import Document
-from cm_tools.said import ManifestFault, Refusal, ScriptFault, is_reply, read_said
+from cm_tools.said import ManifestFault, NoPlace, Refusal, ScriptFault, is_reply, read_said
 from cm_tools.scripts import Command, Script, Sketch, looks_like_script, read_script
 from cm_tools.transcripts import is_transcript, parts_of
 from cm_tools.world import World, replay_partly
@@ -98,9 +98,7 @@ def _parser() -> Words:
 def _number_lines(number: int) -> list[str]:
     if number not in NUMBERS:
         raise Unusable(f"there is no number {number}")
-    is_planned = NUMBERS[number].printed == "planned"
-    later = ["It is planned: the program doesn't print it yet."] if is_planned else []
-    return [f"{number} {NUMBERS[number].name}"] + later + advice(number)
+    return [f"{number} {NUMBERS[number].name}"] + advice(number)
 
 
 def _said_lines(words: list[str]) -> list[str]:
@@ -141,7 +139,7 @@ def _explain_check(document: Document, said: list[str]) -> list[list[str]]:
         fault = read_said(line)
         if isinstance(fault, ManifestFault):
             parts.append(explain_manifest(document, fault))
-        elif isinstance(fault, Refusal):
+        elif isinstance(fault, Refusal | NoPlace):
             raise Unusable(f"{document.label} is a manifest; give the script that was run")
         elif line == "valid":
             parts.append([f"{document.label}: the manifest is valid"])
@@ -166,6 +164,8 @@ def _explain_run(script: Script, said: list[str], repo: str | None) -> list[list
             parts.append([f"{script.label}: memory ran out while this line was answered: {line}"])
         elif isinstance(fault, Refusal):
             parts.append(_refused(sketch, fault, command, are_whole))
+        elif isinstance(fault, NoPlace):
+            parts.append(explain_no_place(script, fault))
         elif isinstance(fault, ScriptFault):
             parts.append(explain_script(script, fault))
         elif isinstance(fault, ManifestFault):

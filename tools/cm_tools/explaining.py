@@ -8,10 +8,11 @@ from cm_tools.curing import (
     text_cures,
 )
 from cm_tools.locating import locate
+from cm_tools.naming import name_cures
 from cm_tools.numbers import NUMBERS, advice_words
 from cm_tools.pointing import Document
 from cm_tools.relaxed import SpellingFault, read_relaxed
-from cm_tools.said import ManifestFault, Refusal, ScriptFault
+from cm_tools.said import ManifestFault, NoPlace, Refusal, ScriptFault
 from cm_tools.scripts import Command, Script, Sketch, looks_like_script
 from cm_tools.tracing import Stop, trace, trace_exposed
 
@@ -179,9 +180,16 @@ def explain_refusal(sketch: Sketch, refusal: Refusal, command: Command | None) -
         return lines + _inner_fault(sketch, refusal.fault, command)
     told = _absent_lines if refusal.words.endswith(" absent") else _route_lines
     lines += told(sketch, refusal, command) + group_lines(refusal, command)
+    lines += name_cures(sketch, refusal, command)
     if refusal.number == 70 and command is not None:
         lines += command_cures(f"{command.lane} {' '.join(command.words)}")
     return lines + advice(refusal.number, refusal.words)
+
+
+def explain_no_place(script: Script, fault: NoPlace) -> list[str]:
+    """The lines that explain why an instance has no place in a storage that it uses."""
+    told = f"{script.label}: {fault.moniker} storage {fault.path}: {fault.number} {fault.words}"
+    return [told] + advice(fault.number, fault.words)
 
 
 def command_of(script: Script, refusal: Refusal) -> list[Command]:

@@ -18,6 +18,8 @@ from cm_tools.host.events import EVENTS, place_of, told
 from cm_tools.host.listing import listing
 from cm_tools.host.programs import Unfit
 from cm_tools.host.settings import Places, Settings
+from cm_tools.merge_main import add_words, features
+from cm_tools.merging import Sources
 
 
 def main(words: list[str]) -> int:
@@ -39,12 +41,15 @@ def _run(words: list[str]) -> int:
     if options.builtin:
         raise Unusable(f"{options.builtin[0]}: a served realm has no builtins, so none can be given")
     program, repo, run = front.find_program(), Path(options.repo).resolve(), Path(options.run).resolve()
+    sources = Sources([Path(one) for one in options.include], features(options.without))
     front.check_root(repo, options.root)
     front.make_run(run)
     lock = front.take_lock(Places(run).lock)
     try:
+        manifests = front.merged_manifests(repo, sources, Places(run).manifests)
         front.check_sandbox()
-        settings = Settings(program, str(repo), options.root, str(run), options.coarse_rights, options.quiet,
+        settings = Settings(program, str(repo), str(manifests), options.root, str(run), options.coarse_rights,
+                            options.quiet,
                             cgroup=options.cgroup if options.cgroup is not None else front.own_cgroup(),
                             plain=options.plain_directories,
                             writes_journals=front.writes_journals(program), **_limits())
@@ -74,13 +79,14 @@ def _parser() -> Words:
                         "a layer that refuses sockets in them, where the system lays none")
     parser.add_argument("--cgroup", metavar="DIR", help="the cgroup in which instances get theirs")
     parser.add_argument("--quiet", action="store_true", help="show nothing; the log has it")
+    add_words(parser)
     return parser
 
 
 def _limits() -> dict[str, int]:
-    """When a manager is replaced, where the environment says it: for trying it."""
+    """When a manager is replaced and a storage is full, where the environment says it: for trying it."""
     found = {}
-    for name in ("roll_entries", "roll_bytes"):
+    for name in ("roll_entries", "roll_bytes", "storage_bytes", "storage_files"):
         value = os.environ.get(f"COMPONENT_HOST_{name.upper()}", "")
         if value.isdigit():
             found[name] = int(value)
@@ -197,8 +203,15 @@ def _new(words: list[str]) -> int:
 def _unit(words: list[str]) -> int:
     """Prints a unit for `systemd --user`."""
     options = _parser().parse_args(words)
-    front.check_root(Path(options.repo).resolve(), options.root)
-    whole = [str(Path(options.repo).resolve()), options.root, "--run", str(Path(options.run).resolve())]
+    repo, run = Path(options.repo).resolve(), Path(options.run).resolve()
+    front.check_root(repo, options.root)
+    whole = [str(repo), options.root, "--run", str(run)]
+    for name in "coarse_rights", "plain_directories", "quiet":
+        whole += ["--" + name.replace("_", "-")] if getattr(options, name) else []
+    for name in "cgroup", "without":
+        whole += [f"--{name}", getattr(options, name)] if getattr(options, name) else []
+    for one in options.include:
+        whole += ["--include", str(Path(one).resolve())]
     print(making.unit(front.TOOLS / "host", sys.executable, front.find_program(), whole), end="")
     return 0
 

@@ -11,6 +11,7 @@ from dataclasses import dataclass, field
 from pathlib import Path
 
 from cm_tools.console import Unusable
+from cm_tools.curing import text_cures
 from cm_tools.features import Feature, features_of
 from cm_tools.pointing import Document
 from cm_tools.relaxed import Node, SpellingFault, read_relaxed
@@ -132,7 +133,7 @@ class _Merger:
         tried += [] if name.startswith("//") else [including.parent / name]
         path = next((one for one in tried if one.is_file()), None)
         if path is None:
-            places = ", ".join(map(str, tried)) or "no folder is given by --include"
+            places = ", ".join(map(str, dict.fromkeys(tried))) or "no folder is given by --include"
             raise Unusable(f"the shard {name} isn't there: {_chain(chain)} ({places})")
         return path
 
@@ -176,6 +177,7 @@ def _read(path: Path, chain: list[Path]) -> tuple[Document, Node]:
         document = Document(str(path), path.read_text("utf-8"))
         root = read_relaxed(document.text)
     except SpellingFault as fault:
+        told += "".join(f"; {line.rstrip('.')}" for line in text_cures(document.text))
         raise Unusable(f"{document.position(fault.place)}: {fault.why}{told}") from None
     except UnicodeDecodeError:
         raise Unusable(f"{path}: it is no UTF-8{told}") from None

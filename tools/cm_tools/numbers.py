@@ -12,8 +12,9 @@ from dataclasses import dataclass
 class Number:
     """A number with its name, where it is printed, when it comes and what to do about it.
 
-    `printed` is `check` (behind `invalid`), `script` (behind `line L:`), `reply` (behind `refused`),
-    `never` (it is answered by a crate and told by another number) or `planned` (no crate answers it yet).
+    `printed` is `check` (behind `invalid`), `script` (behind `line L:`), `reply` (behind `refused`), `report`
+    (behind `refused` in the report on storage) or `never` (it is answered by a crate and told by another
+    number, or by none).
     """
 
     number: int
@@ -390,95 +391,95 @@ NUMBERS: dict[int, Number] = _table(
         "Open it before the shutdown, or take it from an instance that is left.",
     ),
     Number(
-        90, "repeated-environment", "planned",
+        90, "repeated-environment", "check",
         "an earlier environment has the name",
         "Rename one of the two.",
     ),
     Number(
-        91, "unknown-environment", "planned",
+        91, "unknown-environment", "check",
         "a child's or a collection's environment isn't declared",
         "Declare it in `environments`, or mend the name behind `#`.",
     ),
     Number(
-        92, "repeated-registration", "planned",
+        92, "repeated-registration", "check",
         "one environment registers two runners, or two debug protocols, by one name",
         "Take one of the two out, or give one another name with `as`.",
     ),
     Number(
-        93, "unknown-source", "planned",
+        93, "unknown-source", "check",
         "a registration comes from a child that isn't declared, or a debug protocol from `self` "
         "that isn't a capability",
         "Declare the child or the capability, or mend the name.",
     ),
     Number(
-        94, "repeated-debug-path", "planned",
+        94, "repeated-debug-path", "check",
         "another use has the path of a use from `debug`",
         "Give one of the two uses another `path`. The index counts the uses from `debug` alone.",
     ),
     Number(
-        95, "repeated-storage", "planned",
+        95, "repeated-storage", "check",
         "an earlier storage capability has the name",
         "Rename one of the two. The index counts the storage capabilities alone.",
     ),
     Number(
-        96, "unknown-storage-ref", "planned",
+        96, "unknown-storage-ref", "check",
         "the child that backs a storage, or the target of a storage offer, isn't declared",
         "Declare it, or mend the name behind `#`. The index counts the storage rows alone.",
     ),
     Number(
-        97, "storage-not-declared", "planned",
+        97, "storage-not-declared", "check",
         "a storage is offered from `self` and isn't declared",
         "Declare the storage in `capabilities`, or offer it from `parent`. The index counts the "
         "storage rows alone.",
     ),
     Number(
-        100, "no-storage-use", "planned",
+        100, "no-storage-use", "never",
         "the instance uses no storage at the path",
         "Ask for the path of one of its storage uses.",
     ),
     Number(
-        101, "no-storage-offer", "planned",
+        101, "no-storage-offer", "report",
         "the instance that is printed doesn't offer the storage on",
         "Add the offer of the storage there.",
     ),
     Number(
-        102, "no-storage", "planned",
+        102, "no-storage", "report",
         "the instance that is printed offers a storage from `self` that it doesn't declare",
         "Declare the storage in its `capabilities`.",
     ),
     Number(
-        103, "void-storage", "planned",
+        103, "void-storage", "report",
         "the instance that is printed offers the storage from `void`",
         "There is no place to store; the client has to do without it.",
     ),
     Number(
-        104, "no-instance-id", "planned",
+        104, "no-instance-id", "report",
         "the storage is only for instances with an identifier of their own, which this program "
         "doesn't keep",
         'Declare the storage with `storage_id: "static_instance_id_or_moniker"`.',
     ),
     Number(
-        105, "no-backing", "planned",
+        105, "no-backing", "report",
         "the directory that backs the storage isn't there",
         "Look at `backing_dir` and `from` of the storage of the instance that is printed.",
     ),
     Number(
-        106, "backing-unresolved", "planned",
+        106, "backing-unresolved", "report",
         "the instance that backs the storage isn't resolved",
         "Resolve it first.",
     ),
     Number(
-        107, "backing-route", "planned",
+        107, "backing-route", "report",
         "the route to the directory that backs the storage fails at the hop that is printed",
         "Look at the offer or expose of that instance.",
     ),
     Number(
-        108, "backing-void", "planned",
+        108, "backing-void", "report",
         "the route to the directory that backs the storage ends in `void`",
         "There is no place to store; back the storage by another directory.",
     ),
     Number(
-        109, "backing-rights-too-weak", "planned",
+        109, "backing-rights-too-weak", "report",
         "the directory that backs the storage isn't given with the rights `rw*`",
         "Give the directory `rw*` at its capability and at each expose and offer that states "
         "rights.",
@@ -518,6 +519,8 @@ OUTCOMES: dict[str, str] = {
 def advice_words(number: int, words: str) -> str:
     """The advice for a refusal: that of its reason or its outcome, where it tells one."""
     first = words.split(" ")[0]
+    if number == 107:
+        return advice_words(87, words.removeprefix("backing "))
     if number == 87 and first in REASONS:
         return REASONS[first]
     if number in (83, 84):

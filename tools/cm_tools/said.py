@@ -9,6 +9,7 @@ INVALID = re.compile(r"invalid ([0-9]{1,10}) (\w+) ([0-9]{1,10})(?: (.*))?\Z", r
 SCRIPT = re.compile(r"line ([0-9]{1,10}): ([0-9]{1,10}) ([a-z-]+)(?: at ([0-9]{1,10}))?\Z")
 REFUSED = re.compile(r"(?:([0-9]{1,10}) )?refused ([0-9]{1,10}) (.*)\Z")
 CHECKED = re.compile(r"  (\S+) (\S+) refused ([0-9]{1,10}) (.*)\Z")
+REPORTED = re.compile(r"(\S+) storage (/\S+) refused ([0-9]{1,10}) (.*)\Z")
 HOP = re.compile(r"(?:([a-z-]+) at|void at) (use|offer|expose|capability|framework|builtin) (\S+)\Z")
 REPLY = re.compile(r"[0-9]{1,10} [a-z]")
 CLASHES = frozenset({50, 54, 55, 56})
@@ -58,17 +59,32 @@ class Refusal:
     fault: ManifestFault | None
 
 
-Said = ManifestFault | ScriptFault | Refusal
+@dataclass(frozen=True, slots=True)
+class NoPlace:
+    """`MONIKER storage PATH refused NUMBER WORDS`, a line of the report on storage."""
+
+    moniker: str
+    path: str
+    number: int
+    words: str
+
+
+Said = ManifestFault | ScriptFault | Refusal | NoPlace
 
 
 def read_said(line: str) -> Said | None:
     """What a line says; None where nothing is refused in it."""
-    return _manifest_fault(line) or _script_fault(line) or _refusal(line)
+    return _no_place(line) or _manifest_fault(line) or _script_fault(line) or _refusal(line)
 
 
 def is_reply(line: str) -> bool:
     """Whether the line is the first of a lane's reply."""
-    return REPLY.match(line) is not None
+    return REPLY.match(line) is not None and REPORTED.match(line) is None
+
+
+def _no_place(line: str) -> NoPlace | None:
+    match = REPORTED.match(line)
+    return NoPlace(match[1], match[2], int(match[3]), match[4]) if match else None
 
 
 def _manifest_fault(line: str) -> ManifestFault | None:

@@ -21,8 +21,8 @@ REFUSED = b"refused "
 FURTHER = b"  "
 # What each first line of a reply begins with.
 REPLY = re.compile(
-    rb"(?:resolved|started|stopped|shut|created|destroyed|children|opened|route|shown|survey|doctor|exited"
-    rb"|refused) "
+    rb"(?:resolved|started|stopped|shut|created|destroyed|children|opened|route|shown|survey|doctor|events"
+    rb"|exited|refused) "
 )
 PIECE = 65536
 # Between two tries to connect, in seconds.
@@ -34,8 +34,9 @@ def main(words: list[str]) -> int:
     options = _parser().parse_args(words)
     lines = [_line(command) for command in options.commands]
     with contextlib.ExitStack() as stack:
-        link = stack.enter_context(_connected(options.socket, time.monotonic() + options.wait))
+        # A path that can't be written costs the server no session.
         transcript = _transcript(options, stack)
+        link = stack.enter_context(_connected(options.socket, time.monotonic() + options.wait))
         sender = Sender(link, lines or _lines_of_input(), transcript)
         sender.start()
         replies = Replies(transcript)
@@ -43,6 +44,8 @@ def main(words: list[str]) -> int:
     if not sender.is_through or replies.count < sender.asked:
         told = f"{replies.count} whole {'reply' if replies.count == 1 else 'replies'}"
         raise Unusable(f"the session ended early, behind {told}")
+    if transcript and transcript.fault:
+        raise Unusable(f"{options.transcript}: {transcript.fault.strerror}")
     return 1 if replies.refused else 0
 
 
@@ -67,7 +70,7 @@ def _transcript(options: argparse.Namespace, stack: contextlib.ExitStack) -> Tra
     if options.transcript is None:
         return None
     try:
-        return Transcript(stack.enter_context(open(options.transcript, "wb")), options.socket)
+        return Transcript(stack.enter_context(open(options.transcript, "wb", buffering=0)), options.socket)
     except OSError as fault:
         raise Unusable(f"{options.transcript}: {fault.strerror}") from None
 

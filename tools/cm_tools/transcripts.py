@@ -9,25 +9,35 @@ from __future__ import annotations
 import re
 import threading
 import time
-from typing import BinaryIO
+from io import RawIOBase
 
 FIRST = b"# transcript of a session at "
 LINE = re.compile(r"[0-9]+\.[0-9]+ ([<>]) (.*)")
 
 
 class Transcript:
-    """Writes down what is sent and what comes, from two threads, line by line."""
+    """Writes down what is sent and what comes, from two threads, line by line.
 
-    def __init__(self, file: BinaryIO, path: str) -> None:
+    Where the file takes no more, nothing more is written, the session goes on, and `fault` says why.
+    """
+
+    def __init__(self, file: RawIOBase, path: str) -> None:
         self._file, self._begun, self._lock = file, time.monotonic(), threading.Lock()
-        file.write(FIRST + path.encode("utf-8", "surrogateescape") + b"\n")
+        self.fault: OSError | None = None
+        self._write(FIRST + path.encode("utf-8", "surrogateescape") + b"\n")
 
     def note(self, mark: bytes, line: bytes) -> None:
         """Notes a line behind its mark, `>` or `<`."""
         seconds = time.monotonic() - self._begun
         with self._lock:
-            self._file.write(b"%.6f %s %s\n" % (seconds, mark, line.rstrip(b"\n")))
-            self._file.flush()
+            self._write(b"%.6f %s %s\n" % (seconds, mark, line.rstrip(b"\n")))
+
+    def _write(self, line: bytes) -> None:
+        try:
+            while line and self.fault is None:
+                line = line[self._file.write(line) or 0:]
+        except OSError as fault:
+            self.fault = fault
 
 
 def is_transcript(data: bytes) -> bool:

@@ -15,7 +15,7 @@ syntax match componentLaneFault "^\(1[6-9]\|[2-9]\d\|\d\{3,}\|0\d\+\)\ze "
 syntax match componentCommand contained nextgroup=componentTarget skipwhite
       \ "\<\(resolve\|start\|stop\|shutdown\|create\|destroy\|list\|open-exposed\|open\|route\)\ze "
 syntax match componentCommand contained nextgroup=componentTarget skipwhite
-      \ "\<\(doctor\|show\|survey\|exited\)\ze "
+      \ "\<\(doctor\|show\|survey\|events\|exited\)\ze "
 syntax match componentTarget "@\d\+\|\S\+" contained
 syntax match componentPath " \zs/\S*"
 syntax match componentGroup " \zs+\ze " nextgroup=componentKind skipwhite

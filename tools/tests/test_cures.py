@@ -40,6 +40,11 @@ MANIFESTS = [
     ("\ufeff{}", "invalid 31 manifest 0", "a byte order mark (BOM)"),
 ]
 HEAD = "root fuchsia-pkg://t/a#meta/root.cm\n"
+NAMED = """manifest fuchsia-pkg://t/a#meta/root.cm
+{children:[{name:'logger',url:'#meta/a.cm'}],collections:[{name:'jobs',durability:'transient'}],
+ use:[{protocol:'a.Log'},{directory:'d',path:'/data',rights:['r*']}]}
+%%
+""" + HEAD
 # A script, what the program says of it, and what is advised.
 SCRIPTS = [
     (HEAD + "0 rote a /p\n", "line 2: 70 bad-command at 3", "It could have been: route T PATH"),
@@ -49,6 +54,16 @@ SCRIPTS = [
     (HEAD + "0 create . c n #u + protocol p #x + protocol q self\n", "0 refused 63 bad-offer 1 52",
      "The group 1, counted from 0: + protocol q self\nIt has 52 not-declared"),
     (HEAD + "0 show .\n0 show a\n", "0 shown . x\n", "it has 2 commands"),
+    (NAMED + "0 show loger\n", "0 refused 80 not-found in .\n", "Did you mean logger?"),
+    (NAMED + "0 create . jobs one #meta/a.cm\n0 show jobs:ones\n",
+     "0 created . jobs:one incarnation 2\n0 refused 80 not-found in .\n", "Did you mean jobs:one?"),
+    (NAMED + "0 show logger/x\n", "0 refused 80 not-found in logger\n", "80 not-found in logger"),
+    (NAMED + "0 show @7\n", "0 refused 81 gone\n", "81 "),
+    (NAMED + "0 route . /svc/a.Lag\n", "0 refused 86 no-such-use\n", "Did you mean /svc/a.Log?"),
+    (NAMED + "0 open . /x\n", "0 refused 86 no-such-use\n", "It uses /data, /svc/a.Log."),
+    (NAMED + "0 list . job\n", "0 refused 60 collection-not-found\n", "Did you mean jobs?"),
+    (NAMED + "0 list . x\n", "0 refused 60 collection-not-found\n", "Its collections are jobs."),
+    (HEAD + "0 list . x\n", "0 refused 60 collection-not-found\n", "60 collection-not-found"),
 ]
 ROUTED = """manifest fuchsia-pkg://t/a#meta/root.cm
 {children:[{name:'a',url:'#meta/a.cm'},{name:'b',url:'#meta/b.cm'}],
@@ -154,10 +169,20 @@ class CureTests(unittest.TestCase):
             ran = run("explain", str(kept))
             self.assertEqual((ran.status, ran.err), (0, ""))
             self.assertRegex(ran.out, r"kept:[0-9]:1: 80 not-found in \.\n")
-            self.assertEqual(run("session", "--transcript", folder, str(path), "show .").status, 2)
+            told = run("session", "--transcript", folder, str(path), "show .")
+            self.assertEqual((told.status, told.err), (2, f"session: {folder}: Is a directory\n"))
             lines = "0.1 > rote a /p\n0.2 < refused 70 bad-command at 1\n"
             kept.write_text(f"# transcript of a session at s\n{lines}", "utf-8")
             self.assertIn("It could have been: route T PATH", run("explain", str(kept)).out)
+
+    def test_transcript_on_a_full_device(self) -> None:
+        """a transcript that can't be written: the session is held, and then one line and status 2 tell it"""
+        with tempfile.TemporaryDirectory() as folder:
+            path = Path(folder, "s")
+            Server(path).start()
+            ran = run("session", "--transcript", "/dev/full", str(path), "show .", "show .", "quit")
+            told = "session: /dev/full: No space left on device\n"
+            self.assertEqual((ran.status, ran.out.count("shown"), ran.err), (2, 2, told))
 
 
 def random_script(source: random.Random) -> str:

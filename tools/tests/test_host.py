@@ -2,26 +2,32 @@
 
 from __future__ import annotations
 
+import asyncio
 import io
 import json
+import os
 import socket
 import struct
+import subprocess
 import tempfile
 import time
 import unittest
 from pathlib import Path
+from unittest.mock import Mock, patch
 
 from cm_tools.console import Unusable
-from cm_tools.host import making, programs, seccomp
+from cm_tools.host import doors, making, programs, seccomp, watching
 from cm_tools.host.doors import OPENED, PUT_OFF, can_be_kept
 from cm_tools.host.events import EVENTS, Log, Said, place_of, told
 from cm_tools.host.gate import removed_sockets
 from cm_tools.host.instance import Instance
-from cm_tools.host.programs import Unfit
+from cm_tools.host.programs import Repo, Unfit
 from cm_tools.host.realm import Room
-from cm_tools.host.sessions import Tally
+from cm_tools.host.reports import TOP, Reports
+from cm_tools.host.sessions import Tally, count_of
 from cm_tools.host.settings import Settings
-from cm_tools.host.tree import Tree, commands
+from cm_tools.host.storage import Storage, counted
+from cm_tools.host.tree import Tree, commands, created_part
 
 PARENT = """{ // relaxed
     children: [ { name: 'a', url: '#meta/a.cm' }, { name: "b", url: "fuchsia-pkg://h/b#meta/b.cm" } ],
@@ -45,12 +51,24 @@ class InFolder(unittest.TestCase):
         path.chmod(mode)
 
 
+class Replies(unittest.TestCase):
+    """What the first line of a reply says."""
+
+    def test_counts(self) -> None:
+        """host: how many lines follow the first one of a reply"""
+        for line, rows in (
+            ("survey . 3", 3), ("doctor next 4", 4), ("children . coll 0", 0), ("events . 4 next 13", 4),
+            ("events next 0 next 5", 0),
+        ):
+            self.assertEqual(count_of(line), rows, line)
+
+
 class Programs(InFolder):
     """What is read of manifests."""
 
     def read(self, manifest: str) -> programs.Program:
         self.put("h/p/meta/p.cm", manifest)
-        return programs.read(self.folder, "fuchsia-pkg://h/p#meta/p.cm")
+        return programs.read(Repo.of(self.folder), "fuchsia-pkg://h/p#meta/p.cm")
 
     def test_read(self) -> None:
         """host: a program with its words, its environment, its stop and its uses is read"""
@@ -77,7 +95,7 @@ class Programs(InFolder):
         for url in ("fuchsia-pkg://h/../x#meta/x.cm", "fuchsia-pkg://h/p", "fuchsia-pkg://h/p#../x",
                     "fuchsia-pkg:///p#m", "x", "fuchsia-pkg://h//p#m", "http://[x/p#m"):
             with self.assertRaises(Unfit, msg=url):
-                programs.place_of(self.folder, url)
+                programs.place_of(Repo.of(self.folder), url)
 
 
 class Remembered(InFolder):
@@ -85,7 +103,7 @@ class Remembered(InFolder):
 
     def tree(self) -> Tree:
         self.put("h/r/meta/r.cm", PARENT)
-        return Tree(ROOT, str(self.folder), self.folder / "tree")
+        return Tree(ROOT, Repo.of(self.folder), self.folder / "tree")
 
     def test_commands(self) -> None:
         """host: children come back in their order, with those that a standing offer names"""
@@ -115,7 +133,7 @@ class Remembered(InFolder):
         again = self.tree()
         self.assertTrue(again.open())
         self.assertEqual((list(again.children), list(again.on), again.shut), (["c:one"], ["c:one"], ["a"]))
-        self.assertFalse(Tree(ROOT + "x", str(self.folder), self.folder / "tree").open())
+        self.assertFalse(Tree(ROOT + "x", Repo.of(self.folder), self.folder / "tree").open())
 
     def test_stops(self) -> None:
         """host: a stop takes children of collections along, and what runs once goes itself"""
@@ -145,6 +163,73 @@ class Remembered(InFolder):
         self.assertEqual([tree.url_of(name) for name in (".", "a", "b", "c:y")], [
             ROOT, "fuchsia-pkg://h/r#meta/a.cm", "fuchsia-pkg://h/b#meta/b.cm",
             "fuchsia-pkg://h/r#meta/y.cm"])
+
+
+class Asked(InFolder):
+    """The scripts for the words `environments` and `storage`."""
+
+    def setUp(self) -> None:
+        super().setUp()
+        self.put("h/r/meta/r.cm", PARENT)
+        self.tree = Tree(ROOT, Repo.of(self.folder), self.folder / "tree")
+        self.reports = Reports("/usr/bin/false", Repo.of(self.folder), self.tree)
+
+    def test_script(self) -> None:
+        """host: a script for a report brings what was created above an instance, and nothing else"""
+        self.tree.created(".", "c", "gone", "#meta/a.cm", [])
+        self.tree.created(".", "c", "one", "#meta/a.cm", ["+", "protocol", "p", "#c:gone"])
+        self.tree.created(".", "c", "other", "#meta/a.cm", [])
+        self.tree.destroyed("c:gone")
+        self.tree.comes("c:one", "d", "two", "#meta/a.cm", [])
+        self.assertEqual(self.reports.script(["c:one/d:two/x"]), [
+            f"root {ROOT}", "0 create . c gone #meta/a.cm",
+            "0 create . c one #meta/a.cm + protocol p #c:gone", "0 destroy c:gone",
+            "0 create c:one d two #meta/a.cm", "0 resolve c:one/d:two/x"])
+        self.assertEqual(self.reports.script_below_the_host(["c:other/x", "."], {})[-4:], [
+            f"root {TOP}", "0 create root c other #meta/a.cm", "0 resolve root/c:other/x", "0 resolve root"])
+        self.assertEqual(self.reports.words, frozenset())
+
+    def test_births(self) -> None:
+        """host: a child that is made again has another birth, also behind a further reading"""
+        self.tree.open()
+        self.tree.created(".", "c", "one", "#meta/a.cm", [])
+        first = self.tree.children["c:one"].birth
+        again = Tree(ROOT, Repo.of(self.folder), self.folder / "tree")
+        self.assertTrue(again.open())
+        self.assertEqual(again.children["c:one"].birth, first)
+        again.destroyed("c:one")
+        again.created(".", "c", "one", "#meta/a.cm", [])
+        self.assertNotEqual(again.children["c:one"].birth, first)
+        self.assertEqual([created_part(one) for one in (".", "a/b", "c:one", "c:one/a", "a/c:x/b/d:y/e")],
+                         ["", "", "c:one", "c:one", "a/c:x/b/d:y"])
+
+    def test_names(self) -> None:
+        """host: folders of storage have names of their own for each place, and each birth"""
+        self.tree.created(".", "c", "one", "#meta/a.cm", [])
+        storage = Storage(Mock(tree=self.tree), self.reports)
+        long = [storage.name("a", "fs /" + "x/" * 300 + end) for end in "ab"]
+        names = [storage.name("a", "fs /m/a/data"), storage.name("a", "fs /m/a%2Fdata"),
+                 storage.name("c:one", "fs /m/a/data"), *long]
+        self.assertEqual(len(set(names)), len(names))
+        self.assertTrue(all("/" not in name and len(name) < 200 for name in names))
+        self.assertEqual(names[2].partition("~")[2], self.tree.children["c:one"].birth)
+
+    def test_counted(self) -> None:
+        """host: what lies in a storage is counted at any depth; what may not be looked at is told"""
+        at = os.open(self.folder, os.O_RDONLY)
+        for _ in range(1500):
+            os.mkdir("deep", dir_fd=at)
+            below = os.open("deep", os.O_RDONLY, dir_fd=at)
+            os.close(at)
+            at = below
+        with open(os.open("file", os.O_CREAT | os.O_WRONLY, dir_fd=at), "wb") as file:
+            file.write(bytes(1 << 20))
+        os.close(at)
+        used = asyncio.run(counted(self.folder, 10_000))
+        self.assertGreaterEqual(used.size, 1 << 20)
+        self.assertEqual((used.files > 1500, used.is_whole), (True, True))
+        self.assertGreater(asyncio.run(counted(self.folder, 100)).files, 100)
+        subprocess.run(["rm", "-rf", str(self.folder / "deep")], check=True)
 
 
 class Written(InFolder):
@@ -217,6 +302,40 @@ class Sockets(InFolder):
         self.assertFalse(removed_sockets(self.folder / "out", 3))
 
 
+class Taken(InFolder):
+    """The door of a use."""
+
+    def taken(self, a_second: float) -> list[socket.socket]:
+        """Of ten connections that come together, those that are taken within 0.3 seconds."""
+        taken: list[socket.socket] = []
+
+        async def tries() -> None:
+            link = socket.socket(socket.AF_UNIX)
+            link.bind(str(self.folder / "use"))
+            link.listen(16)
+            link.setblocking(False)
+            it = Instance(1, "a", self.folder / "i")
+            clients = [socket.socket(socket.AF_UNIX) for _ in range(10)]
+            door = doors.Door(Mock(), it, "/svc/p", link)
+            for client in clients:
+                client.connect(str(self.folder / "use"))
+            with patch.object(doors.Opening, "begin", lambda one: taken.append(one.client)):
+                await asyncio.sleep(0.3)
+            door.cancel()
+            for one in *clients, *taken:
+                one.close()
+            (self.folder / "use").unlink()
+
+        with patch.multiple(doors, AT_ONCE=3, A_SECOND=a_second):
+            watching.run(tries())
+        return taken
+
+    def test_a_second(self) -> None:
+        """host: a use takes so many connections at once, and then so many in a second"""
+        self.assertEqual(len(self.taken(1)), 3)
+        self.assertEqual(len(self.taken(1e9)), 10)
+
+
 class Small(InFolder):
     """Rooms, rights, replies, filters, settings."""
 
@@ -283,7 +402,7 @@ class Small(InFolder):
 
     def test_settings(self) -> None:
         """host: settings are one line, from which the same are read"""
-        settings = Settings("p", "r e", "u\"", "d", True, roll_entries=7)
+        settings = Settings("p", "r e", "m", "u\"", "d", True, roll_entries=7)
         self.assertEqual(Settings.from_text(settings.to_text()), settings)
 
     def test_unit(self) -> None:

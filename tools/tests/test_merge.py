@@ -83,6 +83,15 @@ class MergeTests(unittest.TestCase):
             self.write("top/lib/log.cml", text)
             ran = self.merge()
             self.assertEqual((ran.status, ran.out, ran.err.count("\n")), (2, "", 1), text)
+        self.write("top/lib/log.cml", "\ufeff{}")
+        self.assertRegex(self.merge().err, r"log.cml:1:1: .*a byte order mark \(BOM\), which isn't seen")
+
+    def test_each_place_once(self) -> None:
+        """a folder of --include that a file stands in is told once as a place where its shard isn't"""
+        self.write("alone/main.cml", "{ include: [ 'none.cml' ] }")
+        place = self.folder / "alone"
+        ran = run("merge", str(place / "main.cml"), "--include", str(place))
+        self.assertEqual((ran.status, ran.err.count("none.cml")), (2, 2))
 
     def test_left_out(self) -> None:
         """what isn't read here is left out by its names and listed, and an unknown name is told"""

@@ -111,7 +111,7 @@ class SessionTests(unittest.TestCase):
     def test_known_replies(self) -> None:
         """each reply of the reference's table is one"""
         told = re.findall(r"^\| `(\w[^`]*)`", self.section("Replies"), re.M)
-        self.assertEqual(len(told), 15)
+        self.assertEqual(len(told), 16)
         for text in told:
             self.assertTrue(REPLY.match(text.encode()), text)
 

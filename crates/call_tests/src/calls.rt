@@ -224,6 +224,19 @@ fn exited<R: Threads + Wait + Sync>(
     manager.exited(rt, alloc, pass, &mut QuietGates, target)
 }
 
+fn events<R: Threads + Wait + Sync>(
+    rt: &R,
+    alloc: Global,
+    manager: &Manager,
+    pass: Pass<Entry, Frame>,
+    target: &Target,
+) -> Answered
+    requires { pass.lock ≡ manager.now.turn.lock }
+    ensures { result.0.lock ≡ pass.lock }
+{
+    manager.events(rt, alloc, pass, &mut QuietGates, target, 0)
+}
+
 /// Makes the call of a name. A name that no call has is answered as want of memory.
 pub fn call<R: Threads + Wait + Sync>(
     rt: &R,
@@ -252,6 +265,7 @@ pub fn call<R: Threads + Wait + Sync>(
         "survey" => survey(rt, alloc, manager, pass, target),
         "doctor" => doctor(rt, alloc, manager, pass, target),
         "exited" => exited(rt, alloc, manager, pass, target),
+        "events" => events(rt, alloc, manager, pass, target),
         _ => (pass, Err(Refusal::Memory)),
     }
 }

@@ -91,6 +91,7 @@ fn told_of(answer: &Answer) -> (&'static str, u64) {
         Answer::Surveyed(rows) => ("surveyed", rows.len() as u64),
         Answer::Doctored(lines) => ("doctored", lines.len() as u64),
         Answer::Left(on) => ("left", *on as u64),
+        Answer::Streamed(_, told) => ("streamed", told.len() as u64),
     }
 }
 

@@ -37,6 +37,7 @@ asked_by t (question.Act kind.Stop) = command.Stop t
 asked_by t question.Shutdown = command.Shutdown t
 asked_by t question.Destroy = command.Destroy t
 asked_by t question.Doctor = command.Doctor t
+asked_by t (question.Events from) = command.Events t from
 asked_by t (question.Event r) = requested_by t r
 
 -- the event that makes this request of a row

@@ -20,6 +20,8 @@ pub enum Question<'a> {
     Destroy,
     /// Where all that it and those below it use comes from.
     Doctor,
+    /// What happened at and below it behind so many entries.
+    Events(u64),
     /// What one event asks, with what follows it.
     Event(Request<'a>),
 }
@@ -105,6 +107,7 @@ pub fn question_of(command: &Command) -> (&Target, Question<'_>)
         Command::Show(target) => (target, Question::Event(Request::Show)),
         Command::Survey(target) => (target, Question::Event(Request::Survey)),
         Command::Exited(target) => (target, Question::Event(Request::Exited)),
+        Command::Events { target, from } => (target, Question::Events(*from)),
     }
 }
 

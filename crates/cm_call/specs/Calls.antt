@@ -17,6 +17,8 @@ use Rattle.cm_call.specs.declared.call.Call.{Call}
 use Rattle.cm_call.specs.declared.call.Call.TheVariants.{Run, Check, Generate, Serve, Audit}
 use Rattle.cm_call.specs.declared.call.RunOptions.{RunOptions}
 use Rattle.cm_call.specs.declared.call.ServeOptions.{ServeOptions}
+use Rattle.cm_call.specs.declared.call.Wanted.{Wanted}
+use Rattle.cm_call.specs.declared.call.Wanted.TheVariants.{Answers, Environments, Storage}
 use Rattle.cm_call.specs.declared.call.Workload.{Workload}
 use Rattle.cm_call.specs.declared.call.WordsFault.{WordsFault}
 use Rattle.cm_call.specs.declared.call.WordsFault.TheVariants.{Usage, Memory}
@@ -44,6 +46,10 @@ app_named name = on_top (λ s. record s { no_binary_name = true }) (new_app name
 
 abbrev pub run_app : App
 run_app = with_rule (with_rule (app_named (codes "run")) journal_rule) repo_rule
+
+-- `--repo DIR` alone; the name is told nowhere
+abbrev pub report_app : App
+report_app = with_rule (app_named (codes "report")) repo_rule
 
 abbrev pub check_app : App
 check_app = app_named (codes "check")
@@ -124,7 +130,14 @@ is_yes (Some text) = bytes_eq text (codes "true")
 
 abbrev pub options_in : List Row → RunOptions
 options_in rows =
-    record { journal = is_yes (first_of (codes "journal") rows); repository = first_of (codes "repo") rows }
+    record {
+      wanted = Answers (is_yes (first_of (codes "journal") rows));
+      repository = first_of (codes "repo") rows;
+    }
+
+-- a report on the tree at the end
+abbrev pub report_in : Wanted → List Row → RunOptions
+report_in wanted rows = record { wanted = wanted; repository = first_of (codes "repo") rows }
 
 abbrev pub on_rows : {X : Type 0} → (List Row → X) → Read (List Row) → Read X
 on_rows f (Ok rows) = Ok (f rows)
@@ -132,6 +145,9 @@ on_rows f (Err e) = Err e
 
 abbrev pub run_words : List Text → Read Call
 run_words words = on_rows (λ rows. Run (options_in rows)) (rows_read run_app words)
+
+abbrev pub report_words : Wanted → List Text → Read Call
+report_words wanted words = on_rows (λ rows. Run (report_in wanted rows)) (rows_read report_app words)
 
 abbrev pub check_words : List Text → Read Call
 check_words words = on_rows (λ rows. Check) (rows_read check_app words)
@@ -220,4 +236,6 @@ words_of (word ∷ words) =
     else if bytes_eq word (codes "generate") then generate_words words
     else if bytes_eq word (codes "serve") then serve_words words
     else if bytes_eq word (codes "audit") then audit_words words
+    else if bytes_eq word (codes "environments") then report_words Environments words
+    else if bytes_eq word (codes "storage") then report_words Storage words
     else Err Usage

@@ -13,11 +13,30 @@ use clap::{Arg, ArgAction, ArgMatches, Command};
 use cm_names::{Memory, Text};
 use std::alloc::Global;
 
-/// What `run` is asked for besides the script.
+/// What is to be printed of the run of a script.
+#[derive(Clone, Copy)]
+pub enum Wanted {
+    /// The answer to each line, and behind them the journal where it is wanted.
+    Answers {
+        /// Whether it is.
+        journal: bool,
+    },
+    /// One line that counts the answers, and those to uses that were still there.
+    Summary {
+        /// So many instances the script is for.
+        instances: usize,
+    },
+    /// Where the runners and the debug protocols of the instances are registered at the end.
+    Environments,
+    /// The place of each storage that an instance uses at the end.
+    Storage,
+}
+
+/// What a run of a script is asked for besides the script.
 #[derive(Drop)]
 pub struct RunOptions {
-    /// `--journal`: the journal is to follow the answers.
-    pub journal: bool,
+    /// What is to be printed of it.
+    pub wanted: Wanted,
     /// `--repo DIR`: the folder of the manifests that the script doesn't bring along.
     pub repository: Option<Text>,
 }
@@ -49,7 +68,8 @@ pub struct ServeOptions {
 /// What the program is to do.
 #[derive(Drop)]
 pub enum Call {
-    /// `run [--journal] [--repo DIR]`: answer the commands of a script.
+    /// `run [--journal] [--repo DIR]`: answer the commands of a script; `environments [--repo DIR]` and
+    /// `storage [--repo DIR]`: run them, and report on the tree at the end.
     Run(RunOptions),
     /// `check`: say whether a manifest is valid.
     Check,
@@ -94,6 +114,15 @@ fn run_command<'a>(alloc: Global) -> Result<Command<'a>, Memory>
         .no_binary_name(true)
         .arg(journal)?;
     let repo = Arg::new(alloc, "repo").long("repo").action(ArgAction::Set);
+    Ok(command.arg(repo)?)
+}
+
+/// The parser of the words behind the name of a report.
+fn report_command<'a>(alloc: Global) -> Result<Command<'a>, Memory>
+    ensures { IfOk result (λ c. app_of c ≡ spec.report_app) }
+{
+    let repo = Arg::new(alloc, "repo").long("repo").action(ArgAction::Set);
+    let command = Command::new(alloc, "report").no_binary_name(true);
     Ok(command.arg(repo)?)
 }
 
@@ -259,7 +288,7 @@ fn options_of(alloc: Global, matches: &ArgMatches<'_>) -> Result<RunOptions, Wor
     let journal = has_flag(matches, "journal");
     let repository = copy_at(alloc, matches, "repo")?;
     Ok(RunOptions {
-        journal,
+        wanted: Wanted::Answers { journal },
         repository,
     })
 }
@@ -271,6 +300,16 @@ fn read_run(alloc: Global, words: &[Text]) -> Result<Call, WordsFault>
 {
     let matches = parsed(run_command(alloc)?, words)?;
     Ok(Call::Run(options_of(alloc, &matches)?))
+}
+
+/// What the words behind the name of a report ask for, which is that report.
+fn read_report(alloc: Global, wanted: Wanted, words: &[Text]) -> Result<Call, WordsFault>
+    ensures gives { Gives result (spec.report_words wanted words.now) }
+    ensures possible { IfOk result IsPossible }
+{
+    let matches = parsed(report_command(alloc)?, words)?;
+    let repository = copy_at(alloc, &matches, "repo")?;
+    Ok(Call::Run(RunOptions { wanted, repository }))
 }
 
 /// What the words behind `check` ask for.
@@ -373,9 +412,9 @@ fn read_serve(alloc: Global, words: &[Text]) -> Result<Call, WordsFault>
 /// The first word picks the command, and the further words go to that command's parser, which is
 /// one of the crate `clap`.
 ///
-/// `Err(Usage)` comes exactly where the first word is none of `run`, `check`, `generate`, `serve` and
-/// `audit`, or clap's definition of that command finds a fault in the further words; `Err(Memory)`
-/// where memory runs out. The words are this project's own choice.
+/// `Err(Usage)` comes exactly where the first word is none of `run`, `check`, `generate`, `serve`,
+/// `audit`, `environments` and `storage`, or clap's definition of that command finds a fault in the
+/// further words; `Err(Memory)` where memory runs out. The words are this project's own choice.
 #[tactic(auto, unfolding(crate::specs::Calls::words_of))]
 pub fn read_words(alloc: Global, words: &[Text]) -> Result<Call, WordsFault>
     ensures gives { Gives result (spec.words_of words.now) }
@@ -398,6 +437,12 @@ pub fn read_words(alloc: Global, words: &[Text]) -> Result<Call, WordsFault>
     }
     if word.as_str() == "audit" {
         return read_audit(alloc, others);
+    }
+    if word.as_str() == "environments" {
+        return read_report(alloc, Wanted::Environments, others);
+    }
+    if word.as_str() == "storage" {
+        return read_report(alloc, Wanted::Storage, others);
     }
     Err(WordsFault::Usage)
 }

@@ -14,5 +14,5 @@ mod generator;
 pub mod laws;
 mod workload;
 
-pub use call::{Call, RunOptions, ServeOptions, WordsFault, Workload, read_words};
+pub use call::{Call, RunOptions, ServeOptions, Wanted, WordsFault, Workload, read_words};
 pub use workload::generated;

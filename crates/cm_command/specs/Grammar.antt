@@ -1,5 +1,5 @@
 -- Which line is which command.
-use Rattle.std.specs.Prelude.{◌≡◌, ℕ, ◌+◌, ◌≤◌, List, [], ◌∷◌, ◌++◌, codes, Some, None, IsTrue}
+use Rattle.std.specs.Prelude.{◌≡◌, ℕ, ◌+◌, ◌<◌, ◌≤◌, ◌^◌, List, [], ◌∷◌, ◌++◌, codes, Some, None, IsTrue}
 use Rattle.cm_names.specs.declared.availability.Availability.TheVariants as availability
 use Rattle.cm_names.specs.declared.dependency.Dependency.TheVariants as dependency
 use Rattle.cm_names.specs.Name.{IsName}
@@ -17,6 +17,7 @@ use Rattle.cm_command.specs.declared.command.Command.{Command}
 use Rattle.cm_command.specs.declared.command.Command.TheVariants as command
 use Rattle.cm_command.specs.declared.command.CommandFault.{CommandFault}
 use Rattle.cm_command.specs.declared.command.CommandFault.TheVariants.{BadCommand, Memory}
+use Rattle.cm_command.specs.Numbers.{IsNumberText}
 use Rattle.cm_command.specs.Words.{words_of, IsUrlText, IsTargetText, IsOriginText, IsRightsText}
 
 -- bytes
@@ -94,6 +95,8 @@ pub data CommandWords : List Text → Command → Type 0 where
       → CommandWords (codes "survey" ∷ t ∷ []) (command.Survey a)
   exited : {t : Text} {a : Target} → IsTargetText t a
       → CommandWords (codes "exited" ∷ t ∷ []) (command.Exited a)
+  events : {t from : Text} {a : Target} {n : ℕ} → IsTargetText t a → IsNumberText from n → n < 2 ^ 64
+      → CommandWords (codes "events" ∷ t ∷ from ∷ []) (command.Events a n)
 
 -- the line asks for that command
 abbrev pub CommandText : Text → Command → Type 0

@@ -1,6 +1,6 @@
 -- Where a line stands behind some of its words: which word leads on, and to what.
-use Rattle.std.specs.Prelude.{◌≡◌, ◌⊎◌, ℕ, ◌+◌, ◌-◌, ◌≤◌, ◌^◌, List, [], ◌∷◌, ◌++◌, codes, Some, None, Result}
-use Rattle.std.specs.Prelude.{MatchResult, IsTrue}
+use Rattle.std.specs.Prelude.{◌≡◌, ◌⊎◌, ℕ, ◌+◌, ◌-◌, ◌<◌, ◌≤◌, ◌^◌, List, [], ◌∷◌, ◌++◌, codes}
+use Rattle.std.specs.Prelude.{Some, None, Result, MatchResult, IsTrue}
 use Rattle.cm_names.specs.Name.{IsName}
 use Rattle.cm_names.specs.Path.{is_path, service_path}
 use Rattle.cm_names.specs.Rights.{RightSet}
@@ -25,6 +25,7 @@ use Rattle.cm_command.specs.declared.tokens.WordFault.TheVariants as word_fault
 use Rattle.cm_command.specs.declared.command.CommandFault.{CommandFault}
 use Rattle.cm_command.specs.declared.command.CommandFault.TheVariants as command_fault
 use Rattle.cm_command.specs.Counts.{IsWordFault}
+use Rattle.cm_command.specs.Numbers.{IsNumberText}
 use Rattle.cm_command.specs.Pieces.{Leads, Wants}
 use Rattle.cm_command.specs.Words.{words_of, IsUrlText, IsTargetText, IsOriginText, IsRightsText}
 use Rattle.cm_command.specs.Grammar.{Text, Adds, plain_give}
@@ -45,12 +46,13 @@ verb_word verb.Doctor = codes "doctor"
 verb_word verb.Show = codes "show"
 verb_word verb.Survey = codes "survey"
 verb_word verb.Exited = codes "exited"
+verb_word verb.Events = codes "events"
 
 -- all verbs
 abbrev pub verbs : List Verb
 verbs =
     verb.Resolve ∷ verb.Start ∷ verb.Stop ∷ verb.Shutdown ∷ verb.Create ∷ verb.Destroy ∷ verb.List ∷ verb.Open
-    ∷ verb.OpenExposed ∷ verb.Route ∷ verb.Doctor ∷ verb.Show ∷ verb.Survey ∷ verb.Exited ∷ []
+    ∷ verb.OpenExposed ∷ verb.Route ∷ verb.Doctor ∷ verb.Show ∷ verb.Survey ∷ verb.Exited ∷ verb.Events ∷ []
 
 -- the word of some verb
 abbrev pub IsVerbWord : Text → Type 0
@@ -80,6 +82,7 @@ behind_target verb.Doctor a = asks (command.Doctor a)
 behind_target verb.Show a = asks (command.Show a)
 behind_target verb.Survey a = asks (command.Survey a)
 behind_target verb.Exited a = asks (command.Exited a)
+behind_target verb.Events a = place.Streaming a
 
 -- a builtin protocol, whose path is that of its name
 abbrev pub protocol_of : Text → Builtin
@@ -119,6 +122,7 @@ Steps (place.Listing a) w p = IsName w × (p ≡ asks (command.ListChildren a w)
 Steps (place.Opening a) w p = IsTrue (is_path w) × (p ≡ asks (command.OpenUse a w))
 Steps (place.OpeningExposed a) w p = IsName w × (p ≡ asks (command.OpenExposed a w))
 Steps (place.Routing a) w p = IsTrue (is_path w) × (p ≡ asks (command.RouteOf a w))
+Steps (place.Streaming a) w p = (n : ℕ) × IsNumberText w n × (n < 2 ^ 64) × (p ≡ asks (command.Events a n))
 Steps (place.Creating a) w p = IsName w × (p ≡ place.CreatingIn a w)
 Steps (place.CreatingIn a coll) w p = IsName w × (p ≡ place.CreatingNamed a coll w)
 Steps (place.CreatingNamed a coll name) w p = IsUrlText w × (p ≡ create a coll name w)

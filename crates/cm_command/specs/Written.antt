@@ -88,6 +88,7 @@ command_words (command.Doctor a) = codes "doctor" ∷ target_text a ∷ []
 command_words (command.Show a) = codes "show" ∷ target_text a ∷ []
 command_words (command.Survey a) = codes "survey" ∷ target_text a ∷ []
 command_words (command.Exited a) = codes "exited" ∷ target_text a ∷ []
+command_words (command.Events a n) = codes "events" ∷ target_text a ∷ decimal n ∷ []
 
 -- the line that a command is written as: its words, with one space between them
 abbrev pub command_text : Command → Text
@@ -138,6 +139,7 @@ IsWritable (command.Doctor a) = IsTarget a
 IsWritable (command.Show a) = IsTarget a
 IsWritable (command.Survey a) = IsTarget a
 IsWritable (command.Exited a) = IsTarget a
+IsWritable (command.Events a n) = IsTarget a × (n < 2 ^ 64)
 
 -- the line that such a command is written as asks for it
 abbrev pub WritesItsLine : Type 0

@@ -69,6 +69,13 @@ pub enum Command {
     Survey(Target),
     /// `exited T`: its program has ended by itself.
     Exited(Target),
+    /// `events T FROM`: what happened at and below the instance since the entry of that number.
+    Events {
+        /// The instance.
+        target: Target,
+        /// So many of the first entries are left out.
+        from: u64,
+    },
 }
 
 /// Why a line is no command.

@@ -39,6 +39,8 @@ pub enum Verb {
     Survey,
     /// `exited`
     Exited,
+    /// `events`
+    Events,
 }
 
 impl Verb {
@@ -61,11 +63,12 @@ impl Verb {
             Verb::Show => "show",
             Verb::Survey => "survey",
             Verb::Exited => "exited",
+            Verb::Events => "events",
         }
     }
 
     /// All verbs.
-    pub fn all() -> [Verb; 14]
+    pub fn all() -> [Verb; 15]
         ensures { result ≡ spec.verbs }
     {
         [
@@ -83,6 +86,7 @@ impl Verb {
             Verb::Show,
             Verb::Survey,
             Verb::Exited,
+            Verb::Events,
         ]
     }
 }
@@ -126,6 +130,8 @@ pub enum Place {
     OpeningExposed(Target),
     /// The path of `route` is next.
     Routing(Target),
+    /// The number of `events` is next.
+    Streaming(Target),
     /// The collection of `create` is next.
     Creating(Target),
     /// The child's name is next.

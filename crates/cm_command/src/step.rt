@@ -15,7 +15,7 @@ use crate::addition::{Addition, read_addition};
 use crate::place::{Creation, Place, Sentence, Verb};
 use crate::rights::read_rights;
 use crate::tokens::{
-    WordFault, read_name, read_origin, read_path, read_target, read_url, text_fronts,
+    WordFault, read_name, read_number, read_origin, read_path, read_target, read_url, text_fronts,
 };
 use crate::words::is_same;
 use cm_decl::{Give, Kind, Origin};
@@ -37,6 +37,7 @@ pub fn step(alloc: Global, place: Place, word: &[u8]) -> Result<Place, WordFault
         Place::Opening(target) => take_opening(alloc, target, word),
         Place::OpeningExposed(target) => take_opening_exposed(alloc, target, word),
         Place::Routing(target) => take_routing(alloc, target, word),
+        Place::Streaming(target) => take_streaming(target, word),
         Place::Creating(parent) => take_collection(alloc, parent, word),
         Place::CreatingIn(parent, coll) => take_child(alloc, parent, coll, word),
         Place::CreatingNamed(parent, coll, name) => take_url(alloc, parent, coll, name, word),
@@ -114,6 +115,16 @@ fn take_routing(alloc: Global, target: Target, word: &[u8]) -> Result<Place, Wor
 {
     match read_path(alloc, word) {
         Ok(path) => Ok(asks(Command::RouteOf { target, path })),
+        Err(fault) => Err(fault),
+    }
+}
+
+/// The place behind the number of `events`.
+fn take_streaming(target: Target, word: &[u8]) -> Result<Place, WordFault>
+    ensures { StepsFrom (place.Streaming target) word.now result }
+{
+    match read_number(word) {
+        Ok(from) => Ok(asks(Command::Events { target, from })),
         Err(fault) => Err(fault),
     }
 }
@@ -341,6 +352,7 @@ fn behind_target(verb: Verb, target: Target) -> Place
         Verb::Show => asks(Command::Show(target)),
         Verb::Survey => asks(Command::Survey(target)),
         Verb::Exited => asks(Command::Exited(target)),
+        Verb::Events => Place::Streaming(target),
     }
 }
 

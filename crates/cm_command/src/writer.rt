@@ -41,7 +41,18 @@ pub fn write_command(alloc: Global, command: &Command) -> Result<Text, Memory>
         Command::Show(target) => with_target(alloc, "show", target),
         Command::Survey(target) => with_target(alloc, "survey", target),
         Command::Exited(target) => with_target(alloc, "exited", target),
+        Command::Events { target, from } => write_events(alloc, target, *from),
     }
+}
+
+/// The line of an `events`.
+fn write_events(alloc: Global, target: &Target, from: u64) -> Result<Text, Memory>
+    ensures { IfOk result (λ text. text ≡ spec.command_text (asked.Events target.now from)) }
+{
+    let mut text = with_target(alloc, "events", target)?;
+    text.push_str(" ")?;
+    text.push(from)?;
+    Ok(text)
 }
 
 /// The line of a `create`.

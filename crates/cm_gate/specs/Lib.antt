@@ -4,4 +4,5 @@ pub mod Manifests
 pub mod Meeting
 pub mod Places
 pub mod Planned
+pub mod Reads
 pub mod Runner

@@ -28,7 +28,9 @@ launched_by answer =
 abbrev pub halted_by : List ℕ → Halted
 halted_by answer = cond (bytes_eq answer (codes "stopped" ++ 10 ∷ [])) halted.Stopped halted.Failed
 
--- gates to a folder, as contracts see them: whether a runner is asked, and how often they failed
-pub record FolderView : Type 0 where
+-- gates to a folder, as contracts see them: through what they read, whether a runner is asked, and how often
+-- they failed
+pub record FolderView (F : Type 0) : Type 0 where
+  pub files : F
   pub runs : Bool
   pub faults : ℕ

@@ -23,6 +23,7 @@ use Rattle.cm_world.specs.declared.reply.Reply.{Reply}
 use Rattle.cm_world.specs.declared.reply.Reply.TheVariants as reply
 use Rattle.cm_world.specs.declared.report.SurveyRow.{SurveyRow}
 use Rattle.cm_world.specs.declared.route.Route.{Route}
+use Rattle.cm_world.specs.Rows.{moniker_of}
 use Rattle.cm_command.specs.declared.command.Command.{Command}
 use Rattle.cm_command.specs.declared.command.Command.TheVariants as command
 use Rattle.cm_answers.specs.declared.acted.Acted.{Acted}
@@ -30,21 +31,25 @@ use Rattle.cm_answers.specs.declared.acted.Acted.TheVariants as acted
 use Rattle.cm_answers.specs.Answers.{failure, ends_call, ends_eager, refusal_of, decision, decided_by, answer_unless, unless_ended, found_by, acted_answer, resolved_answer, started_answer, stopped_answer, unmarked}
 use Rattle.cm_answers.specs.Lines.{route_by, line_of, unresolved_line, in_front, surveyed_by, doctored_by}
 use Rattle.cm_reply.specs.Legible.{IsOfNames, IsLegibleReply, IsLegibleSurvey}
-use Rattle.cm_manager.specs.Turns.{Makes, IsCut}
+use Rattle.cm_manager.specs.Turns.{Makes, IsCut, world_after}
 use Rattle.cm_manager.specs.Runs.{Acts, ended, started, started_cut, stopped, stopped_cut, joined, quiet, resolved_first, not_resolved, cut, Eagers, all_done, next_one, cut_at, Tries, decided, needs, failed, cut_try, Onces, is_quiet}
 use Rattle.cm_manager.specs.Sweeps.{Stops, Removes, Clears, Sweeps}
 use Rattle.cm_manager.specs.Shutdowns.{Shuts, Destroys}
 use Rattle.cm_manager.specs.Doctor.{Checks, Each, OfPath, OfRow, Doctors}
+use Rattle.cm_manager.specs.Streams.{Streams, streamed_by}
 use Rattle.cm_manager.specs.Calls.{Way, Finding, Behind, OnRow, Tried, Nothing, Then, TriedThen, OnceCreated, SweptLeft, ActedOn, Calls}
 use Rattle.cm_lanes.specs.Script.{Answered, answers_of, Follows, rests, performs, ArePhases, none_left, one_first}
 use Rattle.cm_journal.specs.Said.{IsLegibleRefusal, IsLegibleFound, IsLegibleChecked, IsLegibleAnswer, IsLegibleResult, OfReplies, AreOfLanes, AreLegibleAnswers, ResultsAreLegible}
-use Rattle.cm_journal.proofs.Growing.{Growing, Following, behind_grows, then_grows, calls_grow, acted_grows, tried_grows, tried_then_grows, created_grows, left_grows, doctors_grow, each_grows, row_grows, tries_grow}
+use Rattle.cm_journal.proofs.Growing.{Growing, Following, behind_grows, then_grows, calls_grow, acted_grows, tried_grows, tried_then_grows, created_grows, left_grows, doctors_grow, streams_grow, each_grows, row_grows, tries_grow}
 use Rattle.cm_manager.proofs.shutdowns.ShuttingDown.{shuts_close, destroys_close}
 use Rattle.cm_manager.proofs.calling.Joining.{starts-trans}
 use Rattle.cm_manager.proofs.calling.Keeping.{starts_same}
+use Rattle.cm_legible.specs.Tellable.{IsNamedReply}
+use Rattle.cm_legible.proofs.Replies.{legible_reply}
+use Rattle.cm_journal.proofs.Streamed.{stream_is}
 
 abbrev OfReply : Entry → Type 0
-OfReply e = IsLegibleReply e.reply
+OfReply e = IsNamedReply e.reply
 
 front_of : (a more : List Entry) → OfReplies (a ++ more) → OfReplies a
 front_of [] more h = All-nil OfReply
@@ -133,7 +138,7 @@ quiet_refusal _ h = absurd (cc h)
 
 module _ (f : Frame) (c : ℕ) where
   made_is : (a b : List Entry) (e : Event) (r : Reply) → Makes c a e r b → OfReplies b → IsLegibleReply r
-  made_is a b e r m h = last_of m.found (record { caller = c; event = e; reply = r }) (subst OfReplies m.entries h)
+  made_is a b e r m h = legible_reply r (last_of m.found (record { caller = c; event = e; reply = r }) (subst OfReplies m.entries h))
 
   cut_is : (a b : List Entry) (e : Event) (x : Refusal) → IsCut f c a e b x → IsLegibleRefusal x
   cut_is a b e refusal.Memory is = tt
@@ -388,6 +393,16 @@ module _ (f : Frame) (c : ℕ) where
       (subst OfSurvey is (survey_is went (tries f c _ survey (within m b (each_grows (OfRow f c) (row_grows f c) rows) h)))) h)
   doctors i a b r (Doctors.not_surveyed {went = went} survey is) h = subst OfSurvey is (survey_is went (tries f c _ survey h))
 
+  streamed : (found : List Entry) (from i : ℕ) (r : Reply) → IsLegibleReply r → OfReplies found → IsLegibleResult (streamed_by f found from i r)
+  streamed found from i (reply.Tailed n) h k = stream_is found from n (moniker_of (world_after f found).rows i) k
+  streamed found from i r h k = refusal_is r h
+
+  streams : (from : ℕ) → Saying (Streams f c from)
+  streams from i a b r (Streams.told {r = said} asks) h =
+      streamed asks.made.found from i said (made_is f c _ _ _ _ asks.made h)
+      (front_of asks.made.found _ (subst OfReplies asks.made.entries h))
+  streams from i a b r (Streams.cut {x = x} is) h = cut_is f c a b (event.Tail i from) x is
+
   calls : (cmd : Command) (a b : List Entry) (r : Result Answer Refusal) → Calls f c cmd a b r → OfReplies b → IsLegibleResult r
   calls (command.Resolve t) a b r is h = on_row t _ a b r (acted_grows f c _ _) (acting _ _ (acted_is (λ a o. answer.Resolved a) (λ a o. tt))) is h
   calls (command.Start t) a b r is h = on_row t _ a b r (acted_grows f c _ _) (acting _ _ (acted_is (λ a o. answer.Started a) (λ a o. tt))) is h
@@ -405,6 +420,7 @@ module _ (f : Frame) (c : ℕ) where
   calls (command.Show t) a b r is h = on_row t _ a b r (tried_grows f c _) (tried _) is h
   calls (command.Survey t) a b r is h = on_row t _ a b r (tried_grows f c _) (tried _) is h
   calls (command.Exited t) a b r is h = on_row t _ a b r (tried_then_grows f c _ _ (left_grows f c)) (tried_then _ _ (left_grows f c) left) is h
+  calls (command.Events t from) a b r is h = on_row t _ a b r (streams_grow f c from) (streams from) is h
 
   abbrev OfAnswer : Answered → Type 0
   OfAnswer a = IsLegibleResult a.result

@@ -11,7 +11,8 @@ use Rattle.cm_world.specs.declared.answer.Refusal.TheVariants as refusal
 use Rattle.cm_world.specs.declared.frame.Frame.{Frame}
 use Rattle.cm_world.specs.declared.reply.Entry.{Entry}
 use Rattle.cm_world.specs.declared.route.Route.{Route}
-use Rattle.cm_reply.specs.Legible.{IsOfNames, IsOfName, IsLegibleReply, IsLegibleRoute, IsLegibleSurvey}
+use Rattle.cm_reply.specs.Legible.{IsOfNames, IsOfName, IsLegibleRoute, IsLegibleSurvey}
+use Rattle.cm_legible.specs.Tellable.{IsNamedReply}
 use Rattle.cm_lanes.specs.Script.{Answered, ArePhases}
 
 abbrev pub IsLegibleRefusal : Refusal → Type 0
@@ -37,6 +38,7 @@ IsLegibleAnswer (answer.Routed route) = IsLegibleRoute route
 IsLegibleAnswer (answer.Shown look) = IsTrue (is_url_text look.url)
 IsLegibleAnswer (answer.Surveyed rows) = All IsLegibleSurvey rows
 IsLegibleAnswer (answer.Doctored lines) = All IsLegibleChecked lines
+IsLegibleAnswer (answer.Streamed next told) = All (λ h. IsOfNames h.moniker) told
 IsLegibleAnswer _ = Unit {0}
 
 abbrev pub IsLegibleResult : Result Answer Refusal → Type 0
@@ -44,7 +46,7 @@ IsLegibleResult (Ok a) = IsLegibleAnswer a
 IsLegibleResult (Err x) = IsLegibleRefusal x
 
 abbrev pub OfReplies : List Entry → Type 0
-OfReplies es = All (λ (e : Entry). IsLegibleReply e.reply) es
+OfReplies es = All (λ (e : Entry). IsNamedReply e.reply) es
 
 -- the lanes of all lines are of the sixteen
 abbrev pub AreOfLanes : List (List Answered) → Type 0

@@ -35,14 +35,14 @@ use Rattle.cm_reply.specs.Legible.{IsLongPath, IsLegible, IsLegibleFinish, IsLeg
 use Rattle.cm_audit.specs.Journal.{frame_of, Stage, before, head as heads, told, Reads, ReadsAll}
 use Rattle.cm_audit.specs.Laws.{IsLegibleHistory, JournalsAreLegal}
 use Rattle.cm_legible.specs.Frames.{with_room}
-use Rattle.cm_legible.specs.Tellable.{IsTellable, IsTellableDecl, IsTellableGive, IsTellableFinish, IsTellableFrame}
+use Rattle.cm_legible.specs.Tellable.{IsTellable, IsTellableDecl, IsTellableGive, IsTellableFinish, IsTellableFrame, IsNamedReply}
 use Rattle.cm_legible.proofs.Lists.{head, tail, none, map-All}
 use Rattle.cm_legible.proofs.Paths.{and_both, path_is_long, service_is_long}
 use Rattle.cm_legible.proofs.Json.{OneLine, is_inner, one_line-append, decimal_line}
 use Rattle.cm_legible.proofs.Texts.{IsTold, reply_told}
 use Rattle.cm_legible.proofs.Events.{event_line, builtin_one_line, url, url_bytes}
 use Rattle.cm_legible.proofs.Rooms.{legal_whatever_room}
-use Rattle.cm_legible.proofs.Replies.{replies_are_tellable}
+use Rattle.cm_legible.proofs.Replies.{replies_are_named, replies_are_tellable}
 use Rattle.cm_legible.proofs.Back.{entries_are_read_back}
 
 -- ---- what is legible can be told of
@@ -202,6 +202,10 @@ all_legible f es h legal k = λ i x lt. record {
   event = k.events i x lt;
   reply = replies_are_tellable f es (frame_is f h) legal (λ j y le. event_is _ (k.events j y le)) i x lt;
 }
+
+-- and their replies have names alone
+pub all_named : (f : Frame) (es : List Entry) → IsLegibleFrame f → Legal (start f) es → IsLegibleHistory es → All (λ (e : Entry). IsNamedReply e.reply) es
+all_named f es h legal k = replies_are_named f es (frame_is f h) legal (λ j y le. event_is _ (k.events j y le))
 
 reads_journal : (f : Frame) (es : List Entry) → IsLegibleFrame f → Legal (start (frame_of f.builtins f.root)) es → All IsLegibleEntry es → length es < 2 ^ 64 → ReadsAll before (journal_lines f es) (told (frame_of f.builtins f.root) es)
 unfolding journal_lines

@@ -4,3 +4,5 @@ pub mod Turning
 pub mod Tryings
 pub mod Onward
 pub mod Readings
+pub mod Streaming
+pub mod BegunOnce

@@ -24,6 +24,7 @@ use Rattle.cm_manager.specs.Turns.{own_entries}
 use Rattle.cm_manager.specs.Runs.{Acts, Tries, Onces}
 use Rattle.cm_manager.specs.Sweeps.{Sweeps}
 use Rattle.cm_manager.specs.Doctor.{Doctors}
+use Rattle.cm_manager.specs.Streams.{Streams}
 use Rattle.cm_answers.specs.Answers.{answer_unless, unless_ended, decided_by, found_by, resolved_answer}
 use Rattle.cm_answers.specs.Answers.{started_answer, stopped_answer}
 use Rattle.cm_manager.specs.Shutdowns.{Shuts, Destroys}
@@ -111,6 +112,7 @@ Calls f c (command.Doctor t) = OnRow f c t (Doctors f c)
 Calls f c (command.Show t) = OnRow f c t (Tried f c event.Show)
 Calls f c (command.Survey t) = OnRow f c t (Tried f c event.Survey)
 Calls f c (command.Exited t) = OnRow f c t (TriedThen f c event.Exited (SweptLeft f c))
+Calls f c (command.Events t from) = OnRow f c t (Streams f c from)
 
 -- a call, whose answer may be lost for want of memory
 abbrev pub Goes : Frame → ℕ → Command → Way (Result Answer Refusal)

@@ -2,12 +2,14 @@ pub mod Turns
 pub mod Sweeps
 pub mod Runs
 pub mod Shutdowns
+pub mod Streams
 pub mod Calls
 pub mod Closed
 pub mod Work
 pub mod Contract
 pub mod Managers
 pub mod Asking
+pub mod Streaming
 pub mod Doing
 pub mod Acting
 pub mod Parts

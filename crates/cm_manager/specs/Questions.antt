@@ -11,6 +11,7 @@ use Rattle.cm_answers.specs.declared.question.Request.{Request}
 use Rattle.cm_answers.specs.declared.question.Request.TheVariants as request
 use Rattle.cm_manager.specs.Calls.{Way, Nothing, TriedThen, OnceCreated, SweptLeft, ActedOn, Reaches}
 use Rattle.cm_manager.specs.Doctor.{Doctors}
+use Rattle.cm_manager.specs.Streams.{Streams}
 use Rattle.cm_manager.specs.Shutdowns.{Shuts, Destroys}
 use Rattle.cm_answers.specs.Answers.{answer_by}
 use Rattle.cm_answers.specs.Questions.{event_for}
@@ -31,4 +32,5 @@ AnswersTo f c (question.Act k) = ActedOn f c k (answer_by k)
 AnswersTo f c question.Shutdown = λ i. Reaches answer.Shut (Shuts f c false i)
 AnswersTo f c question.Destroy = λ i. Reaches answer.Destroyed (Destroys f c i)
 AnswersTo f c question.Doctor = Doctors f c
+AnswersTo f c (question.Events from) = Streams f c from
 AnswersTo f c (question.Event r) = Requested f c r

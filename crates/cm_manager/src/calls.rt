@@ -72,6 +72,7 @@ impl Manager {
                 (pass, unless_ended(Answer::Destroyed, end))
             }
             Question::Doctor => self.doctor_at(rt, alloc, pass, gates, inc),
+            Question::Events(from) => self.events_at(rt, alloc, pass, inc, from),
             Question::Event(request) => self.request(rt, alloc, pass, gates, inc, request),
         }
     }
@@ -383,6 +384,25 @@ impl Manager {
     {
         let question = Question::Event(Request::Exited);
         self.call(rt, alloc, pass, gates, target, question)
+    }
+
+    /// Tells what happened at and below an instance, as the entries behind the first `from` tell it:
+    /// `Streamed`, with how many entries had been made. A later call from there goes on where this one
+    /// ended. What is told is read of the history before the call's own last entry.
+    pub fn events<R: Threads + Wait + Sync, G: Gates>(
+        &self,
+        rt: &R,
+        alloc: Global,
+        pass: Pass<Entry, Frame>,
+        gates: &mut G,
+        target: &Target,
+        from: u64,
+    ) -> (Pass<Entry, Frame>, Result<Answer, Refusal>)
+        requires lock { pass.lock ≡ self.now.turn.lock }
+        ensures performs { PerformsWith G.log G.faults self.now.shelf (command.Events target.now from)
+            pass result.0 gates.old gates.new result.1 }
+    {
+        self.call(rt, alloc, pass, gates, target, Question::Events(from))
     }
 
     /// Makes the call that a command names, and answers so.

@@ -14,6 +14,7 @@ pub mod manager;
 mod parts;
 mod shutting;
 mod starting;
+mod streaming;
 mod sweeping;
 mod trying;
 mod turns;

@@ -3,5 +3,6 @@ pub mod CheckLemmas
 pub mod FrontLemmas
 pub mod Nothing
 pub mod Printing
+pub mod Reporting
 pub mod RunLemmas
 pub mod Saying

@@ -3,8 +3,8 @@ use Rattle.std.specs.Prelude.{◌≡◌, All, true}
 use Rattle.cm_reply.specs.Legible.{IsLegibleFrame}
 use Rattle.cm_journal.specs.Asked.{AreWritableLines}
 use Rattle.cm_program.specs.declared.stock.Served.{Served}
-use Rattle.cm_program.specs.declared.wanted.Wanted.{Wanted}
-use Rattle.cm_program.specs.declared.wanted.Wanted.TheVariants.{Answers}
+use Rattle.cm_call.specs.declared.call.Wanted.{Wanted}
+use Rattle.cm_call.specs.declared.call.Wanted.TheVariants.{Answers}
 
 -- a frame and commands that can be told of
 pub record IsLegibleServed (served : Served) : Type 0 where

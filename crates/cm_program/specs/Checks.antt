@@ -10,16 +10,27 @@ use Rattle.cm_read.specs.declared.fault.ReadFault.{ReadFault}
 use Rattle.cm_read.specs.declared.fault.ReadFault.TheVariants as read_fault
 use Rattle.cm_valid.specs.Texts as valid_text
 use Rattle.cm_valid.specs.Reports.{reported}
+use Rattle.cm_env.specs.declared.fault.EnvFault.{EnvFault}
+use Rattle.cm_env.specs.Faults as environments
+use Rattle.cm_env.specs.Texts as env_text
+use Rattle.cm_storage.specs.declared.fault.StorageNote.{StorageNote}
+use Rattle.cm_storage.specs.Faults as storage
+use Rattle.cm_storage.specs.Texts as storage_text
 
--- the status and the line of what was read of a manifest: its first fault, by reading and then by validity,
--- or that it is valid
+-- the status and the line of what was read of a manifest: its first fault, by reading, then by validity, then
+-- of its environments and then of its storage, or that it is valid
 pub data IsJudged (read : Result Decl ReadFault) : ℕ → List ℕ → Type 0 where
-  valid : {d : Decl} → read ≡ Ok d → IsValid d → IsJudged read 0 (codes "valid\n")
+  valid : {d : Decl} → read ≡ Ok d → IsValid d → environments.IsFaultless d → storage.IsFaultless d
+      → IsJudged read 0 (codes "valid\n")
   unread : {number index : ℕ} {section : Section} {field : List ℕ}
       → read ≡ Err (read_fault.Bad number section index field)
       → IsJudged read 1 (read_text.fault_text (read_fault.Bad number section index field) ++ codes "\n")
   invalid : {d : Decl} {f : Fault} → read ≡ Ok d → IsFaultOf d f
       → IsJudged read 1 (valid_text.fault_text (reported f) ++ codes "\n")
+  unregistered : {d : Decl} {e : EnvFault} → read ≡ Ok d → IsValid d → environments.Judges d (Err e)
+      → IsJudged read 1 (env_text.fault_text e ++ codes "\n")
+  unstored : {d : Decl} {n : StorageNote} → read ≡ Ok d → IsValid d → environments.IsFaultless d
+      → storage.Judges d (Err n) → IsJudged read 1 (storage_text.note_text n ++ codes "\n")
 
 -- the status and the line of the manifest that the bytes are
 abbrev pub IsVerdict : List ℕ → ℕ → List ℕ → Type 0

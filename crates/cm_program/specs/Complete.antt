@@ -19,8 +19,8 @@ use Rattle.cm_program.specs.Stock.{IsFault, Serves}
 use Rattle.cm_program.specs.Unfailing.{AreSound, AreUnfailing, AreUnfailingSats}
 use Rattle.cm_program.specs.declared.fault.Fault.{Fault}
 use Rattle.cm_program.specs.declared.stock.Served.{Served}
-use Rattle.cm_program.specs.declared.wanted.Wanted.{Wanted}
-use Rattle.cm_program.specs.declared.wanted.Wanted.TheVariants.{Answers, Summary}
+use Rattle.cm_call.specs.declared.call.Wanted.{Wanted}
+use Rattle.cm_call.specs.declared.call.Wanted.TheVariants.{Summary}
 
 -- the bytes are known, and have none of a script's faults
 pub record AreFaultless (left : Option (List ℕ)) : Type 0 where
@@ -64,7 +64,7 @@ module _ {S K E D L G : Type 0}
 
   -- what a run that kept its promise is
   pub record IsComplete : Type 0 where
-    -- where nothing failed, the words of `run` are done for bytes without a fault,
+    -- where nothing failed, the words of `run` and of the reports are done for bytes without a fault,
     pub run : (o : RunOptions) → words_of was.words ≡ Ok (call.Run o)
         → AreFaultless (as_source.left was.input) → FailsNowhere → IsDone now.ran.status
     -- those of `check` are done or find a fault,
@@ -88,7 +88,7 @@ module _ {S K E D L G : Type 0}
     -- 0 says that each line of the script that was left is answered
     pub lines : (o : RunOptions) → words_of was.words ≡ Ok (call.Run o) → now.ran.status ≡ 0
         → (bytes : List ℕ) (served : Served) → as_source.left was.input ≡ Some bytes → Serves bytes served
-        → AnswersAll (Answers o.journal) o.repository served
+        → AnswersAll o.wanted o.repository served
     -- and each line of the workload's script
     pub own_lines : (w : Workload) → words_of was.words ≡ Ok (call.Generate w) → now.ran.status ≡ 0
         → (served : Served) × AnswersAll (Summary w.size) None served

@@ -17,10 +17,11 @@ use Rattle.cm_manager.specs.Work.{Shelf, WorksWith}
 use Rattle.cm_lanes.specs.Script.{Answered, answered_lines, ArePhases}
 use Rattle.cm_audit.specs.Verdict.{IsLegalJournal, journal_limit}
 use Rattle.cm_program.specs.Printed.{wanted_text}
+use Rattle.cm_program.specs.Reported.{IsReport}
 use Rattle.cm_program.specs.Written.{AppendsFront}
 use Rattle.cm_program.specs.declared.stock.Served.{Served}
-use Rattle.cm_program.specs.declared.wanted.Wanted.{Wanted}
-use Rattle.cm_program.specs.declared.wanted.Wanted.TheVariants.{Answers}
+use Rattle.cm_call.specs.declared.call.Wanted.{Wanted}
+use Rattle.cm_call.specs.declared.call.Wanted.TheVariants.{Answers}
 
 -- where manifests are looked for: in the script's blocks, and then by the gates, in that folder if one is
 -- named
@@ -76,8 +77,11 @@ module _ {G : Type 0} (log_of : G → Option (List Asked)) (faults_of : G → �
     -- so many of its routes and openings asked for a use whose answer was still there
     pub kept : ℕ
     pub counts : IsKeptNumber served.frame history kept
+    -- the report on the tree at the end, where one is wanted
+    pub report : List ℕ
+    pub reported : IsReport wanted served.frame history report
     pub text : List ℕ
-    pub prints : text ≡ wanted_text wanted served.frame answered history kept
+    pub prints : text ≡ wanted_text wanted served.frame answered history kept report
     -- at 0 all of it was written
     pub all : status ≡ 0 → Appends out₀ out₁ text
     -- at 0 and at 4 no line was answered for want of memory

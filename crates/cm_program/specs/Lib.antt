@@ -5,6 +5,7 @@ pub mod Written
 pub mod Checks
 pub mod Audits
 pub mod Printed
+pub mod Reported
 pub mod Headline
 pub mod Sessions
 pub mod Performing

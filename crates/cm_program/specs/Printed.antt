@@ -15,8 +15,8 @@ use Rattle.cm_reply.specs.Journal.{line, entries_text, journal_text}
 use Rattle.cm_lanes.specs.declared.said.Said.{Said}
 use Rattle.cm_lanes.specs.Script.{Answered}
 use Rattle.cm_program.specs.Written.{AppendsFront}
-use Rattle.cm_program.specs.declared.wanted.Wanted.{Wanted}
-use Rattle.cm_program.specs.declared.wanted.Wanted.TheVariants.{Answers, Summary}
+use Rattle.cm_call.specs.declared.call.Wanted.{Wanted}
+use Rattle.cm_call.specs.declared.call.Wanted.TheVariants.{Answers, Summary, Environments, Storage}
 
 -- ---- the answer to each line, and the journal behind them
 
@@ -65,11 +65,15 @@ summary_text instances results kept =
 
 -- ---- what is wanted of these
 
--- what is to be printed of lines that were answered so, with this history and this number of answers that
--- were still there
-abbrev pub wanted_text : Wanted → Frame → List (List Answered) → List Entry → ℕ → Text
-wanted_text (Answers journal) f answered entries kept = phases_text answered ++ journal_of journal f entries
-wanted_text (Summary instances) f answered entries kept = summary_text instances (results_of answered) kept
+-- what is to be printed of lines that were answered so, with this history, this number of answers that were
+-- still there and this report on the tree at the end
+abbrev pub wanted_text : Wanted → Frame → List (List Answered) → List Entry → ℕ → Text → Text
+wanted_text (Answers journal) f answered entries kept report =
+    phases_text answered ++ journal_of journal f entries
+wanted_text (Summary instances) f answered entries kept report =
+    summary_text instances (results_of answered) kept
+wanted_text Environments f answered entries kept report = report
+wanted_text Storage f answered entries kept report = report
 
 -- ---- the same, of what the lanes hand out
 
@@ -80,12 +84,14 @@ texts_of (l ∷ ls) [] = []
 texts_of (l ∷ ls) (s ∷ others) = line_text l s.result ++ texts_of ls others
 
 -- all that is printed
-abbrev pub printed_text : List (List Line) → List Said → Wanted → Text → List Entry → ℕ → Text
-printed_text phases said (Answers journal) head entries kept =
+abbrev pub printed_text : List (List Line) → List Said → Wanted → Text → List Entry → ℕ → Text → Text
+printed_text phases said (Answers journal) head entries kept report =
     texts_of (flat_map (λ lines. lines) phases) said
     ++ (if journal then head ++ entries_text 1 entries else [])
-printed_text phases said (Summary instances) head entries kept =
+printed_text phases said (Summary instances) head entries kept report =
     summary_text instances (map (λ s. s.result) said) kept
+printed_text phases said Environments head entries kept report = report
+printed_text phases said Storage head entries kept report = report
 
 -- what was written of it, by the status: all of it at 0, and a front of it else; no answer was want of memory
 -- at 0 and 4

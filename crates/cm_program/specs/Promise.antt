@@ -28,8 +28,8 @@ use Rattle.cm_program.specs.Stock.{served_script}
 use Rattle.cm_program.specs.Written.{AppendsFront, OfKnown, OfSome, Says}
 use Rattle.cm_program.specs.declared.ran.Ran.{Ran}
 use Rattle.cm_program.specs.declared.stock.Served.{Served}
-use Rattle.cm_program.specs.declared.wanted.Wanted.{Wanted}
-use Rattle.cm_program.specs.declared.wanted.Wanted.TheVariants.{Answers, Summary}
+use Rattle.cm_call.specs.declared.call.Wanted.{Wanted}
+use Rattle.cm_call.specs.declared.call.Wanted.TheVariants.{Summary}
 
 -- what a run is given: its words, and its streams, its door and its gates as they are before the call
 pub record Given (S K E D G : Type 0) : Type 0 where
@@ -63,8 +63,8 @@ module _ {S K E D L G : Type 0}
   abbrev pub Idles : Type 0
   Idles = RunsNothing now.ran.book.entries was.gates now.ran.gates
 
-  -- `run`: the input is a script that is served, and the history, the text and the work are what its lanes
-  -- make of it; or it is refused
+  -- `run`, `environments` and `storage`: the input is a script that is served, and the history, the text and
+  -- the work are what its lanes make of it; or it is refused
   pub record OfRun (options : RunOptions) : Type 0 where
     -- it ends with 0, 3, 4, 6 or 7
     pub status : IsScriptStatus now.ran.status
@@ -77,11 +77,11 @@ module _ {S K E D L G : Type 0}
     pub faulty : OfKnown (λ bytes. IsFaulty bytes → IsRefusal now.ran.status) (as_source.left was.input)
     -- the headline: at 0, 4 and 6 this is the run of the script that is served, where the bytes are one
     pub headline : IsScriptRun now.ran.status
-        → OfKnown (RunsAsServed (RunsIt (Answers options.journal) options.repository))
+        → OfKnown (RunsAsServed (RunsIt options.wanted options.repository))
         (as_source.left was.input)
     -- the same of some script, also where the source tells nothing; or at 6 nothing was done
     pub some : IsScriptRun now.ran.status
-        → RunsSome (RunsIt (Answers options.journal) options.repository)
+        → RunsSome (RunsIt options.wanted options.repository)
         (Idles × Keeps (as_out.written was.out) (as_out.written now.out)) now.ran.status
         (as_source.left was.input)
 
@@ -174,7 +174,7 @@ module _ {S K E D L G : Type 0}
     -- nothing is written on the output at 2, 3 and 7,
     pub silent : (now.ran.status ≡ 2) ⊎ ((now.ran.status ≡ 3) ⊎ (now.ran.status ≡ 7))
         → Keeps (as_out.written was.out) (as_out.written now.out)
-    -- and at 6 only for the words of `run` and `generate`
+    -- and at 6 only for the words of `run`, `environments`, `storage` and `generate`
     pub kept : (AsksScript was.words → ⊥) → now.ran.status ≡ 6
         → Keeps (as_out.written was.out) (as_out.written now.out)
     -- on the error stream stands the line of the status, where it has one

@@ -19,7 +19,7 @@ AppendsFront old new text = (n : ℕ) × Appends old new (take n text)
 
 -- the fixed lines of the error stream
 abbrev pub usage_line : List ℕ
-usage_line = codes "usage: run, check, serve, audit, generate\n"
+usage_line = codes "usage: run, check, serve, audit, generate, environments, storage\n"
 
 abbrev pub read_fault_line : List ℕ
 read_fault_line = codes "read fault\n"

@@ -1,9 +1,14 @@
 //! The command `check`: whether a manifest is valid.
 
-ghost use Rattle.std.specs.Prelude.{◌≡◌, ◌≢◌, ◌⊎◌, ◌++◌, codes, Result, Ok, IfOk, IfErr};
+ghost use Rattle.std.specs.Prelude.{◌≡◌, ◌≢◌, ◌⊎◌, ◌++◌, codes, Result, Ok, Err, IfOk, IfErr};
 ghost use Rattle.std.specs.Io.KnownBytes.{Appends, IsAtEnd, Keeps};
 ghost use Rattle.cm_io.specs.Outside.{Rose};
-ghost use Rattle.cm_decl.specs.declared.decl.Decl.{Decl};
+ghost use Rattle.cm_decl.specs.declared.decl.Decl.{Decl as Declaration};
+ghost use Rattle.cm_decl.specs.Valid.{IsValid};
+ghost use Rattle.cm_env.specs.Faults as environments;
+ghost use Rattle.cm_env.specs.Texts as env_text;
+ghost use Rattle.cm_storage.specs.Faults as storage;
+ghost use Rattle.cm_storage.specs.Texts as storage_text;
 ghost use Rattle.cm_read.specs.Reading.{Fails};
 ghost use Rattle.cm_read.specs.Texts as read_text;
 ghost use Rattle.cm_read.specs.declared.fault.ReadFault.{ReadFault};
@@ -14,9 +19,12 @@ ghost use Rattle.cm_program.specs.Run.{IsCheckStatus};
 ghost use Rattle.cm_program.specs.Written.{AppendsFront, OfSome, Says};
 
 use crate::ran::{read_fault, want_of_memory};
+use cm_decl::Decl;
+use cm_env::{EnvFault, check_env_in};
 use cm_io::{Put, Sink, Source, SourceFault, put_all, read_up_to};
 use cm_names::{Memory, Text};
 use cm_read::{ReadFault, read_decl};
+use cm_storage::{StorageNote, check_storage_in};
 use cm_valid::{ValidFault, validate};
 use std::alloc::Global;
 use std::sync::Wait;
@@ -69,7 +77,7 @@ fn refused(line: Text) -> Verdict
 
 /// The verdict on a manifest that isn't read.
 fn unread(alloc: Global, fault: &ReadFault) -> Result<Verdict, Memory>
-    ensures verdict { (read : Result Decl ReadFault) → Fails fault.now read →
+    ensures verdict { (read : Result Declaration ReadFault) → Fails fault.now read →
         IfOk result (λ verdict. IsJudged read verdict.status verdict.line) }
     ensures status { IfOk result (λ verdict. verdict.status ≡ 1) }
 {
@@ -84,7 +92,7 @@ fn unread(alloc: Global, fault: &ReadFault) -> Result<Verdict, Memory>
 
 /// The verdict on a manifest that is read and isn't valid.
 fn invalid(alloc: Global, fault: &ValidFault) -> Result<Verdict, Memory>
-    ensures verdict { (read : Result Decl ReadFault) (d : Decl) → read ≡ Ok d →
+    ensures verdict { (read : Result Declaration ReadFault) (d : Declaration) → read ≡ Ok d →
         Reports d fault.now → IfOk result (λ verdict. IsJudged read verdict.status verdict.line) }
     ensures status { IfOk result (λ verdict. verdict.status ≡ 1) }
 {
@@ -97,12 +105,77 @@ fn invalid(alloc: Global, fault: &ValidFault) -> Result<Verdict, Memory>
     }
 }
 
+/// The line of a fault of environments.
+fn unregistered_line(alloc: Global, fault: &EnvFault) -> Result<Text, Memory>
+    ensures { IfOk result (λ text. text ≡ env_text.fault_text fault.now ++ codes "\n") }
+{
+    let mut text = Text::new(alloc);
+    text.push(format_args!("{fault}\n"))?;
+    Ok(text)
+}
+
+/// The line of a fault of storage.
+fn unstored_line(alloc: Global, note: &StorageNote) -> Result<Text, Memory>
+    ensures { IfOk result (λ text. text ≡ storage_text.note_text note.now ++ codes "\n") }
+{
+    let mut text = Text::new(alloc);
+    text.push(format_args!("{note}\n"))?;
+    Ok(text)
+}
+
+/// The verdict on a manifest whose environments have a fault.
+fn unregistered(alloc: Global, fault: &EnvFault) -> Result<Verdict, Memory>
+    ensures verdict { (read : Result Declaration ReadFault) (d : Declaration) → read ≡ Ok d
+        → IsValid d → environments.Judges d (Err fault.now)
+        → IfOk result (λ verdict. IsJudged read verdict.status verdict.line) }
+    ensures status { IfOk result (λ verdict. verdict.status ≡ 1) }
+{
+    let line = unregistered_line(alloc, fault)?;
+    Ok(refused(line))
+}
+
+/// The verdict on a manifest whose storage has a fault.
+fn unstored(alloc: Global, note: &StorageNote) -> Result<Verdict, Memory>
+    ensures verdict { (read : Result Declaration ReadFault) (d : Declaration) → read ≡ Ok d
+        → IsValid d → environments.IsFaultless d → storage.Judges d (Err note.now)
+        → IfOk result (λ verdict. IsJudged read verdict.status verdict.line) }
+    ensures status { IfOk result (λ verdict. verdict.status ≡ 1) }
+{
+    let line = unstored_line(alloc, note)?;
+    Ok(refused(line))
+}
+
 /// The verdict on a manifest that is valid.
 fn valid(alloc: Global) -> Result<Verdict, Memory>
     ensures { IfOk result (λ verdict. (verdict.status ≡ 0) × (verdict.line ≡ codes "valid\n")) }
 {
     let line = Text::from_str(alloc, "valid\n")?;
     Ok(Verdict { status: 0, line })
+}
+
+/// The verdict on a manifest whose routes and environments have no fault.
+fn verdict_on_storage(alloc: Global, decl: &Decl) -> Result<Verdict, Memory>
+    ensures verdict { (read : Result Declaration ReadFault) → read ≡ Ok decl.now
+        → IsValid decl.now → environments.IsFaultless decl.now
+        → IfOk result (λ verdict. IsJudged read verdict.status verdict.line) }
+    ensures status { IfOk result (λ verdict. (verdict.status ≡ 0) ⊎ (verdict.status ≡ 1)) }
+{
+    match check_storage_in(alloc, decl)? {
+        Err(note) => unstored(alloc, &note),
+        Ok(()) => valid(alloc),
+    }
+}
+
+/// The verdict on a manifest whose routes have no fault.
+fn verdict_on(alloc: Global, decl: &Decl) -> Result<Verdict, Memory>
+    ensures verdict { (read : Result Declaration ReadFault) → read ≡ Ok decl.now
+        → IsValid decl.now → IfOk result (λ verdict. IsJudged read verdict.status verdict.line) }
+    ensures status { IfOk result (λ verdict. (verdict.status ≡ 0) ⊎ (verdict.status ≡ 1)) }
+{
+    match check_env_in(alloc, decl)? {
+        Err(fault) => unregistered(alloc, &fault),
+        Ok(()) => verdict_on_storage(alloc, decl),
+    }
 }
 
 /// The verdict on the manifest that the bytes are.
@@ -114,7 +187,7 @@ fn verdict_of(alloc: Global, bytes: &[u8]) -> Result<Verdict, Memory>
         Err(fault) => unread(alloc, &fault),
         Ok(decl) => match validate(alloc, decl) {
             Err(fault) => invalid(alloc, &fault),
-            Ok(_) => valid(alloc),
+            Ok(valid) => verdict_on(alloc, valid.decl()),
         },
     }
 }

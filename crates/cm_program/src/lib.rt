@@ -1,6 +1,6 @@
 //! The program, as one call: it runs the commands of a script of component manifests, of a workload
-//! that it generates or of links that come at a door, and says whether a manifest is valid, and whether a
-//! journal is a legal history.
+//! that it generates or of links that come at a door, reports on the tree that a script leaves, and says
+//! whether a manifest is valid, and whether a journal is a legal history.
 //!
 //! [`run::run`] is the top call. What it sees of the outside are a source, two sinks, a door and
 //! sixteen gates. The program above this crate makes the real ones, its tests those in memory.
@@ -12,6 +12,7 @@
 //! | `Stock`, `Reading` | what a script asks for, and why it is refused |
 //! | `Sessions` | what is promised of sessions |
 //! | `Printed`, `Texts`, `Written` | what is printed, and what is known of bytes written |
+//! | `Reported` | the report on the tree at the end of a run, where one is wanted |
 //! | `Checks`, `Audits` | what `check` says of a manifest, and `audit` of a journal |
 //! | `Performing` | what the lanes made of a script |
 //! | `Closing` | what the program ends by |

@@ -11,8 +11,7 @@ use crate::generate::run_generated;
 use crate::ran::{Ran, stopped, tell, want_of_memory};
 use crate::scripts::run_script;
 use crate::serving::run_sessions;
-use crate::wanted::Wanted;
-use cm_call::{Call, WordsFault, read_words};
+use cm_call::{Call, Wanted, WordsFault, read_words};
 use cm_gate::Gates;
 use cm_io::{Door, Sink, Source};
 use cm_names::{List, Text};
@@ -31,6 +30,11 @@ use std::thread::Threads;
 ///
 /// The word `audit` asks for the verdict on the journal that the input is, by
 /// [`audit`](cm_audit::audit): what `run --journal` writes can be handed in as it is.
+///
+/// The words `environments [--repo DIR]` and `storage [--repo DIR]` ask for a script's run as `run`
+/// does, and for a report on the tree at its end in the place of the answers: where the runner and
+/// the debug protocols of each resolved instance are registered, or which place it has for each
+/// storage that it uses.
 ///
 /// The words `serve SOCKET --root URL --repo DIR [--sessions N] [--workers W]` let links come at that
 /// place of the door: N of them are served, W at once, each by a session over one new realm of that
@@ -83,8 +87,7 @@ where
 {
     match read_words(alloc, words) {
         Ok(Call::Run(options)) => {
-            let journal = options.journal;
-            let wanted = Wanted::Answers { journal };
+            let wanted = options.wanted;
             let folder = options.repository;
             let ran = run_script(rt, alloc, wanted, folder, input, out, err, gates);
             Ran {
@@ -109,7 +112,11 @@ where
         }
         Ok(Call::Serve(options)) => run_sessions(rt, alloc, options, err, door, gates),
         Err(WordsFault::Usage) => {
-            tell(rt, err, b"usage: run, check, serve, audit, generate\n");
+            tell(
+                rt,
+                err,
+                b"usage: run, check, serve, audit, generate, environments, storage\n",
+            );
             stopped(alloc, 2, gates, door)
         }
         Err(WordsFault::Memory) => stopped(alloc, want_of_memory(rt, err), gates, door),

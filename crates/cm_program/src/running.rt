@@ -1,7 +1,7 @@
 //! The run of a script that is served, and what is written of it.
 
-ghost use Rattle.std.specs.Prelude.{◌≡◌, ◌≢◌, [], All, Any, List as Seq, Err, IfOk, None, Some, length};
-ghost use Rattle.std.specs.Prelude.{false, true};
+ghost use Rattle.std.specs.Prelude.{◌≡◌, ◌≢◌, ◌⊎◌, ℕ, [], All, Any, List as Seq, Err, IfOk, None, Some};
+ghost use Rattle.std.specs.Prelude.{false, length, true};
 ghost use Rattle.cm_io.specs.Outside.{Rose};
 ghost use Rattle.cm_reply.specs.Journal as journal;
 ghost use Rattle.cm_lanes.specs.declared.said.Said.{Said as TheSaid};
@@ -17,7 +17,8 @@ use crate::answers::{push_answers, push_entries};
 use crate::performing::{Performed, perform};
 use crate::ran::{Finished, ended, want_of_memory};
 use crate::stock::Served;
-use crate::wanted::{Wanted, summary_text};
+use crate::wanted::summary_text;
+use cm_call::Wanted;
 use cm_command::Line;
 use cm_gate::Gates;
 use cm_io::{Put, Sink, put_all};
@@ -42,6 +43,8 @@ struct Sheet<'a> {
     entries: &'a [Entry],
     /// How many of its routes and openings asked for a use whose answer was still there.
     kept: u64,
+    /// The report on the tree at the end, where one is wanted.
+    report: &'a Text,
 }
 
 /// The head of the journal of a realm, and the realm.
@@ -77,7 +80,8 @@ fn answers_text(
     sheet: &Sheet<'_>,
 ) -> Result<Text, Memory>
     ensures { IfOk result (λ text. text ≡ printed_text phases.now said.now
-        (Wanted.Answers journal) sheet.now.head.now sheet.now.entries.now sheet.now.kept) }
+        (Wanted.Answers journal) sheet.now.head.now sheet.now.entries.now sheet.now.kept
+        sheet.now.report.now) }
 {
     let mut text = String::new(alloc);
     push_answers(&mut text, phases, said)?;
@@ -96,11 +100,13 @@ fn text_of(
     sheet: &Sheet<'_>,
 ) -> Result<Text, Memory>
     ensures { IfOk result (λ text. text ≡ printed_text phases.now said.now
-        sheet.now.wanted sheet.now.head.now sheet.now.entries.now sheet.now.kept) }
+        sheet.now.wanted sheet.now.head.now sheet.now.entries.now sheet.now.kept
+        sheet.now.report.now) }
 {
     match sheet.wanted {
         Wanted::Answers { journal } => answers_text(alloc, phases, said, journal, sheet),
         Wanted::Summary { instances } => summary_text(alloc, instances, said, sheet.kept),
+        Wanted::Environments | Wanted::Storage => Ok(sheet.report.clone()?),
     }
 }
 
@@ -115,7 +121,7 @@ fn print<R: Threads + Wait + Sync, K: Sink>(
     sheet: &Sheet<'_>,
 ) -> u8
     ensures printed { IsPrinted (printed_text phases.now said.now sheet.now.wanted
-        sheet.now.head.now sheet.now.entries.now sheet.now.kept) said.now result
+        sheet.now.head.now sheet.now.entries.now sheet.now.kept sheet.now.report.now) said.now result
         (K.written out.old) (K.written out.new) }
     ensures cause { result ≡ 4 → Rose (K.faults out.old) (K.faults out.new) }
     ensures whole { result ≢ 4 → result ≢ 6 → K.faults out.new ≡ K.faults out.old }
@@ -156,10 +162,11 @@ fn print_performed<R: Threads + Wait + Sync, K: Sink, E: Sink, G>(
     wanted: Wanted,
     done: Performed<G>,
 ) -> Finished<G>
-    ensures said { (said : Seq TheSaid) → done.said ≡ Some said
-        → IsPrinted (printed_text phases.now said wanted head.now done.book.entries done.kept)
-        said result.status (K.written out.old) (K.written out.new) }
-    ensures unsaid { done.said ≡ None
+    ensures said { (said : Seq TheSaid) (report : Seq ℕ) → done.said ≡ Some said
+        → done.report ≡ Some report → IsPrinted (printed_text phases.now said wanted head.now
+        done.book.entries done.kept report) said result.status (K.written out.old)
+        (K.written out.new) }
+    ensures unsaid { (done.said ≡ None) ⊎ (done.report ≡ None)
         → (result.status ≡ 6) × AppendsFront (K.written out.old) (K.written out.new) [] }
     ensures typed { All IsTypedEntry done.book.entries }
     ensures book { result.book ≡ done.book }
@@ -172,11 +179,12 @@ fn print_performed<R: Threads + Wait + Sync, K: Sink, E: Sink, G>(
     let Performed {
         book,
         kept,
+        report: made,
         gates,
         said,
     } = done;
     entries_fit(book.entries());
-    let Some(said) = said else {
+    let (Some(said), Some(made)) = (said, made) else {
         return Finished {
             status: want_of_memory(rt, err),
             book,
@@ -188,6 +196,7 @@ fn print_performed<R: Threads + Wait + Sync, K: Sink, E: Sink, G>(
         head,
         entries: book.entries(),
         kept,
+        report: &made,
     };
     let status = print(rt, alloc, out, phases, said.as_slice(), &sheet);
     report(rt, err, status);
@@ -230,6 +239,15 @@ pub fn run_served<R: Threads + Wait + Sync, K: Sink, E: Sink, G: Gates + Send + 
     let Ok((head, realm)) = new_realm(alloc, frame) else {
         return ended(alloc, want_of_memory(rt, err), gates);
     };
-    let done = perform(rt, alloc, realm, repository, repo, phases.as_slice(), gates);
+    let done = perform(
+        rt,
+        alloc,
+        wanted,
+        realm,
+        repository,
+        repo,
+        phases.as_slice(),
+        gates,
+    );
     print_performed(rt, alloc, out, err, phases.as_slice(), &head, wanted, done)
 }

@@ -17,7 +17,7 @@ use crate::fault::Fault;
 use crate::ran::{Finished, ended, read_fault, tell, want_of_memory};
 use crate::running::run_served;
 use crate::stock::{Served, serve};
-use crate::wanted::Wanted;
+use cm_call::Wanted;
 use cm_gate::Gates;
 use cm_io::{Sink, Source, SourceFault, read_up_to};
 use cm_names::{List, Memory, Text};

@@ -8,21 +8,6 @@ use cm_names::{Memory, Text};
 use cm_world::{Answer, Refusal};
 use std::alloc::Global;
 
-/// What is to be printed of the run of a script.
-#[derive(Clone, Copy)]
-pub enum Wanted {
-    /// The answer to each line, and behind them the journal where it is wanted.
-    Answers {
-        /// Whether it is.
-        journal: bool,
-    },
-    /// One line that counts the answers, and those to uses that were still there.
-    Summary {
-        /// So many instances the script is for.
-        instances: usize,
-    },
-}
-
 /// Whether something was started, or was so before.
 #[tactic(auto, unfolding(crate::specs::Printed::is_started))]
 fn is_started(answer: &Result<Answer, Refusal>) -> bool

@@ -1,7 +1,7 @@
 -- The examples and tables, written out.
 use Rattle.std.proofs.Common.{refl}
 use Rattle.std.specs.Fmt.{digits}
-use Rattle.cm_reply.specs.Examples.{PrintsEntries, PrintsHeader, PrintsRoute, PrintsDirectory, PrintsForced, PrintsCreated, PrintsChildren, PrintsLook, PrintsSurvey, PrintsDoctor, PrintsFailure}
+use Rattle.cm_reply.specs.Examples.{PrintsEntries, PrintsHeader, PrintsRoute, PrintsDirectory, PrintsForced, PrintsCreated, PrintsChildren, PrintsLook, PrintsSurvey, PrintsDoctor, PrintsStream, PrintsFailure}
 use Rattle.cm_reply.specs.Tables.{PrintsRefusals, PrintsReasons, PrintsOutcomes, PrintsEvents, PrintsReplies, PrintsShortAnswers}
 
 pub prints_entries : PrintsEntries
@@ -42,6 +42,10 @@ prints_survey = refl
 pub prints_doctor : PrintsDoctor
 unfolding digits
 prints_doctor = refl
+
+pub prints_stream : PrintsStream
+unfolding digits
+prints_stream = refl
 
 pub prints_failure : PrintsFailure
 prints_failure c = refl

@@ -15,7 +15,7 @@ use Rattle.cm_command.specs.declared.command.Command.TheVariants as command
 use Rattle.cm_command.specs.Written.{target_text}
 use Rattle.cm_reply.specs.Lists.{Text, further_lines, when}
 use Rattle.cm_reply.specs.Routes.{place_text, route_text}
-use Rattle.cm_reply.specs.States.{incarnation_text, look_text, survey_text, kid_text}
+use Rattle.cm_reply.specs.States.{happening_text, incarnation_text, look_text, survey_text, kid_text}
 use Rattle.cm_reply.specs.Refusals.{refusal_text}
 
 -- the instance that the command names
@@ -34,6 +34,7 @@ target_of (command.Doctor target) = target
 target_of (command.Show target) = target
 target_of (command.Survey target) = target
 target_of (command.Exited target) = target
+target_of (command.Events target from) = target
 
 -- the child that the command creates
 abbrev pub child_of : Command → Text
@@ -92,6 +93,10 @@ answer_text c (answer.Shown look) =
 answer_text c (answer.Surveyed rows) = of_target (codes "survey") c ++ counted survey_text rows
 answer_text c (answer.Doctored lines) = of_target (codes "doctor") c ++ counted checked_text lines
 answer_text c (answer.Left was_on) = of_target (codes "exited") c ++ when (not was_on) (codes " already")
+answer_text c (answer.Streamed next told) =
+    of_target (codes "events") c
+    ++ (codes " " ++ (decimal (length told) ++ (codes " next " ++ (decimal next
+    ++ further_lines happening_text told))))
 
 -- the answer to that command, or why it was refused
 abbrev pub reply_text : Command → Result Answer Refusal → Text

@@ -15,6 +15,7 @@ use Rattle.cm_world.specs.declared.event.Event.{Event}
 use Rattle.cm_world.specs.declared.event.Event.TheVariants.{Find, Begin, End, Route}
 use Rattle.cm_world.specs.declared.event.Target.TheVariants.{Named, Inc}
 use Rattle.cm_world.specs.declared.frame.Frame.{Frame}
+use Rattle.cm_world.specs.declared.happening.HappenKind.TheVariants as happen
 use Rattle.cm_world.specs.declared.reply.Entry.{Entry}
 use Rattle.cm_world.specs.declared.reply.Reply.{Reply}
 use Rattle.cm_world.specs.declared.reply.Reply.TheVariants as reply
@@ -253,6 +254,20 @@ PrintsDoctor =
     } ∷ record { moniker = element; path = None; result = Err refusal.NoSuchUse } ∷ [])))
     ≡ codes "doctor . 2\n  client /svc/fuchsia.logger.LogSink refused 88 void at offer .\n"
     ++ codes "  core/session/elements:e1 unresolved"
+
+-- what happened, one thing of each kind
+abbrev pub PrintsStream : Type 0
+PrintsStream =
+    reply_text (command.Events (Named root) 3)
+    (Ok (answer.Streamed 19 (
+    record { number = 4; kind = happen.Resolved; moniker = root; inc = 0 }
+    ∷ record { number = 10; kind = happen.Started; moniker = element; inc = 5 }
+    ∷ record { number = 14; kind = happen.Stopped; moniker = element; inc = 5 }
+    ∷ record { number = 18; kind = happen.Destroyed; moniker = element; inc = 5 } ∷ [])))
+    ≡ codes "events . 4 next 19\n  4 resolved . incarnation 0\n"
+    ++ codes "  10 started core/session/elements:e1 incarnation 5\n"
+    ++ codes "  14 stopped core/session/elements:e1 incarnation 5\n"
+    ++ codes "  18 destroyed core/session/elements:e1 incarnation 5"
 
 -- a refusal is written alike for each command
 abbrev pub PrintsFailure : Type 0

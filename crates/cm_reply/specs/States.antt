@@ -8,6 +8,9 @@ use Rattle.cm_world.specs.declared.action.ActKind.TheVariants as act
 use Rattle.cm_world.specs.declared.action.FaultNote.{FaultNote}
 use Rattle.cm_world.specs.declared.action.Outcome.{Outcome}
 use Rattle.cm_world.specs.declared.action.Outcome.TheVariants as outcome
+use Rattle.cm_world.specs.declared.happening.HappenKind.{HappenKind}
+use Rattle.cm_world.specs.declared.happening.HappenKind.TheVariants as happen
+use Rattle.cm_world.specs.declared.happening.Happening.{Happening}
 use Rattle.cm_world.specs.declared.report.Kid.{Kid}
 use Rattle.cm_world.specs.declared.report.Look.{Look}
 use Rattle.cm_world.specs.declared.report.SurveyRow.{SurveyRow}
@@ -70,3 +73,15 @@ survey_text r =
 -- how a child in a collection is
 abbrev pub kid_text : Kid → Text
 kid_text k = k.name ++ incarnation_text k.inc
+
+-- the word for what happened, between its number and the instance
+abbrev pub happen_word : HappenKind → Text
+happen_word happen.Resolved = codes " resolved "
+happen_word happen.Started = codes " started "
+happen_word happen.Stopped = codes " stopped "
+happen_word happen.Destroyed = codes " destroyed "
+
+-- one thing that happened
+abbrev pub happening_text : Happening → Text
+happening_text h =
+    decimal h.number ++ (happen_word h.kind ++ (moniker_text h.moniker ++ incarnation_text h.inc))

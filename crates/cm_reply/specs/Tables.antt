@@ -372,6 +372,7 @@ answers =
     ∷ reply_text (command.Destroy (Inc 5)) (Ok answer.Destroyed)
     ∷ reply_text (command.Exited (Inc 5)) (Ok (answer.Left true))
     ∷ reply_text (command.Exited (Inc 5)) (Ok (answer.Left false))
+    ∷ reply_text (command.Events (Inc 5) 9) (Ok (answer.Streamed 8 []))
     ∷ []
 
 abbrev pub answer_texts : List Text
@@ -386,6 +387,7 @@ answer_texts =
     ∷ codes "destroyed @5"
     ∷ codes "exited @5"
     ∷ codes "exited @5 already"
+    ∷ codes "events @5 0 next 8"
     ∷ []
 
 -- each answer is written as the text at its place

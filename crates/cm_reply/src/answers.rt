@@ -14,7 +14,7 @@ use crate::states::{push_look, when};
 use crate::words::{push_incarnation, push_number};
 use cm_command::Command;
 use cm_names::{CapPath, Memory, Shared, Text};
-use cm_world::{Answer, Checked, Kid, Look, Refusal, Route, Target};
+use cm_world::{Answer, Checked, Happening, Kid, Look, Refusal, Route, Target};
 use std::alloc::Global;
 
 /// The text of the answer to the command, or of why it was refused.
@@ -34,12 +34,14 @@ use std::alloc::Global;
 /// | `Surveyed` | `survey T COUNT`, then `MONIKER incarnation N STATE` each |
 /// | `Doctored` | `doctor T COUNT`, then `MONIKER PATH ROUTE` or `MONIKER unresolved` each |
 /// | `Left` | `exited T`, or `exited T already` where it was off before |
+/// | `Streamed` | `events T COUNT next N`, then `NUMBER KIND MONIKER incarnation N` each |
 ///
 /// SOURCE is `MONIKER incarnation N`, `framework` or `builtin`. HOP is `use`, `offer`, `expose`,
 /// `capability`, `framework` or `builtin`, and the moniker of its instance. STATE is `resolved` or
 /// `unresolved`, `on` or `off`, then `closing`, `shut` and `pending KIND` where that is so; a
-/// survey leaves out `closing` and what is pending. ROUTE is the text of the use's route, or of
-/// why it has none.
+/// survey leaves out `closing` and what is pending. KIND is `resolved`, `started`, `stopped` or
+/// `destroyed`, and the N behind `next` is the number of entries so far. ROUTE is the text of the
+/// use's route, or of why it has none.
 ///
 /// A refusal is `refused` and these words:
 ///
@@ -121,6 +123,7 @@ fn push_answer(text: &mut String, command: &Command, answer: &Answer) -> Result<
             push_of_target(text, "exited", command)?;
             push(text, when(!*was_on, " already"))
         }
+        Answer::Streamed(next, told) => push_streamed(text, command, *next, told.as_slice()),
     }
 }
 
@@ -143,6 +146,7 @@ fn target_of(command: &Command) -> &Target
         Command::Show(target) => target,
         Command::Survey(target) => target,
         Command::Exited(target) => target,
+        Command::Events { target, .. } => target,
     }
 }
 
@@ -274,6 +278,23 @@ fn push_shown(text: &mut String, command: &Command, look: &Look) -> Result<(), M
 {
     push_of_target(text, "shown", command)?;
     push_standing(text, look)
+}
+
+/// Puts what happened at the end, each on a line of its own, with where the reading goes on.
+fn push_streamed(
+    text: &mut String,
+    command: &Command,
+    next: u64,
+    told: &[Happening],
+) -> Result<(), Memory>
+    ensures { OnOk result (Gains text.old text.new
+        (spec.answer_text command.now (answer.Streamed next told.now))) }
+{
+    push_of_target(text, "events", command)?;
+    let count = told.len();
+    push_value(text, format_args!(" {count}"))?;
+    push_number(text, " next", next)?;
+    push_each(text, "\n  ", told)
 }
 
 /// Puts at the end how many items there are, and each on a line of its own.

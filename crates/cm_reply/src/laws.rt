@@ -43,6 +43,7 @@ pub fn prints_answers()
     ensures look { examples.PrintsLook }
     ensures survey { examples.PrintsSurvey }
     ensures doctor { examples.PrintsDoctor }
+    ensures stream { examples.PrintsStream }
     ensures failure { examples.PrintsFailure }
 {}
 

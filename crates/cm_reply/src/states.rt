@@ -8,7 +8,7 @@ use crate::lists::{Item, push, push_moniker, push_value};
 use crate::words::push_incarnation;
 use cm_names::{Memory, Text};
 use cm_read::ReadFault;
-use cm_world::{ActKind, FaultNote, Kid, Look, Outcome, SurveyRow};
+use cm_world::{ActKind, FaultNote, HappenKind, Happening, Kid, Look, Outcome, SurveyRow};
 
 /// The word for an action.
 pub fn act_word(kind: ActKind) -> &'static str
@@ -119,6 +119,32 @@ impl Item for SurveyRow {
         push_incarnation(text, self.inc)?;
         push(text, " ")?;
         push_state(text, self)
+    }
+}
+
+/// The word for what happened, behind a space.
+fn happen_word(kind: HappenKind) -> &'static str
+    ensures { result.now ≡ spec.happen_word kind }
+{
+    match kind {
+        HappenKind::Resolved => " resolved ",
+        HappenKind::Started => " started ",
+        HappenKind::Stopped => " stopped ",
+        HappenKind::Destroyed => " destroyed ",
+    }
+}
+
+/// It is written as `NUMBER KIND MONIKER incarnation N`.
+impl Item for Happening {
+    ghost use Rattle.cm_reply.specs.States.{happening_text};
+
+    ghost written = { happening_text };
+
+    fn push_to(&self, text: &mut String) -> Result<(), Memory> {
+        push_value(text, self.number)?;
+        push(text, happen_word(self.kind))?;
+        push_moniker(text, &self.moniker)?;
+        push_incarnation(text, self.inc)
     }
 }
 

@@ -1,6 +1,6 @@
 //! Answers to commands.
 
-use crate::{Hop, Kid, Look, Outcome, Route, SurveyRow, Why};
+use crate::{Happening, Hop, Kid, Look, Outcome, Route, SurveyRow, Why};
 use cm_decl::Node;
 use cm_names::{CapPath, List, Moniker, Shared};
 
@@ -132,6 +132,8 @@ pub enum Answer {
     Doctored(List<Checked>),
     /// The program is off, and whether it was on before.
     Left(bool),
+    /// So many entries had been made, and this is what they tell of the instances asked about.
+    Streamed(u64, List<Happening>),
 }
 
 impl Drop for Answer {
@@ -143,6 +145,7 @@ impl Drop for Answer {
             Answer::Shown(_) => {}
             Answer::Surveyed(_) => {}
             Answer::Doctored(_) => {}
+            Answer::Streamed(_, _) => {}
             Answer::Resolved(_)
             | Answer::Started(_)
             | Answer::Stopped(_, _)

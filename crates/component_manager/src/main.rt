@@ -2,13 +2,16 @@
 //! it generates or of links over a Unix socket, and says whether a manifest is valid.
 //!
 //! [`cm_program::run::run`] is the top call. `main` makes the standard streams, the door and the gates
-//! for it, and ends by [`ended`], which asks for what that very call promises.
+//! for it, and ends by [`ended`], which asks for what that very call promises. Where a place is told for the
+//! journal of a service, [`cm_keep`] keeps it there, before and behind that call.
 #![tactic(auto)]
 
-ghost use Rattle.std.specs.Prelude.{◌≡◌, IfOk, length};
+ghost use Rattle.std.specs.Prelude.{◌≡◌, IfOk, if◌then◌else◌, length, nat_eq};
 
+use cm_book::Book;
 use cm_gate::{FolderGates, Runner};
-use cm_io::{Door, Reading, SocketDoor, Writing};
+use cm_io::{Door, Put, Reading, Sink, SocketDoor, Writing, put_all};
+use cm_keep::{Keeping, Unkept, keep_service, keeping_of, try_keeping};
 use cm_names::{List, Memory, Text};
 use cm_program::closing::ended;
 use cm_program::run::run;
@@ -17,7 +20,9 @@ use std::alloc::{AllocError, Global};
 use std::io::ErrorKind;
 use std::process::ExitCode;
 use std::rt::Files;
-use std::{env, io};
+use std::sync::Wait;
+use std::thread::Threads;
+use std::{env, io, process};
 
 /// The words behind the program's name. Words that can't be read are no words of a command.
 fn words<R: env::Env + Alloc<A = Global>>(rt: &R) -> Result<List<Text>, Memory> {
@@ -44,9 +49,13 @@ fn read_words<R: env::Env + Alloc<A = Global>>(rt: &R) -> io::Result<List<Text>>
 /// The name of the environment variable that says where a runner listens.
 const RUNNER: &str = "COMPONENT_RUNNER";
 
-/// Where a runner listens. A variable that is no text is the empty path, at which nobody listens.
-fn runner_at<R: env::Env + Alloc<A = Global>>(rt: &R) -> Result<Option<Text>, Memory> {
-    match env::var(rt, RUNNER) {
+/// The name of the environment variable that says where the journal of a service is to be kept.
+const JOURNAL: &str = "COMPONENT_JOURNAL";
+
+/// The path that a variable of the environment tells. One that is no text is the empty path, at which
+/// nobody listens and nothing can be kept.
+fn path_in<R: env::Env + Alloc<A = Global>>(rt: &R, name: &str) -> Result<Option<Text>, Memory> {
+    match env::var(rt, name) {
         Ok(at) => Ok(Some(Text::from_string(at)?)),
         Err(env::VarError::NotPresent) => Ok(None),
         Err(env::VarError::NotUnicode) => Ok(Some(Text::new(rt.alloc()))),
@@ -63,7 +72,7 @@ fn runner_of<R: env::Env + Alloc<A = Global>>(
         return Ok(None);
     };
     if word.as_str() == "serve" {
-        runner_at(rt)
+        path_in(rt, RUNNER)
     } else {
         Ok(None)
     }
@@ -93,6 +102,74 @@ fn folder_gates<F: Files + Copy + Drop>(
     Ok(gates)
 }
 
+/// The journal that is to be kept, for words that ask for a service. Of all others none is.
+fn journal_of<R: env::Env + Alloc<A = Global>>(
+    rt: &R,
+    words: &[Text],
+) -> Result<Option<Keeping>, Memory> {
+    keeping_of(rt.alloc(), words, path_in(rt, JOURNAL)?)
+}
+
+/// Tries whether the journal that is to be kept can be, before the door opens.
+fn try_journal(rt: &HostRuntime, keeping: &Option<Keeping>) -> Result<(), Unkept> {
+    match keeping {
+        Some(keeping) => try_keeping(rt.alloc(), *rt, process::id(rt.process()), keeping),
+        None => Ok(()),
+    }
+}
+
+/// Keeps the journal that is to be kept.
+fn keep_journal(
+    rt: &HostRuntime,
+    keeping: &Option<Keeping>,
+    status: u8,
+    book: &Book,
+) -> Result<(), Unkept> {
+    let Some(keeping) = keeping else {
+        return Ok(());
+    };
+    let number = process::id(rt.process());
+    keep_service(rt.alloc(), *rt, number, keeping, status, book)
+}
+
+/// The status of a run whose journal isn't kept, for which that other one is: its own, if it has one.
+fn status_after(status: u8, unkept: u8) -> u8
+    ensures { result ≡ if nat_eq status 0 then unkept else status }
+{
+    if status == 0 { unkept } else { status }
+}
+
+/// Says on the error stream why a journal isn't kept. The result is the status for that.
+fn say<R: Threads + Wait + Sync, E: Sink>(rt: &R, err: &mut E, why: &Unkept) -> u8 {
+    let Unkept::Said(line) = why else {
+        return want_of_memory(rt, err);
+    };
+    match put_all(rt, err, line.as_str().as_bytes()) {
+        Put::Done => 4,
+        Put::WriteFault(_) => 4,
+    }
+}
+
+/// The gates that these words are run with, and the journal that is to be kept, which can be.
+fn outside_of(
+    rt: HostRuntime,
+    words: &[Text],
+) -> Result<(List<FolderGates<HostRuntime>>, Option<Keeping>), Unkept>
+    ensures { IfOk result (λ given. length given.0 ≡ 16) }
+{
+    let Ok(at) = runner_of(&rt, words) else {
+        return Err(Unkept::Memory);
+    };
+    let Ok(gates) = folder_gates(rt.alloc(), rt, &at) else {
+        return Err(Unkept::Memory);
+    };
+    let Ok(keeping) = journal_of(&rt, words) else {
+        return Err(Unkept::Memory);
+    };
+    try_journal(&rt, &keeping)?;
+    Ok((gates, keeping))
+}
+
 fn main(rt: HostRuntime) -> ExitCode {
     let mut input = Reading::new(rt.stdin());
     let output = rt.stdout();
@@ -103,11 +180,9 @@ fn main(rt: HostRuntime) -> ExitCode {
         return ExitCode::from(want_of_memory(&rt, &mut err));
     };
     let asked = words.as_slice();
-    let Ok(at) = runner_of(&rt, asked) else {
-        return ExitCode::from(want_of_memory(&rt, &mut err));
-    };
-    let Ok(gates) = folder_gates(rt.alloc(), rt, &at) else {
-        return ExitCode::from(want_of_memory(&rt, &mut err));
+    let (gates, keeping) = match outside_of(rt, asked) {
+        Ok(given) => given,
+        Err(why) => return ExitCode::from(say(&rt, &mut err, &why)),
     };
     let ran = run(
         &rt,
@@ -119,8 +194,13 @@ fn main(rt: HostRuntime) -> ExitCode {
         SocketDoor::new(rt),
         gates,
     );
+    let kept = keep_journal(&rt, &keeping, ran.status, &ran.book);
     let (status, mut door) = ended(asked, input, out, err, ran);
     // The socket file would outlive the program.
     door.close();
-    ExitCode::from(status)
+    let Err(why) = kept else {
+        return ExitCode::from(status);
+    };
+    let mut err = Writing::new(io::writer(&error));
+    ExitCode::from(status_after(status, say(&rt, &mut err, &why)))
 }

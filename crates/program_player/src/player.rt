@@ -6,6 +6,8 @@
 //! the status. Where `$`, a name and `$` stand, the text of that name in `repeated` is meant.
 
 ghost use Rattle.cm_io.specs.Doors.{IsShut};
+ghost use Rattle.cm_program.specs.Promise.{Promise};
+ghost use Rattle.cm_session.specs.Links.{view_of};
 ghost use Rattle.std.specs.Prelude.{◌≡◌, IfSome, false, length};
 
 use super::doors::{door_of, sent_of};
@@ -15,7 +17,7 @@ use super::input::{
 };
 use super::repeated::expanded;
 use cm_gate::{GatePlan, Gates, Manifest, PlannedGates};
-use cm_io::{Door, MemoryDoor, MemoryLink, MemorySink, MemorySource, Plan};
+use cm_io::{Door, MemoryDoor, MemoryLink, MemorySink, MemorySource, Plan, Sink, Source};
 use cm_names::{List, Memory, Text};
 use cm_program::Ran;
 use cm_program::run::run;
@@ -105,7 +107,8 @@ fn arguments_with(alloc: Global, case: &str, words: Vec<Text>) -> Option<Argumen
     }
 }
 
-/// A run of these words between these streams, with a door to which no peer may come yet.
+/// A run of these words between these streams, with a door to which no peer may come yet. It hands on
+/// what the top call promises.
 pub fn ran<R: Threads + Wait + Sync, D: Door + Send, G: Gates + Send + Drop>(
     rt: &R,
     alloc: Global,
@@ -118,6 +121,22 @@ where
     D::Link: Send,
     requires gates { length gates ≡ 16 }
     requires shut { IsShut (D.place door) }
+    ensures { Promise ⟦<MemorySource as Source>⟧ ⟦<MemorySink as Sink>⟧ ⟦<MemorySink as Sink>⟧ D.counts
+        D.place (view_of D.Link.Source D.Link.Sink) G.log G.faults
+        (record {
+          words = words.now;
+          input = sides.old.input;
+          out = sides.old.out;
+          err = sides.old.err;
+          door = door;
+          gates = gates;
+        })
+        (record {
+          input = sides.new.input;
+          out = sides.new.out;
+          err = sides.new.err;
+          ran = result;
+        }) }
 {
     let Sides { input, out, err } = sides;
     run(rt, alloc, words, input, out, err, door, gates)

@@ -139,7 +139,7 @@ const TEXTS: &str = "\
     | show .\n\
     => 2\n\
     entries 0\n\
-    err usage: run, check, serve, audit, generate\n\
+    err usage: run, check, serve, audit, generate, environments, storage\n\
     == resolves-the-root: a script that resolves the root, and its journal up to the declaration\n\
     @root-line\n\
     | 0 resolve .\n\

@@ -8,10 +8,12 @@ mod gates;
 mod generated;
 mod histories;
 mod journals;
+mod judged;
 mod outside;
 mod reading;
 mod realms;
 mod refusals;
+mod reports;
 mod routes;
 mod serving;
 
@@ -34,7 +36,7 @@ fn table_of(number: u8) -> &'static str {
         7 => reading::MANIFESTS,
         8 => reading::VALID,
         9 => reading::FIELDS,
-        10 => reading::UNJUDGED,
+        10 => reading::FIRST_BY_NUMBER,
         11 => reading::LIMITS,
         12 => reading::WRITTEN,
         13 => commands::SCRIPTS,
@@ -54,13 +56,15 @@ fn table_of(number: u8) -> &'static str {
         27 => audits::ENTRIES,
         28 => audits::PICKS,
         29 => audits::AGAIN,
+        30 => judged::JUDGED,
+        31 => reports::REPORTS,
         _ => "",
     }
 }
 
 #[test]
 fn runs_come_to_their_ends(rt: HostRuntime) -> Result<(), Fail> {
-    for number in 0..30 {
+    for number in 0..32 {
         let odd = odd_cases(&rt, rt.alloc(), table_of(number))?;
         assert!(rt; odd.is_empty(), "table {number}: {odd}");
     }
@@ -85,7 +89,7 @@ fn large_workloads_run(rt: HostRuntime) -> Result<(), Fail> {
 const WRONG: &str = "\
     == serve\n\
     => 2\n\
-    err usage: run, check, serve, audit, generate\n\
+    err usage: run, check, serve, audit, generate, environments, storage\n\
     == run x\n\
     => 0\n\
     => 2\n\
@@ -104,7 +108,7 @@ const ODD: &str = "\
     err usage\n\
     status 2, 0 entries\n\
     faults: read 0, write 0, say 0, door 0\n\
-    usage: run, check, serve, audit, generate\n\
+    usage: run, check, serve, audit, generate, environments, storage\n\
     line 8: serve\n\
     peace 1\n\
     => 2\n\

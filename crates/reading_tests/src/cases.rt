@@ -253,6 +253,10 @@ pub const COMMANDS: &str = "\
     => survey a\n\
     == command exited @12\n\
     => exited @12\n\
+    == command events / 0\n\
+    => events . 0\n\
+    == command events @7 18446744073709551615\n\
+    => events @7 18446744073709551615\n\
     == command create . c n #m\n\
     => create . c n #m\n\
     == command create a c n #m + protocol p #x:y as=p + directory d self as=e rights=w*,r* \

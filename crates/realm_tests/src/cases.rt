@@ -231,6 +231,41 @@ pub const SHUTDOWNS: &str = "\
     16 2 mark closing 0 => marked\n\
     17 2 create 0 coll six #new => closing 0\n";
 
+/// What the order picks for a target, which is asked by its name, and behind it the line of the realm's own
+/// pick. The client uses what the store has, so that it goes first.
+pub const PICKS: &str = "\
+    == pick 9 99 shuts what doesn't run, the client first\n\
+    0 resolve 0 @root\n\
+    0 resolve 1 @store\n\
+    0 resolve 2 @client\n\
+    --\n\
+    0\n\
+    0\n\
+    0\n\
+    0\n\
+    =>\n\
+    shut 2\n\
+    8 0 pick 0 => shutdown 2\n\
+    shut 1\n\
+    10 0 pick 0 => shutdown 1\n\
+    shut 0\n\
+    12 0 pick 0 => shutdown 0\n\
+    done\n\
+    14 0 pick 0 => done\n\
+    == pick 9 99 stops the client that runs, and waits until it has stopped\n\
+    0 resolve 0 @root\n\
+    0 resolve 1 @store\n\
+    0 resolve 2 @client\n\
+    0 started 1\n\
+    0 started 2\n\
+    --\n\
+    0\n\
+    0\n\
+    =>\n\
+    stop 2\n\
+    12 0 pick 0 => stopping 2 6\n\
+    wait for 6\n";
+
 /// Instances that go with one that stops, and what is left to be removed of it.
 pub const EXPIRIES: &str = "\
     == realm 9 99 loses its children in collections when it stops, and no others\n\

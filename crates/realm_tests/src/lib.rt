@@ -24,6 +24,8 @@ mod locating;
 #[cfg(test)]
 mod meanwhile;
 #[cfg(test)]
+mod picks;
+#[cfg(test)]
 mod player;
 #[cfg(test)]
 mod realms;

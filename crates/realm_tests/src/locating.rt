@@ -121,7 +121,7 @@ fn settle(table: &mut Table, inc: u64, prepared: Prepared) -> Option<()> {
 }
 
 /// Whether an instance lives.
-fn lives(table: &Table, inc: u64) -> bool
+pub fn lives(table: &Table, inc: u64) -> bool
     ensures lives { result ≡ is_live table.now.rows inc }
     ensures orderly { IsOrderly table.now.rows table.now.next_inc }
 {

@@ -4,8 +4,8 @@
 //! A case begins with `== `, the word of what is played and a space. Then comes what is played, and
 //! behind a line `=>` what has to be told of it, line by line.
 
-use crate::cases::{CALLERS, EXPIRIES, GRAPHS, KEPT, LIMITS, LOCATED, SHUTDOWNS, WALKS};
-use crate::{graphs, locating, realms, walks};
+use crate::cases::{CALLERS, EXPIRIES, GRAPHS, KEPT, LIMITS, LOCATED, PICKS, SHUTDOWNS, WALKS};
+use crate::{graphs, locating, picks, realms, walks};
 use cm_names::{Memory, Text};
 use std::alloc::Global;
 use std::test::Fail;
@@ -52,6 +52,7 @@ fn told_of(alloc: Global, case: &str) -> Option<Text> {
         "expose" => walks::told_of_expose(alloc, input),
         "locate" => locating::told(alloc, input),
         "graph" => graphs::told(alloc, input),
+        "pick" => picks::told(alloc, input),
         _ => None,
     }
 }
@@ -66,13 +67,14 @@ fn table_of(number: u8) -> &'static str {
         5 => KEPT,
         6 => LOCATED,
         7 => GRAPHS,
+        8 => PICKS,
         _ => "",
     }
 }
 
 #[test]
 fn cases_tell_what_they_should(rt: HostRuntime) -> Result<(), Fail> {
-    for number in 0..8 {
+    for number in 0..9 {
         let odd = odd_cases(rt.alloc(), table_of(number))?;
         assert!(rt; odd.is_empty(), "table {number}: {odd}");
     }

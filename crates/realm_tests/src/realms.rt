@@ -7,7 +7,7 @@ use cm_steps::Realm;
 use std::alloc::Global;
 
 /// A new realm, which holds so many instances and so many entries.
-fn realm_with(alloc: Global, head: &str) -> Option<Realm> {
+pub fn realm_with(alloc: Global, head: &str) -> Option<Realm> {
     let (rows, rest) = head.split_once(' ')?;
     let (entries, _name) = rest.split_once(' ')?;
     realm_of(alloc, rows.parse().ok()?, entries.parse().ok()?)

@@ -36,7 +36,7 @@ pub fn take_all(realm: &mut Realm, alloc: Global, lines: &str, told: &mut Text) 
 }
 
 /// How many entries a history has.
-fn length_of(realm: &Realm) -> usize {
+pub fn length_of(realm: &Realm) -> usize {
     realm.entries().len()
 }
 
@@ -228,7 +228,7 @@ fn tell_refusal(told: &mut Text, refused: Option<NoStep>) -> Result<(), Memory> 
 }
 
 /// Puts down the lines of the entries behind the first ones.
-fn tell_lines(
+pub fn tell_lines(
     told: &mut Text,
     alloc: Global,
     entries: &[Entry],

@@ -5,37 +5,36 @@ from __future__ import annotations
 import asyncio
 import socket
 
+from cm_tools.host.watching import Watch, unsent, watch
+
 # One buffer for all connections: a piece is handed on before the next one is read.
 BUFFER = memoryview(bytearray(1 << 16))
-IDLE, READS, WRITES = 0, 1, 2
+# A socket, and the watch of it.
+End = tuple[socket.socket, Watch]
 
 
 class Way:
     """One way: what comes at the source goes to the sink. It waits for a sink that is full.
 
-    `behind` is what the sink didn't take yet, and `state` what the loop watches for it.
+    `behind` is what the sink didn't take yet.
     """
 
-    def __init__(self, carried: Carried, source: socket.socket, sink: socket.socket) -> None:
-        self.carried, self.source, self.sink = carried, source, sink
-        self.loop = asyncio.get_running_loop()
-        self.behind = b""
-        self.is_over = False
-        self.state = IDLE
-        self.watch(READS)
+    __slots__ = ("carried", "source", "sink", "came", "goes", "behind", "is_over")
 
-    def watch(self, state: int) -> None:
-        """Has the loop watch for the one or the other, or for nothing."""
-        # The loop is told numbers: it makes a text of what it doesn't know yet, which costs for sockets.
-        if self.state == READS:
-            self.loop.remove_reader(self.source.fileno())
-        elif self.state == WRITES:
-            self.loop.remove_writer(self.sink.fileno())
-        self.state = state
-        if state == READS:
-            self.loop.add_reader(self.source.fileno(), self.read)
-        elif state == WRITES:
-            self.loop.add_writer(self.sink.fileno(), self.write)
+    def __init__(self, carried: Carried, source: End, sink: End, first: bytes = b"") -> None:
+        self.carried = carried
+        (self.source, self.came), (self.sink, self.goes) = source, sink
+        self.behind, self.is_over = first, False
+        self._wait()
+
+    def _wait(self) -> None:
+        """Has the loop watch for what comes next: that the sink takes more, or that more comes."""
+        if self.behind:
+            self.came.on_read(None)
+            self.goes.on_write(self.write)
+        else:
+            self.goes.on_write(None)
+            self.came.on_read(self.read)
 
     def read(self) -> None:
         """Hands on what has come."""
@@ -58,24 +57,22 @@ class Way:
             return
         if sent < count:
             self.behind = bytes(BUFFER[sent:count])
-            self.watch(WRITES)
+            self._wait()
 
     def write(self) -> None:
         """Hands on what the sink didn't take."""
         try:
-            self.behind = self.behind[self.sink.send(self.behind):]
-        except BlockingIOError:
-            return
+            self.behind = unsent(self.sink, self.behind)
         except OSError as fault:
             self.carried.end(fault)
             return
         if not self.behind:
-            self.watch(READS)
+            self._wait()
 
     def over(self) -> None:
         """The source has said all; the sink is told."""
         self.is_over = True
-        self.watch(IDLE)
+        self.came.on_read(None)
         try:
             self.sink.shutdown(socket.SHUT_WR)
         except OSError as fault:
@@ -88,12 +85,16 @@ class Carried:
     """Both ways. `done` comes when both ends have said all, with an OSError where one broke off; where it is
     cancelled, both are let go."""
 
-    def __init__(self, one: socket.socket, other: socket.socket) -> None:
+    def __init__(self, one: socket.socket, other: socket.socket, first: bytes = b"") -> None:
         self.done: asyncio.Future[None] = asyncio.get_running_loop().create_future()
-        self.ways = Way(self, one, other), Way(self, other, one)
+        ends = (one, watch(one)), (other, watch(other))
+        self.watches = ends[0][1], ends[1][1]
+        # What was read of the one before goes first.
+        self.ways = Way(self, *ends, first), Way(self, ends[1], ends[0])
         self.done.add_done_callback(self._let_go)
-        # What a client said while it was decided is there already.
-        self.ways[0].read()
+        if not first:
+            # What a client said while it was decided is there already.
+            self.ways[0].read()
 
     def look(self) -> None:
         """Ends where both ways have ended."""
@@ -109,5 +110,5 @@ class Carried:
         if not done.cancelled():
             # Who waits for it may have been cancelled meanwhile, and then doesn't look at its fault.
             done.exception()
-        for way in self.ways:
-            way.watch(IDLE)
+        for one in self.watches:
+            one.end()

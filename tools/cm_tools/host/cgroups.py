@@ -5,7 +5,8 @@ from __future__ import annotations
 import os
 from pathlib import Path
 
-LIMITS = {"memory.max": str(512 << 20), "memory.swap.max": "0", "pids.max": "128", "cpu.weight": "100"}
+LIMITS = {"memory.max": str(512 << 20), "memory.swap.max": "0", "memory.oom.group": "1", "pids.max": "128",
+          "cpu.weight": "100"}
 
 
 class Cgroups:

@@ -84,7 +84,7 @@ class Consoles:
         """A command that changes the tree, below the target's moniker; what came of it is remembered before
         it is answered. Two of one name go one after the other, so that they are remembered in their order,
         and nothing is created below what is just being stopped."""
-        names = [target]
+        names, tree = [target], self.runner.tree
         if words[0] == "create":
             names.append(child_of(target, f"{words[2]}:{words[3]}"))
         locks = [self.locks.setdefault(name, asyncio.Lock()) for name in names]
@@ -94,12 +94,15 @@ class Consoles:
             try:
                 if manager.over or manager is not self.runner.manager:
                     return [REPLACED]
+                if words[0] == "create":
+                    tree.comes(target, *words[2:5], words[5:])
                 reply = await pool.ask(" ".join(words))
                 self._note(manager, target, words, reply[0].split(" "))
                 return reply
             except Gone:
                 return [REPLACED]
             finally:
+                tree.coming.pop(names[-1], None)
                 for lock in locks:
                     lock.release()
         finally:

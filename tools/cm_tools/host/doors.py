@@ -11,7 +11,7 @@ import time
 from pathlib import Path
 from typing import TYPE_CHECKING
 
-from cm_tools.host import sandbox
+from cm_tools.host import sandbox, watching
 from cm_tools.host.carried import Carried
 from cm_tools.host.instance import Instance
 from cm_tools.host.programs import Unfit
@@ -38,6 +38,132 @@ WRITING = {"connect", "enumerate", "traverse", "write_bytes", "modify_directory"
 WRITES = {"write_bytes", "modify_directory", "update_attributes"}
 
 
+class Door:
+    """The socket of a use. It takes connections, as many at once and in a second as a use may have."""
+
+    def __init__(self, doors: Doors, it: Instance, path: str, link: socket.socket) -> None:
+        self.doors, self.it, self.path, self.link = doors, it, path, link
+        self.loop, self.watch = asyncio.get_running_loop(), watching.watch(link)
+        self.room, self.since = float(AT_ONCE), time.monotonic()
+        self.taken = 0
+        self.pause: asyncio.TimerHandle | None = None
+        self.is_over = False
+        it.tasks.add(self)
+        self._watch()
+
+    def cancel(self) -> None:
+        """Takes no more, as the program has ended."""
+        self.is_over = True
+        self._watch()
+        if self.pause is not None:
+            self.pause.cancel()
+        self.link.close()
+        self.it.tasks.discard(self)
+
+    def let_go(self) -> None:
+        """A connection has ended."""
+        self.taken -= 1
+        self._watch()
+
+    def _watch(self) -> None:
+        """Has the loop watch for connections where more may be taken now."""
+        is_wanted = not self.is_over and self.pause is None and self.taken < CONNECTIONS
+        self.watch.on_read(self._take if is_wanted else None)
+
+    def _wait(self, seconds: float) -> None:
+        self.pause = self.loop.call_later(seconds, self._go_on)
+        self._watch()
+
+    def _go_on(self) -> None:
+        self.pause = None
+        self._watch()
+
+    def _take(self) -> None:
+        """Takes a connection."""
+        try:
+            client, _ = self.link.accept()
+        except BlockingIOError:
+            return
+        except OSError:
+            self._wait(0.1)  # for want of descriptors
+            return
+        client.setblocking(False)
+        self.taken += 1
+        now = time.monotonic()
+        self.room, self.since = min(AT_ONCE, self.room + A_SECOND * (now - self.since)) - 1, now
+        if self.room < 1:
+            self._wait((1 - self.room) / A_SECOND)
+        elif self.taken == CONNECTIONS:
+            self._watch()
+        Opening(self, client).begin()
+
+
+class Opening:
+    """A connection of a use, from when it is taken until it is open or refused.
+
+    Where the manager answers at once that it is opened, and the provider listens, no more is needed. All
+    else goes on in a task.
+    """
+
+    def __init__(self, door: Door, client: socket.socket) -> None:
+        self.door, self.doors, self.it, self.client = door, door.doors, door.it, client
+        self.manager: Manager | None = None
+
+    def begin(self) -> None:
+        """Asks the manager."""
+        runner, it = self.doors.runner, self.it
+        manager = runner.manager
+        if manager is not None and runner.there.is_set() and it.manager is manager:
+            self.manager = manager
+            if manager.asked.opens.ask_then(f"open @{it.inc} {self.door.path}", self._answered):
+                it.tasks.add(self)
+                return
+        self._go_on(None)
+
+    def cancel(self) -> None:
+        """The program has ended meanwhile."""
+        self.it.tasks.discard(self)
+        self.client.close()
+        self.door.let_go()
+
+    def _answered(self, reply: list[str] | None) -> None:
+        if self not in self.it.tasks:
+            return
+        self.it.tasks.discard(self)
+        manager = self.manager
+        assert manager is not None
+        if reply is None or not self._is_open(manager, reply[0]):
+            self._go_on((reply[0], manager) if reply is not None else None)
+
+    def _is_open(self, manager: Manager, reply: str) -> bool:
+        """Opens it where that can be done at once."""
+        provider = provider_of(manager, reply)
+        if provider is None or not provider[0].process:
+            return False
+        far = socket.socket(socket.AF_UNIX, socket.SOCK_STREAM)
+        far.setblocking(False)
+        try:
+            _connect_beneath(far, *provider)
+        except OSError:
+            far.close()
+            return False
+        done = self.doors.carry(self.it, self.door.path, (self.client, far), provider[0], manager)
+        if done is None:
+            self.door.let_go()
+        else:
+            done.add_done_callback(self._ended)
+        return True
+
+    def _ended(self, done: asyncio.Future[None]) -> None:
+        self.door.let_go()
+        if not done.cancelled() and done.exception() is not None:
+            self.doors.broken(self.it, self.door.path, done.exception())
+
+    def _go_on(self, first: tuple[str, Manager] | None) -> None:
+        task = self.it.task(self.doors.connect(self.it, self.client, self.door.path, first))
+        task.add_done_callback(lambda _: self.door.let_go())
+
+
 class Doors:
     """Listens for what the programs connect to, asks, connects, and carries bytes."""
 
@@ -51,33 +177,20 @@ class Doors:
         """A socket for a use. Each connection to it is asked for at the manager."""
         place = it.folder / f"use{number}"
         place.unlink(missing_ok=True)
-        door = socket.socket(socket.AF_UNIX, socket.SOCK_STREAM)
-        door.bind(str(place))
-        door.listen(16)
-        door.setblocking(False)
-        it.task(self._accept(it, door, path))
+        link = socket.socket(socket.AF_UNIX, socket.SOCK_STREAM)
+        link.bind(str(place))
+        link.listen(16)
+        link.setblocking(False)
+        Door(self, it, path, link)
         return place
 
-    async def _accept(self, it: Instance, door: socket.socket, path: str) -> None:
-        """Takes connections of a use, as many at once and in a second as it may have."""
-        slots = asyncio.Semaphore(CONNECTIONS)
-        room, since = float(AT_ONCE), time.monotonic()
-        with door:
-            while True:
-                await slots.acquire()
-                client = await _accepted(door)
-                it.task(self._connect(it, client, path)).add_done_callback(lambda _: slots.release())
-                now = time.monotonic()
-                room, since = min(AT_ONCE, room + A_SECOND * (now - since)) - 1, now
-                if room < 1:
-                    await asyncio.sleep((1 - room) / A_SECOND)
-
-    async def _connect(self, it: Instance, client: socket.socket, path: str) -> None:
-        """Decides one connection, and carries it."""
+    async def connect(self, it: Instance, client: socket.socket, path: str,
+                      first: tuple[str, Manager] | None) -> None:
+        """Decides one connection, by the answer that is there already or by a further one, and carries it."""
         log = self.runner.log
         try:
             with client:
-                reply, manager = await self.opened(it, path)
+                reply, manager = await self.opened(it, path, first)
                 if not reply.startswith("opened "):
                     log.event("refused", moniker=it.moniker, path=path, manager=manager.number, why=reply)
                 elif reply == f"opened {REALM} at framework":
@@ -87,23 +200,32 @@ class Doors:
                 else:
                     await self._carry(it, path, client, reply, manager)
         except OSError as fault:
-            log.event("broken", moniker=it.moniker, path=path, why=fault.strerror or str(fault))
+            self.broken(it, path, fault)
 
-    async def opened(self, it: Instance, path: str) -> tuple[str, Manager]:
-        """The manager's answer, and which manager that was. Right behind a launch the start may not have come
-        into its history. While there is none, it waits."""
+    def broken(self, it: Instance, path: str, fault: BaseException | None) -> None:
+        """Tells of a connection that couldn't be made, or broke off."""
+        self.runner.log.event("broken", moniker=it.moniker, path=path,
+                              why=getattr(fault, "strerror", None) or str(fault))
+
+    async def opened(self, it: Instance, path: str,
+                     first: tuple[str, Manager] | None = None) -> tuple[str, Manager]:
+        """The manager's answer, which may be there already, and which manager that was. Right behind a launch
+        the start may not have come into its history. While there is none, it waits."""
         reply, pause, waited = "refused: nobody answers", 0.001, 0.0
-        manager = await self.runner.ready()
+        manager = first[1] if first is not None else await self.runner.ready()
         while waited < PATIENCE:
-            manager = await self.runner.ready()
-            if it.manager is not manager:
-                return "refused: the program is none of the present manager's", manager
-            try:
-                reply = (await manager.asked.opens.ask(f"open @{it.inc} {path}"))[0]
-            except Gone:
-                await asyncio.sleep(0.001)
-                waited += 0.001
-                continue
+            if first is not None:
+                (reply, manager), first = first, None
+            else:
+                manager = await self.runner.ready()
+                if it.manager is not manager:
+                    return "refused: the program is none of the present manager's", manager
+                try:
+                    reply = (await manager.asked.opens.ask(f"open @{it.inc} {path}"))[0]
+                except Gone:
+                    await asyncio.sleep(0.001)
+                    waited += 0.001
+                    continue
             wait = self._pause_behind(manager, reply, pause)
             if wait is None or waited + wait > PATIENCE:
                 break
@@ -122,31 +244,46 @@ class Doors:
 
     async def _carry(self, it: Instance, path: str, client: socket.socket, reply: str, manager: Manager,
                      first: bytes = b"") -> None:
-        """Connects to the provider that the manager names, and hands bytes on, both ways. No descriptor
-        is handed on: none is received."""
-        found = OPENED.match(reply)
-        provider = manager.instances.get(int(found[3])) if found and found[3] else None
-        if found is None or provider is None:
+        """Connects to the provider that the manager names, and hands bytes on until both have ended."""
+        provider = provider_of(manager, reply)
+        if provider is None:
             raise ConnectionRefusedError(f"what is opened is nothing that runs here: {reply}")
-        manager.monikers[int(found[3])] = found[2]
-        with await self._reach(provider, found[1]) as far:
-            self.numbers += 1
-            number = self.numbers
-            if not self.runner.log.event("opened", moniker=it.moniker, path=path, manager=manager.number,
-                                         provider=provider.moniker, connection=number):
-                return
-            if first:
-                await asyncio.get_running_loop().sock_sendall(far, first)
-            it.open[number] = path, provider.moniker
-            try:
-                # It ends with the provider too.
-                carried = Carried(client, far)
-                carried.done.add_done_callback(provider.tasks.discard)
-                provider.tasks.add(carried.done)
-                await carried.done
-            finally:
-                it.open.pop(number, None)
-                self.runner.log.note("closed", moniker=it.moniker, connection=number)
+        far = await self._reach(*provider)
+        try:
+            done = self.carry(it, path, (client, far), provider[0], manager, first)
+        except BaseException:
+            far.close()
+            raise
+        if done is not None:
+            await done
+
+    def carry(self, it: Instance, path: str, ends: tuple[socket.socket, socket.socket], provider: Instance,
+              manager: Manager, first: bytes = b"") -> asyncio.Future[None] | None:
+        """Hands bytes on, both ways, once it stands in the log that it is opened; else both are closed. No
+        descriptor is handed on: none is received. What comes back is done when both have ended."""
+        self.numbers += 1
+        number = self.numbers
+        if not self.runner.log.event("opened", moniker=it.moniker, path=path, manager=manager.number,
+                                     provider=provider.moniker, connection=number):
+            for end in ends:
+                end.close()
+            return None
+        it.open[number] = path, provider.moniker
+        done = Carried(*ends, first).done
+
+        def ended(_: asyncio.Future[None]) -> None:
+            for end in ends:
+                end.close()
+            it.tasks.discard(done)
+            provider.tasks.discard(done)
+            it.open.pop(number, None)
+            self.runner.log.note("closed", moniker=it.moniker, connection=number)
+
+        # It ends with the one and with the other.
+        it.tasks.add(done)
+        provider.tasks.add(done)
+        done.add_done_callback(ended)
+        return done
 
     async def open_from_outside(self, moniker: str, name: str, reader: asyncio.StreamReader,
                                 writer: asyncio.StreamWriter) -> None:
@@ -157,15 +294,14 @@ class Doors:
             reply = (await manager.asked.opens.ask(f"open-exposed {moniker} {name}"))[0]
         except Gone:
             reply = REPLACED
-        found = OPENED.match(reply)
-        provider = manager.instances.get(int(found[3])) if found and found[3] else None
-        if found is None or provider is None:
+        found = provider_of(manager, reply)
+        if found is None:
             self.runner.log.event("refused", moniker="(outside)", path=f"{moniker} {name}", why=reply)
             writer.write(json.dumps({"refused": reply}).encode() + b"\n")
             await writer.drain()
             return
         try:
-            far = await self._reach(provider, found[1])
+            provider, far = found[0], await self._reach(*found)
         except OSError as fault:
             writer.write(json.dumps({"refused": fault.strerror or str(fault)}).encode() + b"\n")
             return
@@ -262,21 +398,17 @@ class Doors:
             self.runner.log.event("refused", moniker=it.moniker, path=path, manager=manager.number, why=reply)
 
 
-async def _accepted(door: socket.socket) -> socket.socket:
-    """The next connection of a socket."""
-    loop = asyncio.get_running_loop()
-    while True:
-        try:
-            client, _ = door.accept()
-            client.setblocking(False)
-            return client
-        except BlockingIOError:
-            coming = asyncio.Event()
-            loop.add_reader(door.fileno(), coming.set)
-            try:
-                await coming.wait()
-            finally:
-                loop.remove_reader(door.fileno())
+def provider_of(manager: Manager, reply: str) -> tuple[Instance, str] | None:
+    """Who provides what a manager has opened, and at which path; None where nothing is opened, or nothing
+    that was started here."""
+    found = OPENED.match(reply)
+    if found is None or not found[3] or not reply.startswith("opened "):
+        return None
+    provider = manager.instances.get(int(found[3]))
+    if provider is None:
+        return None
+    manager.monikers[int(found[3])] = found[2]
+    return provider, found[1]
 
 
 def can_be_kept(rights: set[str]) -> bool:

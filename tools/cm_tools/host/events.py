@@ -15,6 +15,7 @@ LARGEST_LOG = 32 << 20
 KEPT_LOGS = 4
 EVENTS = "events.jsonl"
 PLAIN = ("at", "event", "moniker", "manager")
+ENCODER = json.JSONEncoder(separators=(",", ":"))
 
 
 class Room:
@@ -59,7 +60,7 @@ class Log:
         line = {"at": round(time.time(), 6), "event": word, **fields}
         written = self._write(line)
         room = self.rooms.get(word)
-        if room is None or room.take():
+        if not self.quiet and (room is None or room.take()):
             missed = room.missed() if room is not None else 0
             self.show(told(line) + (f" (and {missed} {word} before, which the log has)" if missed else ""))
         return written
@@ -84,7 +85,7 @@ class Log:
         self.size = os.fstat(self.file).st_size
 
     def _write(self, line: dict[str, Any]) -> bool:
-        data = json.dumps(line, separators=(",", ":")).encode() + b"\n"
+        data = ENCODER.encode(line).encode() + b"\n"
         try:
             if self.size > LARGEST_LOG:
                 self._turn()

@@ -20,6 +20,7 @@ from cm_tools.host import programs
 from cm_tools.host.programs import Unfit
 from cm_tools.host.sandbox import BARE
 from cm_tools.host.settings import Places, Settings
+from cm_tools.merging import Sources
 from cm_tools.program import chosen_program
 
 TOOLS = Path(__file__).resolve().parent.parent.parent
@@ -39,7 +40,7 @@ LONGEST_SOCKET = 107
 # A runner that ends so soon, in seconds, so many times isn't begun again.
 TOO_SOON, TIMES = 2.0, 5
 # How long an end in order may take, in seconds.
-TO_END = 90.0
+TO_END = 180.0
 # What `unshare` ends with where its child was killed: some versions fail to do as the child did.
 KILLED = (1, -signal.SIGKILL, 128 + signal.SIGKILL)
 
@@ -90,9 +91,16 @@ def check_root(repo: Path, root: str) -> None:
     if not repo.is_dir():
         raise Unusable(f"{repo} is no folder of packages")
     try:
-        programs.declared(repo, root)
+        programs.declared(programs.Repo.of(repo), root)
     except Unfit as fault:
         raise Unusable(str(fault)) from None
+
+
+def merged_manifests(repo: Path, sources: Sources, place: Path) -> Path:
+    """The folder whose manifests the component manager reads: that of the packages, or a copy at the place,
+    with their shards."""
+    shutil.rmtree(place, ignore_errors=True)
+    return sources.copied(repo, place)
 
 
 def make_run(run: Path) -> None:
@@ -188,6 +196,8 @@ class Front:
             begun = time.monotonic()
             status = self._begin()
             if self.asked or status not in KILLED:
+                # At its own end this process takes no alarm any more, and would be killed by one.
+                signal.setitimer(signal.ITIMER_REAL, 0)
                 return status if status >= 0 else 128 - status
             soon = soon + 1 if time.monotonic() - begun < TOO_SOON else 0
             if soon >= TIMES:

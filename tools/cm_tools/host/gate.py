@@ -13,6 +13,7 @@ from typing import TYPE_CHECKING
 from cm_tools.host import programs, sandbox, seccomp
 from cm_tools.host.instance import Instance
 from cm_tools.host.programs import Program, Unfit
+from cm_tools.host.reports import RUNNERS
 from cm_tools.host.sandbox import Bound, Plan, Process
 from cm_tools.host.sessions import Gone
 
@@ -101,7 +102,7 @@ class Gate:
                      moniker: str) -> tuple[str, bool]:
         """The answer, and whether the program ran already under an earlier manager."""
         it = self.instance(manager, inc, moniker)
-        begun, digest = time.monotonic(), programs.digest(self.runner.settings.repo, url)
+        begun, digest = time.monotonic(), programs.digest(self.runner.repo, url)
         manager.asked.tally.started(action, inc, len(digest))
         is_wanted = moniker in manager.wanted and moniker in self.runner.tree.on
         if it.lives() and it.counted is not manager:
@@ -109,7 +110,7 @@ class Gate:
                 it.counted = manager
                 manager.adopted += 1
                 self.runner.log.note("adopt", moniker=moniker, manager=manager.number, inc=inc,
-                                     instance=it.key)
+                                     instance=it.key, before=self.runner.succession.before.get(moniker))
                 return "running", True
         if manager.replaying and not is_wanted:
             # What was off stays off: an eager child that was stopped, a child that runs once and has run.
@@ -133,7 +134,8 @@ class Gate:
     async def _launch_anew(self, manager: Manager, it: Instance, action: int, inc: int, runner: str, url: str,
                            digest: bytes) -> str:
         """Starts the program of an instance; `Unfit` where it can't be started."""
-        if runner != "elf":
+        runner = await self.runner.environments.runner(it.moniker, runner)
+        if runner not in RUNNERS:
             raise Unfit(f"the runner {runner} isn't known here")
         if it.due > time.monotonic():
             manager.put_off[action] = it.due
@@ -147,11 +149,9 @@ class Gate:
             assert it.process is not None
             await it.process.kill()
             await ends
-        program = programs.read(self.runner.settings.repo, url)
-        for use in program.uses:
-            if use.kind == "storage":
-                raise Unfit(f"the storage at {use.path} can't be placed: this component manager doesn't know "
-                            "the word storage")
+        program = programs.read(self.runner.repo, url)
+        kinds = {use.kind for use in program.uses}
+        places = await self.runner.storage.places(it.moniker) if "storage" in kinds else {}
         it.url, it.digest, it.notify = url, digest, program.notify
         it.stopping, it.counted = False, manager
         it.starts += 1
@@ -160,7 +160,7 @@ class Gate:
             # The sockets of the last start, at which nobody listens. No link is followed.
             if not removed_sockets(it.out):
                 await run_tool("find", str(it.out), "-xdev", "-type", "s", "-delete")
-        it.process = await self._sandbox(manager, it, program)
+        it.process = await self._sandbox(manager, it, program, places)
         it.ends = asyncio.ensure_future(self.runner.watch(it))
         assert it.process.bwrap.stdout is not None
         it.task(self.runner.listen_to(it, it.process.bwrap.stdout))
@@ -176,7 +176,8 @@ class Gate:
                 if other is not it and other.moniker == it.moniker and other.ends is not None:
                     await asyncio.wait([other.ends], timeout=10)
 
-    async def _sandbox(self, manager: Manager, it: Instance, program: Program) -> Process:
+    async def _sandbox(self, manager: Manager, it: Instance, program: Program,
+                       places: dict[str, str]) -> Process:
         sockets: list[tuple[Path, str]] = []
         bound: list[Bound] = []
         try:
@@ -187,6 +188,8 @@ class Gate:
                     one = await self.runner.doors.directory(manager, it, use.path)
                     if one is not None:
                         bound.append(one)
+                else:
+                    bound.append(await self.runner.storage.bound(it, use.path, places))
             plan = Plan(program, it.out, sockets, bound, seccomp=self.filter,
                         cgroup=self.runner.cgroups.place(it.key))
             return await Process.start(plan)

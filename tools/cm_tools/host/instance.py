@@ -5,7 +5,7 @@ from __future__ import annotations
 import asyncio
 import time
 from pathlib import Path
-from typing import TYPE_CHECKING, Any, Coroutine
+from typing import TYPE_CHECKING, Any, Coroutine, Protocol
 
 if TYPE_CHECKING:
     from cm_tools.host.manager import Manager
@@ -14,6 +14,13 @@ if TYPE_CHECKING:
 # A program that ran so long, in seconds, counts as one that had not crashed before.
 SOUND = 10.0
 FIRST_PAUSE, LONGEST_PAUSE = 0.2, 10.0
+
+
+class Ends(Protocol):
+    """Something that can be ended."""
+
+    def cancel(self) -> object:
+        """Ends it."""
 
 
 class Instance:
@@ -36,9 +43,12 @@ class Instance:
         self.process: Process | None = None
         self.starts = 0
         self.since = 0.0
-        self.tasks: set[asyncio.Future[Any]] = set()
+        # What ends with the program.
+        self.tasks: set[Ends] = set()
         self.ends: asyncio.Future[None] | None = None
         self.crashes, self.due = 0, 0.0
+        # The folders of its storage, by name.
+        self.storage: set[str] = set()
         # Where read-only directories are laid for it.
         self.layers: list[str] = []
         # What its uses hold open: path and provider.

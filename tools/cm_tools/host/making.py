@@ -42,7 +42,7 @@ def make(repo: Path, name: str, command: list[str], uses: list[str], provides: l
         manifest["capabilities"] = [{"protocol": one} for one in provides]
         manifest["expose"] = [{"protocol": one, "from": "self"} for one in provides]
     (package / "meta" / f"{name}.cm").write_text(json.dumps(manifest, indent=4) + "\n", "utf-8")
-    programs.read(repo, url_of(name))
+    programs.read(programs.Repo.of(repo), url_of(name))
     sources = write_root(repo)
     return told(name, uses, provides, sources)
 
@@ -114,7 +114,7 @@ Environment={_quoted(f"COMPONENT_MANAGER={program}")}
 ExecStart={command}
 # An end in order takes as long as the programs that don't heed their stop.
 KillMode=mixed
-TimeoutStopSec=100
+TimeoutStopSec=200
 Restart=on-failure
 # A cgroup for each instance.
 Delegate=memory pids cpu

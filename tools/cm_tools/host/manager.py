@@ -3,11 +3,13 @@
 from __future__ import annotations
 
 import asyncio
+import errno
 import os
 import re
 import signal
 import socket
 import subprocess
+import time
 from pathlib import Path
 from typing import TYPE_CHECKING
 
@@ -20,8 +22,8 @@ if TYPE_CHECKING:
 
 SESSIONS = 4096
 SOURCE = re.compile(r" at (\S+) incarnation (\d+)")
-# How long a manager may take to listen, and to end by itself, in seconds.
-TO_LISTEN, TO_END = 10.0, 10.0
+# How long a manager may take to listen, and to end by itself, in seconds. It writes a large journal then.
+TO_LISTEN, TO_END = 10.0, 60.0
 
 
 class Manager:
@@ -52,7 +54,7 @@ class Manager:
     def start(self, settings: Settings) -> None:
         """Starts its process, in a session of its own, so that a terminal's Ctrl-C doesn't reach it."""
         words = [settings.program, "serve", str(self.folder / "manager"), "--root", settings.root,
-                 "--repo", settings.repo, "--sessions", str(SESSIONS), "--workers", "16"]
+                 "--repo", settings.manifests, "--sessions", str(SESSIONS), "--workers", "16"]
         environment = {**os.environ, "COMPONENT_RUNNER": str(self.gate),
                        "COMPONENT_JOURNAL": str(self.journal)}
         self.process = subprocess.Popen(words, stdin=subprocess.DEVNULL, env=environment,
@@ -64,7 +66,7 @@ class Manager:
         until = asyncio.get_running_loop().time() + TO_LISTEN
         while asyncio.get_running_loop().time() < until:
             try:
-                await self.asked.connect()
+                self.asked.connect()
                 return
             except OSError:
                 if await readable(self.pid, 0.002):
@@ -126,8 +128,11 @@ class Manager:
 
     def _use_up(self) -> None:
         """Begins and ends sessions until the manager takes no more: it serves 4,096 in all."""
-        for _ in range(SESSIONS):
+        until, used = time.monotonic() + TO_END, 0
+        while used < SESSIONS and time.monotonic() < until:
             with socket.socket(socket.AF_UNIX) as link:
                 link.settimeout(2.0)
-                if link.connect_ex(self.asked.path) != 0:
-                    return
+                fault = link.connect_ex(self.asked.path)
+            used += fault == 0
+            if fault not in (0, errno.EAGAIN, errno.ETIMEDOUT):
+                return

@@ -59,7 +59,22 @@ class Declared:
     collections: dict[str, str]
 
 
-def place_of(repo: str | Path, url: str) -> tuple[Path, Path]:
+@dataclass(frozen=True)
+class Repo:
+    """Two folders of one form: that of the packages, and that of their manifests as the component manager
+    reads them, with their shards. It is the same folder where there are none.
+    """
+
+    packages: Path
+    manifests: Path
+
+    @staticmethod
+    def of(packages: str | Path, manifests: str | Path = "") -> Repo:
+        """A folder of packages, with its own manifests where none are named."""
+        return Repo(Path(packages), Path(manifests or packages))
+
+
+def place_of(repo: Repo, url: str) -> tuple[Path, Path]:
     """The package's folder and the manifest's file."""
     try:
         parts = urlsplit(url)
@@ -68,14 +83,13 @@ def place_of(repo: str | Path, url: str) -> tuple[Path, Path]:
     path, host = parts.path.removeprefix("/"), PORT.sub("", parts.netloc.rpartition("@")[2])
     if any(part in ("", ".", "..") for part in f"{host}/{path}/{parts.fragment}".split("/")):
         raise Unfit(f"{url} names no manifest")
-    package = Path(repo) / host / path
-    return package, package / parts.fragment
+    return repo.packages / host / path, repo.manifests / host / path / parts.fragment
 
 
 _known: dict[tuple[str, int, int], Node] = {}
 
 
-def _manifest(repo: str | Path, url: str) -> tuple[Path, Node]:
+def _manifest(repo: Repo, url: str) -> tuple[Path, Node]:
     """A manifest, and its package's folder. It is read again only when its file has changed."""
     package, place = place_of(repo, url)
     try:
@@ -94,7 +108,7 @@ def _manifest(repo: str | Path, url: str) -> tuple[Path, Node]:
         raise Unfit(f"{url} can't be read: {getattr(fault, 'strerror', None) or fault}") from None
 
 
-def digest(repo: str | Path, url: str) -> bytes:
+def digest(repo: Repo, url: str) -> bytes:
     """The manifest's bytes; none where it can't be read."""
     try:
         return place_of(repo, url)[1].read_bytes()
@@ -102,17 +116,22 @@ def digest(repo: str | Path, url: str) -> bytes:
         return b""
 
 
-def declared(repo: str | Path, url: str) -> Declared:
+def manifest(repo: Repo, url: str) -> Node:
+    """A manifest as a value; `Unfit` where it can't be read."""
+    return _manifest(repo, url)[1]
+
+
+def declared(repo: Repo, url: str) -> Declared:
     """The children and collections that a manifest declares."""
-    _, manifest = _manifest(repo, url)
-    return Declared({one.text("name"): one.text("url") for one in _items(manifest, "children")},
-                    {one.text("name"): one.text("durability") for one in _items(manifest, "collections")})
+    found = manifest(repo, url)
+    return Declared({one.text("name"): one.text("url") for one in _items(found, "children")},
+                    {one.text("name"): one.text("durability") for one in _items(found, "collections")})
 
 
-def read(repo: str | Path, url: str) -> Program:
+def read(repo: Repo, url: str) -> Program:
     """The program of a manifest, or `Unfit`."""
-    package, manifest = _manifest(repo, url)
-    program = manifest.get("program")
+    package, found = _manifest(repo, url)
+    program = found.get("program")
     if program is None or program.kind != "object":
         raise Unfit("the manifest has no program")
     for member in program.members:
@@ -123,7 +142,7 @@ def read(repo: str | Path, url: str) -> Program:
         raise Unfit("the program has no binary")
     if binary.startswith("/") or any(part in ("", ".", "..") for part in binary.split("/")):
         raise Unfit(f"the binary {binary} is no path within the package")
-    uses = tuple(_uses(manifest))
+    uses = tuple(_uses(found))
     check_paths(uses)
     check_binary(package, binary)
     return Program(package, binary, _texts(program, "args"), _environ(program), _notify(program), uses)

@@ -98,7 +98,7 @@ class Realm:
     def _list(self, coll: str) -> list[str]:
         own = self.instance.moniker
         try:
-            if coll not in programs.declared(self.runner.settings.repo, self.instance.url).collections:
+            if coll not in programs.declared(self.runner.repo, self.instance.url).collections:
                 return ["refused 60 collection-not-found"]
         except Unfit as fault:
             return [f"refused: {fault}"]

@@ -16,17 +16,22 @@ import time
 import traceback
 from typing import Any, AsyncIterator, IO
 
+from cm_tools.host import watching
 from cm_tools.host.cgroups import Cgroups
 from cm_tools.host.consoles import Consoles
 from cm_tools.host.doors import Doors
+from cm_tools.host.environments import Environments
 from cm_tools.host.events import Log, Said
 from cm_tools.host.gate import Gate, remove
 from cm_tools.host.instance import Instance
 from cm_tools.host.layers import Layers
 from cm_tools.host.manager import Manager
+from cm_tools.host.programs import Repo
 from cm_tools.host.realm import Room
+from cm_tools.host.reports import Reports
 from cm_tools.host.sessions import Gone
 from cm_tools.host.settings import Places, Settings
+from cm_tools.host.storage import Storage
 from cm_tools.host.succession import Succession, end_by_force
 from cm_tools.host.tree import Tree
 
@@ -44,10 +49,13 @@ class Runner:
 
     def __init__(self, settings: Settings, layers: Layers) -> None:
         self.settings, self.places = settings, Places(settings.run)
+        self.repo = Repo.of(settings.repo, settings.manifests)
         self.birth = int(time.time())
         self.log = Log(self.places.log, quiet=settings.quiet)
         self.log.snapshot = self.snapshot
-        self.tree = Tree(settings.root, settings.repo, self.places.tree)
+        self.tree = Tree(settings.root, self.repo, self.places.tree)
+        reports = Reports(settings.program, self.repo, self.tree)
+        self.environments, self.storage = Environments(reports), Storage(self, reports)
         self.cgroups, self.layers, self.lays_layers = Cgroups(settings.cgroup), layers, False
         self.gate, self.doors = Gate(self), Doors(self)
         self.consoles, self.succession = Consoles(self), Succession(self)
@@ -133,9 +141,7 @@ class Runner:
             return
         try:
             if (await manager.asked.realms.ask(f"show @{it.inc}"))[0].startswith("refused 81"):
-                manager.instances.pop(it.inc, None)
-                self.rooms.pop(it.key, None)
-                await remove(it.folder)
+                await self.put_away(it)
         except Gone:
             pass
 
@@ -150,11 +156,23 @@ class Runner:
                 if self.left.get(it.moniker) is it:
                     del self.left[it.moniker]
                     asyncio.ensure_future(self.drop(it))
+                else:
+                    asyncio.ensure_future(self.put_away(it))
 
     async def drop(self, it: Instance) -> None:
         """Ends an instance for good."""
         await end_by_force(it)
-        await remove(it.folder)
+        await self.put_away(it)
+
+    async def put_away(self, it: Instance) -> None:
+        """Removes what an instance that is gone has left, as soon as its program has ended."""
+        if it.ends is not None:
+            await asyncio.wait([it.ends])
+        if it.manager is not None and it.inc is not None:
+            it.manager.instances.pop(it.inc, None)
+        self.rooms.pop(it.key, None)
+        for place in (it.folder, *self.storage.left_by(it)):
+            await remove(place)
 
     async def listen_to(self, it: Instance, output: IO[bytes]) -> None:
         """Keeps and shows what the program prints."""
@@ -207,6 +225,8 @@ class Runner:
             loop.add_signal_handler(number, self.over.set)
         self.lays_layers = self.layers.works(str(self.places.layers / "probe"))
         resumed = self.tree.open()
+        for place in self.storage.sweep():
+            await remove(place)
         try:
             self.manager = await self.succession.begin()
         except Gone:
@@ -240,6 +260,7 @@ class Runner:
             self.log.event("resumed", manager=1, **told)
         self.manager.replaying = False
         self.there.set()
+        asyncio.ensure_future(self.storage.watch())
         self.log.event("ready", manager=1, console=str(self.places.console))
         if not resumed:
             reply = (await self.consoles.command("start .", self.manager))[0]
@@ -253,7 +274,7 @@ class Runner:
         self.log.event("shutdown", manager=manager.number)
         replies: list[str] = []
         with contextlib.suppress(OSError, Gone):
-            sessions = await manager.asked.for_shutdown()
+            sessions = manager.asked.for_shutdown()
             asked = [asyncio.ensure_future(session.ask("shutdown .")) for session in sessions]
             done, _ = await asyncio.wait(asked, timeout=TO_SHUT_DOWN)
             replies = [task.result()[0] for task in done if task.exception() is None]
@@ -268,6 +289,8 @@ class Runner:
             await end_by_force(it)
         if self.manager is not None:
             await self.succession.let_go(self.manager, self.settings.writes_journals)
+        if self.succession.ending:
+            await asyncio.wait(self.succession.ending)
         for place in (self.places.console, self.places.control):
             place.unlink(missing_ok=True)
         self.log.event("ends")
@@ -280,7 +303,7 @@ def main() -> int:
     try:
         os.close(int(sys.argv[3]))
         layers = Layers(int(sys.argv[2]))
-        return asyncio.run(_run(Settings.from_text(sys.argv[1]), layers))
+        return watching.run(_run(Settings.from_text(sys.argv[1]), layers))
     except Exception:
         # Not 1, which is what a killed runner looks like from outside.
         traceback.print_exc()

@@ -3,27 +3,40 @@
 from __future__ import annotations
 
 import asyncio
+import functools
 import re
 import socket
 from collections import deque
-from typing import Any, Sequence
+from typing import Any, Callable, Sequence
+
+from cm_tools.host.watching import Watch, unsent, watch
 
 # A session of the manager ends behind 1,048,576 lines. A new one is begun before that.
 LINES = 1_000_000
 # How many sessions a manager serves at once, and how many of them go on in a shutdown: those for routes,
 # exits, realms, consoles and openings.
 WORKERS, KEPT = 16, 13
-WITH_ROWS = ("survey ", "doctor ", "children ")
+WITH_ROWS = ("survey ", "doctor ", "children ", "events ")
 NUMBERS = re.compile(r"\b(action|incarnation) (\d+)")
 # How many commands are sent together.
 AT_ONCE = 64
+# What comes is taken out of it before anything else is read, so one is enough.
+BUFFER = memoryview(bytearray(1 << 16))
+# What is done with the lines of a reply; None is where the session ended before.
+Then = Callable[["list[str] | None"], None]
 
 
 class Gone(Exception):
     """The manager hung up, or isn't there."""
 
 
-class Session(asyncio.Protocol):
+def count_of(line: str) -> int:
+    """How many rows follow the first line of a reply: its last number, but `events` has a further one."""
+    words = line.split(" ")
+    return int(words[2] if words[0] == "events" else words[-1])
+
+
+class Session:
     """One session. Its questions are answered one after another, in the order in which they were asked.
 
     Who asks and is cancelled leaves it in order: the reply is taken off when it comes.
@@ -33,9 +46,11 @@ class Session(asyncio.Protocol):
         self.path, self.tally = path, tally
         self.lines = 0
         self.is_over = False
-        self.transport: asyncio.Transport | None = None
-        self.pending: deque[tuple[str, asyncio.Future[list[str]]]] = deque()
-        self.behind = b""
+        self.link: socket.socket | None = None
+        self.watch: Watch | None = None
+        self.pending: deque[tuple[str, Then]] = deque()
+        # What the manager hasn't taken yet, and the begin of a line of it.
+        self.unsent = self.behind = b""
         # The lines of the reply that is coming, and how many are missing.
         self.reply: list[str] = []
         self.missing = 0
@@ -45,8 +60,8 @@ class Session(asyncio.Protocol):
         """How many questions are asked and not answered."""
         return len(self.pending)
 
-    async def connect(self) -> None:
-        """Begins the session."""
+    def connect(self) -> None:
+        """Begins the session; an OSError where nobody listens."""
         link = socket.socket(socket.AF_UNIX, socket.SOCK_STREAM)
         try:
             link.setblocking(False)
@@ -54,26 +69,44 @@ class Session(asyncio.Protocol):
         except OSError:
             link.close()
             raise
-        await asyncio.get_running_loop().create_unix_connection(lambda: self, sock=link)
+        self.link, self.watch, self.lines = link, watch(link), 0
+        self.unsent = self.behind = b""
+        self.reply, self.missing = [], 0
+        self.watch.on_read(self._read)
 
-    def connection_made(self, transport: asyncio.BaseTransport) -> None:
-        assert isinstance(transport, asyncio.Transport)
-        self.transport, self.lines = transport, 0
-        self.behind, self.reply, self.missing = b"", [], 0
-
-    def connection_lost(self, exc: Exception | None) -> None:
-        self.transport = None
+    def _lose(self) -> None:
+        """The session has ended; who waits for an answer is told."""
+        if self.link is not None and self.watch is not None:
+            self.watch.end()
+            self.link.close()
+        self.link = self.watch = None
         while self.pending:
-            _, answer = self.pending.popleft()
-            if not answer.done():
-                answer.set_exception(Gone())
-                # Of many that were sent together the first one is enough to know.
-                answer.exception()
+            self.pending.popleft()[1](None)
 
-    def data_received(self, data: bytes) -> None:
+    def _read(self) -> None:
+        try:
+            assert self.link is not None
+            count = self.link.recv_into(BUFFER)
+        except BlockingIOError:
+            return
+        except OSError:
+            count = 0
+        if not count:
+            self._lose()
+            return
+        data = bytes(BUFFER[:count])
         *lines, self.behind = (self.behind + data).split(b"\n") if self.behind else data.split(b"\n")
         for line in lines:
             self._take(line.decode("utf-8", "replace"))
+
+    def _write(self) -> None:
+        """Sends what wasn't taken, and more."""
+        try:
+            assert self.link is not None and self.watch is not None
+            self.unsent = unsent(self.link, self.unsent)
+            self.watch.on_write(self._write if self.unsent else None)
+        except OSError:
+            self._lose()
 
     def _take(self, line: str) -> None:
         """Takes a line of a reply, whose first one says how many follow where there are more."""
@@ -81,14 +114,13 @@ class Session(asyncio.Protocol):
         if self.missing:
             self.missing -= 1
         elif line.startswith(WITH_ROWS):
-            self.missing = int(line.rpartition(" ")[2])
+            self.missing = count_of(line)
         if self.missing or not self.pending:
             return
-        asked, answer = self.pending.popleft()
+        asked, then = self.pending.popleft()
         reply, self.reply = self.reply, []
         self.tally.count(asked, reply)
-        if not answer.done():
-            answer.set_result(reply)
+        then(reply)
 
     async def ask(self, line: str) -> list[str]:
         """The lines of the reply."""
@@ -97,7 +129,7 @@ class Session(asyncio.Protocol):
 
     def is_fresh(self) -> bool:
         """Whether it takes a further question: it is there, and has lines left."""
-        return self.transport is not None and self.lines < LINES
+        return self.link is not None and self.lines < LINES
 
     async def renew(self) -> None:
         """Begins it anew where it has ended, as for want of memory, or where its lines are used up."""
@@ -106,21 +138,27 @@ class Session(asyncio.Protocol):
         if self.is_fresh() or self.pending:
             return
         try:
-            if self.transport is not None:
-                self.transport.abort()
-            await self.connect()
+            self._lose()
+            self.connect()
         except OSError as fault:
             raise Gone from fault
 
     def send(self, line: str) -> asyncio.Future[list[str]]:
         """Sends a question. Its reply comes; `Gone` where the session has ended."""
         answer: asyncio.Future[list[str]] = asyncio.get_running_loop().create_future()
-        if self.transport is None or self.transport.is_closing():
+        self.send_then(line, functools.partial(_settle, answer))
+        return answer
+
+    def send_then(self, line: str, then: Then) -> None:
+        """Sends a question, with what is done with its reply; `Gone` where the session has ended."""
+        if self.link is None:
             raise Gone
         self.lines += 1
-        self.pending.append((line, answer))
-        self.transport.write(line.encode("utf-8", "surrogateescape") + b"\n")
-        return answer
+        self.pending.append((line, then))
+        is_held = self.unsent != b""
+        self.unsent += line.encode("utf-8", "surrogateescape") + b"\n"
+        if not is_held:
+            self._write()
 
     async def ask_all(self, lines: Sequence[str]) -> list[str]:
         """The first lines of the replies of many commands, sent together."""
@@ -133,9 +171,19 @@ class Session(asyncio.Protocol):
     def close(self) -> None:
         """Ends the session for good."""
         self.is_over = True
-        if self.transport is not None:
-            self.transport.abort()
-            self.transport = None
+        self._lose()
+
+
+def _settle(answer: asyncio.Future[list[str]], reply: list[str] | None) -> None:
+    """Gives a reply to who waits for it, if anybody still does."""
+    if answer.done():
+        return
+    if reply is not None:
+        answer.set_result(reply)
+        return
+    answer.set_exception(Gone())
+    # Of many that were sent together the first one is enough to know.
+    answer.exception()
 
 
 class Pool:
@@ -154,15 +202,32 @@ class Pool:
     async def ask(self, line: str) -> list[str]:
         """The lines of the reply, as of a session."""
         session = self.free.pop() if self.free else await self._turn()
+        answer: asyncio.Future[list[str]] = asyncio.get_running_loop().create_future()
         try:
             if not session.is_fresh():
                 await session.renew()
-            answer = session.send(line)
+            session.send_then(line, functools.partial(self._answered, session,
+                                                      functools.partial(_settle, answer)))
         except BaseException:
             self._let_go(session)
             raise
-        answer.add_done_callback(lambda _: self._when_done(session))
         return await answer
+
+    def ask_then(self, line: str, then: Then) -> bool:
+        """Asks at once, with what is done with the reply. False where no session is free for it."""
+        if not self.free or not self.free[-1].is_fresh():
+            return False
+        session = self.free.pop()
+        try:
+            session.send_then(line, functools.partial(self._answered, session, then))
+            return True
+        except Gone:
+            self._let_go(session)
+            return False
+
+    def _answered(self, session: Session, then: Then, reply: list[str] | None) -> None:
+        self._let_go(session)
+        then(reply)
 
     async def _turn(self) -> Session:
         """Waits for a session."""
@@ -174,13 +239,6 @@ class Pool:
             if turn.done() and not turn.cancelled():
                 self._let_go(turn.result())
             raise
-
-    def _when_done(self, session: Session) -> None:
-        """Lets a session go; where who asked was cancelled, as soon as its reply has come."""
-        if not session.under_way:
-            self._let_go(session)
-        else:
-            asyncio.get_running_loop().call_later(0.001, self._when_done, session)
 
     def _let_go(self, session: Session) -> None:
         while self.waiting:
@@ -254,26 +312,27 @@ class Asked:
         self.realms = Pool(path, 3, self.tally)
         self.consoles = Pool(path, 4, self.tally)
         self.opens = Pool(path, 4, self.tally)
+        self.more: list[Session] = []
 
-    async def connect(self) -> None:
+    def connect(self) -> None:
         """Begins all sessions; an OSError where nobody listens yet."""
-        await self.routes.connect()
-        for session in (self.pulse, *self.changing()):
-            await session.connect()
+        for session in (self.routes, self.pulse, *self.changing()):
+            if session.link is None:
+                session.connect()
 
     def changing(self) -> list[Session]:
         """The sessions whose commands may wait for launches and halts."""
         pools = self.realms, self.consoles, self.opens
         return [self.exits, *(each for pool in pools for each in pool.sessions)]
 
-    async def for_shutdown(self) -> list[Session]:
+    def for_shutdown(self) -> list[Session]:
         """Sessions on which all is asked to shut down at once. Those for openings are left: a program may use
         what it uses until it has ended."""
         self.pulse.close()
-        more = [Session(self.path, self.tally) for _ in range(WORKERS - KEPT)]
-        for session in more:
-            await session.connect()
-        return [self.exits, *self.realms.sessions, *self.consoles.sessions, *more]
+        self.more = [Session(self.path, self.tally) for _ in range(WORKERS - KEPT)]
+        for session in self.more:
+            session.connect()
+        return [self.exits, *self.realms.sessions, *self.consoles.sessions, *self.more]
 
     def is_idle(self) -> bool:
         """Whether no question but a launch's own is under way."""
@@ -282,5 +341,5 @@ class Asked:
 
     def close(self) -> None:
         """Ends all sessions."""
-        for session in (self.routes, self.pulse, *self.changing()):
+        for session in (self.routes, self.pulse, *self.changing(), *self.more):
             session.close()

@@ -9,15 +9,17 @@ from pathlib import Path
 
 @dataclass(frozen=True)
 class Settings:
-    """The words of a host, each made absolute.
+    """The words of a host, each made absolute. The `manifests` are those of the packages in `repo`, with
+    their shards.
 
     A manager is replaced where its history has `roll_entries` entries or `roll_bytes` bytes, by an estimate
     that errs to more, or its process `roll_memory` bytes in memory. The limits are 4,194,304 entries and 240
-    MiB.
+    MiB. A storage may have `storage_bytes` on the disk, in `storage_files` files and folders.
     """
 
     program: str
     repo: str
+    manifests: str
     root: str
     run: str
     coarse_rights: bool = False
@@ -25,6 +27,8 @@ class Settings:
     roll_entries: int = 3_000_000
     roll_bytes: int = 180 << 20
     roll_memory: int = 3 << 30
+    storage_bytes: int = 256 << 20
+    storage_files: int = 65_536
     cgroup: str = ""
     plain: bool = False
     writes_journals: bool = False
@@ -50,6 +54,7 @@ class Places:
         self.tree = self.run / "tree"
         self.log = self.run / "log"
         self.journals = self.run / "journals"
+        self.manifests = self.run / "manifests"
         self.storage = self.run / "storage"
         # In memory: it is gone with the runner.
         self.live = self.run / "live"

@@ -31,6 +31,10 @@ class Succession:
     def __init__(self, runner: Runner) -> None:
         self.runner = runner
         self.numbers = 0
+        # Under which number the last manager knew each instance.
+        self.before: dict[str, int] = {}
+        # Managers that end beside the present one, and write their journals.
+        self.ending: set[asyncio.Future[None]] = set()
 
     async def begin(self) -> Manager:
         """Starts a manager, in a folder of its own; `Gone` where it ends at once."""
@@ -136,7 +140,9 @@ class Succession:
         runner.log.event("replaced", manager=self.numbers, why=why, **told, before=old.number,
                          held_ms=round(1000 * (time.monotonic() - held), 1),
                          ms=round(1000 * (time.monotonic() - begun), 1))
-        await self.let_go(old, why == "planned" and runner.settings.writes_journals)
+        ending = asyncio.ensure_future(self.let_go(old, why == "planned" and runner.settings.writes_journals))
+        self.ending.add(ending)
+        ending.add_done_callback(self.ending.discard)
 
     async def _calm(self, old: Manager) -> None:
         """Holds commands back until none is under way: one may wait two seconds for a stop, and connects
@@ -151,6 +157,7 @@ class Succession:
     async def _set_aside(self, manager: Manager) -> None:
         """What ran under a manager, by monikers, for the next one."""
         manager.over = True
+        self.before.update((moniker, inc) for inc, moniker in manager.monikers.items())
         while manager.launching:
             await asyncio.sleep(0.001)
         for it in sorted(manager.instances.values(), key=lambda it: it.key):
@@ -191,6 +198,8 @@ class Succession:
         for (what, child), line, reply in zip(steps, lines, await manager.asked.exits.ask_all(lines)):
             if reply.startswith("created "):
                 manager.created(child.moniker, int(reply.split(" ")[-1]))
+                self.runner.log.note("became", moniker=child.moniker, manager=manager.number,
+                                     inc=int(reply.split(" ")[-1]), before=self.before.get(child.moniker))
             elif what == "destroy":
                 manager.forget(child.moniker)
             if reply.startswith("refused"):

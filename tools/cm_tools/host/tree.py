@@ -8,12 +8,13 @@ from __future__ import annotations
 
 import json
 import os
+import secrets
 from dataclasses import dataclass, field
 from pathlib import Path
 from typing import Any, Iterable
 
 from cm_tools.host import programs
-from cm_tools.host.programs import Unfit
+from cm_tools.host.programs import Repo, Unfit
 
 # A file with more lines than so many for each thing that is remembered is written anew.
 LINES_FOR_EACH, FEWEST_LINES = 8, 512
@@ -36,7 +37,10 @@ def is_within(moniker: str, top: str) -> bool:
 
 @dataclass(eq=False)
 class Child:
-    """A child that was created: by what words, and which others have to be there before it."""
+    """A child that was created: by what words, and which others have to be there before it.
+
+    No other one, before or after, has its `birth`, whatever it is called.
+    """
 
     parent: str
     coll: str
@@ -44,27 +48,30 @@ class Child:
     url: str
     groups: list[str]
     needs: list[Child] = field(default_factory=list)
+    birth: str = field(default_factory=lambda: secrets.token_hex(8))
 
     @property
     def moniker(self) -> str:
         """Where it stands in the tree."""
         return child_of(self.parent, f"{self.coll}:{self.name}")
 
-    def command(self) -> str:
-        """The command that creates it."""
-        return " ".join(["create", self.parent, self.coll, self.name, self.url, *self.groups])
+    def command(self, parent: str = "") -> str:
+        """The command that creates it, also where its parent is called otherwise."""
+        return " ".join(["create", parent or self.parent, self.coll, self.name, self.url, *self.groups])
 
 
 class Tree:
     """The children that were created, what is on in the order of its last start, and what is shut.
 
     `steps` are creations and destructions in their order, as far as the children that stand may need them.
+    A child is `coming` while its creation isn't answered: its program may be launched by then.
     """
 
-    def __init__(self, root: str, repo: str, place: Path) -> None:
+    def __init__(self, root: str, repo: Repo, place: Path) -> None:
         self.root, self.repo, self.place = root, repo, place
         self.steps: list[tuple[str, Child]] = []
         self.children: dict[str, Child] = {}
+        self.coming: dict[str, Child] = {}
         self.on: dict[str, None] = {}
         self.shut: list[str] = []
         self.file = -1
@@ -113,8 +120,8 @@ class Tree:
         self.steps = self.needed()
         rows: list[list[Any]] = [["root", self.root]]
         for what, child in self.steps:
-            rows.append(["created", child.parent, child.coll, child.name, child.url, child.groups]
-                        if what == "create" else ["destroyed", child.moniker])
+            words = [child.parent, child.coll, child.name, child.url, child.groups, child.birth]
+            rows.append(["created", *words] if what == "create" else ["destroyed", child.moniker])
         rows += [["on", name] for name in self.on] + [["shut", name] for name in self.shut]
         fresh = self.place.with_suffix(".new")
         data = "".join(json.dumps(row) + "\n" for row in rows).encode()
@@ -158,7 +165,8 @@ class Tree:
         base = self.url_of(parent_of(moniker))
         name = moniker.rpartition("/")[2]
         if ":" in name:
-            url = self.children[moniker].url if moniker in self.children else ""
+            child = self.child(moniker)
+            url = child.url if child is not None else ""
         else:
             url = programs.declared(self.repo, base).children.get(name, "")
         return base.partition("#")[0] + url if url.startswith("#") else url
@@ -176,18 +184,32 @@ class Tree:
 
     # What came about.
 
-    def created(self, parent: str, coll: str, name: str, url: str, groups: list[str]) -> str:
-        """A child was created. Its moniker."""
+    def child(self, moniker: str) -> Child | None:
+        """The child that was created, or is being created, at a moniker."""
+        return self.children.get(moniker) or self.coming.get(moniker)
+
+    def comes(self, parent: str, coll: str, name: str, url: str, groups: list[str]) -> str:
+        """A child is being created. Its moniker."""
         base = "" if parent == "." else parent + "/"
         needs = [self.children[base + word[1:]] for word in groups
                  if word[:1] == "#" and base + word[1:] in self.children]
         if parent in self.children:
             needs.append(self.children[parent])
         child = Child(parent, coll, name, url, list(groups), needs)
-        self.children[child.moniker] = child
-        self.steps.append(("create", child))
-        self._write("created", parent, coll, name, url, list(groups))
+        self.coming[child.moniker] = child
         return child.moniker
+
+    def created(self, parent: str, coll: str, name: str, url: str, groups: list[str], birth: str = "") -> str:
+        """A child was created. Its moniker."""
+        moniker = child_of(parent, f"{coll}:{name}")
+        if moniker not in self.coming:
+            self.comes(parent, coll, name, url, groups)
+        child = self.coming.pop(moniker)
+        child.birth = birth or child.birth
+        self.children[moniker] = child
+        self.steps.append(("create", child))
+        self._write("created", parent, coll, name, url, list(groups), child.birth)
+        return moniker
 
     def destroyed(self, moniker: str) -> None:
         """It and all below it are gone."""
@@ -243,14 +265,37 @@ class Tree:
     def needed(self) -> list[tuple[str, Child]]:
         """The steps that bring the children back: those that stand, and those that an offer of one that
         stands names."""
+        return self._with_needs(list(self.children.values()))
+
+    def needed_by(self, monikers: list[str]) -> list[tuple[str, Child]]:
+        """The steps that bring back what was created at and above instances."""
+        more: list[Child] = []
+        coming: list[Child] = []
+        for moniker in monikers:
+            while above := created_part(moniker):
+                child = self.child(above)
+                if child is not None:
+                    more.append(child)
+                    coming += [child] if above not in self.children else []
+                moniker = parent_of(above)
+        return self._with_needs(more) + [("create", child) for child in dict.fromkeys(coming)]
+
+    def _with_needs(self, more: list[Child]) -> list[tuple[str, Child]]:
         keep: set[Child] = set()
-        more: list[Child] = list(self.children.values())
         while more:
             child = more.pop()
             if child not in keep:
                 keep.add(child)
                 more += child.needs
-        return [step for step in self.steps if step[1] in keep]
+        return [step for step in self.steps if step[1] in keep] if keep else []
+
+
+def created_part(moniker: str) -> str:
+    """The moniker of the lowest instance at or above one that was created; empty where there is none."""
+    parts = moniker.split("/")
+    while parts and ":" not in parts[-1]:
+        parts.pop()
+    return "/".join(parts)
 
 
 def commands(steps: Iterable[tuple[str, Child]]) -> list[str]:

@@ -38,6 +38,12 @@ EDITS: dict[str, tuple[list[tuple[str, str, str]], str]] = {
     "the package can be written": (
         [("sandbox.py", '"--ro-bind", str(program.package)', '"--bind", str(program.package)')],
         "write to /pkg"),
+    "/usr is no mount for reading alone": (
+        [("sandbox.py", '"--ro-bind", "/usr", "/usr", "--symlink"', '"--bind", "/usr", "/usr", "--symlink"')],
+        "write to /usr"),
+    "the host's sockets are shown": (
+        [("sandbox.py", '"--bind", str(plan.out), "/out"]',
+          '"--bind", str(plan.out), "/out", "--bind", *2 * [str(plan.out.parents[3])]]')], "connect to"),
     "no filter of system calls": (
         [("sandbox.py", "if filter_at is not None:\n        told", "if False:\n        told")],
         "a ring of the kernel"),
@@ -55,11 +61,11 @@ EDITS: dict[str, tuple[list[tuple[str, str, str]], str]] = {
 }
 
 
-def changed(base: Path, name: str) -> Path:
-    """A copy of the tools with one of these changes."""
+def changed(base: Path, name: str, edits: list[tuple[str, str, str]] | None = None) -> Path:
+    """A copy of the tools with one of these changes, or with others."""
     tools = base / "tools"
     shutil.copytree(TOOLS, tools, ignore=shutil.ignore_patterns("tests", "__pycache__"))
-    for file, old, new in EDITS[name][0]:
+    for file, old, new in edits if edits is not None else EDITS[name][0]:
         place = tools / "cm_tools/host" / file
         text = place.read_text()
         if text.count(old) != 1:

@@ -6,7 +6,9 @@ import shutil
 import time
 import unittest
 from pathlib import Path
+from typing import Callable
 
+from tests.hosting.edits import changed
 from tests.hosting.trial import TOOLS, Host, folder, lay, package, root_of
 
 # What the intruder says where a defence holds, and one where it doesn't; by the word in front of the colon.
@@ -48,15 +50,20 @@ def attacked(base: Path, tools: Path = TOOLS) -> dict[str, str]:
         host.ask("start intruder")
         host.wait(r"said      intruder \| processes of a bomb|exited    intruder")
         rows = [line.partition(": ") for line in host.said("intruder").splitlines()]
-        return {("connect to" if row[0].startswith("connect to") else row[0]): row[2] for row in rows}
+        return {row[0]: row[2] for row in rows}
     finally:
         host.remove()
 
 
 def through(rows: dict[str, str]) -> list[str]:
     """The tries that came through, or that weren't told."""
-    return [name for name, wanted in HOLDS.items()
-            if not any(one in rows.get(name, "") for one in wanted)]
+    found = []
+    for name, wanted in HOLDS.items():
+        # There are several sockets to which it tries to connect.
+        told = [text for row, text in rows.items() if row == name or row.startswith(f"{name} /")]
+        if not told or not all(any(one in text for one in wanted) for text in told):
+            found.append(name)
+    return found
 
 
 class Attacks(unittest.TestCase):
@@ -153,52 +160,192 @@ os.read(os.pipe()[0], 1)
 """
 
 
+LAST = """#!/usr/bin/python3
+import signal, socket, sys, time
+def words(*_):
+    try:
+        with socket.socket(socket.AF_UNIX) as link:
+            link.connect("/svc/t.Door")
+            link.sendall(b"x")
+            print("last words", link.recv(100), flush=True)
+    except OSError as fault:
+        print("last words", type(fault).__name__, flush=True)
+signal.signal(signal.SIGTERM, words)
+print("up", flush=True)
+while True:
+    time.sleep(0.1)
+"""
+AGAIN = """#!/usr/bin/python3
+import socket, time
+count = 0
+while True:
+    try:
+        with socket.socket(socket.AF_UNIX) as link:
+            link.connect("/svc/t.Door")
+            link.sendall(b"x")
+            if link.recv(100):
+                count += 1
+                print(f"connect {count} at {time.monotonic():.3f}", flush=True)
+    except OSError:
+        pass
+    time.sleep(0.002)
+"""
+# Of each component its manifest and its program.
+HOSTILE = {
+    "sender": (USES % "", SENDER), "many": (USES % "", MANY), "other": (USES % "", SENDER),
+    "again": (USES % "", AGAIN), "last": (USES % NOTIFY, LAST), "daemons": (ALONE % NOTIFY, DAEMONS),
+    "filler": (ALONE % "", FILLER),
+    "grows": ('{program:{runner:"elf",binary:"bin/x"},collections:[{name:"tasks",durability:"transient"}],'
+              'use:[{protocol:"fuchsia.component.Realm",from:"framework"}]}', GROWS),
+}
+
+
+def lay_hostile(repo: Path) -> str:
+    """Components that mean ill, and a provider. The root's URL."""
+    package(repo, "door", '{program:{runner:"elf",binary:"bin/x"},capabilities:[{protocol:"t.Door"}],'
+            'expose:[{protocol:"t.Door",from:"self"}]}', PROVIDER)
+    for name, (manifest, script) in HOSTILE.items():
+        package(repo, name, manifest, script)
+    return root_of(repo, "door", *HOSTILE, more=',collections:[{name:"jobs",durability:"transient"}],'
+                   'offer:[{protocol:"t.Door",from:"#door",'
+                   'to:["#sender","#many","#other","#again","#jobs"]}]')
+
+
+def descriptors(host: Host) -> str:
+    """How many descriptors come through a connection."""
+    host.ask("start sender")
+    host.wait(r"said      sender \| sent b'answer")
+    return host.said("door").splitlines()[-1]
+
+
+def at_once(host: Host) -> str:
+    """How many connections of one use are open at once, while another client is served."""
+    host.ask("start many")
+    host.wait(r"said      many \| held")
+    begun = time.monotonic()
+    host.ask("start other")
+    host.wait(r"said      other \| sent b'answer")
+    assert time.monotonic() - begun < 20, "another client waits for the one that holds all"
+    return host.said("many").strip()
+
+
+def daemons(host: Host) -> str:
+    """How a program stops that heeds no TERM and has left daemons, and whether these end."""
+    host.ask("start daemons")
+    host.wait(r"said      daemons \| up")
+    begun = time.monotonic()
+    reply = host.ask("stop daemons")[0]
+    took = "soon" if time.monotonic() - begun < 9 else "late"
+    for _ in range(100):
+        if not host.find("sleep", "1000000"):
+            break
+        time.sleep(0.02)
+    left = "left" if host.find("sleep", "1000000") else "none left"
+    return f"{'by force' if 'by-force' in reply else reply} {took}, {left}"
+
+
+def questions(host: Host) -> str:
+    """Whether 400 questions to a realm are taken at once, as entries of the history."""
+    before = host.own("status")["entries"]
+    host.ask("start grows")
+    host.wait(r"said      grows \| (never )?busy")
+    entries = host.own("status")["entries"] - before
+    return f"{host.said('grows').strip()} with {'few' if entries < 300 else 'many'}"
+
+
+def filled(host: Host) -> str:
+    """How many files of 32 MB the folders of all instances take."""
+    host.ask("start filler")
+    host.wait(r"said      filler \| full behind [0-9]+ .*No space left")
+    return "within 256 MB" if int(host.said("filler").split()[2]) <= 8 else "more than 256 MB"
+
+
+def doomed(host: Host) -> str:
+    """What a program reaches that is being destroyed."""
+    host.ask("create . jobs d fuchsia-pkg://t/last#meta/last.cm", "start jobs:d")
+    host.wait(r"said      jobs:d \| up")
+    host.ask("destroy jobs:d")
+    host.wait_until(lambda: "last words" in host.said("jobs:d"), "last words")
+    return next((event["why"] for event in host.events("refused") if event["moniker"] == "jobs:d"), "reached")
+
+
+def counted_off(host: Host) -> str:
+    """What a program reaches that counts as off."""
+    host.ask("start again")
+    host.wait(r"said      again \| connect 1 ")
+    host.ask("exited again")
+    host.wait(r"^refused   again /svc/t.Door: ")
+    return str(host.events("refused")[-1]["why"])
+
+
+def a_hundred(host: Host) -> float:
+    """How long a hundred further connections of one use take, in seconds."""
+    host.ask("start again")
+    host.wait_until(lambda: "connect 145 at " in host.said("again"), "connects")
+    at = {row.split()[1]: float(row.split()[3]) for row in host.said("again").splitlines()[:145]}
+    return at["145"] - at["45"]
+
+
+# A small host, so that few connections show it.
+LIMITS = "CONNECTIONS, AT_ONCE, A_SECOND = 32, "
+FEW = [("doors.py", LIMITS + "2000, 20", LIMITS + "40, 20")]
+# What is tried, what holds, and changes of the sources with which it doesn't.
+TRIES: dict[str, tuple[Callable[[Host], str], str, list[list[tuple[str, str, str]]]]] = {
+    "descriptors are dropped": (descriptors, "descriptors 0", [[
+        ("carried.py", "            count = self.source.recv_into(BUFFER)\n",
+         "            piece, given, _, _ = socket.recv_fds(self.source, 1 << 16, 4)\n"
+         "            count, BUFFER[:len(piece)] = len(piece), piece\n"),
+        ("carried.py", "            sent = self.sink.send(BUFFER[:count])\n",
+         "            sent = socket.send_fds(self.sink, [BUFFER[:count]], given)\n")]]),
+    "a use has 32 connections at once": (at_once, "held 32", [[
+        ("doors.py", LIMITS, LIMITS.replace("32", "40"))]]),
+    "who heeds no stop ends by force, and its daemons with it": (daemons, "by force soon, none left", [
+        [("sandbox.py", "GRACE = 2.0", "GRACE = 12.0")],
+        [("sandbox.py", '"--unshare-all", "--unshare-user",',
+          '"--unshare-user", "--unshare-ipc", "--unshare-net", "--unshare-uts",')]]),
+    "a realm's questions are limited in a second": (questions, "busy with few", [[
+        ("realm.py", "AT_ONCE, A_SECOND = 200, 20", "AT_ONCE, A_SECOND = 1000, 20")]]),
+    "all folders together have 256 MB": (filled, "within 256 MB", [[
+        ("front.py", "size=256m", "size=400m")]]),
+    "what is destroyed reaches nothing": (doomed, "refused 81 gone incarnation", []),
+    "what counts as off reaches nothing": (counted_off, "refused 85 client-off", []),
+}
+
+
 class Hostile(unittest.TestCase):
     """Components that mean ill, beside others that don't."""
 
-    def setUp(self) -> None:
-        self.base = folder()
-        repo = self.base / "repo"
-        package(repo, "door", '{program:{runner:"elf",binary:"bin/x"},capabilities:[{protocol:"t.Door"}],'
-                'expose:[{protocol:"t.Door",from:"self"}]}', PROVIDER)
-        package(repo, "sender", USES % "", SENDER)
-        package(repo, "many", USES % "", MANY)
-        package(repo, "other", USES % "", SENDER)
-        package(repo, "daemons", ALONE % NOTIFY, DAEMONS)
-        package(repo, "filler", ALONE % "", FILLER)
-        package(repo, "grows", '{program:{runner:"elf",binary:"bin/x"},'
-                'collections:[{name:"tasks",durability:"transient"}],'
-                'use:[{protocol:"fuchsia.component.Realm",from:"framework"}]}', GROWS)
-        root = root_of(repo, "door", "sender", "many", "other", "daemons", "filler", "grows",
-                       more=',offer:[{protocol:"t.Door",from:"#door",to:["#sender","#many","#other"]}]')
-        self.host = Host(repo, root, run=self.base / "r")
-        self.addCleanup(self.host.remove)
+    def begin(self, tools: Path = TOOLS) -> Host:
+        base = folder()
+        self.addCleanup(shutil.rmtree, base, True)
+        host = Host(base / "repo", lay_hostile(base / "repo"), run=base / "r", tools=tools)
+        self.addCleanup(host.remove)
+        return host
 
     def test_hostile(self) -> None:
-        """descriptors are dropped, a use has 32 connections at once, daemons end, a full folder is told"""
-        host = self.host
-        host.ask("start sender")
-        host.wait(r"said      sender \| sent b'answer")
-        self.assertIn("descriptors 0", host.said("door"))
-        host.ask("start many")
-        host.wait(r"said      many \| held")
-        self.assertIn("held 32\n", host.said("many"))
-        begun = time.monotonic()
-        host.ask("start other")
-        host.wait(r"said      other \| sent b'answer")
-        self.assertLess(time.monotonic() - begun, 10, "another client waits for the one that holds 32")
-        host.ask("start daemons")
-        host.wait(r"said      daemons \| up")
-        begun = time.monotonic()
-        self.assertIn("by-force", host.ask("stop daemons")[0])
-        self.assertLess(time.monotonic() - begun, 8)
-        host.wait_until(lambda: not host.find("sleep", "1000000"), "end of the daemons")
-        before = host.own("status")["entries"]
-        host.ask("start grows")
-        host.wait(r"said      grows \| busy")
-        self.assertLess(host.own("status")["entries"] - before, 300, "entries for 400 questions")
-        host.ask("start filler")
-        host.wait(r"said      filler \| full behind [0-9]+ .*No space left")
-        self.assertTrue(host.ask("start sender", "show .")[1].startswith("shown"))
+        """descriptors are dropped, connections, questions and folders limited, daemons end with the rest"""
+        host = self.begin()
+        for name, (tries, holds, _) in TRIES.items():
+            told = tries(host)
+            self.assertTrue(told.startswith(holds), (name, told))
+        self.assertTrue(host.ask("show .")[0].startswith("shown"))
         self.assertEqual(host.end(), 0)
         self.assertEqual(host.left(), [])
+
+    def test_taken_away(self) -> None:
+        """without its defence each of these comes through"""
+        for name, (tries, holds, edits) in TRIES.items():
+            for count, edit in enumerate(edits):
+                with self.subTest(name, edit=count):
+                    base = folder()
+                    self.addCleanup(shutil.rmtree, base, True)
+                    host = self.begin(changed(base, name, edit))
+                    told = tries(host)
+                    self.assertFalse(told.startswith(holds), told)
+                    host.remove()
+
+    def test_a_second(self) -> None:
+        """a use has 20 new connections in a second"""
+        base = folder()
+        self.addCleanup(shutil.rmtree, base, True)
+        self.assertGreater(a_hundred(self.begin(changed(base, "a second", FEW))), 4.8)

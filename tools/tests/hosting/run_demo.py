@@ -2,6 +2,7 @@
 
 from __future__ import annotations
 
+import re
 import unittest
 
 from tests.hosting.trial import Host, folder, lay
@@ -54,3 +55,12 @@ class Demo(unittest.TestCase):
                 running.pop(event["instance"])
         self.assertEqual(running, {}, "what the log says that still runs")
         self.assertFalse((host.run / "tree").exists())
+        # The log goes on where it ended, in the logger's storage.
+        number = int(re.findall(r"line (\d+) of the log", host.said("browser"))[-1])
+        again = Host(self.base / "repo", run=self.base / "r")
+        self.addCleanup(again.remove)
+        again.wait(r"said      browser \| .*of the log")
+        later = int(re.findall(r"line (\d+) of the log", again.said("browser"))[-1])
+        self.assertGreater(later, number)
+        self.assertEqual(again.end(), 0)
+        self.assertEqual(again.left(), [])

@@ -2,9 +2,11 @@
 
 from __future__ import annotations
 
+import contextlib
 import os
 import re
 import shutil
+import signal
 import subprocess
 import unittest
 
@@ -40,6 +42,7 @@ class Document(unittest.TestCase):
     def test_document(self) -> None:
         """each command of docs/HOST.md does what the page says"""
         base = folder()
+        self.base = str(base)
         self.addCleanup(shutil.rmtree, base, True)
         for name in "tools", "examples", "docs":
             (base / name).symlink_to(TOOLS.parent / name)
@@ -69,3 +72,6 @@ class Document(unittest.TestCase):
         except subprocess.TimeoutExpired:
             shell.kill()
             shell.wait()
+        for pid in mine(self.base):
+            with contextlib.suppress(ProcessLookupError):
+                os.kill(pid, signal.SIGKILL)

@@ -28,7 +28,7 @@ ROWS: list[tuple[str, str, bool | None]] = [
     ("running\n", "started", True),
     ("says nothing", "gate-failed", False),
 ]
-LATE = [("late by 31 seconds", "gate-failed", False)]
+LATE = [("late by 36 seconds", "gate-failed", False)]
 
 
 class Player:
@@ -72,8 +72,8 @@ class Player:
             return False
         if does == "says nothing":
             link.settimeout(60)
-        elif does == "late by 31 seconds":
-            time.sleep(31)
+        elif does == "late by 36 seconds":
+            time.sleep(36)
             try:
                 link.sendall(b"running\n")
             except OSError:
@@ -138,8 +138,8 @@ class Gate(unittest.TestCase):
             begun = time.monotonic()
             reply = served.ask("start logger")
             self.assertIn(wanted, reply, does[:30])
-            self.assertLess(time.monotonic() - begun, 40, does[:30])
-            until = time.monotonic() + 5
+            self.assertLess(time.monotonic() - begun, 60, does[:30])
+            until = time.monotonic() + 20
             while player.taken != taken and time.monotonic() < until:
                 time.sleep(0.02)
             self.assertEqual(player.taken, taken, does[:30])

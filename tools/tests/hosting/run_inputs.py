@@ -7,10 +7,12 @@ import shutil
 import signal
 import subprocess
 import sys
+import threading
 import time
 import unittest
 from pathlib import Path
 
+from cm_tools.host.reports import known_words
 from cm_tools.host.sandbox import BARE
 from tests.hosting.trial import EXAMPLE, ROOT, TOOLS, Host, folder, package, program, root_of
 
@@ -27,11 +29,14 @@ REFUSED = {
     "stopevent": (P % ',lifecycle:{stop_event:"perhaps"}', SLEEP, "stop_event perhaps isn't known"),
     "environ": (P % ',environ:["X"]', SLEEP, "which isn't NAME=VALUE"),
     "arguments": (P % ",args:[1]", SLEEP, "args is no list of texts"),
-    "runner": ('{program:{runner:"other",binary:"bin/x"}}', SLEEP, "the runner other isn't known here"),
+    "runner": ('{program:{runner:"other",binary:"bin/x"}}', SLEEP,
+               "no environment of runner registers the runner other"
+               if "environments" in known_words(program()) else "the runner other isn't known here"),
     "reserved": ('{program:{runner:"elf",binary:"bin/x"},use:[{protocol:"a",path:"/usr/a"}]}', SLEEP,
                  "stands in a folder of the sandbox's own"),
     "stored": ('{program:{runner:"elf",binary:"bin/x"},use:[{storage:"s",path:"/s"}]}', SLEEP,
-               "the storage at /s can't be placed"),
+               "the storage at /s is refused: 101 no-storage-offer at ."
+               if "storage" in known_words(program()) else "doesn't know the word storage"),
 }
 LATE = """#!/usr/bin/python3
 import os, socket, time
@@ -59,6 +64,7 @@ os.read(os.pipe()[0], 1)
 """
 LOUD = "#!/bin/sh\nhead -c 100000000 /dev/zero | tr '\\0' x\necho\necho done\nexec sleep 1000000\n"
 ENDS = "#!/bin/sh\necho ends\nexit 3\n"
+STUBBORN = "#!/bin/sh\ntrap '' TERM\necho up\nwhile :; do sleep 1; done\n"
 PROVIDES = ('{program:{runner:"elf",binary:"bin/x"},capabilities:[{protocol:"%s"}],'
             'expose:[{protocol:"%s",from:"self"}]}')
 
@@ -128,6 +134,66 @@ class Programs(unittest.TestCase):
 SMALL = ("unshare", "--user", "--map-current-user", "--keep-caps", "--mount", "--", "/bin/sh", "-c",
          'mkdir -m 700 "$0"; mount -t tmpfs -o size=1m,mode=700 small "$0" && exec "$@"')
 WRITES = "#!/bin/sh\nhead -c 2000000 /dev/zero\necho done >&2\nexec sleep 1000000\n"
+
+
+class Stops(unittest.TestCase):
+    """A shutdown of programs that heed no stop, and directories whose rights are rounded."""
+
+    def test_stubborn(self) -> None:
+        """programs that ignore their stop are waited for together: twenty don't take forty seconds"""
+        base = folder()
+        names = [f"c{number}" for number in range(20)]
+        for name in names:
+            package(base / "repo", name, P % ',lifecycle:{stop_event:"notify"}', STUBBORN)
+        host = Host(base / "repo", root_of(base / "repo", *names), run=base / "r")
+        self.addCleanup(host.remove)
+        host.ask(*[f"start {name}" for name in names])
+        for name in names:
+            host.wait_until(lambda: "up" in host.said(name), f"start of {name}")
+        begun = time.monotonic()
+        self.assertEqual(host.end(), 0)
+        self.assertLess(time.monotonic() - begun, 20)
+        self.assertEqual(len([one for one in host.events("halt") if one["answer"] == "killed"]), 20)
+        self.assertEqual(host.left(), [])
+
+    def test_coarse(self) -> None:
+        """a directory whose rights Linux can't say is bound with the next larger ones, where that is said"""
+        base = folder()
+        repo = base / "repo"
+        package(repo, "coarse", '{program:{runner:"elf",binary:"bin/x"},use:[{directory:"d",path:"/d",'
+                'rights:["read_bytes"]}]}', "#!/bin/sh\nls -d /d && echo is there\nexec sleep 1000000\n")
+        package(repo, "holder", '{program:{runner:"elf",binary:"bin/x"},capabilities:[{directory:"d",'
+                'path:"/d",rights:["rw*"]}],expose:[{directory:"d",from:"self"}]}', SLEEP)
+        root = root_of(repo, "coarse", "holder", more=',offer:[{directory:"d",from:"#holder",to:"#coarse"}]')
+        host = Host(repo, root, run=base / "r", options=("--coarse-rights",))
+        self.addCleanup(host.remove)
+        self.assertIn("started", host.ask("start coarse")[0])
+        host.wait(r"said      coarse \| is there")
+        self.assertEqual(host.end(), 0)
+        self.assertEqual(host.left(), [])
+
+    def test_dying(self) -> None:
+        """a new child of a name that is still dying begins behind the end of the old one"""
+        base = folder()
+        url = package(base / "repo", "late", P % ',lifecycle:{stop_event:"notify"}', STUBBORN)
+        host = Host(base / "repo", root_of(base / "repo", more=',collections:[{name:"jobs",'
+                    'durability:"transient"}]'), run=base / "r")
+        self.addCleanup(host.remove)
+        host.ask(f"create . jobs j {url}", "start jobs:j")
+        host.wait(r"said      jobs:j \| up")
+        destroys = threading.Thread(target=host.ask, args=("destroy jobs:j",))
+        destroys.start()
+        host.wait_until(lambda: any("refused" not in reply for reply in host.ask(f"create . jobs j {url}")),
+                        "second child")
+        self.assertIn("started", host.ask("start jobs:j")[0])
+        destroys.join()
+        told = [(event["event"], event["instance"]) for event in host.events()
+                if event["event"] in ("launch", "halt") and event["moniker"] == "jobs:j"]
+        self.assertEqual([word for word, _ in told], ["launch", "halt", "launch"])
+        self.assertEqual(told[0][1], told[1][1])
+        self.assertNotEqual(told[0][1], told[2][1])
+        self.assertEqual(host.end(), 0)
+        self.assertEqual(host.left(), [])
 
 
 class Disk(unittest.TestCase):

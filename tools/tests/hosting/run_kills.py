@@ -29,6 +29,11 @@ class Kills(unittest.TestCase):
         host.wait(r"^replaced ")
         self.assertEqual(host.on(), running)
         self.assertEqual(sorted(host.sandboxes()), before)
+        numbers = {event["moniker"]: event["inc"] for event in host.events("launch")}
+        for event in host.events("adopt"):
+            self.assertEqual(event["before"], numbers[event["moniker"]])
+        adopted = [event["moniker"] for event in host.events("adopt") if event["moniker"] != "."]
+        self.assertEqual(sorted(adopted), running)
         self.assertEqual(host.end(), 0)
         self.assertEqual(host.left(), [])
 
@@ -41,6 +46,19 @@ class Kills(unittest.TestCase):
         host.wait(r"^replaced .*hangs")
         self.assertEqual(sorted(host.sandboxes()), before)
         self.assertNotIn(hanging, host.manager_pids())
+        self.assertEqual(host.end(), 0)
+        self.assertEqual(host.left(), [])
+
+    def test_bytes(self) -> None:
+        """a manager whose history is nearly full by its bytes is followed by another"""
+        base = folder()
+        host = Host(lay(base), run=base / "r", environment={"COMPONENT_HOST_ROLL_BYTES": "40000"})
+        self.addCleanup(host.remove)
+        for _ in range(100):
+            host.ask(*["show ."] * 20)
+            if re.search("^replaced .*planned", host.text(), re.M):
+                break
+        host.wait(r"^replaced .*planned")
         self.assertEqual(host.end(), 0)
         self.assertEqual(host.left(), [])
 

@@ -140,7 +140,9 @@ class Stress(unittest.TestCase):
             self.assertFalse(thread.is_alive(), "a console is stuck")
         self.assertEqual(faults, [])
         host.wait_until(lambda: agrees(host), "agreement of what counts as on and what runs")
-        _, found, behind = host.text().partition("Traceback")
+        # What a program says of itself is its own affair.
+        own = "\n".join(line for line in host.text().splitlines() if not line.startswith("said "))
+        _, found, behind = own.partition("Traceback")
         self.assertEqual(found, "", behind[:2000])
         self.assertEqual(host.events("fault"), [])
         self.assertEqual(host.end(), 0)

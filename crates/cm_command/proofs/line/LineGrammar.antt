@@ -109,6 +109,7 @@ command_leads (CommandWords.doctor {t = t} {a = a} h) = verb_leads verb.Doctor t
 command_leads (CommandWords.show {t = t} {a = a} h) = verb_leads verb.Show t a [] (sentence.Command (command.Show a)) h refl
 command_leads (CommandWords.survey {t = t} {a = a} h) = verb_leads verb.Survey t a [] (sentence.Command (command.Survey a)) h refl
 command_leads (CommandWords.exited {t = t} {a = a} h) = verb_leads verb.Exited t a [] (sentence.Command (command.Exited a)) h refl
+command_leads (CommandWords.events {t = t} {from = from} {a = a} {n = n} h is fits) = verb_leads verb.Events t a (from ∷ []) (sentence.Command (command.Events a n)) h (asks (command.Events a n), (n, is, fits, refl), refl)
 
 whole_ends : (t : Sentence) (ws : List Text) (s : Sentence) → Leads Steps Ends (place.Whole t) ws s → (ws ≡ []) × (s ≡ t)
 whole_ends t [] s h = (refl, h)
@@ -127,6 +128,11 @@ lists : (t : Text) (a : Target) (ws : List Text) (s : Sentence) → IsTargetText
 lists t a [] s h led = absurd led
 lists t a (w ∷ ws) s h led =
     asked (codes "list" ∷ t ∷ w ∷ []) ws (command.ListChildren a w) s (CommandWords.list h led.1.0) (at_place led.0 (asks (command.ListChildren a w)) ws s led.1.1 led.2)
+
+streams : (t : Text) (a : Target) (ws : List Text) (s : Sentence) → IsTargetText t a → Leads Steps Ends (place.Streaming a) ws s → IsAsked (codes "events" ∷ t ∷ ws) s
+streams t a [] s h led = absurd led
+streams t a (w ∷ ws) s h led =
+    asked (codes "events" ∷ t ∷ w ∷ []) ws (command.Events a led.1.0) s (CommandWords.events h led.1.1 led.1.2) (at_place led.0 (asks (command.Events a led.1.0)) ws s led.1.3 led.2)
 
 opens : (t : Text) (a : Target) (ws : List Text) (s : Sentence) → IsTargetText t a → Leads Steps Ends (place.Opening a) ws s → IsAsked (codes "open" ∷ t ∷ ws) s
 opens t a [] s h led = absurd led
@@ -174,6 +180,7 @@ behind_verb verb.Doctor t a ws s h led = asked (codes "doctor" ∷ t ∷ []) ws 
 behind_verb verb.Show t a ws s h led = asked (codes "show" ∷ t ∷ []) ws (command.Show a) s (CommandWords.show h) led
 behind_verb verb.Survey t a ws s h led = asked (codes "survey" ∷ t ∷ []) ws (command.Survey a) s (CommandWords.survey h) led
 behind_verb verb.Exited t a ws s h led = asked (codes "exited" ∷ t ∷ []) ws (command.Exited a) s (CommandWords.exited h) led
+behind_verb verb.Events t a ws s h led = streams t a ws s h led
 
 verb_says : (v : Verb) (ws : List Text) (s : Sentence) → Leads Steps Ends (place.Verb v) ws s → IsAsked (verb_word v ∷ ws) s
 verb_says v [] s h = absurd h

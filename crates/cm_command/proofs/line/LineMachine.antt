@@ -32,14 +32,16 @@ use Rattle.cm_command.specs.declared.place.Sentence.{Sentence}
 use Rattle.cm_command.specs.declared.place.Creation.{Creation}
 use Rattle.cm_command.specs.declared.place.Place.{Place}
 use Rattle.cm_command.specs.declared.place.Place.TheVariants as place
-use Rattle.cm_command.specs.Numbers.{value_behind}
+use Rattle.cm_command.specs.declared.command.Command.TheVariants as command
+use Rattle.cm_command.specs.Numbers.{is_digit, IsNumberText, value_behind}
 use Rattle.cm_names.specs.Urls.{is_url_byte}
 use Rattle.cm_command.specs.Words.{IsUrlText, IsTargetText, IsOriginText, IsRightsText}
 use Rattle.cm_command.specs.Grammar.{Text, Adds, plain_give}
-use Rattle.cm_command.specs.Places.{verb_word, verbs, behind_target, behind_builtin, directory_of, provides, with_give, Steps, Ends, created}
+use Rattle.cm_command.specs.Places.{verb_word, verbs, asks, behind_target, behind_builtin, directory_of, provides, with_give, Steps, Ends, created}
 use Rattle.cm_command.proofs.bytes.Pieces.{Lacks}
 use Rattle.cm_command.proofs.line.Machine.{IsMachine, GoesOn, says_word, says_more}
 use Rattle.cm_command.specs.Pieces.{Leads}
+use Rattle.cm_command.proofs.scripts.LaneLemmas.{decimal_lacks}
 use Rattle.cm_command.proofs.line.SpacelessWords.{lacks_same, lacks_front, verb_lacks, kind_lacks, target_lacks, origin_lacks, url_lacks, rights_lack}
 use Rattle.cm_command.proofs.written.WrittenLemmas.{lacks_by, name_lacks, path_lacks, subdir_lacks}
 
@@ -63,6 +65,7 @@ verb_found verb.Doctor = refl
 verb_found verb.Show = refl
 verb_found verb.Survey = refl
 verb_found verb.Exited = refl
+verb_found verb.Events = refl
 
 verb_one : (v u : Verb) → verb_word v ≡ verb_word u → v ≡ u
 verb_one v u e =
@@ -202,6 +205,8 @@ steps_one_way (place.Listing t) w a b h k = h.1 ∙ sym k.1
 steps_one_way (place.Opening t) w a b h k = h.1 ∙ sym k.1
 steps_one_way (place.OpeningExposed t) w a b h k = h.1 ∙ sym k.1
 steps_one_way (place.Routing t) w a b h k = h.1 ∙ sym k.1
+steps_one_way (place.Streaming t) w a b h k =
+    h.3 ∙ ap (λ n. asks (command.Events t n)) (sym h.1.1 ∙ k.1.1) ∙ sym k.3
 steps_one_way (place.Creating t) w a b h k = h.1 ∙ sym k.1
 steps_one_way (place.CreatingIn t coll) w a b h k = h.1 ∙ sym k.1
 steps_one_way (place.CreatingNamed t coll name) w a b h k = h.1 ∙ sym k.1
@@ -236,6 +241,7 @@ steps_clean (place.Listing t) w a h = name_lacks 32 refl w h.0
 steps_clean (place.Opening t) w a h = path_lacks w h.0
 steps_clean (place.OpeningExposed t) w a h = name_lacks 32 refl w h.0
 steps_clean (place.Routing t) w a h = path_lacks w h.0
+steps_clean (place.Streaming t) w a h = decimal_lacks w h.1.0
 steps_clean (place.Creating t) w a h = name_lacks 32 refl w h.0
 steps_clean (place.CreatingIn t coll) w a h = name_lacks 32 refl w h.0
 steps_clean (place.CreatingNamed t coll name) w a h = url_lacks w h.0
@@ -296,6 +302,12 @@ creating_goes t =
 listing_goes : (t : Target) → Goes (place.Listing t)
 listing_goes t = goes_by (place.Listing t) _ (codes "a") (name_a, refl) (whole_goes _)
 
+zero_digit : IsNumberText (codes "0") 0
+zero_digit = ((refl, All-nil (λ b. IsTrue (is_digit b)), λ e. refl), refl)
+
+streaming_goes : (t : Target) → Goes (place.Streaming t)
+streaming_goes t = goes_by (place.Streaming t) _ (codes "0") (0, zero_digit, omega arith, refl) (whole_goes _)
+
 opening_goes : (t : Target) → Goes (place.Opening t)
 opening_goes t = goes_by (place.Opening t) _ (codes "/a") (refl, refl) (whole_goes _)
 
@@ -320,6 +332,7 @@ behind_target_goes verb.Doctor t = whole_goes _
 behind_target_goes verb.Show t = whole_goes _
 behind_target_goes verb.Survey t = whole_goes _
 behind_target_goes verb.Exited t = whole_goes _
+behind_target_goes verb.Events t = streaming_goes t
 
 verb_goes : (v : Verb) → Goes (place.Verb v)
 verb_goes v =
@@ -361,6 +374,7 @@ place_goes (place.Listing t) = listing_goes t
 place_goes (place.Opening t) = opening_goes t
 place_goes (place.OpeningExposed t) = opening_exposed_goes t
 place_goes (place.Routing t) = routing_goes t
+place_goes (place.Streaming t) = streaming_goes t
 place_goes (place.Creating t) = creating_goes t
 place_goes (place.CreatingIn t coll) = creating_in_goes t coll
 place_goes (place.CreatingNamed t coll name) = creating_named_goes t coll name

@@ -46,6 +46,7 @@ verb_lacks verb.Doctor = lacks_by 32 (codes "doctor") refl
 verb_lacks verb.Show = lacks_by 32 (codes "show") refl
 verb_lacks verb.Survey = lacks_by 32 (codes "survey") refl
 verb_lacks verb.Exited = lacks_by 32 (codes "exited") refl
+verb_lacks verb.Events = lacks_by 32 (codes "events") refl
 
 pub kind_lacks : (k : Kind) → Lacks 32 (kind_word k)
 kind_lacks kind.Protocol = lacks_by 32 (codes "protocol") refl

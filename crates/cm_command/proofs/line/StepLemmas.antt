@@ -20,11 +20,12 @@ use Rattle.cm_command.specs.declared.place.Verb.TheVariants as verb
 use Rattle.cm_command.specs.declared.place.Creation.{Creation}
 use Rattle.cm_command.specs.declared.place.Place.TheVariants as place
 use Rattle.cm_command.specs.declared.tokens.WordFault.{WordFault}
-use Rattle.cm_command.specs.declared.tokens.WordFault.TheVariants.{Bad}
+use Rattle.cm_command.specs.declared.tokens.WordFault.TheVariants.{Bad, Memory}
+use Rattle.cm_command.specs.Numbers.{IsNumber}
 use Rattle.cm_command.specs.Words.{IsUrlText, IsTargetText, IsOriginText, IsRightsText}
 use Rattle.cm_command.specs.Grammar.{Text, Adds}
 use Rattle.cm_command.specs.Additions.{IsAddition, IsSomeAddition}
-use Rattle.cm_command.specs.Counts.{CountsFronts, IsWordFault}
+use Rattle.cm_command.specs.Counts.{CountsFronts, IsSureFault, IsWordFault}
 use Rattle.cm_command.specs.Pieces.{Wants}
 use Rattle.cm_command.specs.Places.{IsVerbWord, IsKindWord, verb_word, verbs, asks, behind_target, behind_builtin, directory_of, provides, create, give, with_give, Steps}
 use Rattle.cm_command.proofs.counts.KindLemmas.{fault_same, counts_none, counts_same, counts_either}
@@ -54,6 +55,11 @@ opening_exposed_fault a w e =
 pub routing_fault : (a : Target) (w : Text) (e : WordFault) → IsWordFault (λ t. IsTrue (is_path t)) w e → IsWordFault (Wants Steps (place.Routing a)) w e
 routing_fault a w e =
     fault_same {P = IsPath} {Q = Wants Steps (place.Routing a)} w e (λ t is. (asks (command.RouteOf a t), (is, refl))) (λ t s. s.1.0)
+
+pub streaming_fault : (a : Target) (w : Text) (e : WordFault) → IsSureFault IsNumber w e → IsWordFault (Wants Steps (place.Streaming a)) w e
+streaming_fault a w (Bad n) h =
+    fault_same {P = IsNumber} {Q = Wants Steps (place.Streaming a)} w (Bad n) (λ t is. (asks (command.Events a is.0), (is.0, is.1, is.2, refl))) (λ t s. (s.1.0, s.1.1, s.1.2)) h
+streaming_fault a w Memory h = tt
 
 pub collection_fault : (a : Target) (w : Text) (e : WordFault) → IsWordFault IsName w e → IsWordFault (Wants Steps (place.Creating a)) w e
 collection_fault a w e =
@@ -161,7 +167,7 @@ builtin_rights_fault name path w e =
 -- ---- verbs and kinds
 
 -- the verb at a place of the list
-verb_at : (v : Verb) → (k : ℕ) × (k < 14) × (v ≡ get_or verbs k verb.Start)
+verb_at : (v : Verb) → (k : ℕ) × (k < 15) × (v ≡ get_or verbs k verb.Start)
 verb_at verb.Resolve = (0, omega arith, refl)
 verb_at verb.Start = (1, omega arith, refl)
 verb_at verb.Stop = (2, omega arith, refl)
@@ -176,6 +182,7 @@ verb_at verb.Doctor = (10, omega arith, refl)
 verb_at verb.Show = (11, omega arith, refl)
 verb_at verb.Survey = (12, omega arith, refl)
 verb_at verb.Exited = (13, omega arith, refl)
+verb_at verb.Events = (14, omega arith, refl)
 
 -- the word of one of the first n verbs
 abbrev pub IsFirstVerb : ℕ → Text → Type 0
@@ -188,7 +195,7 @@ pub none_first : (w : Text) → IsFirstVerb 0 w → ⊥
 none_first w h = absurd (omega (arith, h.1))
 
 -- an element of the loop's list is that verb
-verb_there : (xs : List Verb) (i : ℕ) (d : Verb) → xs ≡ verbs → i < 14 → get_or xs i d ≡ get_or verbs i verb.Start
+verb_there : (xs : List Verb) (i : ℕ) (d : Verb) → xs ≡ verbs → i < 15 → get_or xs i d ≡ get_or verbs i verb.Start
 verb_there xs i d e lt = ap (λ ys. get_or ys i d) e ∙ get_or_default verbs i d verb.Start lt
 
 below_or_last : (k n : ℕ) → k < n + 1 → (k < n) ⊎ (k ≡ n)
@@ -199,24 +206,24 @@ first_more : (t : Text) (i : ℕ) → IsFirstVerb (i + 1) t → IsFirstVerb i t 
 first_more t i h =
     ⊎_elim (λ lt. inl (h.0, lt, h.2)) (λ last. inr (h.2 ∙ ap (λ j. verb_word (get_or verbs j verb.Start)) last)) (below_or_last h.0 i h.1)
 
-pub none_more : (w l : Text) (i : ℕ) (xs : List Verb) (d : Verb) → xs ≡ verbs → i < 14 → l ≡ verb_word (get_or xs i d) → (IsFirstVerb i w → ⊥) → (w ≡ l → ⊥) → IsFirstVerb (i + 1) w → ⊥
+pub none_more : (w l : Text) (i : ℕ) (xs : List Verb) (d : Verb) → xs ≡ verbs → i < 15 → l ≡ verb_word (get_or xs i d) → (IsFirstVerb i w → ⊥) → (w ≡ l → ⊥) → IsFirstVerb (i + 1) w → ⊥
 none_more w l i xs d e lt is none other h =
     ⊎_elim none (λ same. other (same ∙ sym (ap verb_word (verb_there xs i d e lt)) ∙ sym is)) (first_more w i h)
 
-pub none_of_all : (w : Text) (i : ℕ) → 14 ≤ i → (IsFirstVerb i w → ⊥) → IsVerbWord w → ⊥
+pub none_of_all : (w : Text) (i : ℕ) → 15 ≤ i → (IsFirstVerb i w → ⊥) → IsVerbWord w → ⊥
 none_of_all w i le none h =
     let at = verb_at h.0 in
     none (at.0, omega (arith, at.1), h.1 ∙ ap verb_word at.2)
 
-pub verb_more : (w l : Text) (i m n k : ℕ) (xs : List Verb) (d : Verb) → xs ≡ verbs → i < 14 → l ≡ verb_word (get_or xs i d) → k ≡ max m n → CountsFronts (IsFirstVerb i) w m → CountsFronts (λ t. t ≡ l) w n → CountsFronts (IsFirstVerb (i + 1)) w k
+pub verb_more : (w l : Text) (i m n k : ℕ) (xs : List Verb) (d : Verb) → xs ≡ verbs → i < 15 → l ≡ verb_word (get_or xs i d) → k ≡ max m n → CountsFronts (IsFirstVerb i) w m → CountsFronts (λ t. t ≡ l) w n → CountsFronts (IsFirstVerb (i + 1)) w k
 verb_more w l i m n k xs d there lt is e h g =
     let same : l ≡ verb_word (get_or verbs i verb.Start) = is ∙ ap verb_word (verb_there xs i d there lt) in
     counts_either {P = IsFirstVerb i} {Q = λ t. t ≡ l} {R = IsFirstVerb (i + 1)} w m n k (λ t x. (x.0, omega (arith, x.1), x.2)) (λ t x. (i, omega arith, x ∙ same)) (λ t x. ⊎_elim (λ first. inl first) (λ last. inr (last ∙ sym same)) (first_more t i x)) e h g
 
-pub all_verbs : (w : Text) (i n : ℕ) → 14 ≤ i → i ≤ 14 → CountsFronts (IsFirstVerb i) w n → CountsFronts IsVerbWord w n
+pub all_verbs : (w : Text) (i n : ℕ) → 15 ≤ i → i ≤ 15 → CountsFronts (IsFirstVerb i) w n → CountsFronts IsVerbWord w n
 all_verbs w i n le ge h =
-    let e : i ≡ 14 = omega arith in
-    counts_same {P = IsFirstVerb 14} {Q = IsVerbWord} w n (λ t x. (get_or verbs x.0 verb.Start, x.2)) (λ t x. let at = verb_at x.0 in (at.0, at.1, x.1 ∙ ap verb_word at.2)) (subst (λ j. CountsFronts (IsFirstVerb j) w n) e h)
+    let e : i ≡ 15 = omega arith in
+    counts_same {P = IsFirstVerb 15} {Q = IsVerbWord} w n (λ t x. (get_or verbs x.0 verb.Start, x.2)) (λ t x. let at = verb_at x.0 in (at.0, at.1, x.1 ∙ ap verb_word at.2)) (subst (λ j. CountsFronts (IsFirstVerb j) w n) e h)
 
 pub kind_counts : (w : Text) (m n k : ℕ) → k ≡ max m n → CountsFronts (λ t. t ≡ codes "protocol") w m → CountsFronts (λ t. t ≡ codes "directory") w n → CountsFronts IsKindWord w k
 kind_counts w m n k e h g =

@@ -181,6 +181,7 @@ command_is (CommandWords.doctor {t = t} {a = a} h) = target_is t a h
 command_is (CommandWords.show {t = t} {a = a} h) = target_is t a h
 command_is (CommandWords.survey {t = t} {a = a} h) = target_is t a h
 command_is (CommandWords.exited {t = t} {a = a} h) = target_is t a h
+command_is (CommandWords.events {t = t} {a = a} h is fits) = (target_is t a h, fits)
 
 pub what_is_read_lem : WhatIsReadIsWritable
 what_is_read_lem t c h = command_is h

@@ -27,6 +27,7 @@ use Rattle.cm_command.specs.Grammar.{Text, CommandText, CommandWords, Groups, Be
 use Rattle.cm_command.specs.Written.{target_text, origin_text, target_word, rights_word, subdir_word, dependency_word, availability_word, give_words, IsTarget, IsOrigin, HasParts, IsGive, WritesItsLine}
 use Rattle.cm_command.proofs.bytes.Pieces.{Lacks, value_snoc}
 use Rattle.cm_command.proofs.counts.NumberCounts.{decimal_more}
+use Rattle.cm_command.proofs.scripts.LaneLemmas.{decimal_lacks}
 use Rattle.cm_command.proofs.line.SpacelessWords.{kind_lacks, target_lacks, origin_lacks, url_lacks}
 use Rattle.cm_command.proofs.written.WrittenLemmas.{AllLack, split_join, all_lack-append, lacks_by, name_lacks, path_lacks, subdir_lacks, rights_lack, rights_read}
 
@@ -172,3 +173,4 @@ writes_its_line_lem (command.Doctor a) h = as_line (codes "doctor") _ _ (lacks_b
 writes_its_line_lem (command.Show a) h = as_line (codes "show") _ _ (lacks_by 32 (codes "show") refl) (target_text_lacks a h, tt) (CommandWords.show (target_reads a h))
 writes_its_line_lem (command.Survey a) h = as_line (codes "survey") _ _ (lacks_by 32 (codes "survey") refl) (target_text_lacks a h, tt) (CommandWords.survey (target_reads a h))
 writes_its_line_lem (command.Exited a) h = as_line (codes "exited") _ _ (lacks_by 32 (codes "exited") refl) (target_text_lacks a h, tt) (CommandWords.exited (target_reads a h))
+writes_its_line_lem (command.Events a n) h = as_line (codes "events") _ _ (lacks_by 32 (codes "events") refl) (target_text_lacks a h.0, (decimal_lacks (decimal n) (decimal_is n h.1).0, tt)) (CommandWords.events (target_reads a h.0) (decimal_is n h.1) h.1)

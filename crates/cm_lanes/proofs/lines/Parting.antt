@@ -9,6 +9,7 @@ use Rattle.cm_world.specs.declared.answer.Answer.TheVariants as answer
 use Rattle.cm_world.specs.declared.answer.Refusal.{Refusal}
 use Rattle.cm_world.specs.declared.answer.Refusal.TheVariants as refusal
 use Rattle.cm_world.specs.declared.event.Event.{Event}
+use Rattle.cm_world.specs.declared.event.Event.TheVariants as event
 use Rattle.cm_world.specs.declared.event.Target.{Target}
 use Rattle.cm_world.specs.declared.event.Target.TheVariants as target
 use Rattle.cm_world.specs.declared.frame.Frame.{Frame}
@@ -27,6 +28,7 @@ use Rattle.cm_manager.specs.Runs.{Acts, Tries, Onces, decided, needs, failed, cu
 use Rattle.cm_manager.specs.Calls.{Way, Finding, Behind, OnRow, Tried, Nothing, Then, TriedThen, OnceCreated, SweptLeft}
 use Rattle.cm_manager.specs.Calls.{ActedOn, Reaches, Calls}
 use Rattle.cm_manager.specs.Shutdowns.{Shuts, Destroys}
+use Rattle.cm_manager.specs.Streams.{Streams}
 use Rattle.cm_manager.specs.Doctor.{Checks, Each, OfPath, OfRow, Doctors}
 use Rattle.cm_manager.proofs.calling.Joining.{starts-trans}
 use Rattle.cm_manager.proofs.left.Closing.{makes-own, cut-later, acts-close, sweeps_close}
@@ -104,6 +106,10 @@ doctors_grow : (f : Frame) (c : ℕ) → Growing (Doctors f c)
 doctors_grow f c i a b r (Doctors.surveyed survey is rows) = starts-trans _ _ _ (tries_grow f c _ survey) (each_grows (OfRow f c) (row_grows f c) rows)
 doctors_grow f c i a b r (Doctors.not_surveyed survey is) = tries_grow f c _ survey
 
+streams_grow : (f : Frame) (c from : ℕ) → Growing (Streams f c from)
+streams_grow f c from i a b r (Streams.told asks) = (makes-own c _ _ _ _ asks.made).0
+streams_grow f c from i a b r (Streams.cut {x = x} is) = (cut-later f c a b (event.Tail i from) x is).grows
+
 calls_grow : (f : Frame) (c : ℕ) (cmd : Command) (a b : List Entry) (r : Result Answer Refusal) → Calls f c cmd a b r → StartsWith b a
 calls_grow f c (command.Resolve t) a b r is = on_row_grows f c t _ a b r (acted_grows f c _ _) is
 calls_grow f c (command.Start t) a b r is = on_row_grows f c t _ a b r (acted_grows f c _ _) is
@@ -119,6 +125,7 @@ calls_grow f c (command.Doctor t) a b r is = on_row_grows f c t _ a b r (doctors
 calls_grow f c (command.Show t) a b r is = on_row_grows f c t _ a b r (tried_grows f c _) is
 calls_grow f c (command.Survey t) a b r is = on_row_grows f c t _ a b r (tried_grows f c _) is
 calls_grow f c (command.Exited t) a b r is = on_row_grows f c t _ a b r (tried_then_grows f c _ _ (left_grows f c)) is
+calls_grow f c (command.Events t from) a b r is = on_row_grows f c t _ a b r (streams_grow f c from) is
 
 follows_grows : (f : Frame) (c : ℕ) (xs : List Answered) (a b : List Entry) → Follows f c xs a b → StartsWith b a
 follows_grows f c xs a b (rests later) = later.grows
@@ -184,6 +191,9 @@ destroyed_lost f c h i = (Some refusal.Memory, Destroys.unshut (Shuts.cut_mark (
 doctored_lost : (f : Frame) (c : ℕ) (h : List Entry) → Losing h (Doctors f c)
 doctored_lost f c h i = Doctors.not_surveyed (tries_lost f c _ h) refl
 
+streams_lost : (f : Frame) (c from : ℕ) (h : List Entry) → Losing h (Streams f c from)
+streams_lost f c from h i = Streams.cut (no_later c h)
+
 calls_lost : (f : Frame) (c : ℕ) (cmd : Command) (h : List Entry) → Calls f c cmd h h (Err refusal.Memory)
 calls_lost f c (command.Resolve t) h = on_row_lost f c t _ h (acted_lost f c _ _ h refl)
 calls_lost f c (command.Start t) h = on_row_lost f c t _ h (acted_lost f c _ _ h refl)
@@ -199,6 +209,7 @@ calls_lost f c (command.Doctor t) h = on_row_lost f c t _ h (doctored_lost f c h
 calls_lost f c (command.Show t) h = on_row_lost f c t _ h (tried_lost f c _ h)
 calls_lost f c (command.Survey t) h = on_row_lost f c t _ h (tried_lost f c _ h)
 calls_lost f c (command.Exited t) h = on_row_lost f c t _ h (tried_then_lost f c _ _ h)
+calls_lost f c (command.Events t from) h = on_row_lost f c t _ h (streams_lost f c from h)
 
 follows_lost : (f : Frame) (c : ℕ) (lines : List Line) (h : List Entry) → Follows f c (answers_of c (map no_answer lines)) h h
 follows_lost f c [] h = Follows.rests (no_later c h)

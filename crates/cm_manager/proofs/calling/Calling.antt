@@ -96,6 +96,7 @@ question_called f c t (question.Act kind.Stop) x y a on = on
 question_called f c t question.Shutdown x y a on = on
 question_called f c t question.Destroy x y a on = on
 question_called f c t question.Doctor x y a on = on
+question_called f c t (question.Events from) x y a on = on
 question_called f c t (question.Event r) x y a on = request_called f c t r x y a on
 
 -- what was answered, by the question that it is

@@ -107,10 +107,10 @@ pub grown : (p q : RealmPass) (s t : Story) (more : List Entry) → Took p q s t
 grown p q s t more is = is.left.mine more is.goes.entries
 
 -- what an enter finds is a later history of what the pass had seen
-since_seen : (p : RealmPass) (s : Story) → Entered p s → Later p.caller p.seen s.entries
+pub since_seen : (p : RealmPass) (s : Story) → Entered p s → Later p.caller p.seen s.entries
 since_seen p s is = record { grows = is.begins; own = is.mine ∙ is.own }
 
-pub makes_by : (p q : RealmPass) (s t : Story) (e : Event) (r : Reply) → Took p q s t (entry_of p.caller e r ∷ []) → Makes p.caller p.seen e r q.seen
+unfoldable pub makes_by : (p q : RealmPass) (s t : Story) (e : Event) (r : Reply) → Took p q s t (entry_of p.caller e r ∷ []) → Makes p.caller p.seen e r q.seen
 makes_by p q s t e r is = record {
   found = s.entries;
   later = since_seen p s is.entered;

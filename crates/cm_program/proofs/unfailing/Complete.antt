@@ -20,8 +20,8 @@ use Rattle.cm_program.specs.Sessions.{IsSat, served_frame, served_shelf}
 use Rattle.cm_program.specs.Stock.{IsFault, Serves}
 use Rattle.cm_program.specs.Written.{OfKnown, OfSome}
 use Rattle.cm_program.specs.declared.stock.Served.{Served}
-use Rattle.cm_program.specs.declared.wanted.Wanted.{Wanted}
-use Rattle.cm_program.specs.declared.wanted.Wanted.TheVariants.{Answers, Summary}
+use Rattle.cm_call.specs.declared.call.Wanted.{Wanted}
+use Rattle.cm_call.specs.declared.call.Wanted.TheVariants.{Summary}
 use Rattle.cm_program.proofs.lanes.OwnScript.{own_fit}
 use Rattle.cm_program.proofs.texts.StockLemmas.{served_fit}
 use Rattle.cm_program.proofs.unfailing.Ends.{OfEnds, ends_well, history_tells_none}
@@ -124,8 +124,8 @@ module _ {S K E D L G : Type 0}
     checked_out = λ asks none. (p.of_check asks).read_out none;
     audited_out = λ asks none. (p.of_audit asks).read_out none;
     lines = λ o asks none bytes served known serves.
-        answers_all sixteen p.gates (Answers o.journal) o.repository served (served_fit bytes served serves) none
-        (served_runs (Answers o.journal) o.repository (as_source.left was.input) bytes served known ((p.of_run o asks).headline (inl none)) serves);
+        answers_all sixteen p.gates o.wanted o.repository served (served_fit bytes served serves) none
+        (served_runs o.wanted o.repository (as_source.left was.input) bytes served known ((p.of_run o asks).headline (inl none)) serves);
     own_lines = λ w asks none.
         let own = (p.of_generate w asks).runs in
         let is = own.is_served (inl none) in

@@ -26,17 +26,18 @@ use Rattle.cm_command.specs.declared.command.Command.{Command}
 use Rattle.cm_command.specs.declared.command.Command.TheVariants as command
 use Rattle.cm_answers.specs.declared.acted.Acted.{Acted}
 use Rattle.cm_answers.specs.declared.acted.Acted.TheVariants as acted
-use Rattle.cm_answers.specs.Answers.{failure, ends_call, ends_eager, decision, decided_by, answer_unless, unless_ended, found_by, acted_answer, is_killed, unmarked}
+use Rattle.cm_answers.specs.Answers.{failure, ends_call, ends_eager, refusal_of, decision, decided_by, answer_unless, unless_ended, found_by, acted_answer, is_killed, unmarked}
 use Rattle.cm_answers.specs.Lines.{route_by, line_of, unresolved_line, in_front, surveyed_by, doctored_by}
 use Rattle.cm_manager.specs.Turns.{Makes, IsCut}
 use Rattle.cm_manager.specs.Runs.{Acts, ended, started, started_cut, stopped, stopped_cut, joined, quiet, resolved_first, not_resolved, cut, Eagers, all_done, next_one, cut_at, Tries, decided, needs, failed, cut_try, Onces, is_quiet}
 use Rattle.cm_manager.specs.Sweeps.{Stops, Removes, Clears, Sweeps}
 use Rattle.cm_manager.specs.Shutdowns.{Shuts, Destroys}
 use Rattle.cm_manager.specs.Doctor.{Checks, Each, OfPath, OfRow, Doctors}
+use Rattle.cm_manager.specs.Streams.{Streams, streamed_by}
 use Rattle.cm_manager.specs.Calls.{Way, Finding, Behind, OnRow, Tried, Nothing, Then, TriedThen, OnceCreated, SweptLeft, ActedOn, Calls}
 use Rattle.cm_manager.proofs.left.Closing.{sweeps_close}
 use Rattle.cm_manager.proofs.shutdowns.ShuttingDown.{shuts_close, destroys_close}
-use Rattle.cm_journal.proofs.Growing.{Growing, Following, behind_grows, then_grows, acted_grows, tried_grows, tried_then_grows, created_grows, left_grows, doctors_grow, each_grows, row_grows, tries_grow}
+use Rattle.cm_journal.proofs.Growing.{Growing, Following, behind_grows, then_grows, acted_grows, tried_grows, tried_then_grows, created_grows, left_grows, doctors_grow, streams_grow, each_grows, row_grows, tries_grow}
 use Rattle.cm_program.specs.Unfailing.{is_failed, IsUnfailingRefusal, IsUnfailingFound, IsUnfailingAnswer, IsUnfailing}
 use Rattle.cm_program.proofs.unfailing.Ends.{OfEnds}
 
@@ -195,6 +196,10 @@ module _ (f : Frame) (c : ℕ) where
 
 -- ---- answers
 
+refusal_is : (r : Reply) → IsUnfailingRefusal (refusal_of r)
+refusal_is (reply.Gone i) = tt
+refusal_is _ = tt
+
 decision_is : (r : Reply) → IsUnfailing (decision r)
 decision_is (reply.Listed kids) = tt
 decision_is _ = tt
@@ -351,6 +356,14 @@ module _ (f : Frame) (c : ℕ) where
       doctored_is end (each_is (OfRow f c) (row_grows f c) of_row rows h)
   doctors i a b r (Doctors.not_surveyed {went = went} survey is) h = subst OfSurvey is (survey_is went (tries f c _ survey h))
 
+  streamed : (found : List Entry) (from i : ℕ) (r : Reply) → IsUnfailing (streamed_by f found from i r)
+  streamed found from i (reply.Tailed n) = tt
+  streamed found from i r = refusal_is r
+
+  streams : (from : ℕ) → Saying (Streams f c from)
+  streams from i a b r (Streams.told {r = said} asks) h = streamed asks.made.found from i said
+  streams from i a b r (Streams.cut {x = x} is) h = cut_is f c a b (event.Tail i from) x is
+
   -- a call whose history tells none is answered with none
   pub calls : (cmd : Command) (a b : List Entry) (r : Result Answer Refusal) → Calls f c cmd a b r → AllEnds b → IsUnfailing r
   calls (command.Resolve t) a b r is h = on_row t _ a b r (acted_grows f c _ _) (acting _ _ (acted_is (λ a o. answer.Resolved a) (λ a o fine. tt))) is h
@@ -369,3 +382,4 @@ module _ (f : Frame) (c : ℕ) where
   calls (command.Show t) a b r is h = on_row t _ a b r (tried_grows f c _) (tried _) is h
   calls (command.Survey t) a b r is h = on_row t _ a b r (tried_grows f c _) (tried _) is h
   calls (command.Exited t) a b r is h = on_row t _ a b r (tried_then_grows f c _ _ (left_grows f c)) (tried_then _ _ (left_grows f c) left) is h
+  calls (command.Events t from) a b r is h = on_row t _ a b r (streams_grow f c from) (streams from) is h

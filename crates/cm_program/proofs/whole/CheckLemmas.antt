@@ -16,6 +16,12 @@ use Rattle.cm_valid.specs.Reports.{Reports, reported}
 use Rattle.cm_valid.specs.Texts as valid_text
 use Rattle.cm_valid.specs.declared.fault.ValidFault.{ValidFault}
 use Rattle.cm_valid.specs.declared.fault.ValidFault.TheVariants as valid_fault
+use Rattle.cm_env.specs.declared.fault.EnvFault.{EnvFault}
+use Rattle.cm_env.specs.Faults as environments
+use Rattle.cm_env.specs.Texts as env_text
+use Rattle.cm_storage.specs.declared.fault.StorageNote.{StorageNote}
+use Rattle.cm_storage.specs.Faults as storage
+use Rattle.cm_storage.specs.Texts as storage_text
 use Rattle.cm_program.specs.Checks.{IsJudged, IsVerdict}
 use Rattle.std.specs.Io.KnownBytes.{IsAtEnd}
 use Rattle.std.proofs.lemmas.Bool.Decides.{nat_tests}
@@ -36,23 +42,33 @@ short_read bytes d is =
     grind (arith, nat_tests, no)
 
 judged_read : (read : Result Decl ReadFault) (status : ℕ) (line : List ℕ) → IsJudged read status line → status ≡ 0 → (d : Decl) × (read ≡ Ok d)
-judged_read read status line (IsJudged.valid {d = d} is valid) none = (d, is)
+judged_read read status line (IsJudged.valid {d = d} is valid registered stored) none = (d, is)
 judged_read read status line (IsJudged.unread is) none = absurd (cc (none))
 judged_read read status line (IsJudged.invalid is valid) none = absurd (cc (none))
+judged_read read status line (IsJudged.unregistered is valid judged) none = absurd (cc (none))
+judged_read read status line (IsJudged.unstored is valid registered judged) none = absurd (cc (none))
 
 pub judged_ended : (bytes : List ℕ) (status : ℕ) (line : List ℕ) (left : Option (List ℕ)) → (length bytes ≤ 1048576 → IsAtEnd left) → IsVerdict bytes status line → status ≡ 0 → IsAtEnd left
 judged_ended bytes status line left all judged none =
     let read = judged_read (decl_of_bytes bytes) status line judged none in all (short_read bytes read.0 read.1)
 
 judged_valid : (read : Result Decl ReadFault) (d : Decl) (line : List ℕ)
-    → read ≡ Ok d → IsValid d → line ≡ codes "valid\n" → IsJudged read 0 line
-judged_valid read d line is valid told = subst (λ l. IsJudged read 0 l) (sym told) (IsJudged.valid is valid)
+    → read ≡ Ok d → IsValid d → environments.IsFaultless d → storage.IsFaultless d → line ≡ codes "valid\n" → IsJudged read 0 line
+judged_valid read d line is valid registered stored told = subst (λ l. IsJudged read 0 l) (sym told) (IsJudged.valid is valid registered stored)
 
 pub valid_verdict : (read : Result Decl ReadFault) (d : Decl) (r : Result Verdict Memory)
-    → read ≡ Ok d → IsValid d → IfOk r (λ v. (v.status ≡ 0) × (v.line ≡ codes "valid\n")) → IfOk r (λ v. IsJudged read v.status v.line)
-valid_verdict read d (Ok v) is valid told =
-    subst (λ s. IsJudged read s v.line) (sym told.0) (judged_valid read d v.line is valid told.1)
-valid_verdict read d (Err e) is valid told = tt
+    → read ≡ Ok d → IsValid d → environments.IsFaultless d → storage.IsFaultless d → IfOk r (λ v. (v.status ≡ 0) × (v.line ≡ codes "valid\n")) → IfOk r (λ v. IsJudged read v.status v.line)
+valid_verdict read d (Ok v) is valid registered stored told =
+    subst (λ s. IsJudged read s v.line) (sym told.0) (judged_valid read d v.line is valid registered stored told.1)
+valid_verdict read d (Err e) is valid registered stored told = tt
+
+pub judged_unregistered : (read : Result Decl ReadFault) (d : Decl) (e : EnvFault) (line : List ℕ)
+    → read ≡ Ok d → IsValid d → environments.Judges d (Err e) → line ≡ env_text.fault_text e ++ codes "\n" → IsJudged read 1 line
+judged_unregistered read d e line is valid judged told = subst (λ l. IsJudged read 1 l) (sym told) (IsJudged.unregistered is valid judged)
+
+pub judged_unstored : (read : Result Decl ReadFault) (d : Decl) (n : StorageNote) (line : List ℕ)
+    → read ≡ Ok d → IsValid d → environments.IsFaultless d → storage.Judges d (Err n) → line ≡ storage_text.note_text n ++ codes "\n" → IsJudged read 1 line
+judged_unstored read d n line is valid registered judged told = subst (λ l. IsJudged read 1 l) (sym told) (IsJudged.unstored is valid registered judged)
 
 pub judged_unread : (read : Result Decl ReadFault) (f : ReadFault) (number : ℕ) (section : Section) (index : ℕ) (field : List ℕ) (line : List ℕ)
     → f ≡ read_fault.Bad number section index field → Fails f read → line ≡ read_text.fault_text f ++ codes "\n" → IsJudged read 1 line

@@ -30,10 +30,12 @@ use Rattle.cm_lanes.specs.declared.said.Lanes.{Lanes}
 use Rattle.cm_lanes.specs.Script.{Answered, IsFit, said_of, answered_lines}
 use Rattle.cm_manager.specs.Kept.{AreSixteen}
 use Rattle.cm_lanes.specs.Lanes.{RanOrNot}
-use Rattle.cm_program.specs.Headline.{IsHistory, RunsScript, shelf_of}
+use Rattle.cm_program.specs.Headline.{EndsWell, IsHistory, RunsScript, shelf_of}
 use Rattle.cm_program.specs.Performing.{Performs}
 use Rattle.cm_program.specs.Audited.{IsLegibleServed, MayTell}
 use Rattle.cm_program.specs.Printed.{IsPrinted, journal_of, line_text, phases_text, printed_text, summary_text, texts_of, wanted_text}
+use Rattle.cm_program.specs.Reported.{IsReport}
+use Rattle.cm_program.proofs.whole.Reporting.{report_ends}
 use Rattle.cm_call.specs.Calls.{words_of}
 use Rattle.cm_program.specs.Run.{AsksScript, IsFaulty, IsScriptRun, RunsAsServed, RunsOwn, RunsSome}
 use Rattle.cm_program.specs.Stock.{IsFault, Serves, served_script}
@@ -44,8 +46,8 @@ use Rattle.cm_call.specs.declared.call.Workload.{Workload}
 use Rattle.cm_program.specs.declared.fault.Fault.{Fault}
 use Rattle.cm_program.specs.declared.performing.Performed.{Performed}
 use Rattle.cm_program.specs.declared.stock.Served.{Served}
-use Rattle.cm_program.specs.declared.wanted.Wanted.{Wanted}
-use Rattle.cm_program.specs.declared.wanted.Wanted.TheVariants.{Answers, Summary}
+use Rattle.cm_call.specs.declared.call.Wanted.{Wanted}
+use Rattle.cm_call.specs.declared.call.Wanted.TheVariants.{Answers, Summary, Environments, Storage}
 use Rattle.cm_program.proofs.whole.Nothing.{ends_well, nothing_ends, nothing_kept, nothing_legal, works_nothing}
 use Rattle.cm_program.proofs.lanes.Histories.{some_of, makes_by, works_by, frame_by, frame_same, nothing_happened, legal_nothing}
 use Rattle.cm_program.proofs.lanes.Printing.{texts_all, results_all, no_want_all, nothing_written, front_of_nothing}
@@ -116,8 +118,8 @@ module _ {G : Type 0} (log_of : G → Option (List Asked)) (faults_of : G → �
   -- lanes that ran, or did nothing
   performs_ran : (shelf : Shelf) (turn : LockView) (f : Frame) (phases : List (List Line)) (passes : List RealmPass) (gates : List G) (back : Lanes G) (realm : Story) (n : ℕ) → passes ≡ new_passes turn.lock f 16 → length gates ≡ 16 → AreSixteen turn back.passes → Closes realm.entries back.passes → HasEnds realm.entries
       → All (λ (p : RealmPass). p.frame ≡ Some realm.frame) back.passes → IsKeptNumber realm.frame realm.entries n → RanOrNot log_of faults_of shelf phases passes gates back
-      → (book : History) → book.entries ≡ realm.entries → Performs log_of faults_of shelf f phases gates (record { book = book; kept = n; gates = back.gates; said = back.said })
-  performs_ran shelf turn f phases passes gates back realm n new count are closed ended framed kept (inl ran) book same = record {
+      → (book : History) (report : Option (List ℕ)) → book.entries ≡ realm.entries → Performs log_of faults_of shelf f phases gates (record { book = book; kept = n; report = report; gates = back.gates; said = back.said })
+  performs_ran shelf turn f phases passes gates back realm n new count are closed ended framed kept (inl ran) book report same = record {
     answered = ran.answered;
     makes = makes_by log_of faults_of shelf turn f phases passes gates back book.entries new count are closes ran;
     ends = ends;
@@ -131,7 +133,7 @@ module _ {G : Type 0} (log_of : G → Option (List Asked)) (faults_of : G → �
 
       ends : HasEnds book.entries
       ends = subst HasEnds (sym same) ended
-  performs_ran shelf turn f phases passes gates back realm n new count are closed ended framed kept (inr un) book same =
+  performs_ran shelf turn f phases passes gates back realm n new count are closed ended framed kept (inr un) book report same =
       let closes = subst (λ (l : List Entry). Closes l back.passes) (sym same) closed in
       let none = nothing_happened log_of faults_of shelf turn f phases passes gates back book.entries new count are closes un.same_passes in
       record {
@@ -148,20 +150,45 @@ module _ {G : Type 0} (log_of : G → Option (List Asked)) (faults_of : G → �
       → All (λ (p : RealmPass). p.frame ≡ Some realm.frame) back.passes → IsKeptNumber realm.frame realm.entries done.kept → RanOrNot log_of faults_of shelf phases passes gates back
       → done.book.entries ≡ realm.entries → done.gates ≡ back.gates → done.said ≡ back.said → Performs log_of faults_of shelf f phases gates done
   performs_by shelf turn f phases passes gates back realm done new count are closed ended framed kept ran same gated told =
-      subst (λ (o : Option (List Said)). Performs log_of faults_of shelf f phases gates (record { book = done.book; kept = done.kept; gates = done.gates; said = o })) (sym told)
-      (subst (λ (gs : List G). Performs log_of faults_of shelf f phases gates (record { book = done.book; kept = done.kept; gates = gs; said = back.said })) (sym gated)
-      (performs_ran shelf turn f phases passes gates back realm done.kept new count are closed ended framed kept ran done.book same))
+      subst (λ (o : Option (List Said)). Performs log_of faults_of shelf f phases gates (record { book = done.book; kept = done.kept; report = done.report; gates = done.gates; said = o })) (sym told)
+      (subst (λ (gs : List G). Performs log_of faults_of shelf f phases gates (record { book = done.book; kept = done.kept; report = done.report; gates = gs; said = back.said })) (sym gated)
+      (performs_ran shelf turn f phases passes gates back realm done.kept new count are closed ended framed kept ran done.book done.report same))
+
+  -- the frame of the realm that the lanes left
+  frame_left : (shelf : Shelf) (turn : LockView) (f : Frame) (phases : List (List Line)) (passes : List RealmPass) (gates : List G) (back : Lanes G) (realm : Story) → passes ≡ new_passes turn.lock f 16 → length gates ≡ 16 → AreSixteen turn back.passes → Closes realm.entries back.passes
+      → All (λ (p : RealmPass). p.frame ≡ Some realm.frame) back.passes → RanOrNot log_of faults_of shelf phases passes gates back → realm.frame ≡ f
+  frame_left shelf turn f phases passes gates back realm new count are closed framed (inl ran) =
+      frame_by log_of faults_of shelf turn f phases passes gates back realm.entries new count are closed ran realm.frame framed
+  frame_left shelf turn f phases passes gates back realm new count are closed framed (inr un) =
+      frame_same log_of faults_of shelf turn f phases passes gates back realm.entries new count are closed un.same_passes realm.frame framed
+
+  -- so a report on its tree is one on that of the history that is handed back
+  pub reported_by : (wanted : Wanted) (shelf : Shelf) (turn : LockView) (f : Frame) (phases : List (List Line)) (passes : List RealmPass) (gates : List G) (back : Lanes G) (realm : Story) (done : Performed G) → passes ≡ new_passes turn.lock f 16 → length gates ≡ 16 → AreSixteen turn back.passes → Closes realm.entries back.passes
+      → All (λ (p : RealmPass). p.frame ≡ Some realm.frame) back.passes → RanOrNot log_of faults_of shelf phases passes gates back → done.book.entries ≡ realm.entries
+      → IfSome done.report (IsReport wanted realm.frame realm.entries) → IfSome done.report (IsReport wanted f done.book.entries)
+  reported_by wanted shelf turn f phases passes gates back realm done new count are closed framed ran same made =
+      subst (λ (l : List Entry). IfSome done.report (IsReport wanted f l)) (sym same)
+      (subst (λ (own : Frame). IfSome done.report (IsReport wanted own realm.entries)) (frame_left shelf turn f phases passes gates back realm new count are closed framed ran) made)
+
+  -- that of a realm without a manager
+  pub reported_nothing : (wanted : Wanted) (realm made : Story) (done : Performed G) → made ≡ realm → done.book.entries ≡ made.entries
+      → IfSome done.report (IsReport wanted made.frame made.entries) → IfSome done.report (IsReport wanted realm.frame done.book.entries)
+  reported_nothing wanted realm made done is same reported =
+      subst (λ (s : Story). IfSome done.report (IsReport wanted s.frame done.book.entries)) is
+      (subst (λ (l : List Entry). IfSome done.report (IsReport wanted made.frame l)) (sym same) reported)
 
   -- what is printed of the answers is what is wanted of them
-  text_is : (wanted : Wanted) (served : Served) (answered : List (List Answered)) (said : List Said) (history : List Entry) (kept : ℕ) → map answered_lines answered ≡ served.phases → said ≡ flat_map (λ phase. map said_of phase) answered
-      → printed_text served.phases said wanted (header_text served.frame) history kept ≡ wanted_text wanted served.frame answered history kept
-  text_is (Answers journal) served answered said history kept lines is =
+  text_is : (wanted : Wanted) (served : Served) (answered : List (List Answered)) (said : List Said) (history : List Entry) (kept : ℕ) (report : List ℕ) → map answered_lines answered ≡ served.phases → said ≡ flat_map (λ phase. map said_of phase) answered
+      → printed_text served.phases said wanted (header_text served.frame) history kept report ≡ wanted_text wanted served.frame answered history kept report
+  text_is (Answers journal) served answered said history kept report lines is =
       ap (λ (t : List ℕ). t ++ journal_of journal served.frame history)
       (ap (λ (p : List (List Line)). texts_of (flat_map (λ lines. lines) p) said) (sym lines)
       ∙ ap (texts_of (flat_map (λ lines. lines) (map answered_lines answered))) is
       ∙ texts_all answered)
-  text_is (Summary instances) served answered said history kept lines is =
+  text_is (Summary instances) served answered said history kept report lines is =
       ap (λ l. summary_text instances l kept) (ap (map (λ (s : Said). s.result)) is ∙ results_all answered)
+  text_is Environments served answered said history kept report lines is = refl
+  text_is Storage served answered said history kept report lines is = refl
 
   -- what is written with the journal
   journal_is : (folder : Option (List ℕ)) (served : Served) (gates : List G) (done : Performed G) (p : Performs log_of faults_of (shelf_of folder served) served.frame served.phases gates done)
@@ -187,68 +214,83 @@ module _ {G : Type 0} (log_of : G → Option (List Asked)) (faults_of : G → �
 
   -- what is said of a script's run
   pub runs_by : (wanted : Wanted) (folder : Option (List ℕ)) (served : Served) (gates : List G) (done : Performed G) (status : ℕ) (old new : Option (List ℕ)) → Performs log_of faults_of (shelf_of folder served) served.frame served.phases gates done
-      → ((said : List Said) → done.said ≡ Some said → IsPrinted (printed_text served.phases said wanted (header_text served.frame) done.book.entries done.kept) said status old new)
-      → (done.said ≡ None → (status ≡ 6) × AppendsFront old new [])
+      → IfSome done.report (IsReport wanted served.frame done.book.entries)
+      → ((said : List Said) (report : List ℕ) → done.said ≡ Some said → done.report ≡ Some report → IsPrinted (printed_text served.phases said wanted (header_text served.frame) done.book.entries done.kept report) said status old new)
+      → ((done.said ≡ None) ⊎ (done.report ≡ None) → (status ≡ 6) × AppendsFront old new [])
       → All (λ (lines : List Line). All IsFit lines) served.phases → All IsTypedEntry done.book.entries → length gates ≡ 16 → length done.gates ≡ 16 → MayTell wanted served
       → RunsScript log_of faults_of wanted folder served gates done.gates done.book.entries status old new
-  runs_by wanted folder served gates done status old new p told untold fit typed count count₁ tells = by done.said refl p.said
+  runs_by wanted folder served gates done status old new p made told untold fit typed count count₁ tells = by done.said done.report refl refl p.said made
     where
-      text : List ℕ
-      text = wanted_text wanted served.frame p.answered done.book.entries done.kept
+      laws : EndsWell served.frame done.book.entries
+      laws = ends_well served.frame done.book.entries p.makes.legal p.ends
 
-      by : (o : Option (List Said)) → done.said ≡ o → IfSome o (λ said. said ≡ flat_map (λ phase. map said_of phase) p.answered) → RunsScript log_of faults_of wanted folder served gates done.gates done.book.entries status old new
-      by None is said =
-          let none = untold is in
-          record { answered = p.answered; makes = p.makes; laws = ends_well served.frame done.book.entries p.makes.legal p.ends; work = p.work; kept = done.kept; counts = p.kept; text = text; prints = refl; all = λ ended. absurd (cc (ended, none.0)); no_want = λ ended. absurd (not_six status none.0 ended); front = front_of_nothing old new text none.1; legal = λ ended wants short. absurd (cc (ended, none.0)) }
-      by (Some said) is same =
-          let printed = told said is in
-          let the_text : printed_text served.phases said wanted (header_text served.frame) done.book.entries done.kept ≡ text = text_is wanted served p.answered said done.book.entries done.kept p.makes.lines same in
+      unsaid : (status ≡ 6) × AppendsFront old new [] → RunsScript log_of faults_of wanted folder served gates done.gates done.book.entries status old new
+      unsaid none =
+          let some = report_ends wanted served.frame done.book.entries laws in
+          let text = wanted_text wanted served.frame p.answered done.book.entries done.kept some.0 in
+          record { answered = p.answered; makes = p.makes; laws = laws; work = p.work; kept = done.kept; counts = p.kept; report = some.0; reported = some.1; text = text; prints = refl; all = λ ended. absurd (cc (ended, none.0)); no_want = λ ended. absurd (not_six status none.0 ended); front = front_of_nothing old new text none.1; legal = λ ended wants short. absurd (cc (ended, none.0)) }
+
+      by : (o : Option (List Said)) (r : Option (List ℕ)) → done.said ≡ o → done.report ≡ r → IfSome o (λ said. said ≡ flat_map (λ phase. map said_of phase) p.answered) → IfSome r (IsReport wanted served.frame done.book.entries)
+          → RunsScript log_of faults_of wanted folder served gates done.gates done.book.entries status old new
+      by None r is reported said made_too = unsaid (untold (inl is))
+      by (Some said) None is reported same made_too = unsaid (untold (inr reported))
+      by (Some said) (Some report) is reported same made_too =
+          let printed = told said report is reported in
+          let the_text : printed_text served.phases said wanted (header_text served.frame) done.book.entries done.kept report ≡ wanted_text wanted served.frame p.answered done.book.entries done.kept report =
+          text_is wanted served p.answered said done.book.entries done.kept report p.makes.lines same in
           record {
             answered = p.answered;
             makes = p.makes;
-            laws = ends_well served.frame done.book.entries p.makes.legal p.ends;
+            laws = laws;
             work = p.work;
             kept = done.kept;
             counts = p.kept;
-            text = printed_text served.phases said wanted (header_text served.frame) done.book.entries done.kept;
+            report = report;
+            reported = made_too;
+            text = printed_text served.phases said wanted (header_text served.frame) done.book.entries done.kept report;
             prints = the_text;
             all = printed.all;
             no_want = λ ended. no_want_all p.answered (subst (All (λ s. s.result ≢ Err refusal.Memory)) same (printed.no_want ended));
             front = printed.front;
             legal = λ ended wants short. journal_is folder served gates done p fit typed count count₁ (tells wants) _
-                (the_text ∙ ap (λ (w : Wanted). wanted_text w served.frame p.answered done.book.entries done.kept) wants) short;
+                (the_text ∙ ap (λ (w : Wanted). wanted_text w served.frame p.answered done.book.entries done.kept report) wants) short;
           }
 
   -- the same of what a run hands back, whose parts were moved and borrowed
   pub runs_back : (wanted : Wanted) (folder : Option (List ℕ)) (served : Served) (gates gates₁ : List G) (done : Performed G) (book : History) (status : ℕ) (old new : Option (List ℕ)) (frame : Frame) (phases others : List (List Line)) (head : List ℕ)
-      → Performs log_of faults_of (shelf_of folder served) frame phases gates done → frame ≡ served.frame → phases ≡ served.phases
-      → ((said : List Said) → done.said ≡ Some said → IsPrinted (printed_text others said wanted head done.book.entries done.kept) said status old new) → others ≡ served.phases → head ≡ header_text served.frame
-      → (done.said ≡ None → (status ≡ 6) × AppendsFront old new [])
+      → Performs log_of faults_of (shelf_of folder served) frame phases gates done → IfSome done.report (IsReport wanted frame done.book.entries) → frame ≡ served.frame → phases ≡ served.phases
+      → ((said : List Said) (report : List ℕ) → done.said ≡ Some said → done.report ≡ Some report → IsPrinted (printed_text others said wanted head done.book.entries done.kept report) said status old new) → others ≡ served.phases → head ≡ header_text served.frame
+      → ((done.said ≡ None) ⊎ (done.report ≡ None) → (status ≡ 6) × AppendsFront old new [])
       → book ≡ done.book → gates₁ ≡ done.gates
       → All (λ (lines : List Line). All IsFit lines) served.phases → All IsTypedEntry done.book.entries → length gates ≡ 16 → length done.gates ≡ 16 → MayTell wanted served
       → RunsScript log_of faults_of wanted folder served gates gates₁ book.entries status old new
-  runs_back wanted folder served gates gates₁ done book status old new frame phases others head performs framed lined told lined_too headed untold is same fit typed count count₁ tells =
+  runs_back wanted folder served gates gates₁ done book status old new frame phases others head performs made framed lined told lined_too headed untold is same fit typed count count₁ tells =
       let p = subst (λ (f : Frame). Performs log_of faults_of (shelf_of folder served) f served.phases gates done) framed (subst (λ (l : List (List Line)). Performs log_of faults_of (shelf_of folder served) frame l gates done) lined performs) in
-      let printed : (said : List Said) → done.said ≡ Some said → IsPrinted (printed_text served.phases said wanted (header_text served.frame) done.book.entries done.kept) said status old new = λ said some.
-      subst (λ (h : List ℕ). IsPrinted (printed_text served.phases said wanted h done.book.entries done.kept) said status old new) headed
-      (subst (λ (l : List (List Line)). IsPrinted (printed_text l said wanted head done.book.entries done.kept) said status old new) lined_too (told said some)) in
+      let reported = subst (λ (f : Frame). IfSome done.report (IsReport wanted f done.book.entries)) framed made in
+      let printed : (said : List Said) (report : List ℕ) → done.said ≡ Some said → done.report ≡ Some report → IsPrinted (printed_text served.phases said wanted (header_text served.frame) done.book.entries done.kept report) said status old new = λ said report some too.
+      subst (λ (h : List ℕ). IsPrinted (printed_text served.phases said wanted h done.book.entries done.kept report) said status old new) headed
+      (subst (λ (l : List (List Line)). IsPrinted (printed_text l said wanted head done.book.entries done.kept report) said status old new) lined_too (told said report some too)) in
       subst (λ (b : History). RunsScript log_of faults_of wanted folder served gates gates₁ b.entries status old new) (sym is)
       (subst (λ (gs : List G). RunsScript log_of faults_of wanted folder served gates gs done.book.entries status old new) (sym same)
-      (runs_by wanted folder served gates done status old new p printed untold fit typed count count₁ tells))
+      (runs_by wanted folder served gates done status old new p reported printed untold fit typed count count₁ tells))
 
   -- a script of which no line was run
   pub runs_nothing : (wanted : Wanted) (folder : Option (List ℕ)) (served : Served) (gates₀ gates₁ : List G) (history : List Entry) (status : ℕ) (out : Option (List ℕ)) → history ≡ [] → gates₁ ≡ gates₀ → status ≡ 6 → RunsScript log_of faults_of wanted folder served gates₀ gates₁ history status out out
   runs_nothing wanted folder served gates₀ gates₁ history status out none same is =
       let answered = all_wanting served.phases in
-      let text = wanted_text wanted served.frame answered history 0 in
       let legal = subst (Legal (start served.frame)) (sym none) (nothing_legal served.frame) in
+      let laws = ends_well served.frame history legal (nothing_ends history none) in
+      let some = report_ends wanted served.frame history laws in
+      let text = wanted_text wanted served.frame answered history 0 some.0 in
       record {
         answered = answered;
         makes = makes_nothing served.frame served.phases history none legal;
-        laws = ends_well served.frame history legal (nothing_ends history none);
+        laws = laws;
         work = works_nothing log_of faults_of (shelf_of folder served) history gates₀ gates₁ none same;
         kept = 0;
         counts = nothing_kept served.frame history none;
+        report = some.0;
+        reported = some.1;
         text = text;
         prints = refl;
         all = λ ended. absurd (cc (ended, is));

@@ -104,7 +104,7 @@ pub const AUDITS: &str = "\
     out bad-text 2\n\
     == audit x\n\
     => 2\n\
-    err usage: run, check, serve, audit, generate\n\
+    err usage: run, check, serve, audit, generate, environments, storage\n\
     == audit\n\
     read 0\n\
     $asked$\n\

@@ -4,19 +4,19 @@
 pub const CHECKS: &str = "\
     == \n\
     => 2\n\
-    err usage: run, check, serve, audit, generate\n\
+    err usage: run, check, serve, audit, generate, environments, storage\n\
     == serve\n\
     => 2\n\
-    err usage: run, check, serve, audit, generate\n\
+    err usage: run, check, serve, audit, generate, environments, storage\n\
     == run x\n\
     => 2\n\
-    err usage: run, check, serve, audit, generate\n\
+    err usage: run, check, serve, audit, generate, environments, storage\n\
     == run --help\n\
     => 2\n\
-    err usage: run, check, serve, audit, generate\n\
+    err usage: run, check, serve, audit, generate, environments, storage\n\
     == check --repo d\n\
     => 2\n\
-    err usage: run, check, serve, audit, generate\n\
+    err usage: run, check, serve, audit, generate, environments, storage\n\
     == check\n\
     + {children:[{name:'a',url:'#meta/a.cm'},],/* one */}\n\
     => 0\n\

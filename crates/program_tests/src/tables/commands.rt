@@ -219,6 +219,12 @@ pub const COMMANDS: &str = "\
     | create . c n u + protocol n parent su\n\
     | create . c n u + directory n parent su\n\
     | create . c n u + protocol n parent optional transitional\n\
+    | events .\n\
+    | events . \n\
+    | events . x\n\
+    | events . 01\n\
+    | events . 1 \n\
+    | events . 18446744073709551616\n\
     | start @\n\
     | start a:\n\
     | show .\r\n\
@@ -271,6 +277,12 @@ pub const COMMANDS: &str = "\
     sent refused 70 bad-command at 36\n\
     sent refused 70 bad-command at 38\n\
     sent refused 70 bad-command at 44\n\
+    sent refused 70 bad-command at 8\n\
+    sent refused 70 bad-command at 9\n\
+    sent refused 70 bad-command at 9\n\
+    sent refused 70 bad-command at 10\n\
+    sent refused 70 bad-command at 10\n\
+    sent refused 70 bad-command at 28\n\
     sent refused 70 bad-command at 7\n\
     sent refused 70 bad-command at 8\n\
     sent refused 70 bad-command at 6\n\

@@ -99,8 +99,12 @@ pub const GATES: &str = "\
     @client\n\
     @root-line\n\
     | 0 start logger\n\
+    | 0 events . 0\n\
     => 0\n\
     out 0 refused 84 cannot-start action 3 declined\n\
+    out 0 events . 2 next 10\n\
+    out   3 resolved . incarnation 0\n\
+    out   7 resolved logger incarnation 1\n\
     told 0 launch fuchsia-pkg://t/a#meta/logger.cm action 3 Declined\n\
     == run\n\
     failing 0 1\n\
@@ -110,9 +114,12 @@ pub const GATES: &str = "\
     @root-line\n\
     | 0 start logger\n\
     | 0 stop logger\n\
+    | 0 events logger 9\n\
     => 0\n\
     out 0 started logger action 3\n\
     out 0 stopped logger by-force action 4\n\
+    out 0 events logger 1 next 14\n\
+    out   12 stopped logger incarnation 1\n\
     told 0 launch fuchsia-pkg://t/a#meta/logger.cm action 3 Running\n\
     told 0 halt fuchsia-pkg://t/a#meta/logger.cm action 4 Failed\n\
     told 0 faults 1\n\

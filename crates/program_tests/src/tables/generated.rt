@@ -17,16 +17,16 @@ pub const GENERATED: &str = "\
     out instances 3 started 3 opened 3 shown 0 kept 1\n\
     == generate 2147483648 3\n\
     => 2\n\
-    err usage: run, check, serve, audit, generate\n\
+    err usage: run, check, serve, audit, generate, environments, storage\n\
     == generate 1 0\n\
     => 2\n\
-    err usage: run, check, serve, audit, generate\n\
+    err usage: run, check, serve, audit, generate, environments, storage\n\
     == generate 1 10001\n\
     => 2\n\
-    err usage: run, check, serve, audit, generate\n\
+    err usage: run, check, serve, audit, generate, environments, storage\n\
     == generate one 5\n\
     => 2\n\
-    err usage: run, check, serve, audit, generate\n\
+    err usage: run, check, serve, audit, generate, environments, storage\n\
     == generate 3 20\n\
     runs 2\n\
     => 0\n\

@@ -280,8 +280,8 @@ pub const FIELDS: &str = "\
     out valid\n\
     == check\n\
     + {capabilities:[{storage:'s',from:'#c',backing_dir:'d',storage_id:'static_instance_id'}]}\n\
-    => 0\n\
-    out valid\n\
+    => 1\n\
+    out invalid 96 capabilities 0\n\
     == check\n\
     + {capabilities:[{storage:'s',protocol:'p'}]}\n\
     => 1\n\
@@ -368,8 +368,8 @@ pub const FIELDS: &str = "\
     out invalid 33 offer 0 rights\n\
     == check\n\
     + {offer:[{storage:'s',from:'void',to:'#a',availability:'same_as_target'}]}\n\
-    => 0\n\
-    out valid\n\
+    => 1\n\
+    out invalid 96 offer 0\n\
     == check\n\
     + {expose:[{storage:'s'}]}\n\
     => 1\n\
@@ -447,42 +447,42 @@ pub const FIELDS: &str = "\
     => 0\n\
     out valid\n";
 
-/// Repeated and undeclared environments, registrations, paths of uses from `debug`, and storages:
-/// a declaration is valid whatever these name.
-pub const UNJUDGED: &str = "\
+/// Repeated and undeclared environments, registrations, paths of uses from `debug`, and storages: the
+/// first fault by its number is told.
+pub const FIRST_BY_NUMBER: &str = "\
     == check\n\
     + {environments:[{name:'e'},{name:'e'}]}\n\
-    => 0\n\
-    out valid\n\
+    => 1\n\
+    out invalid 90 environments 1\n\
     == check\n\
     + {children:[{name:'a',url:'u',environment:'#e'}]}\n\
-    => 0\n\
-    out valid\n\
+    => 1\n\
+    out invalid 91 children 0\n\
     == check\n\
     + {collections:[{name:'c',durability:'transient',environment:'#e'}]}\n\
-    => 0\n\
-    out valid\n\
+    => 1\n\
+    out invalid 91 collections 0\n\
     == check\n\
     + {environments:[{name:'e',runners:[{runner:'r',from:'parent'},{runner:'s',from:'self',as:'r'}]}]}\n\
-    => 0\n\
-    out valid\n\
+    => 1\n\
+    out invalid 92 environments 0\n\
     == check\n\
     + {environments:[{name:'e',runners:[{runner:'r',from:'#no'}],debug:[{protocol:'p',from:'self'}]}]}\n\
-    => 0\n\
-    out valid\n\
+    => 1\n\
+    out invalid 93 environments 0\n\
     == check\n\
     + {use:[{protocol:'p'},{protocol:'p',from:'debug'},{protocol:'p',from:'debug'}]}\n\
-    => 0\n\
-    out valid\n\
+    => 1\n\
+    out invalid 94 use 0\n\
     == check\n\
     | {capabilities:[{storage:'s',from:'self',backing_dir:'d',storage_id:'static_instance_id'},\n\
     + {storage:'s',from:'#no',backing_dir:'d',storage_id:'static_instance_id'}]}\n\
-    => 0\n\
-    out valid\n\
+    => 1\n\
+    out invalid 95 capabilities 1\n\
     == check\n\
     + {offer:[{storage:'s',from:'self',to:'#no'},{storage:'s',from:'self',to:'#no'}]}\n\
-    => 0\n\
-    out valid\n";
+    => 1\n\
+    out invalid 96 offer 0\n";
 
 /// The limits of lengths and rows, just kept and just passed. The rows of all kinds count for the limit of
 /// their section; a manifest of as many offers as may be is read, and its first offer judged.
@@ -504,7 +504,7 @@ pub const LIMITS: &str = "\
     out invalid 31 manifest 0\n\
     == check\n\
     + {use:[{protocol:[\n\
-    names p 8192\n\
+    names d 8192\n\
     + ],from:'debug'},{protocol:[\n\
     names p 8192\n\
     + ]}]}\n\

@@ -192,4 +192,95 @@ pub const REALMS: &str = "\
     out 0 created . once:y incarnation 1\n\
     out 0 shown once:y incarnation 1 url #meta/x.cm resolved on\n\
     out 0 exited once:y\n\
-    out 0 refused 80 not-found in .\n";
+    out 0 refused 80 not-found in .\n\
+    == run\n\
+    @root\n\
+    @logger\n\
+    @client\n\
+    @root-line\n\
+    | 0 start logger\n\
+    | 0 exited logger\n\
+    | 0 events . 0\n\
+    | 0 events logger 9\n\
+    => 0\n\
+    out 0 started logger action 3\n\
+    out 0 exited logger\n\
+    out 0 events . 4 next 13\n\
+    out   3 resolved . incarnation 0\n\
+    out   7 resolved logger incarnation 1\n\
+    out   9 started logger incarnation 1\n\
+    out   11 stopped logger incarnation 1\n\
+    out 0 events logger 1 next 15\n\
+    out   11 stopped logger incarnation 1\n\
+    == run\n\
+    @root-once\n\
+    @running\n\
+    @root-line\n\
+    | 0 create . once y #meta/x.cm\n\
+    | 0 show once:y\n\
+    | 0 exited once:y\n\
+    | 0 events . 0\n\
+    => 0\n\
+    out 0 created . once:y incarnation 1\n\
+    out 0 shown once:y incarnation 1 url #meta/x.cm resolved on\n\
+    out 0 exited once:y\n\
+    out 0 events . 5 next 19\n\
+    out   4 resolved . incarnation 0\n\
+    out   8 resolved once:y incarnation 1\n\
+    out   10 started once:y incarnation 1\n\
+    out   14 stopped once:y incarnation 1\n\
+    out   18 destroyed once:y incarnation 1\n\
+    == run\n\
+    @running\n\
+    | manifest fuchsia-pkg://t/a#meta/root.cm\n\
+    | {children:[{name:'log',url:'#meta/x.cm'},{name:'logger',url:'#meta/y.cm'}],\
+    collections:[{name:'coll',durability:'transient'}]}\n\
+    | %%\n\
+    | manifest fuchsia-pkg://t/a#meta/y.cm\n\
+    | {children:[{name:'log',url:'#meta/x.cm'}]}\n\
+    | %%\n\
+    @root-line\n\
+    | 0 start log\n\
+    | 0 start logger/log\n\
+    | 0 events log 0\n\
+    | 0 create . coll log #meta/x.cm\n\
+    | 0 start coll:log\n\
+    | 0 events log 0\n\
+    | 0 events logger 0\n\
+    | 0 events . 9\n\
+    | 0 destroy coll:log\n\
+    | 0 events coll:log 0\n\
+    | 0 events @4 0\n\
+    | 0 events . 27\n\
+    | 0 events . 99\n\
+    | 0 events @9 18446744073709551615\n\
+    => 0\n\
+    out 0 started log action 3\n\
+    out 0 started logger/log action 6\n\
+    out 0 events log 2 next 19\n\
+    out   7 resolved log incarnation 1\n\
+    out   9 started log incarnation 1\n\
+    out 0 created . coll:log incarnation 4\n\
+    out 0 started coll:log action 8\n\
+    out 0 events log 2 next 29\n\
+    out   7 resolved log incarnation 1\n\
+    out   9 started log incarnation 1\n\
+    out 0 events logger 3 next 31\n\
+    out   12 resolved logger incarnation 2\n\
+    out   16 resolved logger/log incarnation 3\n\
+    out   18 started logger/log incarnation 3\n\
+    out 0 events . 5 next 33\n\
+    out   12 resolved logger incarnation 2\n\
+    out   16 resolved logger/log incarnation 3\n\
+    out   18 started logger/log incarnation 3\n\
+    out   26 resolved coll:log incarnation 4\n\
+    out   28 started coll:log incarnation 4\n\
+    out 0 destroyed coll:log\n\
+    out 0 refused 80 not-found in .\n\
+    out 0 refused 81 gone incarnation 4\n\
+    out 0 events . 3 next 44\n\
+    out   28 started coll:log incarnation 4\n\
+    out   38 stopped coll:log incarnation 4\n\
+    out   41 destroyed coll:log incarnation 4\n\
+    out 0 events . 0 next 46\n\
+    out 0 refused 81 gone incarnation 9\n";

@@ -134,6 +134,21 @@ pub const SERVING: &str = "\
     sent refused 83 cannot-resolve action 2 absent\n\
     == $serve$\n\
     held @root 0\n\
+    link one\n\
+    | resolve .\n\
+    | events . 0\n\
+    | events . 4\n\
+    | events logger 6\n\
+    => 0\n\
+    entries 9\n\
+    sent worker 0\n\
+    sent resolved . action 1\n\
+    sent events . 1 next 4\n\
+    sent   3 resolved . incarnation 0\n\
+    sent events . 0 next 6\n\
+    sent events logger 0 next 8\n\
+    == $serve$\n\
+    held @root 0\n\
     failing 0 0\n\
     link one\n\
     | resolve .\n\

@@ -13,7 +13,7 @@ use Rattle.cm_program.specs.Sessions.{RunsSessions}
 use Rattle.cm_call.specs.declared.call.RunOptions.{RunOptions}
 use Rattle.cm_call.specs.declared.call.ServeOptions.{ServeOptions}
 use Rattle.cm_call.specs.declared.call.Workload.{Workload}
-use Rattle.cm_program.specs.declared.wanted.Wanted.TheVariants.{Answers, Summary}
+use Rattle.cm_call.specs.declared.call.Wanted.TheVariants.{Summary}
 use Rattle.cm_program.specs.Sessions.{served_frame, served_shelf}
 use Rattle.cm_session.specs.Links.{view_of}
 use Rattle.cm_session.specs.Serving.{back_view}
@@ -52,10 +52,10 @@ returns-in-Ok-Run g c =
         read_out = c.run_script-ran.ensures.ended;
         faulty = c.run_script-ran.ensures.faulty;
         headline = λ ended.
-            subst (λ (o : RunOptions). OfKnown (RunsAsServed (λ served. RunsScript g.G.Gates.log g.G.Gates.faults (Answers o.journal) o.repository served c.args.gates c.run_script-ran.result.gates c.run_script-ran.result.book.entries c.run_script-ran.result.status (g.K.Sink.written c.args.out.now) (g.K.Sink.written c.run_script-ran.new.out))) (g.S.Source.left c.args.input.now))
+            subst (λ (o : RunOptions). OfKnown (RunsAsServed (λ served. RunsScript g.G.Gates.log g.G.Gates.faults o.wanted o.repository served c.args.gates c.run_script-ran.result.gates c.run_script-ran.result.book.entries c.run_script-ran.result.status (g.K.Sink.written c.args.out.now) (g.K.Sink.written c.run_script-ran.new.out))) (g.S.Source.left c.args.input.now))
             (same_options c.in-Ok-Run.ensures.gives c.in-Ok-Run.field-0-is asks) (c.run_script-ran.ensures.headline ended);
         some = λ ended.
-            subst (λ (o : RunOptions). RunsSome (λ served. RunsScript g.G.Gates.log g.G.Gates.faults (Answers o.journal) o.repository served c.args.gates c.run_script-ran.result.gates c.run_script-ran.result.book.entries c.run_script-ran.result.status (g.K.Sink.written c.args.out.now) (g.K.Sink.written c.run_script-ran.new.out))
+            subst (λ (o : RunOptions). RunsSome (λ served. RunsScript g.G.Gates.log g.G.Gates.faults o.wanted o.repository served c.args.gates c.run_script-ran.result.gates c.run_script-ran.result.book.entries c.run_script-ran.result.status (g.K.Sink.written c.args.out.now) (g.K.Sink.written c.run_script-ran.new.out))
             (RunsNothing c.run_script-ran.result.book.entries c.args.gates c.run_script-ran.result.gates × Keeps (g.K.Sink.written c.args.out.now) (g.K.Sink.written c.run_script-ran.new.out)) c.run_script-ran.result.status (g.S.Source.left c.args.input.now))
             (same_options c.in-Ok-Run.ensures.gives c.in-Ok-Run.field-0-is asks) (c.run_script-ran.ensures.some ended);
       };
@@ -173,7 +173,7 @@ returns-in-Err-Memory g c =
         read_out = λ is. not_six c.stopped-in-Err-Memory.ensures.status c.want_of_memory.ensures.status is refl;
         faulty = of_faulty (IsRefusal c.stopped-in-Err-Memory.result.status) (g.S.Source.left c.args.input.now) (inr (inr (at_six c.stopped-in-Err-Memory.ensures.status c.want_of_memory.ensures.status)));
         headline = λ ran.
-            known_nothing g.G.Gates.log g.G.Gates.faults (g.S.Source.left c.args.input.now) (Answers options.journal) options.repository c.args.gates c.stopped-in-Err-Memory.result.gates c.stopped-in-Err-Memory.result.book.entries c.stopped-in-Err-Memory.result.status (g.K.Sink.written c.args.out.now)
+            known_nothing g.G.Gates.log g.G.Gates.faults (g.S.Source.left c.args.input.now) options.wanted options.repository c.args.gates c.stopped-in-Err-Memory.result.gates c.stopped-in-Err-Memory.result.book.entries c.stopped-in-Err-Memory.result.status (g.K.Sink.written c.args.out.now)
             c.stopped-in-Err-Memory.ensures.empty c.stopped-in-Err-Memory.ensures.gates (at_six c.stopped-in-Err-Memory.ensures.status c.want_of_memory.ensures.status);
         some = λ ran. some_unread _ _ _ _ (at_six c.stopped-in-Err-Memory.ensures.status c.want_of_memory.ensures.status) ((c.stopped-in-Err-Memory.ensures.empty, c.stopped-in-Err-Memory.ensures.gates), Keeps-refl _);
       };

@@ -11,5 +11,5 @@ pub returns-clause-runs : goal.returns-clause-runs
 returns-clause-runs g c =
     runs_back g.G.Gates.log g.G.Gates.faults c.args.wanted c.args.repo c.args.served c.args.gates c.print_performed.result.gates c.perform-done.result c.print_performed.result.book c.print_performed.result.status (g.K.Sink.written c.args.out.now) (g.K.Sink.written c.print_performed.new.out)
     c.in-Ok.realm.frame c.as_slice.result.now c.as_slice-2.result.now c.in-Ok.head
-    c.perform-done.ensures.performs (ap (λ s. s.frame) c.in-Ok.ensures.1) c.as_slice.ensures c.print_performed.ensures.said c.as_slice-2.ensures c.in-Ok.ensures.0 c.print_performed.ensures.unsaid c.print_performed.ensures.book c.print_performed.ensures.gates
+    c.perform-done.ensures.performs c.perform-done.ensures.reported (ap (λ s. s.frame) c.in-Ok.ensures.1) c.as_slice.ensures c.print_performed.ensures.said c.as_slice-2.ensures c.in-Ok.ensures.0 c.print_performed.ensures.unsaid c.print_performed.ensures.book c.print_performed.ensures.gates
     c.requires.fit c.print_performed.ensures.typed c.requires.gates c.perform-done.ensures.gates c.requires.tells

@@ -1,4 +1,4 @@
-use Rattle.cm_reply.proofs.Written.{prints_route, prints_directory, prints_forced, prints_created, prints_children, prints_look, prints_survey, prints_doctor, prints_failure}
+use Rattle.cm_reply.proofs.Written.{prints_route, prints_directory, prints_forced, prints_created, prints_children, prints_look, prints_survey, prints_doctor, prints_stream, prints_failure}
 use Rattle.cm_reply.proofs.laws.prints_answers.Goals as goal
 
 pub returns-clause-route : goal.returns-clause-route
@@ -24,6 +24,9 @@ returns-clause-survey c = prints_survey
 
 pub returns-clause-doctor : goal.returns-clause-doctor
 returns-clause-doctor c = prints_doctor
+
+pub returns-clause-stream : goal.returns-clause-stream
+returns-clause-stream c = prints_stream
 
 pub returns-clause-failure : goal.returns-clause-failure
 returns-clause-failure c = prints_failure

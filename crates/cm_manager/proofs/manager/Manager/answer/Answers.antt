@@ -4,6 +4,7 @@ use Rattle.cm_answers.specs.declared.question.Question.TheVariants as question
 use Rattle.cm_answers.specs.Answers.{answer_by}
 use Rattle.cm_manager.proofs.calling.Calling.{acts_on, answered_as}
 use Rattle.cm_manager.proofs.shutdowns.ShuttingDown.{reaches_on, Shutting, Destroying}
+use Rattle.cm_manager.proofs.onward.Streaming.{streamed_helps}
 use Rattle.cm_manager.proofs.manager.Manager.answer.Goals as goal
 
 pub returns-in-Act : goal.returns-in-Act
@@ -30,6 +31,13 @@ returns-in-Destroy g c = record {
 pub returns-in-Doctor : goal.returns-in-Doctor
 returns-in-Doctor g c = record {
   helps = answered_as _ _ question.Doctor c.args.inc _ c.args.pass _ _ _ c.in-Doctor.is c.doctor_at.ensures.helps;
+}
+
+pub returns-in-Events : goal.returns-in-Events
+returns-in-Events g c = record {
+  helps =
+      answered_as _ _ (question.Events c.in-Events.from) c.args.inc _ c.args.pass _ _ _ c.in-Events.is
+      (streamed_helps _ _ _ _ _ _ _ c.events_at.ensures.same c.events_at.ensures.streamed);
 }
 
 pub returns-in-Event : goal.returns-in-Event

@@ -1,0 +1,186 @@
+//! A keeper that writes a file.
+
+ghost use Rattle.std.specs.Prelude.{◌≡◌, IfOk, Some};
+ghost use Rattle.cm_io.specs.Counts.{one_more};
+
+use crate::Keeper;
+use cm_names::{Memory, Text};
+use std::alloc::Global;
+use std::fs::{OpenFile, OpenOptions};
+use std::io::{Error, ErrorKind, Write};
+use std::rt::Files;
+use std::{fs, io};
+
+/// A keeper of a file, for a path of the file system.
+///
+/// The bytes are written into a new file beside it, whose name has the number of the process and `.new` at
+/// its end. That is written through to the disk and renamed when it is whole. So at any time, and after
+/// any end of the process, a file that stands at the path is a whole one.
+#[derive(Drop)]
+pub struct FileKeeper<F: Files> {
+    files: F,
+    place: Text,
+    beside: Text,
+    file: F::File,
+    is_pending: bool,
+    is_left: bool,
+    faults: u64,
+    why: Option<Error>,
+}
+
+impl<F: Files + Drop> FileKeeper<F> {
+    /// A keeper for this path, whose new file is there and empty. `number` is that of the process.
+    ///
+    /// `Err` where the path is empty or names a folder or a thing that is no regular file, and where no
+    /// file can be made beside it.
+    pub fn new(alloc: Global, files: F, number: u32, place: &Text) -> io::Result<FileKeeper<F>>
+        ensures { IfOk result (λ keeper. ⟦<FileKeeper<F> as Keeper>⟧.pending keeper) }
+    {
+        check_place(&files, place.as_str())?;
+        let (place, beside) = match names(alloc, number, place) {
+            Ok(names) => names,
+            Err(Memory) => return Err(Error::from(ErrorKind::OutOfMemory)),
+        };
+        let file = new_file(&files, beside.as_str())?;
+        Ok(FileKeeper {
+            files,
+            place,
+            beside,
+            file,
+            is_pending: true,
+            is_left: false,
+            faults: 0,
+            why: None,
+        })
+    }
+
+    /// The line that says that the journal doesn't stand in its place, and why; and where it stands, if it
+    /// is whole.
+    pub fn fault_line(&self, alloc: Global) -> Result<Text, Memory> {
+        let place = &self.place;
+        let beside = &self.beside;
+        let mut line = Text::new(alloc);
+        line.push(format_args!("journal fault: {place}"))?;
+        if let Some(why) = &self.why {
+            line.push(format_args!(": {why}"))?;
+        }
+        if self.is_left {
+            line.push(format_args!("; it stands in {beside}"))?;
+        }
+        line.push_str("\n")?;
+        Ok(line)
+    }
+
+    /// Counts a fault, and keeps why there was one.
+    fn fail(&mut self, why: Error)
+        ensures { let faults = one_more self.old.faults in
+            self.new ≡ record self.old { faults = faults; why = Some why } }
+    {
+        self.faults = self.faults.saturating_add(1);
+        self.why = Some(why);
+    }
+}
+
+/// Refuses a path at which no file can come to stand.
+fn check_place<F: Files>(files: &F, place: &str) -> io::Result<()> {
+    if place.is_empty() {
+        return Err(Error::new(ErrorKind::InvalidInput, "no file is named"));
+    }
+    if place.ends_with("/") {
+        return Err(Error::from(ErrorKind::IsADirectory));
+    }
+    match fs::metadata(files, place) {
+        Ok(found) if found.is_file() => Ok(()),
+        Ok(found) if found.is_dir() => Err(Error::from(ErrorKind::IsADirectory)),
+        Ok(_) => Err(Error::new(ErrorKind::InvalidInput, "not a regular file")),
+        Err(error) if error.kind() == ErrorKind::NotFound => Ok(()),
+        Err(error) => Err(error),
+    }
+}
+
+/// The path, and that of the new file beside it.
+fn names(alloc: Global, number: u32, place: &Text) -> Result<(Text, Text), Memory>
+    ensures { IfOk result (λ names. names.0 ≡ place.now) }
+{
+    let mut beside = Text::new(alloc);
+    beside.push(format_args!("{place}.{number}.new"))?;
+    Ok((place.clone()?, beside))
+}
+
+/// A new file. One that is left of a process of that number which was killed is taken away before.
+fn new_file<F: Files>(files: &F, path: &str) -> io::Result<F::File> {
+    match fs::remove_file(files, path) {
+        Ok(()) => {}
+        Err(error) if error.kind() == ErrorKind::NotFound => {}
+        Err(error) => return Err(error),
+    }
+    OpenOptions::new()
+        .write(true)
+        .create_new(true)
+        .open(files, path)
+}
+
+/// Takes a file away, where that is possible.
+fn take_away<F: Files>(files: &F, path: &str) {
+    match fs::remove_file(files, path) {
+        Ok(()) => {}
+        Err(_) => {}
+    }
+}
+
+impl<F: Files + Drop> Keeper for FileKeeper<F> {
+    ghost use Rattle.std.specs.Prelude.{◌≡◌, None, true};
+
+    ghost draft = { λ k. F.File.Write.contents k.file };
+
+    ghost shown = { λ _. None };
+
+    ghost pending = { λ k. k.is_pending ≡ true };
+
+    ghost faults = { λ k. k.faults };
+
+    fn put(&mut self, bytes: &[u8]) -> bool {
+        match self.file.write_all(bytes) {
+            Ok(()) => true,
+            Err(why) => {
+                self.fail(why);
+                false
+            }
+        }
+    }
+
+    fn show(&mut self) -> bool {
+        if let Err(why) = self.file.sync_all() {
+            take_away(&self.files, self.beside.as_str());
+            self.fail(why);
+            return false;
+        }
+        match fs::rename(&self.files, self.beside.as_str(), self.place.as_str()) {
+            Ok(()) => {
+                self.is_pending = false;
+                true
+            }
+            Err(why) => {
+                self.is_left = true;
+                self.fail(why);
+                false
+            }
+        }
+    }
+
+    fn give_up(&mut self) {
+        if self.is_pending {
+            take_away(&self.files, self.beside.as_str());
+        }
+    }
+}
+
+/// The line that says that no file can be made for a journal there, and why. An empty path isn't named.
+pub fn fault_line(alloc: Global, place: &Text, why: &Error) -> Result<Text, Memory> {
+    let mut line = Text::from_str(alloc, "journal fault: ")?;
+    if !place.is_empty() {
+        line.push(format_args!("{place}: "))?;
+    }
+    line.push(format_args!("{why}\n"))?;
+    Ok(line)
+}

@@ -1,0 +1,45 @@
+//! A place for a text that is seen there as a whole or not at all.
+
+ghost use Rattle.std.specs.Prelude.{◌≡◌, false, true};
+ghost use Rattle.std.specs.Io.KnownBytes.{Appends};
+ghost use Rattle.cm_keep.specs.Keeping.{Counted, PutsUp};
+
+/// A place for one text, which is handed over piece by piece and put there when it is whole. Nobody sees
+/// a piece of it before. A keeper counts its faults, from 0 to 2^64 - 1, where the count stays.
+pub trait Keeper: Drop {
+    ghost use Rattle.std.specs.Prelude.{ℕ, List, Option};
+
+    /// The bytes that were handed over, where they are known.
+    ghost draft: { Self → Option (List ℕ) };
+
+    /// The texts that were put into the place, one over the other, where they are known.
+    ghost shown: { Self → Option (List (List ℕ)) };
+
+    /// That this keeper has not put its text there yet: behind that nothing more is handed over.
+    ghost pending: { Self → Type 0 };
+
+    /// How often it failed.
+    ghost faults: { Self → ℕ };
+
+    /// Hands over the next bytes of the text. Whether it has all of them; where it failed, some may be
+    /// missing, and its count of faults rose.
+    fn put(&mut self, bytes: &[u8]) -> bool
+        requires pending { pending self.old }
+        ensures pending { pending self.new }
+        ensures bytes { result ≡ true → Appends (draft self.old) (draft self.new) bytes.now }
+        ensures shown { shown self.new ≡ shown self.old }
+        ensures cause { Counted (faults self.old) (faults self.new) result };
+
+    /// Puts the text into the place. Whether it stands there now; where it failed, what stood there before
+    /// still does, and its count of faults rose.
+    fn show(&mut self) -> bool
+        requires pending { pending self.old }
+        ensures shown { result ≡ true → PutsUp (draft self.old) (shown self.old) (shown self.new) }
+        ensures failed { result ≡ false → shown self.new ≡ shown self.old }
+        ensures cause { Counted (faults self.old) (faults self.new) result };
+
+    /// Lets go of the bytes that were handed over. What stands in the place stays there.
+    fn give_up(&mut self)
+        ensures shown { shown self.new ≡ shown self.old }
+        ensures faults { faults self.new ≡ faults self.old };
+}

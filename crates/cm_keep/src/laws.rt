@@ -1,0 +1,8 @@
+//! A law of journals that are kept.
+
+ghost use Rattle.cm_keep.specs.Keeping.{LimitsAreUntold};
+
+/// What is kept is the journal of the realm, as a run of a script writes it.
+pub fn limits_are_untold()
+    ensures { LimitsAreUntold }
+{}

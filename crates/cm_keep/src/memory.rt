@@ -1,0 +1,118 @@
+//! A keeper in memory, which fails where it is planned.
+
+ghost use Rattle.std.specs.Prelude.{◌≡◌, Some, []};
+ghost use Rattle.cm_io.specs.Counts.{count_after, one_more};
+
+use crate::Keeper;
+use cm_names::{Bytes, List};
+use std::alloc::Global;
+use std::mem;
+
+/// A keeper in memory, whose texts can be looked at.
+#[derive(Drop)]
+pub struct MemoryKeeper {
+    alloc: Global,
+    draft: Vec<u8>,
+    shown: List<Bytes>,
+    failing: u64,
+    calls: u64,
+    faults: u64,
+    is_pending: bool,
+}
+
+impl MemoryKeeper {
+    /// A keeper with nothing in its place, whose call of this number fails; the first has the number 0.
+    pub fn new(alloc: Global, failing: u64) -> MemoryKeeper
+        ensures draft { ⟦<MemoryKeeper as Keeper>⟧.draft result ≡ Some [] }
+        ensures shown { ⟦<MemoryKeeper as Keeper>⟧.shown result ≡ Some [] }
+        ensures pending { ⟦<MemoryKeeper as Keeper>⟧.pending result }
+    {
+        MemoryKeeper {
+            alloc,
+            draft: Vec::new(alloc),
+            shown: List::new(alloc),
+            failing,
+            calls: 0,
+            faults: 0,
+            is_pending: true,
+        }
+    }
+
+    /// The texts that were put into the place.
+    pub fn shown(&self) -> &[Bytes]
+        ensures { ⟦<MemoryKeeper as Keeper>⟧.shown self.now ≡ Some result.now }
+    {
+        self.shown.as_slice()
+    }
+
+    /// How many calls there were that may fail.
+    pub fn calls(&self) -> u64 {
+        self.calls
+    }
+
+    /// How many bytes were handed over that don't stand in the place.
+    pub fn held(&self) -> usize {
+        self.draft.len()
+    }
+
+    /// Counts the call that now begins. Whether it fails; if so, the fault is counted.
+    fn fails(&mut self) -> bool
+        ensures { self.new ≡ record self.old {
+          calls = one_more self.old.calls;
+          faults = count_after result self.old.faults;
+        } }
+    {
+        let fails = self.calls == self.failing;
+        self.calls = self.calls.saturating_add(1);
+        if fails {
+            self.faults = self.faults.saturating_add(1);
+        }
+        fails
+    }
+}
+
+impl Keeper for MemoryKeeper {
+    ghost use Rattle.std.specs.Prelude.{◌≡◌, Some, true};
+
+    ghost draft = { λ k. Some k.draft.items };
+
+    ghost shown = { λ k. Some k.shown };
+
+    ghost pending = { λ k. k.is_pending ≡ true };
+
+    ghost faults = { λ k. k.faults };
+
+    fn put(&mut self, bytes: &[u8]) -> bool {
+        if self.fails() {
+            return false;
+        }
+        match self.draft.extend_from_slice(bytes) {
+            Ok(()) => true,
+            Err(_) => {
+                self.faults = self.faults.saturating_add(1);
+                false
+            }
+        }
+    }
+
+    fn show(&mut self) -> bool {
+        if self.fails() {
+            return false;
+        }
+        let draft = mem::replace(&mut self.draft, Vec::new(self.alloc));
+        match self.shown.push(List::from_vec(draft)) {
+            Ok(()) => {
+                self.is_pending = false;
+                true
+            }
+            Err(_) => {
+                self.faults = self.faults.saturating_add(1);
+                false
+            }
+        }
+    }
+
+    fn give_up(&mut self) {
+        self.draft.clear();
+    }
+}

@@ -1,0 +1,126 @@
+//! The journal of a service: where it is to be kept, and its keeping.
+
+ghost use Rattle.std.specs.Prelude.{◌≡◌, IfOk, OnErr, OnOk};
+ghost use Rattle.cm_keep.specs.Keeping.{Caused, IsKept, kept_text};
+ghost use Rattle.cm_keep.specs.Service.{Plans};
+
+use crate::{FileKeeper, KeepFault, Keeper, fault_line, keep_journal};
+use cm_book::Book;
+use cm_call::{Call, WordsFault, read_words};
+use cm_names::{Memory, Text};
+use std::alloc::Global;
+use std::io::ErrorKind;
+use std::rt::Files;
+
+/// The journal that is to be kept of a service.
+#[derive(Drop)]
+pub struct Keeping {
+    /// The path that it is to stand at.
+    pub at: Text,
+    /// The URL of the root.
+    pub root: Text,
+}
+
+/// Why there is no journal in its place.
+#[derive(Drop)]
+pub enum Unkept {
+    /// Memory ran out.
+    Memory,
+    /// The line that tells why, with its line feed.
+    Said(Text),
+}
+
+/// The journal that is to be kept at that path, where the words ask for a service; else none is.
+pub fn keeping_of(
+    alloc: Global,
+    words: &[Text],
+    at: Option<Text>,
+) -> Result<Option<Keeping>, Memory>
+    ensures { IfOk result (Plans words.now at) }
+{
+    let Some(at) = at else {
+        return Ok(None);
+    };
+    match read_words(alloc, words) {
+        Ok(Call::Serve(options)) => Ok(Some(Keeping {
+            at,
+            root: options.root,
+        })),
+        Err(WordsFault::Memory) => Err(Memory),
+        _ => Ok(None),
+    }
+}
+
+/// Why the journal can't be kept, as a line.
+fn as_unkept(line: Result<Text, Memory>) -> Unkept {
+    match line {
+        Ok(line) => Unkept::Said(line),
+        Err(Memory) => Unkept::Memory,
+    }
+}
+
+/// A keeper for the journal. `number` is that of the process.
+fn keeper_of<F: Files + Drop>(
+    alloc: Global,
+    files: F,
+    number: u32,
+    keeping: &Keeping,
+) -> Result<FileKeeper<F>, Unkept>
+    ensures { IfOk result (λ keeper. ⟦<FileKeeper<F> as Keeper>⟧.pending keeper) }
+{
+    match FileKeeper::new(alloc, files, number, &keeping.at) {
+        Ok(keeper) => Ok(keeper),
+        Err(why) if why.kind() == ErrorKind::OutOfMemory => Err(Unkept::Memory),
+        Err(why) => Err(as_unkept(fault_line(alloc, &keeping.at, &why))),
+    }
+}
+
+/// Tries whether the journal can be kept, before there is one: makes a file beside its place, and takes it
+/// away again.
+pub fn try_keeping<F: Files + Drop>(
+    alloc: Global,
+    files: F,
+    number: u32,
+    keeping: &Keeping,
+) -> Result<(), Unkept> {
+    let mut keeper = keeper_of(alloc, files, number, keeping)?;
+    keeper.give_up();
+    Ok(())
+}
+
+/// Keeps the journal of this history, of a realm of that root.
+pub fn keep_book<P: Keeper>(
+    alloc: Global,
+    keeper: &mut P,
+    keeping: &Keeping,
+    book: &Book,
+) -> Result<(), KeepFault>
+    requires pending { P.pending keeper.old }
+    ensures kept { OnOk result (IsKept (P.draft keeper.old) (P.shown keeper.old) (P.shown keeper.new)
+        (kept_text keeping.now.root book.now.entries)) }
+    ensures nothing { OnErr result (P.shown keeper.new ≡ P.shown keeper.old) }
+    ensures cause { Caused (P.faults keeper.old) (P.faults keeper.new) result }
+{
+    keep_journal(alloc, keeper, &keeping.root, book.entries())
+}
+
+/// Keeps the journal of this history in its file. A service that failed before anything happened in it,
+/// by its status, leaves what stands there.
+pub fn keep_service<F: Files + Drop>(
+    alloc: Global,
+    files: F,
+    number: u32,
+    keeping: &Keeping,
+    status: u8,
+    book: &Book,
+) -> Result<(), Unkept> {
+    if status != 0 && book.entries().is_empty() {
+        return Ok(());
+    }
+    let mut keeper = keeper_of(alloc, files, number, keeping)?;
+    match keep_book(alloc, &mut keeper, keeping, book) {
+        Ok(()) => Ok(()),
+        Err(KeepFault::Memory) => Err(Unkept::Memory),
+        Err(KeepFault::Failed) => Err(as_unkept(keeper.fault_line(alloc))),
+    }
+}
