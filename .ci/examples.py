@@ -162,8 +162,8 @@ def words():
     """The words of the command line."""
     parser = argparse.ArgumentParser(description="Runs the examples of Markdown files.")
     parser.add_argument("--program", metavar="PATH", help="the program that ./component_manager takes")
-    parser.add_argument("--seconds", metavar="N", type=int, default=120,
-                        help="how long a command may take (default: 120)")
+    parser.add_argument("--seconds", metavar="N", type=int, default=600,
+                        help="how long a command may take (default: 600)")
     parser.add_argument("files", metavar="FILE", nargs="+")
     return parser.parse_args()
 

@@ -17,6 +17,8 @@ import sys
 TOP = os.path.dirname(os.path.dirname(os.path.abspath(__file__)))
 FAULTS = os.path.join(TOP, "examples", "faults")
 TABLE = os.path.join(FAULTS, "expected.txt")
+# How long one file may take, in seconds.
+PATIENCE = 600
 
 
 def rows():
@@ -37,7 +39,8 @@ def told(done):
 def is_as_said(program, number, file, words, status, expected):
     """Whether a file's run is as its row says; a difference is printed."""
     with open(os.path.join(FAULTS, file), "rb") as given:
-        done = subprocess.run([program, *words], stdin=given, capture_output=True, cwd=TOP, check=False)
+        done = subprocess.run([program, *words], stdin=given, capture_output=True, cwd=TOP, timeout=PATIENCE,
+                              check=False)
     if (done.returncode, told(done)) == (status, expected):
         return True
     print(f"examples/faults/expected.txt:{number}: {file}")

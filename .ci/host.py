@@ -45,7 +45,7 @@ def is_root_refused() -> bool:
     with tempfile.TemporaryDirectory() as place:
         words = [sys.executable, TOP / "tools/host", TOP / "examples/host",
                  "fuchsia-pkg://demo/root#meta/root.cm", "--run", f"{place}/r"]
-        done = subprocess.run(words, capture_output=True, text=True, timeout=60)
+        done = subprocess.run(words, capture_output=True, text=True, timeout=600)
         refused = done.returncode == 2 and "as root a sandboxed program could write" in done.stderr
         if refused and not os.listdir(place):
             print("checked: root is refused, with the reason", flush=True)

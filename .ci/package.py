@@ -17,6 +17,8 @@ import sys
 import tempfile
 
 TOP = pathlib.Path(__file__).resolve().parent.parent
+# How long anything may take, in seconds.
+PATIENCE = 600
 # What the package needs of a system.
 SYSTEM = (
     "python3", "sh", "cat", "dirname", "readlink", "find", "head", "sed", "awk", "grep", "man", "env", "tail",
@@ -44,7 +46,7 @@ def made(folder, program):
     """The files of a package that is made in the folder."""
     given = {**os.environ, "COMPONENT_MANAGER": program}
     done = subprocess.run([TOP / "tools" / "package", folder, "--unproved"], env=given, capture_output=True,
-                          text=True, check=False)
+                          text=True, timeout=PATIENCE, check=False)
     if done.returncode:
         print(f"package: {done.stderr.strip()}")
     return sorted(pathlib.Path(folder).iterdir())
@@ -78,7 +80,7 @@ def looked(usr, folder):
     given = {"PATH": f"{usr}/bin:{tools}", "HOME": folder, "LC_ALL": "C.UTF-8"}
     for command, status, part in LOOKS:
         done = subprocess.run(["sh", "-c", command], cwd=usr / "share/doc/component-manager", env=given,
-                              stdin=subprocess.DEVNULL, capture_output=True, check=False)
+                              stdin=subprocess.DEVNULL, capture_output=True, timeout=PATIENCE, check=False)
         text = done.stdout.decode("utf-8", "replace")
         if done.returncode != status or part not in text:
             yield f"{command}: status {done.returncode}: {(text + done.stderr.decode())[-300:]}"

@@ -17,6 +17,8 @@ import tempfile
 
 TOP = os.path.dirname(os.path.dirname(os.path.abspath(__file__)))
 SCRIPT = os.path.join(TOP, "component_manager")
+# How long anything may take, in seconds.
+PATIENCE = 600
 # No socket can be made there, so that a server ends at once.
 NOWHERE = "/nowhere/at/all"
 SERVED = ["serve", NOWHERE, "--root", "fuchsia-pkg://t/a#meta/r.cm", "--repo", "."]
@@ -33,6 +35,9 @@ TABLE = [
     (OWN, ["run", "--help"]),
     (OWN, ["serve", "-h"]),
     (OWN, ["--version"]),
+    (NOTHING, ["--version", "run"]),
+    (NOTHING, ["--where", "run"]),
+    (NOTHING, ["help", "run", "serve"]),
     (RUNS, ["check"]),
     (RUNS, ["check", "--"]),
     (OWN, ["check", "examples/core.cml"]),
@@ -89,13 +94,14 @@ TABLE = [
 def program_refuses(program, words):
     """Whether the program says that the words ask for nothing."""
     done = subprocess.run([program, *words], stdin=subprocess.DEVNULL, capture_output=True, cwd=TOP,
-                          timeout=60, check=False)
+                          timeout=PATIENCE, check=False)
     return done.returncode == 2
 
 
 def usage_of(program):
     """The usage line that a program or the script writes where no words are given."""
-    done = subprocess.run([program], stdin=subprocess.DEVNULL, capture_output=True, cwd=TOP, check=False)
+    done = subprocess.run([program], stdin=subprocess.DEVNULL, capture_output=True, cwd=TOP, timeout=PATIENCE,
+                          check=False)
     return [line for line in done.stderr.decode().split("\n") if line.startswith("usage:")]
 
 
@@ -103,7 +109,7 @@ def script_gives(stand_in, words):
     """The words that the script hands on to a program that prints them; its status and its error stream."""
     given = {**os.environ, "COMPONENT_MANAGER_PROGRAM": stand_in}
     done = subprocess.run([SCRIPT, *words], stdin=subprocess.DEVNULL, capture_output=True, cwd=TOP, env=given,
-                          timeout=60, check=False)
+                          timeout=PATIENCE, check=False)
     # Where the script reads what the program prints, as for files to check, no mark comes through.
     handed = done.stdout.decode().split("\0")[:-1] if done.stdout.endswith(b"\0") else None
     return handed, done.returncode, done.stderr.decode()

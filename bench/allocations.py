@@ -17,13 +17,19 @@ import collections
 import itertools
 import os
 import re
-import socket
 import subprocess
 import sys
 import tempfile
 import time
 
 HERE = os.path.dirname(os.path.abspath(__file__))
+sys.dont_write_bytecode = True
+sys.path.insert(0, os.path.join(HERE, "..", "tools"))
+
+from cm_tools.meeting import connected
+
+# How many seconds anything is waited for.
+PATIENCE = 600
 
 # Stands before the C library: the request of the number REFUSED finds no memory.
 REFUSE = r"""
@@ -112,7 +118,7 @@ class Script:
         """The status and both outputs of a run; `told` is a descriptor that it gets."""
         done = subprocess.run(
             self.words,
-            input=self.text.encode(), capture_output=True, env=environment, pass_fds=[told],
+            input=self.text.encode(), capture_output=True, env=environment, pass_fds=[told], timeout=PATIENCE,
         )
         return done.returncode, done.stdout.decode(), done.stderr.decode()
 
@@ -134,24 +140,27 @@ class Session:
                 [self.program, *words], stdin=subprocess.DEVNULL, stderr=subprocess.PIPE,
                 env=environment, pass_fds=[told],
             ) as process:
-                sent = session_at(path, process)
-                err = process.communicate()[1]
+                try:
+                    sent = session_at(path, process)
+                    err = process.communicate(timeout=PATIENCE)[1]
+                except BaseException:
+                    process.kill()
+                    raise
         return process.returncode, sent.decode(), err.decode()
 
 
 def session_at(path, process):
     """All that a server sends to one client, or nothing where it ends before."""
-    while process.poll() is None:
-        with socket.socket(socket.AF_UNIX, socket.SOCK_STREAM) as link:
-            try:
-                link.connect(path)
-                link.sendall(SESSION.encode())
-                return b"".join(iter(lambda: link.recv(65536), b""))
-            except (FileNotFoundError, ConnectionRefusedError):
-                time.sleep(0.001)
-            except (BrokenPipeError, ConnectionResetError):
-                return b""
-    return b""
+    try:
+        link = connected(path, PATIENCE, process.poll, PATIENCE)
+    except (FileNotFoundError, ConnectionRefusedError):
+        return b""
+    with link:
+        try:
+            link.sendall(SESSION.encode())
+            return b"".join(iter(lambda: link.recv(65536), b""))
+        except (BrokenPipeError, ConnectionResetError):
+            return b""
 
 
 def read(path):

@@ -83,7 +83,12 @@ through, plain = "/svc/bench.Door", os.path.join("/tmp", "direct")
 connects(through, 3)
 if os.fork() == 0:
     direct()
-time.sleep(0.3)
+while True:
+    try:
+        connects(plain, 3)
+        break
+    except OSError:
+        time.sleep(0.05)
 print("ready", flush=True)
 time.sleep(1)
 if sys.argv[1] == "connects":
@@ -145,7 +150,6 @@ def connections(Host, folder, package, root_of):
     root = root_of(repo, "door", *phases,
                    more=f',offer:[{{protocol:"bench.Door",from:"#door",to:[{targets}]}}]')
     host = Host(repo, root, run=base / "r", options=("--quiet",), waits=False)
-    host.wait_until(lambda: (host.run / "cm").exists(), "socket")
     for name, count in phases.items():
         host.ask(f"start {name}")
         host.wait_until(lambda: "ready\n" in host.said(name), "begin")

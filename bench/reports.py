@@ -1,8 +1,9 @@
 #!/usr/bin/env python3
 """Measures what reports on a whole realm cost, each beside the most that it may, and a reader of events.
 
-- `environments` and `storage` of a script that resolves 10,000 instances, in groups of 100 and on three
-  levels, less the script under `run`: at most twice what a `survey .` at its end adds.
+- `environments` and `storage` of a script that resolves instances, less the script under `run`: at most
+  twice what a `survey .` at its end adds. The trees have 10,000 instances in groups of 100, all below one
+  parent, on three levels and by fours, 301 below one parent, and a chain of 200.
 - 1,000 calls `events . NEXT`, each from where the last one ended, over a history that grows to 1,000,000
   entries: together at most twice one `events . 0` at the end.
 - `show` of another session of a server, asked for right behind such a call: at most 1 ms in 99 of 100.
@@ -11,19 +12,25 @@ The first two are counted in instructions, by valgrind, and are the same each ti
 clock. The program is that of the argument, else that of COMPONENT_MANAGER, else the built one. Each line
 says what was measured and its bound; the status is 1 where one is missed, and else 0.
 
-Usage: bench/reports.py [--instances N] [--entries N] [--calls N] [--only WORD] [PROGRAM]
+Usage: bench/reports.py [--instances N] [--entries N] [--calls N] [--only WORD] [--shape WORD] [--word WORD]
+           [PROGRAM]
 """
 import argparse
+import math
 import os
 import re
 import shutil
-import socket
 import subprocess
 import sys
 import tempfile
 import time
 
 HERE = os.path.dirname(os.path.abspath(__file__))
+sys.dont_write_bytecode = True
+sys.path.insert(0, os.path.join(HERE, "..", "tools"))
+
+from cm_tools.meeting import connected
+
 BUILT = os.environ.get("COMPONENT_MANAGER", os.path.join(HERE, "..", "component_manager"))
 PACKAGE = "fuchsia-pkg://bench/p#meta/"
 # An `events` from here tells nothing: no history is as long.
@@ -34,6 +41,8 @@ TIMES = 2
 MILLISECONDS = 1.0
 # How many seconds the server gets for what has to come.
 PATIENCE = 60
+# How many stand below one parent in the smaller of two such trees, and how long the chain is.
+FEW, DEEP = 300, 200
 
 
 # What the root of a tree has.
@@ -50,13 +59,14 @@ def manifest(name, text):
 
 def tree(fans):
     """A script that resolves a tree with so many children a row, level by level, and the number of instances.
-    All but the root have a runner from the root's environment, and a place in its storage."""
+    All but the root have a runner from the root's environment, and a place in its storage. Each child has a
+    line of its own, since a script's lines have an end."""
     use = '"program":{"runner":"elf"},"use":[{"storage":"data","path":"/data"}]'
     text, where, instances = "", [[]], 1
     for level, fan in enumerate(fans):
         names = [f"c{it}" for it in range(fan)]
         about = "" if level else ',"environment":"#env"'
-        rows = ",".join(f'{{"name":"{it}","url":"#meta/{level + 1}.cm"{about}}}' for it in names)
+        rows = ",\n".join(f'{{"name":"{it}","url":"#meta/{level + 1}.cm"{about}}}' for it in names)
         offer = f'{{"storage":"data","from":"{"parent" if level else "self"}","to":[{targets(names)}]}}'
         text += manifest(level, f'{{{use if level else ROOT},"children":[{rows}],"offer":[{offer}]}}')
         where = [above + [it] for above in where for it in names]
@@ -66,7 +76,7 @@ def tree(fans):
 
 
 def targets(names):
-    return ",".join(f'"#{it}"' for it in names)
+    return ",\n".join(f'"#{it}"' for it in names)
 
 
 PAIR = "0 start i\n0 stop i\n"
@@ -116,15 +126,27 @@ def tell(what, found, compared, unit):
     return kept
 
 
+def shapes(instances):
+    """The trees, by what they are called: how many children a row has on each level."""
+    groups, fan = max(1, (instances - 1) // 101), max(1, round(instances ** (1 / 3)))
+    return {
+        "in groups": (groups, min(100, instances)),
+        "few below one parent": (min(FEW, instances),),
+        "all below one parent": (instances,),
+        "on three levels": (fan, fan, fan),
+        "by fours": (4,) * max(1, math.ceil(math.log(instances, 4))),
+        "in a chain": (1,) * min(DEEP, instances),
+    }
+
+
 def reports(program, options):
-    """The two reports beside a survey, of groups of 100 instances and of a tree with three levels."""
-    groups, fan = max(1, (options.instances - 1) // 101), max(1, round(options.instances ** (1 / 3)))
-    kept = [beside_survey(program, shape, *tree(fans))
-            for shape, fans in (("in groups", (groups, 100)), ("on three levels", (fan, fan, fan)))]
+    """The two reports beside a survey, of each of the trees."""
+    kept = [beside_survey(program, shape, options.word, *tree(fans))
+            for shape, fans in shapes(options.instances).items() if options.shape in shape]
     return all(kept)
 
 
-def beside_survey(program, shape, script, instances):
+def beside_survey(program, shape, chosen, script, instances):
     """The two reports beside a survey of the same realm."""
     survey, _ = ended(program, ["run"], script + "0 survey .\n")
     if survey.count(" resolved off\n") != instances or f"0 survey . {instances}\n" not in survey:
@@ -134,6 +156,8 @@ def beside_survey(program, shape, script, instances):
     kept = True
     for word, line in (("environments", r".* runner elf from parent elf at \.\n"),
                        ("storage", r".* storage /data at /mem/.* in \. incarnation 0\n")):
+        if chosen not in word:
+            continue
         text, _ = ended(program, [word], script)
         if len(re.findall(line, text)) != instances - 1 or text.count("\n") != instances - 1:
             sys.exit(f"reports: {word} doesn't tell of each instance: {text[:200]}")
@@ -173,12 +197,10 @@ def readers(program, options):
 
 
 class Link:
-    """A session of the server."""
+    """A session of the server, as soon as it listens."""
 
-    def __init__(self, path):
-        self.link = socket.socket(socket.AF_UNIX, socket.SOCK_STREAM)
-        self.link.settimeout(PATIENCE)
-        self.link.connect(path)
+    def __init__(self, path, server):
+        self.link = connected(path, PATIENCE, server.poll, PATIENCE)
         self.read = self.link.makefile("rb")
 
     def say(self, text):
@@ -189,7 +211,7 @@ class Link:
 
 
 def served(program, folder):
-    """A server over the realm of one child, when it is there."""
+    """A server over the realm of one child, and the path at which it serves."""
     place = os.path.join(folder, "repo", "bench", "p", "meta")
     os.makedirs(place)
     for name, text in (("root.cm", '{"children":[{"name":"i","url":"#meta/leaf.cm"}]}'),
@@ -199,11 +221,7 @@ def served(program, folder):
     path = os.path.join(folder, "s")
     words = ["serve", path, "--root", PACKAGE + "root.cm", "--repo", os.path.join(folder, "repo")]
     words += ["--sessions", "2", "--workers", "2"]
-    server = subprocess.Popen([program, *words], stdin=subprocess.DEVNULL)
-    end = time.monotonic() + PATIENCE
-    while not os.path.exists(path) and time.monotonic() < end and server.poll() is None:
-        time.sleep(0.005)
-    return server, path
+    return subprocess.Popen([program, *words], stdin=subprocess.DEVNULL), path
 
 
 def shown_behind(reader, other, pairs, calls):
@@ -230,7 +248,7 @@ def sessions(program, options):
     with tempfile.TemporaryDirectory() as folder:
         server, path = served(program, folder)
         try:
-            reader, other = Link(path), Link(path)
+            reader, other = Link(path, server), Link(path, server)
             pairs = max(1, round((options.entries / options.calls - 2) / 7))
             took, entries = shown_behind(reader, other, pairs, options.calls)
         finally:
@@ -251,6 +269,8 @@ def main():
     parser.add_argument("--entries", type=int, default=1_000_000, help="how long the history gets")
     parser.add_argument("--calls", type=int, default=1_000, help="how many calls of events there are")
     parser.add_argument("--only", default="", help="measures of which the name has this word")
+    parser.add_argument("--shape", default="", help="trees of which the name has this word")
+    parser.add_argument("--word", default="", help="the report of which the name has this word")
     parser.add_argument("program", nargs="?", default=BUILT)
     options = parser.parse_args()
     if not shutil.which("valgrind"):

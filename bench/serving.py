@@ -24,6 +24,11 @@ import threading
 import time
 
 HERE = os.path.dirname(os.path.abspath(__file__))
+sys.dont_write_bytecode = True
+sys.path.insert(0, os.path.join(HERE, "..", "tools"))
+
+from cm_tools.meeting import connected
+
 PROGRAM = os.path.abspath(sys.argv[1] if len(sys.argv) > 1 else os.path.join(HERE, "..", "component_manager"))
 ROOT = "fuchsia-pkg://t/a#meta/root.cm"
 MANIFEST = '{"children":[{"name":"leaf","url":"#meta/leaf.cm"}]}'
@@ -37,7 +42,10 @@ LINES = 1_048_576
 # The longest path of a socket that the system takes.
 LONGEST_PATH = 107
 # How many seconds a case waits for what has to come.
-PATIENCE = 60
+PATIENCE = 600
+PIECE = 65536
+# How long something is waited for that must not come, in seconds.
+SILENCE = 2.0
 
 
 class Odd(Exception):
@@ -110,13 +118,15 @@ class Server:
             if about and stat.S_ISSOCK(about.st_mode) and stat.S_IMODE(about.st_mode) == 0o600:
                 return self
             time.sleep(0.005)
-        raise Odd(f"the server isn't there: status {self.process.poll()}")
+        raise Odd(f"the server isn't there: status {self.process.poll()}, {self.said()}")
+
+    def said(self):
+        """What a server that has ended wrote on its streams."""
+        return self.process.communicate()[1] if self.process.poll() is not None else "it goes on"
 
     def client(self):
-        link = socket.socket(socket.AF_UNIX, socket.SOCK_STREAM)
-        link.settimeout(PATIENCE)
-        link.connect(self.path)
-        return link
+        """A link, as soon as the server listens: before that the socket's file may be that of another."""
+        return connected(self.path, PATIENCE, self.process.poll, PATIENCE)
 
     def ask(self, *pieces, pause=0.0):
         """Sends pieces and then no more, and reads all that comes back."""
@@ -164,9 +174,11 @@ def first_of(link, count):
 
 
 def send_all(link, text):
-    """Sends what the server takes of a text: its session may be over before all is sent."""
+    """Sends what the server takes of a text, piece by piece, each in its time: the session may be over
+    before all is sent."""
     try:
-        link.sendall(text)
+        for at in range(0, len(text), PIECE):
+            link.sendall(text[at : at + PIECE])
     except OSError:
         pass
 
@@ -299,8 +311,8 @@ def writes_and_never_reads(folder):
 
 
 def fill(link):
-    """Sends lines until the server has taken none for half a second: it waits for its replies to be read."""
-    link.settimeout(0.5)
+    """Sends lines until the server has taken none for a while: it waits for its replies to be read."""
+    link.settimeout(SILENCE)
     try:
         while True:
             link.send(b"show .\n" * 1000)
@@ -335,7 +347,7 @@ def holds_the_only_worker(folder):
     with Server(folder, 2, 1).ready() as server:
         with server.client() as silent, server.client() as other:
             other.sendall(b"show .\n")
-            other.settimeout(0.3)
+            other.settimeout(SILENCE)
             try:
                 raise Odd(f"served beside the silent client: {other.recv(4096)!r}")
             except socket.timeout:
@@ -482,7 +494,7 @@ def killed_server_is_replaced(folder):
             check(rest_of(link), b"", "the end of its session")
             check(os.path.exists(server.path), True, "the socket file of the killed server")
         with Server(folder) as server:
-            check(ask_later(server, b"show .\n"), SHOWN, "the next server")
+            check(server.ask(b"show .\n"), SHOWN, "the next server")
             server.ends()
             check(os.path.exists(server.path), False, "the socket file at the end")
 
@@ -499,7 +511,7 @@ def one_of_two_replaces(folder):
                 time.sleep(0.005)
             lost, kept = (other, one) if one.process.poll() is None else (one, other)
             lost.ends(5, FAULT)
-            check(ask_later(kept, b"show .\nquit\n"), SHOWN, "the server that is left")
+            check(kept.ask(b"show .\nquit\n"), SHOWN, "the server that is left")
             check(kept.process.poll(), None, "its status")
         os.unlink(os.path.join(folder, "s"))
 
@@ -517,25 +529,14 @@ def by_socat(folder):
         server.ends()
 
 
-def ask_later(server, text):
-    """Asks as soon as the server listens: before that the file may be the old one."""
-    end = time.monotonic() + PATIENCE
-    while True:
-        try:
-            return server.ask(text)
-        except (ConnectionRefusedError, FileNotFoundError):
-            if time.monotonic() > end:
-                raise Odd("nobody listens") from None
-            time.sleep(0.005)
-
-
 def words_are_checked(folder):
     """Words that `serve` doesn't take."""
     path, repo = os.path.join(folder, "s"), manifests(folder)
     whole = ["serve", path, "--root", ROOT, "--repo", repo]
     for words in (whole[:1], whole[:4], [*whole, "--sessions", "0"], [*whole, "--sessions", "4097"],
                   [*whole, "--workers", "17"], [*whole, "--workers", "many"], [*whole, path]):
-        done = subprocess.run([PROGRAM, *words], stdin=subprocess.DEVNULL, capture_output=True, check=False)
+        done = subprocess.run([PROGRAM, *words], stdin=subprocess.DEVNULL, capture_output=True, check=False,
+                              timeout=PATIENCE)
         usage = b"usage: run, check, serve, audit, generate, environments, storage\n"
         what = " ".join(words[6:]) or "few words"
         check((done.returncode, done.stdout, done.stderr), (2, b"", usage), what)

@@ -13,13 +13,17 @@ in one run can be compared.
 
 import os
 import shutil
-import socket
 import subprocess
 import sys
 import tempfile
 import time
 
 HERE = os.path.dirname(os.path.abspath(__file__))
+sys.dont_write_bytecode = True
+sys.path.insert(0, os.path.join(HERE, "..", "tools"))
+
+from cm_tools import meeting
+
 PROGRAM = os.path.abspath(sys.argv[1] if len(sys.argv) > 1 else os.path.join(HERE, "..", "component_manager"))
 ROOT = "fuchsia-pkg://bench/p#meta/root.cm"
 INSTANCES = 100
@@ -64,17 +68,10 @@ def manifests(folder):
 
 def connected(path, process):
     """A link to a server that may still begin."""
-    for _ in range(2000):
-        link = socket.socket(socket.AF_UNIX, socket.SOCK_STREAM)
-        try:
-            link.connect(path)
-            return link
-        except OSError:
-            link.close()
-            if process.poll() is not None:
-                break
-            time.sleep(0.005)
-    sys.exit(f"nobody listens at {path}")
+    try:
+        return meeting.connected(path, 60, process.poll)
+    except OSError as fault:
+        sys.exit(f"nobody listens at {path}: {fault}")
 
 
 def ask(link, requests, lines):

@@ -44,13 +44,18 @@ import journals
 import realms
 
 HERE = os.path.dirname(os.path.abspath(__file__))
+sys.dont_write_bytecode = True
+sys.path.insert(0, os.path.join(HERE, "..", "tools"))
+
+from cm_tools.meeting import connected
+
 SESSION = os.path.join(HERE, "..", "tools", "session")
 VARIABLE = "COMPONENT_JOURNAL"
 LANES = 8
 # How many clients of a case are killed.
 KILLED = 3
 # How many seconds anything is waited for.
-PATIENCE = 60
+PATIENCE = 600
 # How many commands a case has.
 SIZES = (10, 30, 30, 80, 80, 200)
 # How often a smaller script is tried: what differs may do so in one order of the lanes alone.
@@ -220,18 +225,10 @@ class Server:
 
     def connect(self):
         """A link, as soon as the server listens: before that the socket's file may be that of another."""
-        end = time.monotonic() + PATIENCE
-        while True:
-            link = socket.socket(socket.AF_UNIX, socket.SOCK_STREAM)
-            link.settimeout(PATIENCE)
-            try:
-                link.connect(self.path)
-                return link
-            except OSError as fault:
-                link.close()
-                if self.process.poll() is not None or time.monotonic() > end:
-                    raise Odd(f"nobody listens: {fault}") from None
-                time.sleep(0.002)
+        try:
+            return connected(self.path, PATIENCE, self.process.poll, PATIENCE)
+        except OSError as fault:
+            raise Odd(f"nobody listens: {fault}") from None
 
     def ask(self, commands):
         """What a session replies to commands."""
@@ -287,7 +284,9 @@ def at_once(works):
     for thread in threads:
         thread.join()
     if odd:
-        raise Odd(f"a session: {odd[0]}")
+        # Who waits for one that failed is told of it, maybe before it is noted what failed.
+        first = next((it for it in odd if not isinstance(it, threading.BrokenBarrierError)), odd[0])
+        raise Odd(f"a session: {first}")
     return results
 
 
@@ -385,8 +384,9 @@ class Killed:
         self.server, self.commands, self.part = server, commands, part
 
     def __call__(self):
-        process = subprocess.Popen([sys.executable, SESSION, self.server.path], stdin=subprocess.PIPE,
-                                   stdout=subprocess.PIPE, stderr=subprocess.DEVNULL)
+        words = [sys.executable, SESSION, "--wait", str(PATIENCE), self.server.path]
+        process = subprocess.Popen(words, stdin=subprocess.PIPE, stdout=subprocess.PIPE,
+                                   stderr=subprocess.DEVNULL)
         try:
             # Behind its first reply it is a session, and is counted as one.
             process.stdin.write(b"show .\n")

@@ -8,7 +8,8 @@ from cm_tools.console import Unusable
 from cm_tools.rights import deed_rights, rights_of
 from cm_tools.surveying import Realm, Use, kind_of
 from cm_tools.verdict import Verdict, need, row_line, use_line
-from cm_tools.wiring import Link
+from cm_tools.hops import Stop
+from cm_tools.wiring import row_at
 
 SECTIONS = ("offer", "expose")
 
@@ -18,12 +19,12 @@ def capability_text(verdict: Verdict, name: str) -> str:
     asking = [use for use in verdict.realm.uses if name in names_of(verdict, use)]
     provided, carried = _providers(verdict, name), _carriers(verdict, name)
     if not asking and not provided and not carried:
-        raise Unusable(f"no capability is named {name}{_nearest(name, known_names(verdict))}")
+        raise Unusable(unknown_name(verdict, name)[0].strip())
     parts = [
         ("provided by", provided),
         ("carried by", carried),
-        ("reached by", [use_line(use) for use in asking if use.number == 0]),
-        ("not reached by", [use_line(use) for use in asking if use.number > 0]),
+        ("reached by", [use_line(use) for use in asking if use.is_given]),
+        ("not reached by", [use_line(use) for use in asking if not use.is_given]),
     ]
     return "".join(_listed(title, lines) for title, lines in parts)
 
@@ -33,10 +34,11 @@ def who_can_text(verdict: Verdict, deed: str, place: str) -> str:
     name.
     """
     found = who_can(verdict, deed, place)
-    if not found and not _is_place(verdict, place):
-        names = known_names(verdict) | _paths(verdict)
-        raise Unusable(f"no directory is {place}{_nearest(place, names)}")
-    return _listed(f"{deed} {place}", [use_line(use) for use in found])
+    for line in [] if found else unknown_place(verdict, place):
+        raise Unusable(line.strip())
+    told = _listed(f"{deed} {place}", [use_line(use) for use in found])
+    lines = [line for line, _ in open_to(verdict, place, deed)]
+    return told + (_listed("children that aren't known may be offered it", lines) if lines else "")
 
 
 def who_can(verdict: Verdict, deed: str, place: str) -> list[Use]:
@@ -50,27 +52,46 @@ def who_can(verdict: Verdict, deed: str, place: str) -> list[Use]:
     ]
 
 
+def open_to(verdict: Verdict, wanted: str, deed: str = "") -> list[tuple[str, str]]:
+    """The offers to children that aren't known of a capability of that name, or of a directory at that place
+    by which one could do the deed; each with the moniker of such a child.
+    """
+    rights = deed_rights(deed) if deed else None
+    found = []
+    for chain in verdict.wiring.open:
+        first, rows = chain[0], [row_at(stop) or {} for stop in chain]
+        stated = [rights_of(",".join(row["rights"])) for row in rows if row.get("rights")]
+        path = str(rows[-1].get("path", ""))
+        is_it = wanted in {stop.name for stop in chain} or (wanted.startswith("/") and _touches(path, wanted))
+        if is_it and (rights is None or (stated and all(rights & one for one in stated))):
+            target = str(rows[0].get("to", ""))[1:]
+            child = target if first.moniker == "." else f"{first.moniker}/{target}"
+            child += "" if child in verdict.realm.parts else ":x"
+            found.append((row_line(first.moniker, "offer", rows[0]), child))
+    return found
+
+
 def between_text(verdict: Verdict, client: str, source: str) -> str:
     """Each route by which an instance, or one below it, reaches another, or one below that, hop by hop."""
     for moniker in (client, source):
         require_instance(verdict.realm, moniker)
     found = [
         use for use in verdict.realm.uses
-        if use.route is not None and is_below(use.client, client) and is_below(use.route.moniker, source)
+        if is_below(use.client, client) and is_below(verdict.wiring.provider_of(use), source)
     ]
-    lines = [f"{use_line(use)} through {hops_words(use)}" for use in found]
+    lines = [f"{use_line(use)} through {hops_words(verdict, use)}" for use in found]
     return _listed(f"{client} reaches {source} by", lines)
 
 
 def reverse_text(verdict: Verdict, moniker: str) -> str:
     """Who uses something of an instance or of one below it, and what breaks, step by step, when it stops."""
     require_instance(verdict.realm, moniker)
-    direct = [use for use in verdict.realm.uses if use.route and _depends(use, {moniker})]
+    direct = [use for use in verdict.realm.uses if _depends(verdict, use, {moniker})]
     broken, lines = {moniker}, []
     while True:
         fresh = [
             use for use in verdict.realm.uses
-            if use.is_required and _depends(use, broken)
+            if use.is_required and _depends(verdict, use, broken)
             and not any(is_below(use.client, one) for one in broken)
         ]
         if not fresh:
@@ -86,7 +107,7 @@ def names_of(verdict: Verdict, use: Use) -> set[str]:
     return {link.name for link in links_of(verdict, use)}
 
 
-def links_of(verdict: Verdict, use: Use) -> list[Link]:
+def links_of(verdict: Verdict, use: Use) -> list[Stop]:
     """The hops of a use, with their rows."""
     return verdict.wiring.links_of(use)
 
@@ -96,9 +117,9 @@ def is_below(moniker: str, top: str) -> bool:
     return moniker == top or (bool(moniker) and top == ".") or moniker.startswith(f"{top}/")
 
 
-def hops_words(use: Use) -> str:
-    """The hops of a route, as the program writes them."""
-    return ", ".join(f"{hop.step} {hop.moniker}" for hop in use.route.hops) if use.route else ""
+def hops_words(verdict: Verdict, use: Use) -> str:
+    """The hops of a use, as the program writes those of a route."""
+    return ", ".join(f"{link.step} {link.moniker}" for link in links_of(verdict, use))
 
 
 def known_names(verdict: Verdict) -> set[str]:
@@ -109,6 +130,20 @@ def known_names(verdict: Verdict) -> set[str]:
             for row in part.declared.get(section, []):
                 found |= {str(row.get(kind_of(row), "")), str(row.get("as", ""))}
     return found - {""}
+
+
+def unknown_name(verdict: Verdict, name: str) -> list[str]:
+    """That no capability has a name, with the names that are like it."""
+    known = known_names(verdict)
+    return [] if name in known else [f"  no capability is named {name}{_nearest(name, known)}"]
+
+
+def unknown_place(verdict: Verdict, place: str) -> list[str]:
+    """That no directory is at a place or has that name, with those that are like it."""
+    known = known_names(verdict) | _paths(verdict)
+    if place in known or any(_is_at(verdict, use, place) for use in verdict.realm.uses):
+        return []
+    return [f"  no directory is {place}{_nearest(place, known)}"]
 
 
 def require_instance(realm: Realm, moniker: str) -> None:
@@ -141,13 +176,12 @@ def _is_at(verdict: Verdict, use: Use, place: str) -> bool:
     """Whether a use's directory is that place, inside it or around it."""
     if not place.startswith("/"):
         return place in names_of(verdict, use)
-    path = use.route.path if use.route else ""
-    return path == place or path.startswith(f"{place}/") or place.startswith(f"{path}/")
+    return use.route is not None and bool(use.route.rights) and _touches(use.route.path, place)
 
 
-def _is_place(verdict: Verdict, place: str) -> bool:
-    known = known_names(verdict) | _paths(verdict)
-    return place in known or any(_is_at(verdict, use, place) for use in verdict.realm.uses)
+def _touches(path: str, place: str) -> bool:
+    """Whether one of two paths is the other one, inside it or around it."""
+    return bool(path) and (path == place or path.startswith(f"{place}/") or place.startswith(f"{path}/"))
 
 
 def _paths(verdict: Verdict) -> set[str]:
@@ -158,13 +192,14 @@ def _paths(verdict: Verdict) -> set[str]:
     }
 
 
-def _depends(use: Use, monikers: set[str]) -> bool:
-    return use.route is not None and any(is_below(use.route.moniker, one) for one in monikers)
+def _depends(verdict: Verdict, use: Use, monikers: set[str]) -> bool:
+    provider = verdict.wiring.provider_of(use)
+    return bool(provider) and any(is_below(provider, one) for one in monikers)
 
 
 def _weak_words(verdict: Verdict, use: Use) -> str:
     """That a hop is weak, so that the client needn't stop first."""
-    rows = [link.row for link in links_of(verdict, use) if link.row is not None]
+    rows = [row_at(link) or {} for link in links_of(verdict, use)]
     return ", weak" if any(row.get("dependency") == "weak" for row in rows) else ""
 
 

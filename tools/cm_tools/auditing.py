@@ -1,4 +1,4 @@
-"""Asks the program whether a journal is legal, where a program is there that knows the word `audit`."""
+"""Asks the program, where one is at hand, whether a journal is legal, and what it says of a manifest."""
 
 from __future__ import annotations
 
@@ -22,11 +22,20 @@ def require_legal(data: bytes) -> None:
 
 def verdict_on(data: bytes) -> str | None:
     """What the program says of the journal, without its line feed; None where it can't be asked."""
+    return _verdict("audit", data)
+
+
+def check_verdict(text: str) -> str | None:
+    """What the program says of a manifest; None where it can't be asked."""
+    return _verdict("check", text.encode("utf-8", "surrogateescape"))
+
+
+def _verdict(word: str, data: bytes) -> str | None:
     program = program_at_hand()
     if program is None:
         return None
     try:
-        ran = subprocess.run([program, "audit"], input=data, capture_output=True)
+        ran = subprocess.run([program, word], input=data, capture_output=True)
     except OSError:
         return None
     if ran.returncode not in (LEGAL, OTHER):

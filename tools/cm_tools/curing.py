@@ -5,6 +5,7 @@ from __future__ import annotations
 from difflib import get_close_matches
 
 from cm_tools.features import features_of
+from cm_tools.hops import Stop
 from cm_tools.numbers import NUMBERS
 from cm_tools.relaxed import Node
 from cm_tools.rights import ALL, SHORT, rights_of
@@ -12,7 +13,6 @@ from cm_tools.rows import items_of, many, rows_of
 from cm_tools.said import ManifestFault, Refusal
 from cm_tools.schema import SECTIONS, fields_of
 from cm_tools.scripts import Command, Sketch
-from cm_tools.tracing import Stop
 
 MARK = "✗"
 SUGGESTED = 3
@@ -25,12 +25,15 @@ FORMS = {
     "exited": "exited T",
     "shutdown": "shutdown T", "create": "create T COLL NAME URL GROUPS", "destroy": "destroy T",
 }
+# The lines of a script's header, and what a builtin can be.
+BUILTINS = {"protocol": "builtin protocol NAME", "directory": "builtin directory NAME PATH RIGHTS"}
+HEADERS = {"manifest": "manifest URL", "builtin": " or ".join(BUILTINS.values()), "root": "root URL"}
 BYTE_ORDER_MARK = "\ufeff"
 
 
-def nearest(word: str, known: set[str]) -> str:
+def nearest(word: str, known: set[str], likeness: float = LIKENESS) -> str:
     """The known words that are most like this one, as a question; nothing where none is."""
-    found = get_close_matches(word, sorted(known), SUGGESTED, LIKENESS)
+    found = get_close_matches(word, sorted(known), SUGGESTED, likeness)
     return f"Did you mean {' or '.join(found)}?" if found else ""
 
 
@@ -108,17 +111,15 @@ def _names(root: Node, section: str) -> set[str]:
 # ---- routes
 
 
-def chain_line(stops: list[Stop], refusal: Refusal) -> list[str]:
+def chain_line(stops: list[Stop], failing: Stop | None) -> list[str]:
     """The hops from the use on, with the one marked at which the route fails."""
-    words = [
-        f"{stop.step} {stop.moniker}" + (f" {MARK}" if _is_failing(stop, refusal) else "") for stop in stops
-    ]
+    words = [f"{stop.step} {stop.moniker}" + (f" {MARK}" if stop is failing else "") for stop in stops]
     return [f"The way: {' -> '.join(words)}"] if len(words) > 1 else []
 
 
-def missing_rights(stops: list[Stop]) -> list[str]:
-    """Which of the rights that the use asks for are missing at which hop."""
-    asked = _rights_at(stops[0]) if stops else frozenset()
+def missing_rights(stops: list[Stop], wanted: str = "") -> list[str]:
+    """Which of the rights that the use asks for, or that are wanted, are missing at which hop."""
+    asked = rights_of(wanted) or (_rights_at(stops[0]) if stops else frozenset())
     lines = []
     for stop in stops[1:]:
         stated = _rights_at(stop)
@@ -133,7 +134,7 @@ def nearest_name(sketch: Sketch, stop: Stop) -> list[str]:
     url = sketch.url(stop.moniker)
     root = sketch.value(url) if url else None
     section = {"offer": "offer", "expose": "expose", "capability": "capabilities"}.get(stop.step, "")
-    if root is None or not stop.name or not section:
+    if root is None or stop.given is not None or not section:
         return []
     known = set()
     for item in items_of(root, section):
@@ -151,10 +152,6 @@ def builtin_cures(sketch: Sketch, stop: Stop) -> list[str]:
     return [told] if told else []
 
 
-def _is_failing(stop: Stop, refusal: Refusal) -> bool:
-    return (stop.step, stop.moniker) == (refusal.step, refusal.moniker)
-
-
 def _rights_at(stop: Stop) -> frozenset[str]:
     """The rights that a hop states; none where it states none."""
     node = stop.item.get("rights") if stop.item is not None else None
@@ -164,10 +161,27 @@ def _rights_at(stop: Stop) -> frozenset[str]:
 # ---- commands
 
 
+def line_cures(text: str) -> list[str]:
+    """What a line that is neither of the header nor a command could have been."""
+    words = text.split(" ")
+    if words[0] in HEADERS:
+        kind = words[1] if words[0] == "builtin" and words[1:] else ""
+        if kind in BUILTINS:
+            return [f"The form is: {BUILTINS[kind]}"]
+        told = nearest(kind, set(BUILTINS)) if kind else ""
+        return [told or f"The form is: {HEADERS[words[0]]}"]
+    if words[0].isdecimal():
+        return command_cures(text)
+    if words[0] in FORMS:
+        return [f"Did you mean 0 {text}?"]
+    told = nearest(words[0], {*HEADERS, "sync"})
+    return [told] if told else []
+
+
 def command_cures(text: str) -> list[str]:
     """The commands that a line that is none could have been."""
     words = text.split(" ")
-    if len(words) < 2 or not words[0].isdecimal():
+    if len(words) < 2 or not words[0].isdecimal() or not words[1]:
         return []
     if words[1] in FORMS:
         return [f"The form is: {words[0]} {FORMS[words[1]]}"]

@@ -27,7 +27,7 @@ def json_verdict(verdict: Verdict) -> str:
             {"moniker": part.moniker, "url": part.url, "failure": part.failure}
             for part in realm.parts.values()
         ],
-        "uses": [_use(use) for use in realm.uses],
+        "uses": [_use(verdict, use) for use in realm.uses],
         "broken": [_broken(one) for one in verdict.broken],
         "unused": [{"moniker": it, "section": section, "row": row} for it, section, row in verdict.unused],
         "unreached": [str(path) for path in verdict.unreached],
@@ -41,7 +41,7 @@ def sarif_verdict(verdict: Verdict) -> str:
     results = [
         _result("use-refused", "error" if fails(use) else "note", use_line(use),
                 place_of_row(realm, use.client, "use", use.row))
-        for use in realm.uses if use.number and not use.is_void
+        for use in realm.uses if not use.is_given and not use.is_void
     ]
     results += [_broken_result(verdict, one) for one in verdict.broken]
     results += [
@@ -56,14 +56,17 @@ def sarif_verdict(verdict: Verdict) -> str:
     return json.dumps(told, indent=1, ensure_ascii=False) + "\n"
 
 
-def _use(use: Use) -> dict[str, Any]:
+def _use(verdict: Verdict, use: Use) -> dict[str, Any]:
     told: dict[str, Any] = {
         "client": use.client, "path": use.path, "kind": use.kind, "name": use.name,
         "availability": need(use), "outcome": MARKS[mark(use)],
     }
+    if use.registered is not None:
+        owner, origin, name = use.registered
+        return {**told, "environment_of": owner, "from": origin, "registered_as": name}
     if use.route is None:
         return {**told, "number": use.number, "why": use.why, "hop": f"{use.step} {use.moniker}".strip()}
-    hops = [f"{hop.step} {hop.moniker}" for hop in use.route.hops]
+    hops = [f"{link.step} {link.moniker}" for link in verdict.wiring.links_of(use)]
     rights = use.route.rights.split(",") if use.route.rights else []
     source = {"source": use.route.source, "provider": use.route.moniker, "at": use.route.path}
     return {**told, **source, "rights": rights, "hops": hops}

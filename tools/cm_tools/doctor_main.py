@@ -11,10 +11,12 @@ from cm_tools.comparing import difference_text
 from cm_tools.console import Unusable, Words, read_bytes, write_text
 from cm_tools.doctor_formats import json_verdict, sarif_verdict
 from cm_tools.merge_main import add_words, features
-from cm_tools.merging import Sources
+from cm_tools.merging import SUFFIXES, Sources
+from cm_tools.outside_routes import add_uses
+from cm_tools.places import add_availability
 from cm_tools.policy import Rule, policy_text, read_rules
 from cm_tools.program import HELP, chosen_program
-from cm_tools.surveying import Realm, surveyed
+from cm_tools.surveying import Realm, surveyed, url_of
 from cm_tools.verdict import Verdict, judged, verdict_text
 
 FORMATS = {"text": verdict_text, "json": json_verdict, "sarif": sarif_verdict}
@@ -31,13 +33,19 @@ def main(words: list[str]) -> int:
 
 def _told(options: argparse.Namespace, rules: list[Rule], place: Path) -> int:
     """The verdict or the answer; copies of manifests with their shards stand in the place."""
+    folders = [Path(options.folder), *([Path(options.diff)] if options.diff else [])]
+    for folder in folders:
+        if not folder.is_dir():
+            raise Unusable(f"{folder} is no folder")
+    header = _header(options.root, folders[0], options.builtin)
+    # What can't be used is told before a program is looked for, which may have to be made.
     program = chosen_program(options.program)
-    realm = _surveyed(options, program, Path(options.folder), place / "new")
-    if options.diff:
-        old = _surveyed(options, program, Path(options.diff), place / "old")
-        write_text(options.output, difference_text(old, realm))
-        return 0 if judged(program, realm).is_whole else 1
+    realm = _surveyed(options, program, header, folders[0], place / "new")
     verdict = judged(program, realm)
+    if options.diff:
+        old = judged(program, _surveyed(options, program, header, folders[1], place / "old"))
+        write_text(options.output, difference_text(old, verdict))
+        return 0 if verdict.is_whole else 1
     if options.policy:
         text, are_kept = policy_text(verdict, rules)
         write_text(options.output, text)
@@ -50,12 +58,14 @@ def _told(options: argparse.Namespace, rules: list[Rule], place: Path) -> int:
     return 0 if verdict.is_whole else 1
 
 
-def _surveyed(options: argparse.Namespace, program: Path, folder: Path, place: Path) -> Realm:
-    if not folder.is_dir():
-        raise Unusable(f"{folder} is no folder")
-    header = _header(options.root, Path(options.folder), options.builtin)
+def _surveyed(
+    options: argparse.Namespace, program: Path, header: list[str], folder: Path, place: Path
+) -> Realm:
     sources = Sources([Path(one) for one in options.include], features(options.without))
-    return surveyed(program, (folder, sources.copied(folder, place)), header, options.add)
+    realm, report = surveyed(program, (folder, sources.copied(folder, place)), header, options.add)
+    add_uses(realm, report)
+    add_availability(realm)
+    return realm
 
 
 def _answer(verdict: Verdict, options: argparse.Namespace) -> str | None:
@@ -115,17 +125,13 @@ def _header(root: str, folder: Path, builtins: list[str]) -> list[str]:
     if not path.is_file():
         raise Unusable(f"{root} is no URL and no file")
     if folder.resolve() in path.resolve().parents:
-        return [*above, f"root {_url(path.resolve().relative_to(folder.resolve()))}"]
+        url = url_of(path.resolve().relative_to(folder.resolve()))
+        if url is None:
+            raise Unusable(f"{path} isn't HOST/PATH/meta/NAME below {folder}, so give the root by its URL")
+        return [*above, f"root {url}"]
+    if path.suffix in SUFFIXES:
+        raise Unusable(f"the manifest {path} isn't below {folder}, so it has no URL there")
     return [*above, *_header_of(path)]
-
-
-def _url(path: Path) -> str:
-    """The URL of a manifest's path in the folder: its fragment begins at `meta`."""
-    parts = path.parts
-    if "meta" not in parts[1:]:
-        raise Unusable(f"{path} isn't HOST/PATH/meta/NAME, so give the root by its URL")
-    at = parts.index("meta", 1)
-    return f"fuchsia-pkg://{'/'.join(parts[:at])}#{'/'.join(parts[at:])}"
 
 
 def _header_of(script: Path) -> list[str]:

@@ -165,7 +165,7 @@ def _explain_run(script: Script, said: list[str], repo: str | None) -> list[list
         elif isinstance(fault, Refusal):
             parts.append(_refused(sketch, fault, command, are_whole))
         elif isinstance(fault, NoPlace):
-            parts.append(explain_no_place(script, fault))
+            parts.append(explain_no_place(sketch, fault))
         elif isinstance(fault, ScriptFault):
             parts.append(explain_script(script, fault))
         elif isinstance(fault, ManifestFault):
@@ -174,13 +174,17 @@ def _explain_run(script: Script, said: list[str], repo: str | None) -> list[list
     parts += _failed_children(sketch, said)
     if not parts and are_whole:
         parts.append([f"{script.label}: nothing was refused"])
+    elif not parts and lanes and script.commands:
+        parts.append([_disagreement(script, lanes)])
     return parts
 
 
 def _disagreement(script: Script, lanes: list[str]) -> str:
     """That a script and replies don't belong together."""
     if len(lanes) != len(script.commands):
-        told = f"it has {len(script.commands)} commands, and there are {len(lanes)} replies"
+        replies = "is 1 reply" if len(lanes) == 1 else f"are {len(lanes)} replies"
+        plural = "" if len(script.commands) == 1 else "s"
+        told = f"it has {len(script.commands)} command{plural}, and there {replies}"
     else:
         told = "the replies are those of other lanes"
     return f"{script.label}: {told}; is it the script that was run?"

@@ -2,11 +2,13 @@
 
 from __future__ import annotations
 
+from cm_tools.auditing import check_verdict
 from cm_tools.console import Unusable
 from cm_tools.curing import (
-    builtin_cures, chain_line, command_cures, group_lines, manifest_cures, missing_rights, nearest_name,
-    text_cures,
+    builtin_cures, chain_line, command_cures, group_lines, line_cures, manifest_cures, missing_rights,
+    nearest_name, text_cures,
 )
+from cm_tools.hops import Stop
 from cm_tools.locating import locate
 from cm_tools.naming import name_cures
 from cm_tools.numbers import NUMBERS, advice_words
@@ -14,9 +16,10 @@ from cm_tools.pointing import Document
 from cm_tools.relaxed import SpellingFault, read_relaxed
 from cm_tools.said import ManifestFault, NoPlace, Refusal, ScriptFault
 from cm_tools.scripts import Command, Script, Sketch, looks_like_script
-from cm_tools.tracing import Stop, trace, trace_exposed
+from cm_tools.tracing import trace, trace_exposed
 
 SPELLING = 31
+NO_BACKING, WEAK_BACKING = 105, 109
 BYTES_LIMITS = frozenset({30, 41})
 LINE_SHOWN = 60
 # What stands behind a front of a line, and what it says.
@@ -123,7 +126,8 @@ def explain_script(script: Script, fault: ScriptFault) -> list[str]:
     start, end = _script_stretch(text, fault)
     lines = [heading(fault.number, document.position(start)), document.pointed(start, end)]
     beside = _stopped_at(text, start) if fault.number == 70 and fault.at else _earlier(script, text, fault)
-    cures = command_cures(text) if fault.number == 70 else []
+    # At 0 the line stands in the wrong place.
+    cures = line_cures(text) if fault.number == 71 or (fault.number == 70 and fault.at) else []
     return lines + beside + cures + text_cures(script.text) + advice(fault.number)
 
 
@@ -186,10 +190,16 @@ def explain_refusal(sketch: Sketch, refusal: Refusal, command: Command | None) -
     return lines + advice(refusal.number, refusal.words)
 
 
-def explain_no_place(script: Script, fault: NoPlace) -> list[str]:
+def explain_no_place(sketch: Sketch, fault: NoPlace) -> list[str]:
     """The lines that explain why an instance has no place in a storage that it uses."""
-    told = f"{script.label}: {fault.moniker} storage {fault.path}: {fault.number} {fault.words}"
-    return [told] + advice(fault.number, fault.words)
+    told = f"{sketch.script.label}: {fault.moniker} storage {fault.path}: {fault.number} {fault.words}"
+    stops, failing = trace(sketch, fault.moniker, fault.path), (fault.step, fault.at)
+    if fault.number == NO_BACKING and stops and stops[-1].given is None:
+        failing = stops[-1].step, stops[-1].moniker
+    lines = _failing_lines(sketch, stops, failing, WEAK_FIELDS.get(fault.weak, ""))
+    if fault.number == WEAK_BACKING:
+        lines = chain_line(stops, None) + missing_rights(stops, "rw*")
+    return [told, *lines, *advice(fault.number, fault.words)]
 
 
 def command_of(script: Script, refusal: Refusal) -> list[Command]:
@@ -204,16 +214,23 @@ def command_of(script: Script, refusal: Refusal) -> list[Command]:
 
 def _route_lines(sketch: Sketch, refusal: Refusal, command: Command | None) -> list[str]:
     """The hop at which the route fails, in the manifest that states it or lacks it."""
-    stops = _stops(sketch, refusal, command)
+    stops, failing = _stops(sketch, refusal, command), (refusal.step, refusal.moniker)
     weak = WEAK_FIELDS.get(refusal.words.split(" ")[0], "")
-    for stop in stops:
-        if (stop.step, stop.moniker) == (refusal.step, refusal.moniker):
-            cures = missing_rights(stops) if weak == "rights" else nearest_name(sketch, stop)
-            return _stop_lines(sketch, stop, weak) + chain_line(stops, refusal) + cures
-    if stops and refusal.step:
+    told = _failing_lines(sketch, stops, failing, weak)
+    if not told and stops and refusal.step:
         return [f"The manifests that are given have no such hop on the way; is {sketch.script.label} the"
                 " script that was run?"]
-    return []
+    return told
+
+
+def _failing_lines(sketch: Sketch, stops: list[Stop], failing: tuple[str, str], weak: str) -> list[str]:
+    """The hop of the way that fails, with the way and what helps there. What is missing is the last one."""
+    found = [stop for stop in stops if (stop.step, stop.moniker) == failing]
+    if not found:
+        return []
+    stop = found[-1] if found[-1].given is None else found[0]
+    cures = missing_rights(stops) if weak == "rights" else nearest_name(sketch, stop)
+    return _stop_lines(sketch, stop, weak) + chain_line(stops, stop) + cures
 
 
 def _absent_lines(sketch: Sketch, refusal: Refusal, command: Command | None) -> list[str]:
@@ -262,15 +279,27 @@ def _stop_lines(sketch: Sketch, stop: Stop, weak: str) -> list[str]:
 
 
 def _inner_fault(sketch: Sketch, fault: ManifestFault, command: Command | None) -> list[str]:
-    """The fault of the manifest that was to be resolved: the target's, or the one that has it."""
+    """The fault of the manifest that was to be resolved: one on the way to the target, or another one.
+
+    The program says which manifest has it, where it is at hand.
+    """
     target = command.words[1] if command and len(command.words) > 1 else ""
-    url = sketch.url(target) if target and not target.startswith("@") else None
-    urls = ([url] if url else []) + [one for one in sketch.script.manifests if one != url]
-    for one in urls:
-        document = sketch.document(one)
-        if document is not None and _may_have(document, fault):
-            return [f"In the manifest {one}:"] + explain_manifest(document, fault)
+    way = [] if target.startswith("@") else _way_to(target)
+    urls = [url for moniker in way if (url := sketch.url(moniker))]
+    documents = {one: sketch.document(one) for one in dict.fromkeys([*urls, *sketch.script.manifests])}
+    may = {one: it for one, it in documents.items() if it is not None and _may_have(it, fault)}
+    said = f"invalid {fault.number} {fault.section} {fault.index}"
+    # An answer may have words behind these; a number that is longer is another one.
+    has = [one for one, it in may.items() if f"{check_verdict(it.text)} ".startswith(f"{said} ")]
+    for one in has or may:
+        return [f"In the manifest {one}:"] + explain_manifest(may[one], fault)
     return advice(fault.number)
+
+
+def _way_to(target: str) -> list[str]:
+    """The monikers from the root down to a target."""
+    names = target.strip("/").split("/") if target.strip("/.") else []
+    return [".", *("/".join(names[:count]) for count in range(1, len(names) + 1))]
 
 
 def _may_have(document: Document, fault: ManifestFault) -> bool:

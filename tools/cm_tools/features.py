@@ -50,7 +50,7 @@ class Feature:
 
     def told(self) -> str:
         """What it is, in words."""
-        return TOLD[self.name]
+        return TOLD[self.name] if self.item is not None else f"the section `{self.section}`"
 
 
 def features_of(root: Node) -> list[Feature]:

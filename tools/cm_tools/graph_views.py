@@ -5,9 +5,12 @@ from __future__ import annotations
 from dataclasses import dataclass
 
 from cm_tools.console import Unusable
+from cm_tools.curing import nearest
 from cm_tools.instances import Instance, RouteNote
+from cm_tools.surveying import kind_of
 from cm_tools.world import World
 
+MERMAID_ESCAPES = {"#": "#35;", '"': "#quot;", "<": "#lt;", ">": "#gt;", "&": "#amp;"}
 # Fill and border of each state, readable on white with black text.
 COLOURS: dict[str, tuple[str, str]] = {
     "discovered": ("#f4f4f5", "#a1a1aa"),
@@ -34,16 +37,22 @@ class Graph:
 
 def graph_of(world: World, only: str | None, capability: str | None) -> Graph:
     """All of a realm, or what one instance and those above it have to do with, or one capability's routes."""
-    notes = [note for note in world.routes.values() if capability is None or _is_of(note, capability)]
+    notes = list(world.routes.values())
+    if capability is not None:
+        names = _Names(world)
+        notes = [note for note in notes if capability in names.of(note)]
+        if not notes:
+            known = set().union(*map(names.of, world.routes.values()))
+            raise Unusable(f"no route of {capability} was asked for{_meant(capability, known)}")
     if only is not None:
-        chosen = {one.incarnation for one in world.instances.values() if one.moniker == only.lstrip("/")}
+        moniker = only.lstrip("/") or "."
+        chosen = {one.incarnation for one in world.instances.values() if one.moniker == moniker}
         if not chosen:
-            raise Unusable(f"no instance is named {only}")
+            known = {one.moniker for one in world.instances.values()}
+            raise Unusable(f"no instance is named {only}{_meant(moniker, known)}")
         notes = [note for note in notes if chosen & _ends(note)]
     if only is None and capability is None:
         return Graph(list(world.instances.values()), notes)
-    if not notes and only is None:
-        raise Unusable(f"no route of {capability} was asked for")
     shown = set().union(*map(_ends, notes)) if notes else set()
     if only is not None:
         shown |= chosen
@@ -141,10 +150,34 @@ def _ends(note: RouteNote) -> set[int]:
     return {note.client} if provider is None else {note.client, provider}
 
 
-def _is_of(note: RouteNote, name: str) -> bool:
-    """Whether a route is of a capability: by the name at its end, by its path, or as it is exposed."""
-    paths = [note.asked.removeprefix("exposed "), note.route.path if note.route else ""]
-    return any(path == name or path.endswith(f"/{name}") for path in paths)
+class _Names:
+    """The names by which a route's capability is known: at its ends, as it is exposed, and as its client's
+    manifest has it.
+    """
+
+    def __init__(self, world: World) -> None:
+        self._world = world
+        self._used: dict[int, dict[str, str]] = {}
+
+    def of(self, note: RouteNote) -> set[str]:
+        """The paths, the last parts of them, and the name of the use."""
+        paths = {note.asked.removeprefix("exposed "), note.route.path if note.route else ""}
+        ends = {path.rpartition("/")[2] for path in paths}
+        return (paths | ends | {self._uses(note.client).get(note.asked, "")}) - {""}
+
+    def _uses(self, incarnation: int) -> dict[str, str]:
+        """The names of what an instance uses, by the paths."""
+        if incarnation not in self._used:
+            client = self._world.instances.get(incarnation)
+            rows = client.declared().get("use", []) if client else []
+            self._used[incarnation] = {row.get("path", ""): row.get(kind_of(row), "") for row in rows}
+        return self._used[incarnation]
+
+
+def _meant(word: str, known: set[str]) -> str:
+    """What was probably meant."""
+    told = nearest(word, known)
+    return f"; {told[0].lower()}{told[1:]}" if told else ""
 
 
 def _above(world: World, incarnation: int) -> list[int]:
@@ -167,4 +200,4 @@ def _dot(text: str) -> str:
 
 
 def _mermaid(text: str) -> str:
-    return text.replace("#", "#35;").replace('"', "#quot;")
+    return "".join(MERMAID_ESCAPES.get(one, one) for one in text)

@@ -83,8 +83,9 @@ def _instance(one: Instance, world: World) -> dict[str, Any]:
         "collection": one.collection,
         "once": world.runs_once(one),
         "eager": one.eager,
-        "failure": one.failure,
+        "failures": one.failures,
         "born": one.born,
+        "resolved": one.resolved,
         "changes": one.changes,
     }
 

@@ -31,9 +31,10 @@ class Instance:
     """One instance, by its incarnation, with all that the entries so far say of it.
 
     `born` is the entry that made it, 0 for the root; `changes` are its states, each with the entry
-    that made it so. `failure` is the outcome of its last action that failed, else empty. `passing`
-    are its children in collections that aren't doomed, in the order in which they came, and `once`
-    its collections that run each child once.
+    that made it so. `failures` has what its actions failed of, each with its entry, and an empty text
+    where a later one didn't fail; `resolved` is the entry that resolved it. `passing` are its children in
+    collections that aren't doomed, in the order in which they came, and `once` its collections that run
+    each child once.
     """
 
     incarnation: int
@@ -48,7 +49,6 @@ class Instance:
     children: list[int] = field(default_factory=list)
     passing: dict[int, None] = field(default_factory=dict)
     once: frozenset[str] = frozenset()
-    is_resolved: bool = False
     is_on: bool = False
     has_run: bool = False
     is_closing: bool = False
@@ -56,7 +56,8 @@ class Instance:
     is_shut: bool = False
     is_destroyed: bool = False
     pending: str = ""
-    failure: str = ""
+    resolved: int | None = None
+    failures: list[tuple[int, str]] = field(default_factory=list)
     entries: list[int] = field(default_factory=list)
     changes: list[tuple[int, str]] = field(default_factory=list)
 
@@ -64,6 +65,21 @@ class Instance:
     def collection(self) -> str:
         """The collection that it was created in, or no text for a child that was declared."""
         return self.name.partition(":")[0] if ":" in self.name else ""
+
+    @property
+    def is_resolved(self) -> bool:
+        """Whether its manifest was read."""
+        return self.resolved is not None
+
+    @property
+    def failure(self) -> str:
+        """What its last action failed of; empty where it didn't fail."""
+        return self.failures[-1][1] if self.failures else ""
+
+    def note_failure(self, entry: int, text: str) -> None:
+        """Keeps what an action failed of, or that it didn't, where that is new."""
+        if text != self.failure:
+            self.failures.append((entry, text))
 
     @property
     def state(self) -> str:

@@ -8,6 +8,7 @@ from pathlib import Path
 from cm_tools.console import Unusable, Words
 from cm_tools.packaging import NAME, TOP, build_of, debian, entries_of, tarball
 from cm_tools.program import chosen_program
+from cm_tools.sources import newer_source
 
 # The gate's last line.
 PASSED = re.compile(r"([0-9]+) of ([0-9]+) crates ok")
@@ -22,7 +23,7 @@ def main(words: list[str]) -> int:
         program, gate = chosen_program(), UNPROVED
     else:
         program, gate = _proved(), _last_line(options.gate)
-    build = build_of(program, gate)
+    build = build_of(program, gate, not options.unproved)
     entries = entries_of(build)
     folder = Path(options.output)
     folder.mkdir(parents=True, exist_ok=True)
@@ -52,6 +53,9 @@ def _parser() -> Words:
 def _proved() -> Path:
     if not PROVED.is_file():
         raise Unusable("no proved program is here: ./component_manager prove makes it")
+    newer = newer_source(PROVED)
+    if newer is not None:
+        raise Unusable(f"{newer} is newer than the proved program: ./component_manager prove makes it anew")
     return PROVED
 
 

@@ -62,6 +62,7 @@ class Build:
     kit: str
     sources: str
     gate: str
+    is_proved: bool
 
     @property
     def version(self) -> str:
@@ -85,7 +86,7 @@ class Build:
         )
 
 
-def build_of(program: Path, gate: str) -> Build:
+def build_of(program: Path, gate: str, is_proved: bool) -> Build:
     """What is known of a program that was built from this checkout."""
     changed = _said("git", "status", "--porcelain", "--untracked-files=no")
     if changed:
@@ -95,7 +96,7 @@ def build_of(program: Path, gate: str) -> Build:
         data = program.read_bytes()
     except OSError as fault:
         raise Unusable(f"{program}: {fault.strerror}") from None
-    return Build(data, commit, int(seconds), _kit(), _sum_of_tree(), gate)
+    return Build(data, commit, int(seconds), _kit(), _sum_of_tree(), gate, is_proved)
 
 
 def entries_of(build: Build) -> dict[str, Entry]:
@@ -138,8 +139,9 @@ def debian(build: Build, entries: dict[str, Entry]) -> bytes:
         "Maintainer: the owner of the repository\nSection: utils\nPriority: optional\n"
         f"Installed-Size: {size}\nDepends: libc6, python3 (>= 3.10)\n"
         "Recommends: bash-completion, bubblewrap\n"
-        "Description: a component manager, proved\n It checks component manifests, and runs the commands of"
-        " scripts, or of clients\n of a Unix socket, over a realm of components.\n"
+        f"Description: a component manager{', proved' if build.is_proved else ' without any proof'}\n"
+        " It checks component manifests, and runs the commands of scripts, or of clients\n"
+        " of a Unix socket, over a realm of components.\n"
     )
     sums = "".join(
         f"{hashlib.md5(entry.data, usedforsecurity=False).hexdigest()}  usr/{path}\n"
@@ -161,7 +163,8 @@ def _place(name: str, tools: list[str]) -> str:
     if top == "tools" and (rest in tools or rest.startswith(("cm_tools/", "editor/"))):
         return f"{LIBRARY}/{name}"
     if top == "examples" or name == "README.md" or (top == "docs" and rest in (
-            "REFERENCE.md", "WALKTHROUGH.md", "EDITORS.md", "HOST.md", "realm.png")):
+            "REFERENCE.md", "WALKTHROUGH.md", "EDITORS.md", "HOST.md", "PROVED.md", "ASSUMPTIONS.md",
+            "realm.png")):
         return f"{DOCUMENTS}/{name}"
     return f"{DOCUMENTS}/{name}" if name == "tools/README.md" else ""
 

@@ -24,6 +24,25 @@ def place_of_row(realm: Realm, moniker: str, section: str, row: Row) -> Place | 
     return (path, 1, 1)
 
 
+def add_availability(realm: Realm) -> None:
+    """Puts the availability into the rows of uses of which the program doesn't keep it: those of storage and
+    of debug protocols.
+    """
+    for use in realm.uses:
+        if use.kind == "storage" or use.is_debug:
+            use.row = {**use.row, "availability": _availability(realm, use)}
+
+
+def _availability(realm: Realm, use: Use) -> str:
+    """How strongly a use is needed, by the manifest that the program reads."""
+    part = realm.parts.get(use.client)
+    found = _read(realm.read_file(part.url)) if part else None
+    for item in items_of(found[2], "use") if found else ():
+        if _has_row(item, use.row):
+            return item.text("availability") or "required"
+    return "required"
+
+
 def position_of_use(realm: Realm, use: Use) -> str:
     """The place of a use as FILE:LINE:COLUMN, or where its manifest should be."""
     place = place_of_row(realm, use.client, "use", use.row)
@@ -35,8 +54,12 @@ def position_of_use(realm: Realm, use: Use) -> str:
 def _manifest(realm: Realm, moniker: str) -> tuple[Path, Document, Node] | None:
     """The manifest of an instance, read; None where it isn't in the folder."""
     part = realm.parts.get(moniker)
-    path = realm.file(part.url) if part else None
-    if path is None or not path.is_file():
+    return _read(realm.file(part.url)) if part else None
+
+
+def _read(path: Path) -> tuple[Path, Document, Node] | None:
+    """A manifest's file with what it says; None where it can't be read."""
+    if not path.is_file():
         return None
     try:
         document = Document(str(path), path.read_text("utf-8"))

@@ -16,11 +16,11 @@ from __future__ import annotations
 import re
 from dataclasses import dataclass
 
-from cm_tools.asking import hops_words, names_of, who_can
+from cm_tools.asking import hops_words, names_of, open_to, unknown_name, unknown_place, who_can
 from cm_tools.console import Unusable
 from cm_tools.rights import deed_rights
 from cm_tools.surveying import Use
-from cm_tools.verdict import Verdict, row_line, use_line
+from cm_tools.verdict import Verdict, use_line
 
 RULE = re.compile(
     r"(?:nobody(?: but (?P<but>\S.*?))?|only (?P<only>\S.*?))"
@@ -62,8 +62,9 @@ def policy_text(verdict: Verdict, rules: list[Rule]) -> tuple[str, bool]:
         breaking = _breaking(verdict, rule)
         are_kept = are_kept and not breaking
         lines.append(f"{'broken' if breaking else 'kept'}: {rule.text}")
-        lines += [f"  {use_line(use)} through {hops_words(use)}" for use in breaking]
+        lines += [f"  {use_line(use)} through {hops_words(verdict, use)}" for use in breaking]
         lines += [f"  open: {told}" for told in _open(verdict, rule)]
+        lines += unknown_place(verdict, rule.place) if rule.deed else unknown_name(verdict, rule.name)
     return "\n".join(lines) + "\n", are_kept
 
 
@@ -93,20 +94,12 @@ def _breaking(verdict: Verdict, rule: Rule) -> list[Use]:
         found = who_can(verdict, rule.deed, rule.place)
     else:
         found = [
-            use for use in verdict.realm.uses if use.route is not None and rule.name in names_of(verdict, use)
+            use for use in verdict.realm.uses if use.is_given and rule.name in names_of(verdict, use)
         ]
     return [use for use in found if not rule.allows(use.client)]
 
 
 def _open(verdict: Verdict, rule: Rule) -> list[str]:
     """The offers to children that aren't known, by which one of them would reach it."""
-    found = []
-    for chain in verdict.wiring.open:
-        first = chain[0]
-        names = {link.name for link in chain} | {str(row.get("path", "")) for row in (chain[-1].row or {},)}
-        target = str((first.row or {}).get("to", ""))[1:]
-        child = target if first.moniker == "." else f"{first.moniker}/{target}"
-        child += "" if child in verdict.realm.parts else ":x"
-        if (rule.name or rule.place) in names and not rule.allows(child):
-            found.append(f"{row_line(first.moniker, 'offer', first.row or {})}, which isn't known")
-    return found
+    told = open_to(verdict, rule.name or rule.place, rule.deed)
+    return [f"{line}, which isn't known" for line, child in told if not rule.allows(child)]

@@ -71,11 +71,11 @@ def _require_whole(journal: Journal, world: World) -> None:
     has entries, and ends every action that it begins.
     """
     if journal.replies and not journal.entries:
-        raise Unusable("the journal is cut behind its root line (--partial reads it all the same)")
+        raise Unusable("the journal is cut after its root line (--partial reads it all the same)")
     left = world.pending()
     if left:
         numbers = ", ".join(str(action.number) for action in left[:5])
         raise Unusable(
-            f"the journal is cut behind entry {len(journal.entries)}: no end of action {numbers}"
+            f"the journal is cut after entry {len(journal.entries)}: no end of action {numbers}"
             " (--partial reads it all the same)"
         )

@@ -11,6 +11,9 @@ REFUSED = re.compile(r"(?:([0-9]{1,10}) )?refused ([0-9]{1,10}) (.*)\Z")
 CHECKED = re.compile(r"  (\S+) (\S+) refused ([0-9]{1,10}) (.*)\Z")
 REPORTED = re.compile(r"(\S+) storage (/\S+) refused ([0-9]{1,10}) (.*)\Z")
 HOP = re.compile(r"(?:([a-z-]+) at|void at) (use|offer|expose|capability|framework|builtin) (\S+)\Z")
+# The directory behind a storage, and the hop that a number of the report on storage names by its moniker.
+BACKING = "backing "
+PLACE_STEPS = {101: "offer", 102: "capability", 103: "offer", 104: "capability"}
 REPLY = re.compile(r"[0-9]{1,10} [a-z]")
 CLASHES = frozenset({50, 54, 55, 56})
 
@@ -61,12 +64,19 @@ class Refusal:
 
 @dataclass(frozen=True, slots=True)
 class NoPlace:
-    """`MONIKER storage PATH refused NUMBER WORDS`, a line of the report on storage."""
+    """`MONIKER storage PATH refused NUMBER WORDS`, a line of the report on storage.
+
+    `step` and `at` are the hop at which it fails, where the words name one, and `weak` is what the words say
+    of it.
+    """
 
     moniker: str
     path: str
     number: int
     words: str
+    step: str
+    at: str
+    weak: str
 
 
 Said = ManifestFault | ScriptFault | Refusal | NoPlace
@@ -84,7 +94,13 @@ def is_reply(line: str) -> bool:
 
 def _no_place(line: str) -> NoPlace | None:
     match = REPORTED.match(line)
-    return NoPlace(match[1], match[2], int(match[3]), match[4]) if match else None
+    if match is None:
+        return None
+    number, words = int(match[3]), match[4]
+    hop, step = HOP.match(words.removeprefix(BACKING)), PLACE_STEPS.get(number, "")
+    at = hop[3] if hop else words.rpartition(" at ")[2] if step else ""
+    weak = (hop[1] or "") if hop else ""
+    return NoPlace(match[1], match[2], number, words, hop[2] if hop else step, at, weak)
 
 
 def _manifest_fault(line: str) -> ManifestFault | None:

@@ -6,13 +6,14 @@ import argparse
 import contextlib
 import os
 import re
+import select
 import socket
 import sys
 import threading
-import time
 from typing import Iterable, Iterator
 
 from cm_tools.console import Unusable, Words
+from cm_tools.meeting import connected
 from cm_tools.transcripts import Transcript
 
 QUIT = b"quit"
@@ -25,8 +26,8 @@ REPLY = re.compile(
     rb"|exited|refused) "
 )
 PIECE = 65536
-# Between two tries to connect, in seconds.
-PAUSE = 0.05
+# How often it looks up while nothing comes, in seconds.
+LOOKS_UP = 0.5
 
 
 def main(words: list[str]) -> int:
@@ -36,7 +37,7 @@ def main(words: list[str]) -> int:
     with contextlib.ExitStack() as stack:
         # A path that can't be written costs the server no session.
         transcript = _transcript(options, stack)
-        link = stack.enter_context(_connected(options.socket, time.monotonic() + options.wait))
+        link = stack.enter_context(_connected(options.socket, options.wait))
         sender = Sender(link, lines or _lines_of_input(), transcript)
         sender.start()
         replies = Replies(transcript)
@@ -99,21 +100,14 @@ def _lines_of_input() -> Iterator[bytes]:
         yield behind
 
 
-def _connected(path: str, until: float) -> socket.socket:
-    """A connection to the server at the path, for which it waits up to that time."""
-    while True:
-        link = socket.socket(socket.AF_UNIX, socket.SOCK_STREAM)
-        try:
-            link.connect(path)
-            return link
-        except (FileNotFoundError, ConnectionRefusedError) as fault:
-            link.close()
-            if not time.monotonic() < until:
-                raise Unusable(f"{path}: no server is there ({fault.strerror})") from None
-        except OSError as fault:
-            link.close()
-            raise Unusable(f"{path}: {fault.strerror or fault}") from None
-        time.sleep(PAUSE)
+def _connected(path: str, seconds: float) -> socket.socket:
+    """A connection to the server at the path, for which it waits so many seconds."""
+    try:
+        return connected(path, seconds)
+    except (FileNotFoundError, ConnectionRefusedError) as fault:
+        raise Unusable(f"{path}: no server is there ({fault.strerror})") from None
+    except OSError as fault:
+        raise Unusable(f"{path}: {fault.strerror or fault}") from None
 
 
 class Sender(threading.Thread):
@@ -161,6 +155,9 @@ class Replies:
         """Prints what comes, until the session ends."""
         while True:
             try:
+                # A Ctrl-C that comes right before it begins to wait is seen when it looks up.
+                while not select.select([link], [], [], LOOKS_UP)[0]:
+                    pass
                 piece = link.recv(PIECE)
             except ConnectionResetError:
                 # The other side went away with lines that it hadn't read.

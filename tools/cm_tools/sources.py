@@ -47,6 +47,18 @@ def sum_of_sources(crate: str) -> str:
     return found.hexdigest()[:16]
 
 
+def newer_source(program: Path) -> Path | None:
+    """A source that is newer than a program which was proved and built of it, as the script at the top looks
+    for one; None where none is.
+    """
+    built = program.stat().st_mtime_ns
+    paths = [TOP / "crates.txt"]
+    for folder, below, names in os.walk(TOP / "crates"):
+        below[:] = [name for name in below if name != "out"]
+        paths += [Path(folder, name) for name in names if name.endswith((".rt", ".antt"))]
+    return next((path.relative_to(TOP) for path in paths if path.stat().st_mtime_ns > built), None)
+
+
 def _source_files(crate: str) -> list[Path]:
     """The files below a crate's `src`, in an order that is always the same."""
     return [

@@ -11,22 +11,25 @@ import re
 import subprocess
 from dataclasses import dataclass, field
 from pathlib import Path
-from typing import Any
+from typing import Any, Callable
 
 from cm_tools.console import Unusable
 from cm_tools.entries import Route
+from cm_tools.hops import parent_of
 from cm_tools.journal import parse_journal, parse_route
-from cm_tools.said import HOP
+from cm_tools.said import Refusal, read_said
 from cm_tools.world import replay
 
 KINDS = ("protocol", "directory", "storage")
 SURVEYED = re.compile(r"  (\S+) incarnation [0-9]+ (resolved|unresolved) ")
-CHECKED = re.compile(r"  (\S+) (\S+) (.*)")
-REFUSED = re.compile(r"refused ([0-9]+) (.*)")
+ROUTED = re.compile(r"  (\S+) (\S+) route (.*)")
 UNRESOLVABLE = re.compile(r"0 refused 83 cannot-resolve action [0-9]+ (.*)")
 REPLY = re.compile(r"0 [a-z]")
 # More rounds than a realm within the program's limits can need.
 ROUNDS = 65_536
+# What is left out on purpose: a route, a storage, and the directory behind a storage.
+VOID_ROUTE = 88
+VOIDS = frozenset({VOID_ROUTE, 103, 108})
 
 Row = dict[str, Any]
 
@@ -46,7 +49,9 @@ class Use:
     """A use: who uses what at which path, its row, and what the program says of its route.
 
     `route` is there where it leads somewhere; else `why` is the reason and `step` and `moniker` the hop at
-    which it fails, if the program names one. `number` is 0, or that of the refusal.
+    which it fails, if the program names one. `number` is 0, or that of the refusal. Of a use from `debug` no
+    route is told: `registered` has the instance whose manifest registers the protocol, from where, and by
+    which name.
     """
 
     client: str
@@ -57,6 +62,7 @@ class Use:
     why: str
     step: str
     moniker: str
+    registered: tuple[str, str, str] | None = None
 
     @property
     def kind(self) -> str:
@@ -74,21 +80,33 @@ class Use:
         return self.row.get("availability", "required") == "required"
 
     @property
+    def is_debug(self) -> bool:
+        """Whether it is of a debug protocol, of the client's environment."""
+        return self.row.get("from") == "debug"
+
+    @property
+    def is_given(self) -> bool:
+        """Whether it leads somewhere."""
+        return self.route is not None or self.registered is not None
+
+    @property
     def is_void(self) -> bool:
-        """Whether it is left out on purpose."""
-        return self.number == 88
+        """Whether it is left out on purpose, and the client can do without it."""
+        return self.number in VOIDS and (self.number == VOID_ROUTE or not self.is_required)
 
 
 @dataclass(slots=True)
 class Realm:
     """The instances by their monikers, and the uses, in the program's order; the folder and the root.
 
-    `read` is the folder that the program reads: a copy where shards are merged.
+    `read` is the folder that the program reads: a copy where shards are merged. `commands` are those by which
+    children were created.
     """
 
     folder: Path
     read: Path
     root: str
+    commands: list[str]
     parts: dict[str, Part] = field(default_factory=dict)
     uses: list[Use] = field(default_factory=list)
 
@@ -106,17 +124,30 @@ def _path_of(url: str) -> Path:
     return Path(front.partition("://")[2].strip("/"), fragment)
 
 
+def url_of(path: Path) -> str | None:
+    """The URL of a manifest by its path in the folder: its fragment begins at `meta`; None where it has none.
+    """
+    parts = path.parts
+    if "meta" not in parts[1:]:
+        return None
+    at = parts.index("meta", 1)
+    return f"fuchsia-pkg://{'/'.join(parts[:at])}#{'/'.join(parts[at:])}"
+
+
 def kind_of(row: Row) -> str:
     """What a row is about."""
     return next((kind for kind in KINDS if kind in row), "")
 
 
-def surveyed(program: Path, folders: tuple[Path, Path], header: list[str], commands: list[str]) -> Realm:
-    """The realm of a folder under the lines of a script's header, behind further commands such as creates.
+def surveyed(
+    program: Path, folders: tuple[Path, Path], header: list[str], commands: list[str]
+) -> tuple[Realm, Callable[[str], list[str]]]:
+    """The realm of a folder under the lines of a script's header, behind further commands such as creates;
+    and what gives the lines of one of the program's reports on it.
 
     The second folder is the one that the program reads, the first one itself or a copy.
     """
-    runner = _Runner(program, folders[1], header, commands)
+    runner = Runner(program, folders[1], header, commands)
     known, failures = ["."], {}
     for _ in range(ROUNDS):
         told = runner.run([f"resolve {moniker}" for moniker in known if moniker not in failures], False)
@@ -126,7 +157,8 @@ def surveyed(program: Path, folders: tuple[Path, Path], header: list[str], comma
         if not fresh:
             break
     resolves = [f"resolve {moniker}" for moniker in known if moniker not in failures]
-    return _realm(runner.run(resolves, True), folders, failures)
+    realm = realm_of(runner.run(resolves, True), folders, failures, commands)
+    return realm, lambda word: runner.report(word, resolves)
 
 
 @dataclass(slots=True)
@@ -140,11 +172,11 @@ class _Told:
     text: bytes
 
 
-class _Runner:
+class Runner:
     """Runs the program on scripts over one folder."""
 
     def __init__(self, program: Path, folder: Path, header: list[str], commands: list[str]) -> None:
-        self.words: list[str | Path] = [program, "run", "--repo", folder]
+        self.program, self.folder = program, folder
         self.header, self.commands = header, commands
 
     def run(self, resolves: list[str], is_last: bool) -> _Told:
@@ -152,12 +184,22 @@ class _Runner:
         asked = [*resolves[:1], *self.commands, *resolves[1:]]
         lines = [*self.header, *(f"0 {command}" for command in asked), "0 survey ."]
         lines += ["0 doctor ."] if is_last else []
-        words = [*self.words, "--journal"] if is_last else self.words
+        return _read(self._ran(["run", "--journal"] if is_last else ["run"], lines), asked)
+
+    def report(self, word: str, resolves: list[str]) -> list[str]:
+        """The lines of one of the program's reports, behind the commands."""
+        asked = [*resolves[:1], *self.commands, *resolves[1:]]
+        told = self._ran([word], [*self.header, *(f"0 {command}" for command in asked)])
+        return told.decode("utf-8", "replace").split("\n")
+
+    def _ran(self, words: list[str], lines: list[str]) -> bytes:
+        """What the program prints of a script of these lines."""
+        command: list[str | Path] = [self.program, *words, "--repo", self.folder]
         script = "".join(line + "\n" for line in lines).encode()
-        ran = subprocess.run(words, input=script, capture_output=True, check=False)
+        ran = subprocess.run(command, input=script, capture_output=True, check=False)
         if ran.returncode:
             raise Unusable(_refused(ran, lines))
-        return _read(ran.stdout, asked)
+        return ran.stdout
 
 
 def _refused(ran: subprocess.CompletedProcess[bytes], lines: list[str]) -> str:
@@ -193,11 +235,13 @@ def _read(text: bytes, asked: list[str]) -> _Told:
     return told
 
 
-def _realm(told: _Told, folders: tuple[Path, Path], failures: dict[str, str]) -> Realm:
+def realm_of(
+    told: _Told, folders: tuple[Path, Path], failures: dict[str, str], commands: list[str]
+) -> Realm:
     """The realm of the last run."""
     journal = parse_journal(told.text)
     world = replay(journal)
-    realm = Realm(*folders, journal.root)
+    realm = Realm(*folders, journal.root, commands)
     for instance in world.instances.values():
         if not instance.is_destroyed:
             url = instance.absolute or _absolute(instance.url, realm, instance.moniker)
@@ -216,26 +260,19 @@ def _absolute(url: str, realm: Realm, moniker: str) -> str:
     return above.url.partition("#")[0] + url if url.startswith("#") and above else url
 
 
-def parent_of(moniker: str) -> str:
-    """The moniker above; that of the root is its own."""
-    return moniker.rpartition("/")[0] or "."
-
-
 def _use(line: str, realm: Realm) -> Use | None:
     """What a line of the check of all routes says; None where it is of an instance that isn't resolved."""
-    found = CHECKED.match(line)
+    said, found = read_said(line), ROUTED.fullmatch(line)
+    if isinstance(said, Refusal) and said.client:
+        row = _row(realm, said.client, said.path)
+        return Use(said.client, said.path, row, None, said.number, said.words, said.step, said.moniker)
     if found is None:
         return None
-    client, path, said = found[1], found[2], found[3]
-    row = _row(realm.parts[client].declared.get("use", []), path) if client in realm.parts else {}
-    refused = REFUSED.fullmatch(said)
-    if refused:
-        hop = HOP.match(refused[2])
-        step, moniker = (hop[2], hop[3]) if hop else ("", "")
-        return Use(client, path, row, None, int(refused[1]), refused[2], step, moniker)
-    route = parse_route(said.removeprefix("route "))
-    return Use(client, path, row, route, 0, "" if route else said, "", "")
+    client, path, route = found[1], found[2], parse_route(found[3])
+    return Use(client, path, _row(realm, client, path), route, 0, "" if route else found[3], "", "")
 
 
-def _row(rows: list[Row], path: str) -> Row:
+def _row(realm: Realm, client: str, path: str) -> Row:
+    """The row of a use by its path."""
+    rows = realm.parts[client].declared.get("use", []) if client in realm.parts else []
     return next((row for row in rows if row.get("path") == path), {})

@@ -16,11 +16,14 @@ from cm_tools.pointing import Document
 from cm_tools.relaxed import SpellingFault, read_relaxed
 from cm_tools.rights import rights_of, short_rights
 from cm_tools.said import ManifestFault, read_said
-from cm_tools.surveying import Part, Realm, Row, Use, kind_of
+from cm_tools.surveying import Part, Realm, Row, Use, kind_of, url_of
 from cm_tools.wiring import Wiring
 
 GOOD, BAD, VOID = "✓", "✗", "void"
 CYCLE = 58
+ABSENT = "absent"
+# URLs have much in common, so another one has to be nearly the same.
+OF_URLS = 0.9
 
 
 @dataclass(slots=True)
@@ -52,21 +55,20 @@ class Verdict:
 
 def fails(use: Use) -> bool:
     """Whether a use that is required leads nowhere."""
-    return use.is_required and use.number > 0
+    return use.is_required and not use.is_given
 
 
 def judged(program: Path, realm: Realm) -> Verdict:
     """The verdict on a realm; the program says again what is wrong with a manifest that isn't valid."""
     verdict = Verdict(realm, Wiring(realm))
+    files = [path for path in realm.folder.rglob("*") if path.suffix in SUFFIXES and path.is_file()]
+    urls = {url for path in files if (url := url_of(path.relative_to(realm.folder)))}
     for part in realm.parts.values():
         if part.failure:
-            verdict.broken.append(_broken(program, realm, part))
+            verdict.broken.append(_broken(program, realm, part, urls))
         verdict.unused += [(part.moniker, *one) for one in _unused(verdict, part)]
     reached = {realm.file(part.url).resolve() for part in realm.parts.values()}
-    verdict.unreached = sorted(
-        path for path in realm.folder.rglob("*")
-        if path.suffix in SUFFIXES and path.is_file() and path.resolve() not in reached
-    )
+    verdict.unreached = sorted(path for path in files if path.resolve() not in reached)
     return verdict
 
 
@@ -74,13 +76,17 @@ def _unused(verdict: Verdict, part: Part) -> list[tuple[str, Row]]:
     """The offers and exposes of a part that no use passes, and that don't lead out of what is known."""
     return [
         (section, row) for section in ("offer", "expose") for row in part.declared.get(section, [])
-        if row.get("from") != "void" and not verdict.wiring.is_needed(part.moniker, row)
+        if row.get("from") != "void" and not verdict.wiring.is_needed(row)
     ]
 
 
-def _broken(program: Path, realm: Realm, part: Part) -> Broken:
-    """Why a part's manifest can't be had, with its place where the program finds a fault in it."""
+def _broken(program: Path, realm: Realm, part: Part, urls: set[str]) -> Broken:
+    """Why a part's manifest can't be had, with its place where the program finds a fault in it, or the URL
+    that was probably meant.
+    """
     path = realm.read_file(part.url)
+    if part.failure == ABSENT:
+        return Broken(part, part.failure, cure=nearest(part.url, urls, OF_URLS))
     if not part.failure.startswith("invalid") or not path.is_file():
         return Broken(part, part.failure)
     data = path.read_bytes()
@@ -121,7 +127,7 @@ def verdict_text(verdict: Verdict) -> str:
     lines += _section("cycles", [_cycle_line(one) for one in verdict.broken if one.cycle])
     lines += _section("manifests that can't be had",
                       [_broken_line(one, realm) for one in verdict.broken if not one.cycle])
-    failing = [use for use in realm.uses if use.number and not use.is_void]
+    failing = [use for use in realm.uses if not use.is_given and not use.is_void]
     for title, wanted in ("required uses that lead nowhere", True), ("others that lead nowhere", False):
         lines += _section(title, [_failing_line(verdict, use) for use in failing if fails(use) == wanted])
     lines += _section("offers and exposes that nobody uses", [row_line(*one) for one in verdict.unused])
@@ -140,7 +146,7 @@ def uses_table(uses: list[Use]) -> list[str]:
 
 def mark(use: Use) -> str:
     """Whether it leads somewhere, nowhere, or is left out on purpose."""
-    return GOOD if use.number == 0 else VOID if use.is_void else BAD
+    return GOOD if use.is_given else VOID if use.is_void else BAD
 
 
 def need(use: Use) -> str:
@@ -150,6 +156,9 @@ def need(use: Use) -> str:
 
 def leads_to(use: Use) -> str:
     """The provider with the path there and the rights, or the reason why there is none."""
+    if use.registered is not None:
+        owner, origin, name = use.registered
+        return f"{name} from {origin}, by an environment of {owner}"
     if use.route is None:
         return use.why
     where = use.route.moniker or use.route.source
@@ -165,7 +174,11 @@ def use_line(use: Use) -> str:
 
 def _failing_line(verdict: Verdict, use: Use) -> str:
     """A use that leads nowhere, with its place and the name that was probably meant."""
-    cure = nearest(*verdict.wiring.names_at_failure(use))
+    name, known = verdict.wiring.names_at_failure(use)
+    cure = nearest(name, known)
+    if use.step == "builtin":
+        more = " PATH RIGHTS" if use.kind == "directory" else ""
+        cure = f"where the root has it from above, say --builtin '{use.kind} {name}{more}'"
     told = f"{use_line(use)} ({position_of_use(verdict.realm, use)})"
     return f"{told}: {cure[0].lower()}{cure[1:]}" if cure else told
 

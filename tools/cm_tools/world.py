@@ -137,7 +137,7 @@ class World:
         outcome = entry.reply.text
         action.outcome = outcome
         instance.pending = ""
-        instance.failure = "" if outcome in SUCCESSES else outcome
+        instance.note_failure(entry.number, "" if outcome in SUCCESSES else outcome)
         if outcome == "resolved":
             self._resolve(instance, entry)
         elif outcome == "started":
@@ -148,7 +148,7 @@ class World:
         return [instance.incarnation]
 
     def _resolve(self, instance: Instance, entry: Entry) -> None:
-        instance.is_resolved = True
+        instance.resolved = entry.number
         instance.absolute = entry.event.text
         instance.declaration = entry.event.declaration
         try:

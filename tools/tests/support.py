@@ -5,6 +5,7 @@ from __future__ import annotations
 import contextlib
 import gc
 import io
+import signal
 import subprocess
 import sys
 from dataclasses import dataclass
@@ -23,7 +24,8 @@ TESTS = Path(__file__).resolve().parent
 TOOLS = TESTS.parent
 ROOT = TOOLS.parent
 JOURNALS = TESTS / "journals"
-SECONDS = 100
+# How long anything is waited for, in seconds: the machine may be slow, and others may fill it.
+SECONDS = 600
 MAINS = {
     "realm": realm, "explain": explain, "check-all": check_all, "session": session, "doctor": doctor,
     "merge": merge,
@@ -37,6 +39,12 @@ class Ran:
     status: int
     out: str
     err: str
+
+
+def heeds_interrupts() -> None:
+    """Of a child, before its program: Ctrl-C is heard. A shell ignores it for what it runs in the background,
+    and so for the tests and for all that they start."""
+    signal.signal(signal.SIGINT, signal.SIG_DFL)
 
 
 def run(tool: str, *words: str, data: bytes = b"", audited: bool = False) -> Ran:

@@ -10,7 +10,7 @@ import tempfile
 import unittest
 from pathlib import Path
 
-from tests.support import JOURNALS, ROOT, SECONDS, TOOLS, run
+from tests.support import JOURNALS, ROOT, SECONDS, TOOLS, heeds_interrupts, run
 from tests.test_session import Server
 
 JOURNAL = str(JOURNALS / "product.txt")
@@ -57,7 +57,7 @@ class StreamTests(unittest.TestCase):
             Server(path).start()
             command = [sys.executable, str(TOOLS / "session"), str(path)]
             with subprocess.Popen(command, stdin=subprocess.PIPE, stdout=subprocess.PIPE,
-                                  stderr=subprocess.PIPE) as tool:
+                                  stderr=subprocess.PIPE, preexec_fn=heeds_interrupts) as tool:
                 assert tool.stdin and tool.stdout and tool.stderr
                 tool.stdin.write(b"show .\n")
                 tool.stdin.flush()

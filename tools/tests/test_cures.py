@@ -1,20 +1,14 @@
-"""Tests of what `explain` advises, of transcripts, and of its walk along routes beside the program's."""
+"""Tests of what `explain` advises, and of transcripts."""
 
 from __future__ import annotations
 
-import os
-import random
 import re
-import subprocess
 import tempfile
 import unittest
 from pathlib import Path
 
 from cm_tools.curing import FORMS
-from cm_tools.said import Refusal, read_said
-from cm_tools.scripts import Sketch, read_script
-from cm_tools.tracing import trace
-from tests.support import ROOT, SECONDS, run
+from tests.support import ROOT, run
 from tests.test_session import Server
 
 # A manifest, what the program says of it, and what is advised.
@@ -49,6 +43,11 @@ NAMED = """manifest fuchsia-pkg://t/a#meta/root.cm
 SCRIPTS = [
     (HEAD + "0 rote a /p\n", "line 2: 70 bad-command at 3", "It could have been: route T PATH"),
     (HEAD + "0 route a\n", "line 2: 70 bad-command at 9", "The form is: 0 route T PATH"),
+    ("rot fuchsia-pkg://t/a#b\n", "line 1: 71 bad-lane", "Did you mean root?"),
+    (HEAD + "start .\n", "line 2: 71 bad-lane", "Did you mean 0 start .?"),
+    ("builtin protocl x\n", "line 1: 70 bad-command at 14", "Did you mean protocol?"),
+    ("builtin directory x\n", "line 1: 70 bad-command at 19", "is: builtin directory NAME PATH RIGHTS"),
+    ("root\n", "line 1: 70 bad-command at 4", "The form is: root URL"),
     (HEAD + "0 zzz\n", "line 2: 70 bad-command at 2", "The commands are: "),
     (HEAD + "0 show .\r\n", "line 2: 70 bad-command at 8", "carriage returns (CRLF)"),
     (HEAD + "0 create . c n #u + protocol p #x + protocol q self\n", "0 refused 63 bad-offer 1 52",
@@ -83,6 +82,15 @@ root fuchsia-pkg://t/a#meta/root.cm
 """
 
 
+# A script whose report on storage refuses a place, and what is told of it.
+STORAGES = [
+    ("101-no-storage-offer.txt", "The way: use session -> offer . ✗\n"),
+    ("105-no-backing.txt", "The way: use session -> offer . -> capability . -> capability . ✗\n"),
+    ("107-backing-no-expose.txt", "The way: use session -> offer . -> capability . -> expose minfs ✗\n"),
+    ("109-backing-rights.txt", " lacks modify_directory, update_attributes, write_bytes.\n"),
+]
+
+
 class CureTests(unittest.TestCase):
     """What is advised."""
 
@@ -107,6 +115,8 @@ class CureTests(unittest.TestCase):
             status, out = self.explained(text, said if "shown" not in said else said * 3)
             self.assertEqual(status, 7 if said.startswith("line ") else 0, said)
             self.assertIn(told, out, said)
+        _, out = self.explained(HEAD + "0 show .\n0 show a\n", "0 shown . incarnation 0\n")
+        self.assertIn("it has 2 commands, and there is 1 reply; is it the script that was run?", out)
 
     def test_forms(self) -> None:
         """the forms of commands are those of the reference"""
@@ -127,6 +137,24 @@ class CureTests(unittest.TestCase):
         _, out = self.explained(ROUTED, said.replace("offer .", "offer c", 1))
         self.assertIn("is ", out)
         self.assertIn("the script that was run?", out)
+
+    def test_manifest_on_the_way(self) -> None:
+        """a fault of a manifest on the way to the target is told there, and not in the target's own"""
+        text = ("manifest fuchsia-pkg://t/a#meta/root.cm\n{children:[{name:'a',url:'#meta/a.cm'}],"
+                "offer:[{protocol:'p',from:'#b',to:'#a'}]}\n%%\nmanifest fuchsia-pkg://t/a#meta/a.cm\n"
+                "{children:[{name:'c',url:'#c'}],offer:[{protocol:'p',from:'parent',to:'#c'}]}\n%%\n"
+                f"{HEAD}0 start a\n")
+        _, out = self.explained(text, "0 refused 83 cannot-resolve action 1 invalid 51 offer 0\n")
+        self.assertIn("In the manifest fuchsia-pkg://t/a#meta/root.cm:", out)
+
+    def test_storage(self) -> None:
+        """a storage that can't be had: the way with the hop that fails or is missing, and rights that lack"""
+        for file, told in STORAGES:
+            text = (ROOT / "examples" / "faults" / file).read_text("utf-8")
+            table = (ROOT / "examples" / "faults" / "expected.txt").read_text("utf-8")
+            line = next(one for one in table.split("\n") if one.startswith(file))
+            _, out = self.explained(text, line.rpartition(" | ")[2] + "\n")
+            self.assertIn(told, out, file)
 
     def test_eager_children(self) -> None:
         """an eager child that failed is told from the journal, with the fault of its manifest"""
@@ -183,82 +211,6 @@ class CureTests(unittest.TestCase):
             ran = run("session", "--transcript", "/dev/full", str(path), "show .", "show .", "quit")
             told = "session: /dev/full: No space left on device\n"
             self.assertEqual((ran.status, ran.out.count("shown"), ran.err), (2, 2, told))
-
-
-def random_script(source: random.Random) -> str:
-    """A script with a route through instances whose offers and exposes are drawn."""
-    monikers = [".", "a", "b", "a/c", "a/d", "b/e"]
-    blocks = []
-    for moniker in monikers:
-        front = "" if moniker == "." else f"{moniker}/"
-        children = [one.removeprefix(front) for one in monikers
-                    if one != moniker and one.startswith(front) and "/" not in one.removeprefix(front)
-                    and one != "."]
-        blocks.append((moniker, _manifest(source, children, moniker == ".")))
-    text = "".join(
-        f"manifest fuchsia-pkg://t/p#meta/{moniker.replace('/', '-')}.cm\n{manifest}\n%%\n"
-        for moniker, manifest in blocks
-    )
-    for moniker in monikers[1:]:
-        name, file = moniker.rpartition("/")[2], moniker.replace("/", "-")
-        text = text.replace(f"url:'{name}'", f"url:'#meta/{file}.cm'")
-    builtin = "builtin protocol p\n" if source.random() < 0.3 else ""
-    client = source.choice(monikers[1:])
-    return f"{text}{builtin}root fuchsia-pkg://t/p#meta/..cm\n0 route {client} /svc/{source.choice('pq')}\n"
-
-
-def _manifest(source: random.Random, children: list[str], is_root: bool) -> str:
-    """A manifest: it uses p and q, may have them, and offers and exposes them from here and there."""
-    def origin(*more: str) -> str:
-        return source.choice([*(f"#{child}" for child in children), "self", *more])
-
-    own = [name for name in "pq" if source.random() < 0.6]
-    offers = []
-    for child in children:
-        for name in "pq":
-            where = origin("parent", "parent")
-            if source.random() < 0.8 and where != f"#{child}":
-                kept = source.choice("pq")
-                if where == "self" and kept not in own:
-                    continue
-                ends = f"to:'#{child}',as:'{name}',dependency:'weak'"
-                offers.append(f"{{protocol:'{kept}',from:'{where}',{ends}}}")
-    exposes = []
-    for name in "pq":
-        where, kept = origin(), source.choice("pq")
-        if source.random() < 0.8 and not is_root and not (where == "self" and kept not in own):
-            exposes.append(f"{{protocol:'{kept}',from:'{where}',as:'{name}'}}")
-    uses = "[]" if is_root else "[{protocol:'p',dependency:'weak'},{protocol:'q',dependency:'weak'}]"
-    listed = ",".join(f"{{name:'{child}',url:'{child}'}}" for child in children)
-    capabilities = ",".join(f"{{protocol:'{name}'}}" for name in own)
-    return (f"{{children:[{listed}],capabilities:[{capabilities}],use:{uses},"
-            f"offer:[{','.join(offers)}],expose:[{','.join(exposes)}]}}")
-
-
-@unittest.skipUnless("COMPONENT_MANAGER" in os.environ, "COMPONENT_MANAGER names no program")
-class WalkTests(unittest.TestCase):
-    """The walk along a route beside the program's."""
-
-    def test_walks(self) -> None:
-        """over 500 made scripts the walk ends at the hop that the program names"""
-        source, kinds = random.Random(7), set()
-        for number in range(500):
-            text = random_script(source)
-            ran = subprocess.run([os.environ["COMPONENT_MANAGER"], "run"], input=text.encode(), check=False,
-                                 timeout=SECONDS, capture_output=True)
-            said = ran.stdout.decode().strip()
-            self.assertEqual(ran.returncode, 0, (number, ran.stderr, text))
-            script = read_script("script", text)
-            command = script.commands[0]
-            stops = [(one.step, one.moniker) for one in trace(Sketch(script), *command.words[1:3])]
-            refusal = read_said(said)
-            kinds.add(said.split(" ")[3] if isinstance(refusal, Refusal) else said.split(" ")[1])
-            if isinstance(refusal, Refusal) and refusal.number == 87:
-                self.assertEqual(stops[-1], (refusal.step, refusal.moniker), (number, said, text))
-            elif not isinstance(refusal, Refusal):
-                hops = said.partition(" through ")[2].split(", ")
-                self.assertEqual([" ".join(stop) for stop in stops], hops, (number, said, text))
-        self.assertLessEqual({"route", "no-offer", "no-expose"}, kinds)
 
 
 if __name__ == "__main__":

@@ -9,6 +9,7 @@ import os
 import socket
 import struct
 import subprocess
+import sys
 import tempfile
 import time
 import unittest
@@ -16,7 +17,7 @@ from pathlib import Path
 from unittest.mock import Mock, patch
 
 from cm_tools.console import Unusable
-from cm_tools.host import doors, making, programs, seccomp, watching
+from cm_tools.host import doors, front, making, programs, seccomp, watching
 from cm_tools.host.doors import OPENED, PUT_OFF, can_be_kept
 from cm_tools.host.events import EVENTS, Log, Said, place_of, told
 from cm_tools.host.gate import removed_sockets
@@ -28,6 +29,7 @@ from cm_tools.host.sessions import Tally, count_of
 from cm_tools.host.settings import Settings
 from cm_tools.host.storage import Storage, counted
 from cm_tools.host.tree import Tree, commands, created_part
+from tests.support import SECONDS
 
 PARENT = """{ // relaxed
     children: [ { name: 'a', url: '#meta/a.cm' }, { name: "b", url: "fuchsia-pkg://h/b#meta/b.cm" } ],
@@ -305,8 +307,8 @@ class Sockets(InFolder):
 class Taken(InFolder):
     """The door of a use."""
 
-    def taken(self, a_second: float) -> list[socket.socket]:
-        """Of ten connections that come together, those that are taken within 0.3 seconds."""
+    def taken(self, a_second: float, count: int) -> list[socket.socket]:
+        """Of ten connections that come together, those that are taken behind so many, and 0.3 seconds."""
         taken: list[socket.socket] = []
 
         async def tries() -> None:
@@ -320,6 +322,9 @@ class Taken(InFolder):
             for client in clients:
                 client.connect(str(self.folder / "use"))
             with patch.object(doors.Opening, "begin", lambda one: taken.append(one.client)):
+                until = time.monotonic() + SECONDS
+                while len(taken) < count and time.monotonic() < until:
+                    await asyncio.sleep(0.01)
                 await asyncio.sleep(0.3)
             door.cancel()
             for one in *clients, *taken:
@@ -332,8 +337,8 @@ class Taken(InFolder):
 
     def test_a_second(self) -> None:
         """host: a use takes so many connections at once, and then so many in a second"""
-        self.assertEqual(len(self.taken(1)), 3)
-        self.assertEqual(len(self.taken(1e9)), 10)
+        self.assertEqual(len(self.taken(1e-6, 3)), 3)
+        self.assertEqual(len(self.taken(1e9, 10)), 10)
 
 
 class Small(InFolder):
@@ -399,6 +404,17 @@ class Small(InFolder):
         self.assertGreater(tally.bytes, before[1] + 1000)
         tally.count("show @1", ["refused 81 gone incarnation 1"])
         self.assertEqual((tally.commands, tally.actions, tally.instances), (3, 18, 6))
+
+    def test_modules(self) -> None:
+        """host: the runner takes no module from where it is started, nor from what the environment names"""
+        for name in "json", "asyncio", "cm_tools", "sitecustomize":
+            self.put(f"{name}.py", f"open({str(self.folder / 'taken')!r}, 'w')\n")
+        environment = {**os.environ, "PYTHONPATH": str(self.folder)}
+        words = [sys.executable, *front.RUNNER, "no settings", "-1", "-1"]
+        ran = subprocess.run(words, cwd=self.folder, env=environment, capture_output=True, text=True,
+                             stdin=subprocess.DEVNULL, timeout=SECONDS)
+        self.assertEqual((ran.returncode, (self.folder / "taken").exists()), (4, False), ran.stderr)
+        self.assertIn("cm_tools/host/runner.py", ran.stderr)
 
     def test_settings(self) -> None:
         """host: settings are one line, from which the same are read"""

@@ -10,13 +10,12 @@ import tempfile
 import unittest
 from pathlib import Path
 
-from tests.support import ROOT, Ran, run
+from tests.support import ROOT, SECONDS, Ran, run
 
 PROGRAM = os.environ.get("COMPONENT_MANAGER", "")
 URL = "fuchsia-pkg://fuchsia.com/product#meta/product.cm"
 PACKAGES = ROOT / "examples" / "product" / "packages"
 COMMANDS = ("start session", "show session", "open session /svc/none", "stop session", "shutdown .")
-PATIENCE = 20
 
 
 @unittest.skipUnless(PROGRAM, "COMPONENT_MANAGER names no program")
@@ -56,12 +55,12 @@ class KeepingTests(unittest.TestCase):
 
     def end(self, server: subprocess.Popen[str]) -> Ran:
         """Waits for its end."""
-        out, err = server.communicate(timeout=PATIENCE)
+        out, err = server.communicate(timeout=SECONDS)
         return Ran(server.returncode, out, err)
 
     def ask(self, *commands: str) -> list[str]:
         """Holds a session."""
-        ran = run("session", "--wait", str(PATIENCE), str(self.socket), *commands)
+        ran = run("session", "--wait", str(SECONDS), str(self.socket), *commands)
         self.assertEqual(ran.err, "")
         return ran.out.splitlines()
 
@@ -71,7 +70,7 @@ class KeepingTests(unittest.TestCase):
 
     def audit(self) -> str:
         journal = self.place.read_bytes()
-        ran = subprocess.run([PROGRAM, "audit"], input=journal, capture_output=True, timeout=PATIENCE)
+        ran = subprocess.run([PROGRAM, "audit"], input=journal, capture_output=True, timeout=SECONDS)
         return ran.stdout.decode()
 
     def test_same_as_a_run(self) -> None:
@@ -81,7 +80,7 @@ class KeepingTests(unittest.TestCase):
         self.assertEqual(self.end(server), Ran(0, "", ""))
         script = f"root {URL}\n" + "".join(f"0 {command}\n" for command in COMMANDS)
         command = [PROGRAM, "run", "--journal", "--repo", str(PACKAGES)]
-        ran = subprocess.run(command, input=script, capture_output=True, text=True, timeout=PATIENCE)
+        ran = subprocess.run(command, input=script, capture_output=True, text=True, timeout=SECONDS)
         answers, _, journal = ran.stdout.partition("journal\n")
         self.assertEqual([line.removeprefix("0 ") for line in answers.splitlines()], replies)
         self.assertEqual(self.place.read_text(), "journal\n" + journal)
@@ -115,8 +114,8 @@ class KeepingTests(unittest.TestCase):
         environment = {**os.environ, "COMPONENT_JOURNAL": str(self.place)}
         for words in (["run", "--journal"], ["check"], ["generate", "1", "2"], ["serve"], ["none"]):
             command = [PROGRAM, *words]
-            ran = subprocess.run(command, input=b"{}", capture_output=True, timeout=PATIENCE)
-            told = subprocess.run(command, input=b"{}", capture_output=True, timeout=PATIENCE,
+            ran = subprocess.run(command, input=b"{}", capture_output=True, timeout=SECONDS)
+            told = subprocess.run(command, input=b"{}", capture_output=True, timeout=SECONDS,
                                   env=environment)
             self.assertEqual((told.returncode, told.stdout, told.stderr),
                              (ran.returncode, ran.stdout, ran.stderr))

@@ -4,17 +4,22 @@ from __future__ import annotations
 
 import gzip
 import io
+import os
 import tarfile
 import tempfile
 import unittest
+import zlib
+from dataclasses import replace
 from pathlib import Path
+from unittest import mock
 
 from cm_tools.console import Unusable
-from cm_tools.package_main import _last_line
+from cm_tools.package_main import _last_line, _proved
 from cm_tools.packaging import Build, Entry, debian, tarball
+from cm_tools.sources import newer_source
 
 PROGRAM = b"\x7fELF" + bytes(14) + b"\x3e\x00" + b"program"
-BUILD = Build(PROGRAM, "0123456789abcdef", 1_750_000_000, "kit 1", "sum", "34 of 34 crates ok")
+BUILD = Build(PROGRAM, "0123456789abcdef", 1_750_000_000, "kit 1", "sum", "34 of 34 crates ok", True)
 ENTRIES = {
     "lib/x/program": Entry(PROGRAM, True), "bin/x": Entry(b"", link="../lib/x/program"),
     "share/doc/x/a.txt": Entry(b"text\n"),
@@ -51,7 +56,26 @@ class PackageTests(unittest.TestCase):
         self.assertEqual(debian(BUILD, ENTRIES), debian(BUILD, dict(reversed(ENTRIES.items()))))
         self.assertEqual(tarball(BUILD, ENTRIES), tarball(BUILD, dict(reversed(ENTRIES.items()))))
         self.assertTrue(debian(BUILD, ENTRIES).startswith(b"!<arch>\ndebian-binary   1750000000"))
-        self.assertRaises(Unusable, lambda: Build(b"#!/bin/sh" + bytes(20), "", 0, "", "", "").machine)
+        self.assertRaises(Unusable, lambda: Build(b"#!/bin/sh" + bytes(20), "", 0, "", "", "", True).machine)
+
+    def test_description(self) -> None:
+        """the description of a package says where its program is unproved"""
+        for build, is_told in (BUILD, False), (replace(BUILD, is_proved=False), True):
+            # Behind the head of the archive, its first member, and the head of the second one.
+            told = zlib.decompressobj(31).decompress(debian(build, ENTRIES)[132:]).decode("utf-8", "replace")
+            self.assertEqual("Description: a component manager without any proof\n" in told, is_told)
+            self.assertEqual("Description: a component manager, proved\n" in told, not is_told)
+
+    def test_old_program(self) -> None:
+        """a proved program that is older than a source makes no package"""
+        with tempfile.TemporaryDirectory() as folder:
+            program = Path(folder, "program")
+            program.write_bytes(PROGRAM)
+            self.assertIsNone(newer_source(program))
+            os.utime(program, (1, 1))
+            self.assertEqual(newer_source(program), Path("crates.txt"))
+            with mock.patch("cm_tools.package_main.PROVED", program):
+                self.assertRaisesRegex(Unusable, "crates.txt is newer than the proved program", _proved)
 
     def test_gate(self) -> None:
         """a gate that didn't pass makes no package"""

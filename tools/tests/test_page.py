@@ -33,6 +33,36 @@ root fuchsia-pkg://t/a#meta/root.cm
 6 0 end 2 resolved fuchsia-pkg://t/a#meta/a.cm {USER} => ended resolved
 7 0 route 1 /svc/x.Log => given /svc/x.Log at . incarnation 0 through use a, offer ., capability .
 """
+BOTH = json.dumps({
+    "children": [{"name": "a", "url": "#meta/a.cm"}, {"name": "b", "url": "#meta/b.cm"}], "collections": [],
+})
+# The child a fails first; its route leads to b, then it is refused, and then it leads to b again.
+CHANGES = f"""journal
+root fuchsia-pkg://t/a#meta/root.cm
+1 0 begin resolve 0 => begun 1
+2 0 end 1 resolved fuchsia-pkg://t/a#meta/root.cm {BOTH} => ended resolved
+3 0 begin resolve 1 => begun 2
+4 0 end 2 absent => ended absent
+5 0 find a => found 1
+6 0 begin resolve 1 => begun 3
+7 0 end 3 resolved fuchsia-pkg://t/a#meta/a.cm {USER} => ended resolved
+8 0 find a => found 1
+9 0 route 1 /svc/x.Log => given /svc/x.Log at b incarnation 2 through use a, offer ., expose b, capability b
+10 0 route 1 /svc/x.Log => failed no-offer at offer .
+11 0 route 1 /svc/x.Log => given /svc/x.Log at b incarnation 2 through use a, offer ., expose b, capability b
+"""
+FAILED, ABSOLUTE = "failedabsent", "fuchsia-pkg://t/a#meta/a.cm"
+COLLECTED = json.dumps({"children": [], "collections": [{"name": "k", "durability": "transient"}]})
+# A child that is destroyed, and another one of its name.
+AGAIN = f"""journal
+root fuchsia-pkg://t/a#meta/root.cm
+1 0 begin resolve 0 => begun 1
+2 0 end 1 resolved fuchsia-pkg://t/a#meta/root.cm {COLLECTED} => ended resolved
+3 0 create 0 k x #meta/x.cm => created 1
+4 0 mark doomed 1 => marked
+5 0 purge 1 => purged 0
+6 0 create 0 k x #meta/x.cm => created 2
+"""
 GIVEN, REFUSED = "→. /svc/x.Log", "refused: no-offer at offer ."
 WIDTHS = ("360,640", "820,1180", "1440,900")
 
@@ -65,6 +95,27 @@ class ScriptTests(unittest.TestCase):
         self.assertEqual([(one["refused"], one["given"]) for one in shown], [(0, 0), (1, 0), (0, 1), (0, 1)])
         provider = seen(JOURNAL, [("move", "4"), ("move", "5")], "#m=.")
         self.assertEqual(["Routes that lead to it" in one["details"] for one in provider[1:]], [False, True])
+
+    def test_other_past(self) -> None:
+        """each moment shows an instance's failure, manifest, URL and the routes that led to it then"""
+        steps = [("move", str(number)) for number in (3, 5, 6, 8, 11)]
+        shown = [one["details"] for one in seen(CHANGES, steps, "#m=a")[1:]]
+        self.assertEqual([FAILED in one for one in shown], [False, True, True, False, False])
+        self.assertEqual(["declaration" in one for one in shown], [False, False, False, True, True])
+        self.assertEqual([ABSOLUTE in one for one in shown], [False, False, False, True, True])
+        steps = [("move", str(number)) for number in (0, 9, 10, 11)]
+        shown = [one["details"] for one in seen(CHANGES, steps, "#m=b")[1:]]
+        self.assertIn("It isn't there yet: it comes by entry 2.", shown[0])
+        self.assertEqual(["Routes that lead to it" in one for one in shown], [False, True, False, True])
+
+    def test_moniker_of_then(self) -> None:
+        """a moniker in the address is that of the instance which has it at that moment"""
+        shown = seen(AGAIN, [("go", "#m=k:x&n=3"), ("go", "#m=k:x"), ("go", "#m=k:x&n=1"), ("move", "6")])
+        self.assertEqual([f"incarnation{number}" in one["details"] for one, number in zip(shown[1:3], "12")],
+                         [True, True])
+        self.assertIn("It isn't there yet: it comes by entry 3.", shown[3]["details"])
+        self.assertEqual([one["hash"] for one in shown[1:]],
+                         ["#m=k%3Ax&n=3", "#m=k%3Ax", "#m=k%3Ax&n=1", "#i=1"])
 
     def test_search(self) -> None:
         """search finds monikers and capabilities of that moment, and says when nothing is found"""
@@ -112,12 +163,14 @@ class PictureTests(unittest.TestCase):
 
     def test_widths(self) -> None:
         """three widths give three pictures that aren't empty"""
-        with tempfile.TemporaryDirectory() as folder:
+        # What is left of chromium may still write there.
+        with tempfile.TemporaryDirectory(ignore_cleanup_errors=True) as folder:
             page = Path(folder, "page.html")
             run("realm", "--html", "-o", str(page), str(JOURNALS / "product.txt"))
             for size in WIDTHS:
                 picture = Path(folder, f"{size}.png")
-                words = ["chromium", "--headless", "--no-sandbox", "--disable-gpu", f"--screenshot={picture}",
+                words = ["chromium", "--headless", "--no-sandbox", "--disable-gpu",
+                         f"--user-data-dir={folder}/kept", f"--screenshot={picture}",
                          f"--window-size={size}", f"{page.as_uri()}#m=core/session/shell&n=90"]
                 subprocess.run(words, capture_output=True, timeout=SECONDS, check=False)
                 self.assertTrue(picture.is_file() and picture.stat().st_size > 5000, size)

@@ -6,6 +6,7 @@ import json
 import os
 import re
 import resource
+import shutil
 import subprocess
 import sys
 import tempfile
@@ -18,7 +19,7 @@ from cm_tools.instances import STATES
 from cm_tools.journal import parse_journal
 from cm_tools.world import replay
 from tests.make_journal import make, make_sweeps
-from tests.support import JOURNALS, ROOT, TESTS, TOOLS, quoted, run, run_process
+from tests.support import JOURNALS, ROOT, SECONDS, TESTS, TOOLS, quoted, run, run_process
 
 TABLES = ROOT / "crates" / "cm_reply" / "specs" / "Tables.antt"
 ROUTE = str(JOURNALS / "route.txt")
@@ -130,7 +131,7 @@ BAD_JOURNALS: list[tuple[bytes, str]] = [
     (HEAD.encode() + b"1 0 dance 0 => found 0\n", "no entry of a journal"),
     (HEAD.encode() + b"1 0 find . => danced\n", "no entry of a journal"),
     (HEAD.encode() + b"2 0 find . => found 0\n", "1 should follow"),
-    (b"0 started . action 2\n" + HEAD.encode(), "cut behind its root line"),
+    (b"0 started . action 2\n" + HEAD.encode(), "cut after its root line"),
     (HEAD.encode() + b"1 0 begin resolve 0 => begun 1\n", "no end of action 1"),
     (HEAD.encode() + b"1 0 begin resolve 7 => begun 1\n", "incarnation 7, which was never made"),
     (HEAD.encode() + b"1 0 end 3 started => ended started\n", "action 3, which was never begun"),
@@ -249,10 +250,35 @@ class RealmTests(unittest.TestCase):
         part = run("realm", "--dot", "--capability", "fuchsia.crash.Reporter", product).out
         self.assertIn("fuchsia.crash.Reporter", part)
         self.assertNotIn("/svc/fuchsia.logger.LogSink", part)
+        # A capability is known by the name of the use, too, whatever its paths are.
+        used = '{"children":[],"collections":[],"use":[{"directory":"store","path":"/<d>"}]}'
+        text = (f"{HEAD}1 0 begin resolve 0 => begun 1\n2 0 end 1 resolved u {used} => ended resolved\n"
+                "3 0 route 0 /<d> => failed no-builtin at builtin .\n")
+        named = run("realm", "--mermaid", "--capability", "store", data=text.encode()).out
+        self.assertIn('i0 -.->|"/#lt;d#gt;"| r0\n', named)
         bad = (("--only", "core/nobody", "--dot"), ("--capability", "none", "--dot"), ("--only", "core"))
         for words in bad:
             ran = run("realm", *words, product)
             self.assertEqual((ran.status, ran.out, ran.err.count("\n")), (2, "", 1), words)
+        told = run("realm", "--dot", "--capability", "fuchsia.logger.LogSin", product).err
+        self.assertIn("did you mean fuchsia.logger.LogSink", told)
+        told = run("realm", "--dot", "--only", "core/netwrk", product).err
+        self.assertIn("did you mean core/network", told)
+
+    @unittest.skipUnless(shutil.which("dot"), "Graphviz isn't here: no graph is laid out")
+    def test_labels(self) -> None:
+        """laid out by Graphviz, no label of a graph lies on another or on an instance"""
+        for words in ((), ("--only", "core/session"), ("--capability", "fuchsia.logger.LogSink")):
+            graph = run("realm", "--dot", *words, str(JOURNALS / "product.txt")).out
+            laid = subprocess.run(["dot", "-Tplain"], input=graph.encode(), capture_output=True, check=True,
+                                  timeout=SECONDS).stdout.decode()
+            rows = [line.split()[2:6] for line in laid.split("\n") if line.startswith("node ")]
+            boxes = [tuple(map(float, row)) for row in rows]
+            self.assertGreater(len(boxes), 10)
+            for index, (x, y, width, height) in enumerate(boxes):
+                for left, top, wide, high in boxes[:index]:
+                    apart = abs(x - left) * 2 >= width + wide or abs(y - top) * 2 >= height + high
+                    self.assertTrue(apart, (words, x, y, left, top))
 
     def test_page(self) -> None:
         """the page: its data is the realm's, and nothing in it asks for a network"""

@@ -14,7 +14,7 @@ import unittest.mock
 from pathlib import Path
 
 from cm_tools.session_main import REPLY
-from tests.support import ROOT, TOOLS, run, run_process
+from tests.support import ROOT, SECONDS, TOOLS, run, run_process
 
 SHOWN = "shown . incarnation 0 url fuchsia-pkg://t/a#meta/root.cm resolved on\n"
 # A reply of three lines, in which a line is told to be refused.
@@ -123,8 +123,10 @@ class SessionTests(unittest.TestCase):
         """a server that comes later is waited for, and one that doesn't come is told"""
         with tempfile.TemporaryDirectory() as folder:
             path = Path(folder) / "s"
-            threading.Timer(0.3, lambda: Server(path).start()).start()
-            self.assertEqual(run("session", "--wait", "20", str(path), "show .").out, SHOWN)
+            later = threading.Timer(0.3, lambda: Server(path).start())
+            later.start()
+            self.assertEqual(run("session", "--wait", str(SECONDS), str(path), "show .").out, SHOWN)
+            later.join()
             ran = run("session", "--wait", "0.1", f"{folder}/none", "show .")
             self.assertEqual((ran.status, ran.out, ran.err.count("\n")), (2, "", 1))
 
@@ -141,7 +143,7 @@ class SessionTests(unittest.TestCase):
                     tool.stdin.flush()
                     self.assertEqual(tool.stdout.readline(), reply.encode())
                 tool.stdin.close()
-                self.assertEqual(tool.wait(10), 1)
+                self.assertEqual(tool.wait(SECONDS), 1)
 
     def test_many_commands(self) -> None:
         """more commands and replies than the system holds between the two ends"""
@@ -179,6 +181,10 @@ class ProgramTests(unittest.TestCase):
             words = ["serve", path, "--root", "fuchsia-pkg://fuchsia.com/product#meta/product.cm",
                      "--repo", str(ROOT / "examples" / "product" / "packages")]
             with subprocess.Popen([program, *words]) as server:
-                ran = run("session", "--wait", "10", path, *PRODUCT_COMMANDS)
-                self.assertEqual((ran.status, ran.out, ran.err), (1, PRODUCT_REPLIES, ""))
-                self.assertEqual(server.wait(10), 0)
+                try:
+                    ran = run("session", "--wait", str(SECONDS), path, *PRODUCT_COMMANDS)
+                    self.assertEqual((ran.status, ran.out, ran.err), (1, PRODUCT_REPLIES, ""))
+                    self.assertEqual(server.wait(SECONDS), 0)
+                finally:
+                    # Where it isn't asked, it never ends by itself.
+                    server.kill()

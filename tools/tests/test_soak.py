@@ -22,6 +22,8 @@ import soak
 WRONG = TESTS / "wrong_program.py"
 PROGRAM = os.environ.get("COMPONENT_MANAGER", "")
 SEEDS = range(1, 9)
+# How long a smaller script is looked for, in seconds: one that is a little smaller is found at once.
+SHRINK = 30
 # A way of being wrong, the kind of case that shows it, and how what differs begins.
 WRONG_WAYS = (
     ("reply_word", "eight_lanes", "no entry of caller "),
@@ -101,7 +103,7 @@ class ShrinkingTests(unittest.TestCase):
         lines = tuple(f"{number % 8} show @{number}" for number in range(40))
         case = realms.Case(case.manifests, ("builtin protocol p",), lines)
         fails = lambda it: {lines[7], lines[31]} <= set(it.lines) and "m1.cm" in it.manifests
-        least = soak.smallest(case, fails, 10)
+        least = soak.smallest(case, fails, SECONDS)
         self.assertEqual((least.lines, [*least.manifests]), ((lines[7], lines[31]), ["m1.cm"]))
         self.assertEqual(least.builtins, ())
 
@@ -142,7 +144,7 @@ class WrongProgramTests(unittest.TestCase):
 
     def test_told(self) -> None:
         """a failure prints the seed, how to have it again, and a smaller script; its status is 1"""
-        words = ["--seed", "1", "--cases", "1", "--only", "one_lane", "--shrink", "4", str(WRONG)]
+        words = ["--seed", "1", "--cases", "1", "--only", "one_lane", "--shrink", str(SHRINK), str(WRONG)]
         environment = {**os.environ, "RIGHT": os.path.abspath(PROGRAM), "WRONG": "entry_dropped"}
         ran = subprocess.run([sys.executable, ROOT / "bench" / "soak.py", *words], env=environment,
                              capture_output=True, text=True, timeout=SECONDS)

@@ -16,11 +16,13 @@ from cm_tools import program, workshops
 from cm_tools.console import Unusable
 from cm_tools.linked_kit import MADE, NEEDED, make_kit
 from cm_tools.sources import crates_below, has_tests, sum_of_sources
-from tests.support import ROOT, SECONDS, TOOLS
+from tests.support import ROOT, SECONDS, TOOLS, heeds_interrupts
 
 # A compiler and a linker that note their words, and a linker that makes what it was asked for.
 NOTES = '#!/bin/sh\nprintf "%s\\n" "$@" > "$0.words"\n'
 MAKES = NOTES + 'while [ "$1" != -o ]; do shift; done\necho made > "$2"\n'
+# What a copy of the checkout goes without.
+LEFT_OUT = ("out", ".git", "proofs", "bench", "__pycache__")
 LINKED = ["-o", "out", "a.o", "--whole-archive", "input-4", "--no-whole-archive", "-lc"]
 
 
@@ -107,12 +109,13 @@ class SourceTests(unittest.TestCase):
                 Path(folder, tool).symlink_to(found or "")
             given = {**os.environ, "PATH": folder, "XDG_CACHE_HOME": folder, "COMPONENT_MANAGER_PROGRAM": ""}
             copy = Path(folder, "checkout")
-            shutil.copytree(ROOT, copy, ignore=shutil.ignore_patterns("out", ".git", "proofs", "bench"))
+            shutil.copytree(ROOT, copy, ignore=shutil.ignore_patterns(*LEFT_OUT))
             for words, status in (["run"], 126), (["--where"], 126), (["help"], 0), (["run", "x"], 2):
                 ran = subprocess.run([copy / "component_manager", *words], env=given, capture_output=True,
-                                     stdin=subprocess.DEVNULL, check=False)
+                                     stdin=subprocess.DEVNULL, timeout=SECONDS, check=False)
                 self.assertEqual(ran.returncode, status, ran.stderr)
-            ran = subprocess.run([copy / "tools/try", "check"], env=given, capture_output=True, check=False)
+            ran = subprocess.run([copy / "tools/try", "check"], env=given, capture_output=True,
+                                 timeout=SECONDS, check=False)
             told = "component_manager: the kit's tool rt, which makes the program, is not on the path\n"
             self.assertEqual((ran.returncode, ran.stderr.decode()), (126, told))
 
@@ -210,12 +213,16 @@ class MakingTests(unittest.TestCase):
 
     def test_interrupted(self) -> None:
         """Ctrl-C while a program is made leaves nothing of it, with status 130"""
-        workshops.write_script(self.folder / "kit/toolchain/bin/ld.lld", "#!/bin/sh\nsleep 60\n")
+        # It links until the folder of the test is removed.
+        links = "#!/bin/sh\nwhile [ -e \"$0\" ]; do sleep 0.1; done\n"
+        workshops.write_script(self.folder / "kit/toolchain/bin/ld.lld", links)
         with subprocess.Popen(self.words("--where"), env=self.given, stdout=subprocess.PIPE,
-                              stderr=subprocess.PIPE) as call:
+                              stderr=subprocess.PIPE, preexec_fn=heeds_interrupts) as call:
             assert call.stderr
-            while b"step 3" not in call.stderr.readline():
-                pass
+            told = b""
+            while b"step 3" not in told:
+                told = call.stderr.readline()
+                self.assertTrue(told, "it ended before it links")
             call.send_signal(signal.SIGINT)
             self.assertEqual(call.wait(SECONDS), 130)
             self.assertIn(b"stopped; nothing is kept", call.stderr.read())
@@ -241,7 +248,7 @@ class BuildTests(unittest.TestCase):
             workshops.write_script(tools / "rt", built)
             given = {**os.environ, "PATH": f"{tools}:{os.environ['PATH']}", "XDG_CACHE_HOME": str(cache)}
             ran = subprocess.run([checkout / "tools/build-crate", "0", "2", "1", "a"], env=given,
-                                 capture_output=True, check=False)
+                                 capture_output=True, timeout=SECONDS, check=False)
             self.assertEqual(ran.returncode, 0, ran.stderr)
             self.assertIn(b"1 of 2 crates built", ran.stderr)
             place = (checkout / "crates/a/out/rlib/stamp").read_text("utf-8")

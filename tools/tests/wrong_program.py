@@ -11,6 +11,13 @@ import subprocess
 import sys
 import threading
 
+sys.dont_write_bytecode = True
+sys.path.insert(0, os.path.join(os.path.dirname(os.path.abspath(__file__)), ".."))
+
+from cm_tools.meeting import connected
+
+# How long the right program may take to listen, in seconds.
+PATIENCE = 300
 HEAD = b"journal\n"
 # Of prctl(2): the signal that a process gets when the one that made it ends.
 PR_SET_PDEATHSIG = 1
@@ -111,20 +118,9 @@ def serve(right, words, change):
 def accept(door, behind, change):
     while True:
         client, _ = door.accept()
-        link = connected(behind)
+        link = connected(behind, PATIENCE)
         threading.Thread(target=pump, args=(client, link, None), daemon=True).start()
         threading.Thread(target=pump, args=(link, client, change), daemon=True).start()
-
-
-def connected(behind):
-    """A link to the right program, as soon as it listens."""
-    while True:
-        link = socket.socket(socket.AF_UNIX, socket.SOCK_STREAM)
-        try:
-            link.connect(behind)
-            return link
-        except OSError:
-            link.close()
 
 
 def pump(source, target, change):

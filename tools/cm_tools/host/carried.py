@@ -2,8 +2,8 @@
 
 from __future__ import annotations
 
-import asyncio
 import socket
+from typing import Callable
 
 from cm_tools.host.watching import Watch, unsent, watch
 
@@ -25,9 +25,8 @@ class Way:
         self.carried = carried
         (self.source, self.came), (self.sink, self.goes) = source, sink
         self.behind, self.is_over = first, False
-        self._wait()
 
-    def _wait(self) -> None:
+    def wait(self) -> None:
         """Has the loop watch for what comes next: that the sink takes more, or that more comes."""
         if self.behind:
             self.came.on_read(None)
@@ -57,7 +56,7 @@ class Way:
             return
         if sent < count:
             self.behind = bytes(BUFFER[sent:count])
-            self._wait()
+            self.wait()
 
     def write(self) -> None:
         """Hands on what the sink didn't take."""
@@ -67,7 +66,7 @@ class Way:
             self.carried.end(fault)
             return
         if not self.behind:
-            self._wait()
+            self.wait()
 
     def over(self) -> None:
         """The source has said all; the sink is told."""
@@ -82,33 +81,43 @@ class Way:
 
 
 class Carried:
-    """Both ways. `done` comes when both ends have said all, with an OSError where one broke off; where it is
-    cancelled, both are let go."""
+    """Both ways, from when it begins until both ends have said all, one broke off, or it is cancelled. Then
+    `then` is called at once, with the OSError where there was one."""
 
-    def __init__(self, one: socket.socket, other: socket.socket, first: bytes = b"") -> None:
-        self.done: asyncio.Future[None] = asyncio.get_running_loop().create_future()
+    def __init__(self, one: socket.socket, other: socket.socket, then: Callable[[OSError | None], None],
+                 first: bytes = b"") -> None:
         ends = (one, watch(one)), (other, watch(other))
         self.watches = ends[0][1], ends[1][1]
         # What was read of the one before goes first.
         self.ways = Way(self, *ends, first), Way(self, ends[1], ends[0])
-        self.done.add_done_callback(self._let_go)
-        if not first:
+        self.then, self.is_over = then, False
+
+    def begin(self) -> None:
+        """Hands on from now on."""
+        try:
+            for way in self.ways:
+                way.wait()
+        except OSError as fault:
+            self.end(fault)
+            return
+        if not self.ways[0].behind:
             # What a client said while it was decided is there already.
             self.ways[0].read()
 
     def look(self) -> None:
         """Ends where both ways have ended."""
-        if all(way.is_over for way in self.ways) and not self.done.done():
-            self.done.set_result(None)
+        if self.ways[0].is_over and self.ways[1].is_over:
+            self.end(None)
 
-    def end(self, fault: OSError) -> None:
-        """Ends it, since one end broke off."""
-        if not self.done.done():
-            self.done.set_exception(fault)
+    def cancel(self) -> None:
+        """Lets both ends go."""
+        self.end(None)
 
-    def _let_go(self, done: asyncio.Future[None]) -> None:
-        if not done.cancelled():
-            # Who waits for it may have been cancelled meanwhile, and then doesn't look at its fault.
-            done.exception()
+    def end(self, fault: OSError | None) -> None:
+        """Ends it, with the fault where one end broke off."""
+        if self.is_over:
+            return
+        self.is_over = True
         for one in self.watches:
             one.end()
+        self.then(fault)

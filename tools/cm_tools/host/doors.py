@@ -9,7 +9,7 @@ import re
 import socket
 import time
 from pathlib import Path
-from typing import TYPE_CHECKING
+from typing import TYPE_CHECKING, Callable
 
 from cm_tools.host import sandbox, watching
 from cm_tools.host.carried import Carried
@@ -29,9 +29,9 @@ PUT_OFF = re.compile(r"refused 84 cannot-start action (\d+) declined")
 REALM = "/svc/fuchsia.component.Realm"
 # Of one use: connections at once, new ones at once, and new ones a second. Each is an entry of the history.
 CONNECTIONS, AT_ONCE, A_SECOND = 32, 2000, 20
-# How long a connection waits for a provider to listen, for a start to be in the history, or for the end of a
-# provider's pause, in seconds.
-PATIENCE = 5.0
+# How long a connection waits for a start to be in the history, or for the end of a provider's pause; and for
+# a provider to listen; in seconds.
+PATIENCE, TO_LISTEN = 5.0, 20.0
 LONGEST_LINE, PIECE = 8192, 1 << 16
 READING = {"connect", "enumerate", "traverse", "read_bytes", "get_attributes"}
 WRITING = {"connect", "enumerate", "traverse", "write_bytes", "modify_directory", "update_attributes"}
@@ -147,17 +147,13 @@ class Opening:
         except OSError:
             far.close()
             return False
-        done = self.doors.carry(self.it, self.door.path, (self.client, far), provider[0], manager)
-        if done is None:
-            self.door.let_go()
-        else:
-            done.add_done_callback(self._ended)
+        self.doors.carry(self.it, self.door.path, (self.client, far), provider[0], manager, self._ended)
         return True
 
-    def _ended(self, done: asyncio.Future[None]) -> None:
+    def _ended(self, fault: OSError | None) -> None:
         self.door.let_go()
-        if not done.cancelled() and done.exception() is not None:
-            self.doors.broken(self.it, self.door.path, done.exception())
+        if fault is not None:
+            self.doors.broken(self.it, self.door.path, fault)
 
     def _go_on(self, first: tuple[str, Manager] | None) -> None:
         task = self.it.task(self.doors.connect(self.it, self.client, self.door.path, first))
@@ -249,41 +245,44 @@ class Doors:
         if provider is None:
             raise ConnectionRefusedError(f"what is opened is nothing that runs here: {reply}")
         far = await self._reach(*provider)
-        try:
-            done = self.carry(it, path, (client, far), provider[0], manager, first)
-        except BaseException:
-            far.close()
-            raise
-        if done is not None:
-            await done
+        done: asyncio.Future[None] = asyncio.get_running_loop().create_future()
+
+        def ended(fault: OSError | None) -> None:
+            # The program may have ended meanwhile, and with it who waits here.
+            if not done.done():
+                done.set_exception(fault) if fault is not None else done.set_result(None)
+
+        self.carry(it, path, (client, far), provider[0], manager, ended, first)
+        await done
 
     def carry(self, it: Instance, path: str, ends: tuple[socket.socket, socket.socket], provider: Instance,
-              manager: Manager, first: bytes = b"") -> asyncio.Future[None] | None:
+              manager: Manager, then: Callable[[OSError | None], None], first: bytes = b"") -> None:
         """Hands bytes on, both ways, once it stands in the log that it is opened; else both are closed. No
-        descriptor is handed on: none is received. What comes back is done when both have ended."""
+        descriptor is handed on: none is received. `then` is called when both have ended."""
         self.numbers += 1
         number = self.numbers
         if not self.runner.log.event("opened", moniker=it.moniker, path=path, manager=manager.number,
                                      provider=provider.moniker, connection=number):
             for end in ends:
                 end.close()
-            return None
-        it.open[number] = path, provider.moniker
-        done = Carried(*ends, first).done
+            then(None)
+            return
 
-        def ended(_: asyncio.Future[None]) -> None:
+        def ended(fault: OSError | None) -> None:
             for end in ends:
                 end.close()
-            it.tasks.discard(done)
-            provider.tasks.discard(done)
+            it.tasks.discard(carried)
+            provider.tasks.discard(carried)
             it.open.pop(number, None)
             self.runner.log.note("closed", moniker=it.moniker, connection=number)
+            then(fault)
 
+        it.open[number] = path, provider.moniker
+        carried = Carried(*ends, ended, first)
         # It ends with the one and with the other.
-        it.tasks.add(done)
-        provider.tasks.add(done)
-        done.add_done_callback(ended)
-        return done
+        it.tasks.add(carried)
+        provider.tasks.add(carried)
+        carried.begin()
 
     async def open_from_outside(self, moniker: str, name: str, reader: asyncio.StreamReader,
                                 writer: asyncio.StreamWriter) -> None:
@@ -316,7 +315,7 @@ class Doors:
 
     async def _reach(self, provider: Instance, path: str) -> socket.socket:
         """A connection to what a provider has at a path. Right behind its start it may not listen yet."""
-        until, wait = time.monotonic() + PATIENCE, 0.001
+        until, wait = time.monotonic() + TO_LISTEN, 0.001
         while provider.process and time.monotonic() < until:
             far = socket.socket(socket.AF_UNIX, socket.SOCK_STREAM)
             far.setblocking(False)

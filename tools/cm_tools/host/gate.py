@@ -22,7 +22,7 @@ if TYPE_CHECKING:
     from cm_tools.host.runner import Runner
 
 # How long the manager has to say that it took an answer, in seconds.
-TO_TAKE = 5.0
+TO_TAKE = 30.0
 
 
 class Gate:

@@ -23,7 +23,7 @@ class Layers:
 
     def __init__(self, descriptor: int) -> None:
         self.link = socket.socket(fileno=descriptor)
-        self.link.settimeout(10)
+        self.link.settimeout(60)
 
     def lay(self, folder: int, at: str) -> None:
         """Lays the folder of a descriptor at a place; an OSError where the system doesn't."""

@@ -23,7 +23,7 @@ if TYPE_CHECKING:
 SESSIONS = 4096
 SOURCE = re.compile(r" at (\S+) incarnation (\d+)")
 # How long a manager may take to listen, and to end by itself, in seconds. It writes a large journal then.
-TO_LISTEN, TO_END = 10.0, 60.0
+TO_LISTEN, TO_END = 60.0, 60.0
 
 
 class Manager:

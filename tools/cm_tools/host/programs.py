@@ -86,22 +86,50 @@ def place_of(repo: Repo, url: str) -> tuple[Path, Path]:
     return repo.packages / host / path, repo.manifests / host / path / parts.fragment
 
 
-_known: dict[tuple[str, int, int], Node] = {}
+@dataclass(frozen=True)
+class Manifest:
+    """A manifest as a value, and what the tree has to know of it. A parent's is asked for with each child."""
+
+    node: Node
+    declared: Declared
 
 
-def _manifest(repo: Repo, url: str) -> tuple[Path, Node]:
-    """A manifest, and its package's folder. It is read again only when its file has changed."""
-    package, place = place_of(repo, url)
-    try:
+class Known:
+    """Manifests by their files as they were read, so that none is read again before its file has changed.
+    They are let go where the files have more than so many bytes together."""
+
+    MOST_BYTES = 16 << 20
+
+    def __init__(self) -> None:
+        self.manifests: dict[tuple[str, int, int], Manifest] = {}
+        self.bytes = 0
+
+    def take(self, place: Path) -> Manifest | None:
+        """The manifest of a file; None where the file is too large."""
         state = place.stat()
         key = str(place), state.st_mtime_ns, state.st_size
-        if key not in _known:
-            if state.st_size > LONGEST_MANIFEST:
-                raise Unfit(f"{url} is too large")
-            if len(_known) > 256:
-                _known.clear()
-            _known[key] = read_relaxed(place.read_text("utf-8"))
-        return package, _known[key]
+        found = self.manifests.get(key)
+        if found is None and state.st_size <= LONGEST_MANIFEST:
+            if self.bytes > self.MOST_BYTES:
+                self.manifests.clear()
+                self.bytes = 0
+            node = read_relaxed(place.read_text("utf-8"))
+            found = self.manifests[key] = Manifest(node, _declared(node))
+            self.bytes += state.st_size
+        return found
+
+
+_known = Known()
+
+
+def _manifest(repo: Repo, url: str) -> tuple[Path, Manifest]:
+    """A manifest, and its package's folder."""
+    package, place = place_of(repo, url)
+    try:
+        found = _known.take(place)
+        if found is None:
+            raise Unfit(f"{url} is too large")
+        return package, found
     except SpellingFault as fault:
         raise Unfit(f"{url} can't be read: {fault}") from None
     except (OSError, ValueError) as fault:
@@ -118,19 +146,23 @@ def digest(repo: Repo, url: str) -> bytes:
 
 def manifest(repo: Repo, url: str) -> Node:
     """A manifest as a value; `Unfit` where it can't be read."""
-    return _manifest(repo, url)[1]
+    return _manifest(repo, url)[1].node
 
 
 def declared(repo: Repo, url: str) -> Declared:
     """The children and collections that a manifest declares."""
-    found = manifest(repo, url)
+    return _manifest(repo, url)[1].declared
+
+
+def _declared(found: Node) -> Declared:
     return Declared({one.text("name"): one.text("url") for one in _items(found, "children")},
                     {one.text("name"): one.text("durability") for one in _items(found, "collections")})
 
 
 def read(repo: Repo, url: str) -> Program:
     """The program of a manifest, or `Unfit`."""
-    package, found = _manifest(repo, url)
+    package, known = _manifest(repo, url)
+    found = known.node
     program = found.get("program")
     if program is None or program.kind != "object":
         raise Unfit("the manifest has no program")

@@ -24,7 +24,7 @@ if TYPE_CHECKING:
 TOP = "fuchsia-pkg://host.invalid/top#meta/top.cm"
 RUNNERS = ("elf",)
 # How long an answer may take, in seconds.
-PATIENCE = 20.0
+PATIENCE = 60.0
 
 
 class Reports:

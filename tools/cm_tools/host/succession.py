@@ -19,6 +19,8 @@ if TYPE_CHECKING:
 
 # Each so many seconds a manager is asked something that waits for nothing, and has so long to answer.
 PULSE, PATIENCE = 2.0, 6.0
+# How long what has come by then is read, in seconds.
+TO_READ = 0.5
 # How long commands, and then connects, may go on before they are cut off by a planned replacement.
 FOR_COMMANDS, FOR_CONNECTS = 10.0, 1.0
 # How often another manager is begun before it is given up.
@@ -88,15 +90,26 @@ class Succession:
         while True:
             await asyncio.sleep(PULSE)
             try:
-                await asyncio.wait_for(manager.asked.pulse.ask("show ."), PATIENCE)
-            except asyncio.TimeoutError:
-                return True
+                if await self._hangs(manager):
+                    return True
             except Gone:
                 continue  # its end is noticed by its process
             tally = manager.asked.tally
             if tally.entries > settings.roll_entries or tally.bytes > settings.roll_bytes \
                     or manager.memory() > settings.roll_memory:
                 return False
+
+    async def _hangs(self, manager: Manager) -> bool:
+        """Whether a manager answers no more. What came while this process itself stood still counts."""
+        asked = asyncio.ensure_future(manager.asked.pulse.ask("show ."))
+        try:
+            for seconds in PATIENCE, TO_READ:
+                await asyncio.wait([asked], timeout=seconds)
+            if asked.done():
+                asked.result()  # `Gone` where the session has ended
+            return not asked.done()
+        finally:
+            asked.cancel()
 
     async def replace(self, why: str) -> None:
         """Puts another manager into the place of the present one."""
@@ -116,7 +129,8 @@ class Succession:
                 await asyncio.sleep(0.001)
         await self._set_aside(old)
         told, tries = {}, 0
-        while not runner.over.is_set():
+        # An end in order needs a manager that has the tree.
+        while not (runner.over.is_set() and tries):
             try:
                 new = new or await self.begin()
                 told = await self.replay(new)

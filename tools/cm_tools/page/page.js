@@ -49,6 +49,19 @@ function stateAt(instance, moment) {
 }
 
 const isThere = (instance) => instance.born <= view.now;
+const isResolved = (instance) => instance.resolved !== null && instance.resolved <= view.now;
+
+// What the last action of an instance failed of by now.
+function failureNow(instance) {
+  const told = instance.failures.filter(([entry]) => entry <= view.now).pop();
+  return told ? told[1] : "";
+}
+
+// The instance that has or had a moniker by a moment; one that comes later where none was there yet.
+function lastOf(moniker, moment) {
+  const all = data.instances.filter((one) => one.moniker === moniker);
+  return all.filter((one) => one.born <= moment).pop() || all[0];
+}
 
 function dot(state) {
   return element("span", "dot s-" + state);
@@ -164,10 +177,6 @@ function mayName(instance) {
   if (!text) return false;
   if (!lowered.has(instance.incarnation)) lowered.set(instance.incarnation, text.toLowerCase());
   return lowered.get(instance.incarnation).includes(view.query);
-}
-
-function isResolved(instance) {
-  return instance.changes.some(([entry, state]) => entry <= view.now && state === "resolved");
 }
 
 // The moniker with a slash in front, as one may also write it.
@@ -289,12 +298,13 @@ function facts(instance, state) {
   shown.append(dot(state), state + ": " + data.states[state]);
   fact(list, "state", shown);
   fact(list, "incarnation", String(instance.incarnation));
-  fact(list, "URL", element("code", "", instance.absolute || instance.url));
-  if (instance.runner) fact(list, "runner", instance.runner);
+  fact(list, "URL", element("code", "", isResolved(instance) ? instance.absolute : instance.url));
+  if (instance.runner && isResolved(instance)) fact(list, "runner", instance.runner);
   const once = instance.once ? ", which runs each child once" : "";
   if (instance.collection) fact(list, "collection", instance.collection + once);
   if (instance.eager) fact(list, "startup", "eager");
-  if (instance.failure) fact(list, "failed", element("span", "bad", instance.failure));
+  const failure = failureNow(instance);
+  if (failure) fact(list, "failed", element("span", "bad", failure));
   return list;
 }
 
@@ -351,6 +361,12 @@ function drawDetails() {
     box.replaceChildren(element("p", "quiet", wish));
     return;
   }
+  if (!isThere(instance)) {
+    const line = element("p", "quiet", "It isn't there yet: it comes by ");
+    line.append(entryLink(instance.born), ".");
+    box.replaceChildren(element("h2", "", instance.moniker), line);
+    return;
+  }
   const told = routesNow(instance.incarnation);
   const asked = told.filter((route) => route.client === instance.incarnation);
   const given = told.filter((route) => route.provider === instance.incarnation);
@@ -367,13 +383,26 @@ function drawDetails() {
   box.scrollTop = 0;
 }
 
-// What was last told of each route of an instance by now: its own, and those that led to it then.
+// What was last told of each route of an instance by now: its own, and those that led to it when their
+// clients last asked.
 function routesNow(incarnation) {
-  const last = new Map();
-  for (const asking of askingsOf.get(incarnation) || []) {
-    if (asking.entry <= view.now) last.set(asking.client + " " + asking.asked, asking);
+  const lasts = new Map(), found = new Set();
+  for (const { client, asked } of askingsOf.get(incarnation) || []) {
+    if (!lasts.has(client)) lasts.set(client, lastTold(client));
+    const last = lasts.get(client).get(asked);
+    if (last && (client === incarnation || last.provider === incarnation)) found.add(last);
   }
-  return [...last.values()];
+  return [...found];
+}
+
+// What a client was last told of each of its routes by now.
+function lastTold(client) {
+  const found = new Map();
+  for (const asking of askingsOf.get(client)) {
+    if (asking.entry > view.now) break;
+    if (asking.client === client) found.set(asking.asked, asking);
+  }
+  return found;
 }
 
 // ---- the graph of routes
@@ -422,7 +451,12 @@ function graphed(instance, asked, given) {
   const rows = Math.max(clients.length, uses.length);
   if (!rows) return [];
   const height = rows * 34 + 12, middle = height / 2;
-  const box = shape("svg", { class: "graph", viewBox: `0 0 860 ${height}`, role: "img" });
+  // A side with nothing on it takes no room.
+  const left = clients.length ? 0 : 345, width = (uses.length ? 860 : 515) - left;
+  const box = shape("svg", {
+    class: "graph", viewBox: `${left} 0 ${width} ${height}`, role: "img",
+    style: `min-width: ${Math.round(width * 0.72)}px; max-width: ${width}px`,
+  });
   box.append(shape("title", {}, "the routes of " + instance.moniker));
   clients.forEach((route, index) => {
     const y = 22 + index * 34;
@@ -436,8 +470,8 @@ function graphed(instance, asked, given) {
     box.append(edge([505, middle], [710, y], route.asked, isRefused), node(710, y, told, act));
   });
   box.append(node(355, middle, instance.moniker, null));
-  const left = given.length + asked.length - clients.length - uses.length;
-  const more = left > 0 ? [element("p", "quiet", left + " further routes stand below")] : [];
+  const others = given.length + asked.length - clients.length - uses.length;
+  const more = others > 0 ? [element("p", "quiet", others + " further routes stand below")] : [];
   const frame = element("div", "frame");
   frame.append(box);
   return [element("h3", "", "Routes as a graph"), frame, ...more];
@@ -449,7 +483,7 @@ function monikerOf(incarnation) {
 
 function declared(instance) {
   const text = data.declarations[instance.incarnation];
-  if (!text) return [];
+  if (!text || !isResolved(instance)) return [];
   const box = element("details");
   const shown = JSON.stringify(JSON.parse(text), null, 2);
   box.append(element("summary", "", "declaration"), element("pre", "", shown));
@@ -495,6 +529,11 @@ function drawLanes() {
 }
 
 function showEntry(number) {
+  if (view.only && number && !timeline.items.includes(number)) {
+    view.only = false;
+    drawLanes();
+    timeline.fill(entryNumbers());
+  }
   const index = timeline.items.indexOf(number);
   if (index >= 0) timeline.reveal(index); else timeline.paint();
 }
@@ -557,6 +596,7 @@ function moveInTree(event) {
   const step = { ArrowDown: 1, ArrowUp: -1 }[event.key];
   if (step) {
     const next = tree.items[Math.min(tree.items.length - 1, Math.max(0, index + step))];
+    if (!next) return;
     choose(next.instance.incarnation, true);
   } else if (item && (event.key === "ArrowLeft") === item.isOpen && event.key.startsWith("Arrow")) {
     toggle(item.instance.incarnation);
@@ -596,14 +636,13 @@ function readAddress(hash) {
     wrong.push("there is no theme " + asked.theme);
     asked.theme = null;
   }
-  if (wish.has("m") || wish.has("i")) asked.chosen = instanceOf(wish, wrong);
+  if (wish.has("m") || wish.has("i")) asked.chosen = instanceOf(wish, asked.moment, wrong);
   return asked;
 }
 
-function instanceOf(wish, wrong) {
+function instanceOf(wish, moment, wrong) {
   const moniker = (wish.get("m") || "").replace(/^\/(?=.)/, "");
-  const found = wish.has("i") ? byIncarnation.get(Number(wish.get("i")))
-    : data.instances.filter((one) => one.moniker === moniker).pop();
+  const found = wish.has("i") ? byIncarnation.get(Number(wish.get("i"))) : lastOf(moniker, moment);
   if (found) return found.incarnation;
   wrong.push("there is no instance " + (wish.has("i") ? "@" + wish.get("i") : wish.get("m")));
   return null;
@@ -632,7 +671,7 @@ function keepAddress() {
   const words = new URLSearchParams();
   if (view.chosen !== null) {
     const moniker = byIncarnation.get(view.chosen).moniker;
-    const isLast = data.instances.filter((one) => one.moniker === moniker).pop().incarnation === view.chosen;
+    const isLast = lastOf(moniker, view.now).incarnation === view.chosen;
     words.set(isLast ? "m" : "i", isLast ? moniker : String(view.chosen));
   }
   if (view.query) words.set("q", view.query);

@@ -2,7 +2,9 @@
 
 from __future__ import annotations
 
+import contextlib
 import shutil
+import threading
 import time
 import unittest
 from pathlib import Path
@@ -108,7 +110,8 @@ import socket
 links = []
 for count in range(200):
     link = socket.socket(socket.AF_UNIX)
-    link.settimeout(1)
+    # Up to the limit each is answered, however slow the machine is.
+    link.settimeout(240 if count < 32 else 15)
     try:
         link.connect("/svc/t.Door")
         link.sendall(b"x")
@@ -150,9 +153,10 @@ counts = {}
 with socket.socket(socket.AF_UNIX) as link:
     link.connect("/svc/fuchsia.component.Realm")
     lines = link.makefile("rw")
-    for count in range(400):
-        lines.write("destroy tasks:none\\n")
-        lines.flush()
+    # All at once: one by one a slow machine might take them all, as time goes on.
+    lines.write("destroy none\\n" * 900)
+    lines.flush()
+    for count in range(900):
         reply = lines.readline()
         counts[reply] = counts.get(reply, 0) + 1
 print("busy" if any("at most" in reply for reply in counts) else "never busy", flush=True)
@@ -222,10 +226,9 @@ def at_once(host: Host) -> str:
     """How many connections of one use are open at once, while another client is served."""
     host.ask("start many")
     host.wait(r"said      many \| held")
-    begun = time.monotonic()
+    # The one that holds all never lets go: another client doesn't wait for it.
     host.ask("start other")
     host.wait(r"said      other \| sent b'answer")
-    assert time.monotonic() - begun < 20, "another client waits for the one that holds all"
     return host.said("many").strip()
 
 
@@ -233,24 +236,32 @@ def daemons(host: Host) -> str:
     """How a program stops that heeds no TERM and has left daemons, and whether these end."""
     host.ask("start daemons")
     host.wait(r"said      daemons \| up")
-    begun = time.monotonic()
-    reply = host.ask("stop daemons")[0]
-    took = "soon" if time.monotonic() - begun < 9 else "late"
-    for _ in range(100):
-        if not host.find("sleep", "1000000"):
-            break
+    replies: list[str] = []
+
+    def stop() -> None:
+        with contextlib.suppress(OSError):
+            replies.extend(host.ask("stop daemons"))
+
+    asks = threading.Thread(target=stop, daemon=True)
+    asks.start()
+    asks.join(TO_STOP)
+    if not replies:
+        return "not stopped"
+    until = time.monotonic() + TO_VANISH
+    while (left := host.find("sleep", "1000000")) and time.monotonic() < until:
         time.sleep(0.02)
-    left = "left" if host.find("sleep", "1000000") else "none left"
-    return f"{'by force' if 'by-force' in reply else reply} {took}, {left}"
+    return f"{'by force' if 'by-force' in replies[0] else replies[0]}, {'left' if left else 'none left'}"
 
 
 def questions(host: Host) -> str:
-    """Whether 400 questions to a realm are taken at once, as entries of the history."""
-    before = host.own("status")["entries"]
+    """Whether 900 questions to a realm are taken at once, as entries of the history."""
+    before, begun = host.own("status")["entries"], time.monotonic()
     host.ask("start grows")
     host.wait(r"said      grows \| (never )?busy")
     entries = host.own("status")["entries"] - before
-    return f"{host.said('grows').strip()} with {'few' if entries < 300 else 'many'}"
+    # By an estimate of four entries for each question that the manager is asked.
+    limit = 4 * (300 + 25 * (time.monotonic() - begun))
+    return f"{host.said('grows').strip()} with {'few' if entries < limit else 'many'}"
 
 
 def filled(host: Host) -> str:
@@ -261,12 +272,19 @@ def filled(host: Host) -> str:
 
 
 def doomed(host: Host) -> str:
-    """What a program reaches that is being destroyed."""
-    host.ask("create . jobs d fuchsia-pkg://t/last#meta/last.cm", "start jobs:d")
-    host.wait(r"said      jobs:d \| up")
-    host.ask("destroy jobs:d")
-    host.wait_until(lambda: "last words" in host.said("jobs:d"), "last words")
-    return next((event["why"] for event in host.events("refused") if event["moniker"] == "jobs:d"), "reached")
+    """What a program reaches that is being destroyed. On a machine that is busy its time may be over before
+    it has tried anything: then another one tries."""
+    for count in range(10):
+        name = f"jobs:d{count}"
+        host.ask(f"create . jobs d{count} fuchsia-pkg://t/last#meta/last.cm", f"start {name}")
+        host.wait(rf"said      {name} \| up")
+        host.ask(f"destroy {name}")
+        for event in host.events("refused"):
+            if event["moniker"] == name:
+                return str(event["why"])
+        if "last words" in host.said(name):
+            return "reached"
+    return "nothing was tried"
 
 
 def counted_off(host: Host) -> str:
@@ -279,13 +297,15 @@ def counted_off(host: Host) -> str:
 
 
 def a_hundred(host: Host) -> float:
-    """How long a hundred further connections of one use take, in seconds."""
+    """How long 144 further connections of one use take, in seconds: 40 may come at once."""
     host.ask("start again")
     host.wait_until(lambda: "connect 145 at " in host.said("again"), "connects")
     at = {row.split()[1]: float(row.split()[3]) for row in host.said("again").splitlines()[:145]}
-    return at["145"] - at["45"]
+    return at["145"] - at["1"]
 
 
+# How long a program may take to be stopped by force, two seconds behind its stop, and its daemons to vanish.
+TO_STOP, TO_VANISH = 60.0, 10.0
 # A small host, so that few connections show it.
 LIMITS = "CONNECTIONS, AT_ONCE, A_SECOND = 32, "
 FEW = [("doors.py", LIMITS + "2000, 20", LIMITS + "40, 20")]
@@ -299,8 +319,8 @@ TRIES: dict[str, tuple[Callable[[Host], str], str, list[list[tuple[str, str, str
          "            sent = socket.send_fds(self.sink, [BUFFER[:count]], given)\n")]]),
     "a use has 32 connections at once": (at_once, "held 32", [[
         ("doors.py", LIMITS, LIMITS.replace("32", "40"))]]),
-    "who heeds no stop ends by force, and its daemons with it": (daemons, "by force soon, none left", [
-        [("sandbox.py", "GRACE = 2.0", "GRACE = 12.0")],
+    "who heeds no stop ends by force, and its daemons with it": (daemons, "by force, none left", [
+        [("sandbox.py", "GRACE = 2.0", "GRACE = 1e6")],
         [("sandbox.py", '"--unshare-all", "--unshare-user",',
           '"--unshare-user", "--unshare-ipc", "--unshare-net", "--unshare-uts",')]]),
     "a realm's questions are limited in a second": (questions, "busy with few", [[
@@ -348,4 +368,4 @@ class Hostile(unittest.TestCase):
         """a use has 20 new connections in a second"""
         base = folder()
         self.addCleanup(shutil.rmtree, base, True)
-        self.assertGreater(a_hundred(self.begin(changed(base, "a second", FEW))), 4.8)
+        self.assertGreater(a_hundred(self.begin(changed(base, "a second", FEW))), 5.1)

@@ -2,19 +2,16 @@
 
 from __future__ import annotations
 
-import contextlib
 import os
 import re
 import shutil
-import signal
 import subprocess
+import threading
 import unittest
 
-from tests.hosting.trial import TOOLS, folder, mine
+from tests.hosting.trial import PATIENCE, TOOLS, folder, kill_all, still_there
 
 DOCUMENT = TOOLS.parent / "docs/HOST.md"
-# A command that runs longer than that, in seconds, hangs.
-PATIENCE = 120
 
 
 def commands(text: str) -> list[tuple[str, list[str]]]:
@@ -49,17 +46,26 @@ class Document(unittest.TestCase):
         shell = subprocess.Popen(["bash"], stdin=subprocess.PIPE, stdout=subprocess.PIPE, text=True, cwd=base,
                                  stderr=subprocess.STDOUT, env={**os.environ, "DIR": str(base / "r")})
         self.addCleanup(self.stop, shell)
-        assert shell.stdin is not None and shell.stdout is not None
+        assert shell.stdin is not None
         for command, wanted in commands(DOCUMENT.read_text("utf-8")):
-            shell.stdin.write(f"{command}\necho '== end'\n")
-            shell.stdin.flush()
-            lines = []
-            while (line := shell.stdout.readline()) not in ("== end\n", ""):
-                lines.append(line.rstrip("\n"))
+            lines = self.printed(shell, command)
             self.assertTrue(fits(wanted, lines), f"{command}\nis said to print {wanted}\nand prints {lines}")
         shell.stdin.close()
         self.assertEqual(shell.wait(PATIENCE), 0)
-        self.assertEqual(mine(str(base)), [])
+        self.assertEqual(still_there(str(base)), [])
+
+    def printed(self, shell: subprocess.Popen[str], command: str) -> list[str]:
+        """The lines that a command prints. One that hangs is ended, and its shell with all that it began."""
+        assert shell.stdin is not None and shell.stdout is not None
+        ends = threading.Timer(PATIENCE, lambda: (shell.kill(), kill_all(self.base)))
+        ends.start()
+        shell.stdin.write(f"{command}\necho '== end'\n")
+        shell.stdin.flush()
+        lines = []
+        while (line := shell.stdout.readline()) not in ("== end\n", ""):
+            lines.append(line.rstrip("\n"))
+        ends.cancel()
+        return lines if line else [*lines, "(the shell has ended)"]
 
     def stop(self, shell: subprocess.Popen[str]) -> None:
         """Ends what a command that failed has left."""
@@ -72,6 +78,4 @@ class Document(unittest.TestCase):
         except subprocess.TimeoutExpired:
             shell.kill()
             shell.wait()
-        for pid in mine(self.base):
-            with contextlib.suppress(ProcessLookupError):
-                os.kill(pid, signal.SIGKILL)
+        kill_all(self.base)

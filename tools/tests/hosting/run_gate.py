@@ -11,6 +11,7 @@ import time
 import unittest
 from pathlib import Path
 
+from cm_tools.meeting import connected
 from tests.hosting.trial import EXAMPLE, PATIENCE, ROOT, folder, program
 
 # What the runner does; what the start answers; whether the runner reads `taken`, where it reads at all.
@@ -28,15 +29,20 @@ ROWS: list[tuple[str, str, bool | None]] = [
     ("running\n", "started", True),
     ("says nothing", "gate-failed", False),
 ]
-LATE = [("late by 36 seconds", "gate-failed", False)]
+LATE = [("answers behind the failure", "gate-failed", False)]
 
 
 class Player:
-    """A runner that does what it is told."""
+    """A runner that does what it is told.
+
+    `taken` is what it read behind its answer to the present launch, once it is `done` with that. `failed` is
+    set when the one who asked for a start has its answer.
+    """
 
     def __init__(self, at: Path) -> None:
         self.door, self.does = socket.socket(socket.AF_UNIX), ""
         self.taken: bool | None = None
+        self.done, self.failed = threading.Event(), threading.Event()
         self.line = ""
         self.door.bind(str(at))
         self.door.listen(16)
@@ -51,16 +57,17 @@ class Player:
             threading.Thread(target=self.answer, args=(link, self.does), daemon=True).start()
 
     def answer(self, link: socket.socket, does: str) -> None:
-        with link:
-            self.line = link.recv(10000).decode()
+        with link, link.makefile("r") as lines:
+            self.line = lines.readline()
             if self.line.startswith("halt"):
                 link.sendall(b"stopped\n")
-            elif not self.speak(link, does):
+                lines.readline()
                 return
             try:
-                self.taken = link.recv(100) == b"taken\n"
+                self.taken = lines.readline() == "taken\n" if self.speak(link, does) else None
             except OSError:
                 self.taken = False
+            self.done.set()
 
     def speak(self, link: socket.socket, does: str) -> bool:
         """Does it. Whether it then reads on."""
@@ -71,13 +78,10 @@ class Player:
             link.sendall(b"running\n")
             return False
         if does == "says nothing":
-            link.settimeout(60)
-        elif does == "late by 36 seconds":
-            time.sleep(36)
-            try:
-                link.sendall(b"running\n")
-            except OSError:
-                pass
+            pass
+        elif does == "answers behind the failure":
+            self.failed.wait(PATIENCE)
+            link.sendall(b"running\n")
         elif does == "drips":
             for byte in b"running\n":
                 link.sendall(bytes([byte]))
@@ -99,19 +103,29 @@ class Served:
         environment.pop("COMPONENT_RUNNER", None)
         if with_runner:
             environment["COMPONENT_RUNNER"] = str(self.base / "runner")
-        self.process = subprocess.Popen([program(), "serve", str(self.base / "cm"), "--root", ROOT,
-                                         "--repo", str(EXAMPLE)], env=environment)
-        until = time.monotonic() + PATIENCE
-        while not (self.base / "cm").exists() and time.monotonic() < until:
-            time.sleep(0.02)
-        self.link = socket.socket(socket.AF_UNIX)
-        self.link.connect(str(self.base / "cm"))
+        with open(self.base / "told", "wb") as told:
+            self.process = subprocess.Popen([program(), "serve", str(self.base / "cm"), "--root", ROOT,
+                                             "--repo", str(EXAMPLE)], env=environment,
+                                            stdin=subprocess.DEVNULL, stdout=told, stderr=told)
+        try:
+            self.link = connected(str(self.base / "cm"), PATIENCE, self.process.poll, PATIENCE)
+        except OSError as fault:
+            why = f"no server ({fault}), status {self.process.poll()}: {self.told()}"
+            self.remove()
+            raise AssertionError(why) from None
         self.lines = self.link.makefile("rw")
+
+    def told(self) -> str:
+        """What the server wrote on its streams."""
+        return (self.base / "told").read_text(errors="replace")
 
     def ask(self, line: str) -> str:
         self.lines.write(line + "\n")
         self.lines.flush()
-        return self.lines.readline().strip()
+        reply = self.lines.readline().strip()
+        if not reply:
+            raise AssertionError(f"no reply to {line}, status {self.process.poll()}: {self.told()}")
+        return reply
 
     def end(self) -> int:
         """Its status."""
@@ -119,29 +133,38 @@ class Served:
         self.lines.flush()
         self.lines.close()
         self.link.close()
+        return self.process.wait(PATIENCE)
+
+    def remove(self) -> None:
+        """Ends it if it still runs, and removes its folder."""
+        if self.process.poll() is None:
+            self.process.kill()
+            self.process.wait()
         if self.player is not None:
             self.player.door.close()
-        status = self.process.wait(PATIENCE)
         shutil.rmtree(self.base, ignore_errors=True)
-        return status
 
 
 class Gate(unittest.TestCase):
     """Each fault of a runner."""
 
+    def served(self, with_runner: bool = True) -> Served:
+        served = Served(with_runner)
+        self.addCleanup(served.remove)
+        return served
+
     def rows(self, rows: list[tuple[str, str, bool | None]]) -> None:
-        served = Served()
+        served = self.served()
         player = served.player
         assert player is not None
         for does, wanted, taken in rows:
             player.does, player.taken = does, None
-            begun = time.monotonic()
+            player.done.clear()
+            player.failed.clear()
             reply = served.ask("start logger")
+            player.failed.set()
             self.assertIn(wanted, reply, does[:30])
-            self.assertLess(time.monotonic() - begun, 60, does[:30])
-            until = time.monotonic() + 20
-            while player.taken != taken and time.monotonic() < until:
-                time.sleep(0.02)
+            self.assertTrue(player.done.wait(PATIENCE), does[:30])
             self.assertEqual(player.taken, taken, does[:30])
             if reply.startswith("started"):
                 self.assertIn("stopped logger", served.ask("stop logger"))
@@ -153,17 +176,17 @@ class Gate(unittest.TestCase):
         self.rows(ROWS)
 
     def test_late(self) -> None:
-        """a runner that answers too late reads no `taken`"""
+        """a runner that answers when its time is over reads no `taken`"""
         self.rows(LATE)
 
     def test_nobody(self) -> None:
         """where nobody listens a start fails, and without the variable all is as before"""
-        served = Served()
+        served = self.served()
         assert served.player is not None
         served.player.door.close()
         os.unlink(served.base / "runner")
         self.assertIn("gate-failed", served.ask("start logger"))
-        served.end()
-        served = Served(with_runner=False)
+        self.assertEqual(served.end(), 0)
+        served = self.served(with_runner=False)
         self.assertTrue(served.ask("start logger").startswith("started logger"))
         self.assertEqual(served.end(), 0)

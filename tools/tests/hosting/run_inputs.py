@@ -14,7 +14,9 @@ from pathlib import Path
 
 from cm_tools.host.reports import known_words
 from cm_tools.host.sandbox import BARE
-from tests.hosting.trial import EXAMPLE, ROOT, TOOLS, Host, folder, package, program, root_of
+from tests.hosting.trial import (
+    EXAMPLE, PATIENCE, ROOT, TOOLS, Host, folder, package, program, root_of,
+)
 
 P = '{program:{runner:"elf",binary:"bin/x"%s}}'
 SLEEP = "#!/bin/sh\necho up\nexec sleep 1000000\n"
@@ -121,12 +123,13 @@ class Programs(unittest.TestCase):
         host.wait_until(lambda: host.said("loud").endswith("done\n"), "the end of 100 MB")
         kept = sum(place.stat().st_size for place in (host.run / "log").glob("said-loud*"))
         self.assertLess(kept, 10 << 20)
-        for _ in range(4):
+
+        def is_put_off() -> bool:
             host.ask("start crash")
-            time.sleep(0.3)
+            return any("started again by a connect" in one.get("why", "") for one in host.events("launch"))
+
+        host.wait_until(is_put_off, "start that is put off")
         host.wait(r"it can start again in")
-        put_off = [one for one in host.events("launch") if "started again by a connect" in one.get("why", "")]
-        self.assertTrue(put_off)
         self.assertEqual(host.end(), 0)
         self.assertEqual(host.left(), [])
 
@@ -140,7 +143,7 @@ class Stops(unittest.TestCase):
     """A shutdown of programs that heed no stop, and directories whose rights are rounded."""
 
     def test_stubborn(self) -> None:
-        """programs that ignore their stop are waited for together: twenty don't take forty seconds"""
+        """programs that ignore their stop are waited for together: of twenty more than four at each moment"""
         base = folder()
         names = [f"c{number}" for number in range(20)]
         for name in names:
@@ -150,10 +153,11 @@ class Stops(unittest.TestCase):
         host.ask(*[f"start {name}" for name in names])
         for name in names:
             host.wait_until(lambda: "up" in host.said(name), f"start of {name}")
-        begun = time.monotonic()
         self.assertEqual(host.end(), 0)
-        self.assertLess(time.monotonic() - begun, 20)
-        self.assertEqual(len([one for one in host.events("halt") if one["answer"] == "killed"]), 20)
+        halts = [(one["at"], one["ms"] / 1000) for one in host.events("halt") if one["answer"] == "killed"]
+        self.assertEqual(len(halts), 20)
+        whole = max(at for at, _ in halts) - min(at - took for at, took in halts)
+        self.assertGreater(sum(took for _, took in halts), 4 * whole)
         self.assertEqual(host.left(), [])
 
     def test_coarse(self) -> None:
@@ -239,7 +243,7 @@ class Disk(unittest.TestCase):
         host.ask("start more")
         copied.unlink()
         os.kill(host.manager_pids()[0], signal.SIGKILL)
-        self.assertEqual(host.process.wait(60), 5)
+        self.assertEqual(host.process.wait(PATIENCE), 5)
         self.assertIn("none could be begun", host.text())
         self.assertNotIn("Traceback", host.text())
         self.assertEqual(host.left(), [])
@@ -248,7 +252,7 @@ class Disk(unittest.TestCase):
 def run(*words: str, tools: Path = TOOLS) -> tuple[int, str]:
     """A run of the tool that ends by itself: its status, and what it says."""
     done = subprocess.run([sys.executable, str(tools / "host"), *words], capture_output=True, text=True,
-                          timeout=60)
+                          timeout=PATIENCE)
     return done.returncode, done.stdout + done.stderr
 
 

@@ -18,7 +18,9 @@ class Kills(unittest.TestCase):
         self.host = Host(lay(self.base), run=self.base / "r")
         self.addCleanup(self.host.remove)
         self.host.ask("start client")
-        self.host.wait(r"said      client \| next line has number")
+        # What is started by itself, and by connects, is there.
+        for name, line in ("client", "next line has number"), ("browser", ".*of the log"), ("store", "up"):
+            self.host.wait(rf"said      {name} +\| {line}")
 
     def test_manager(self) -> None:
         """a manager that is killed is followed by another, and no program is started again"""

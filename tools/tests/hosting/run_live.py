@@ -6,13 +6,12 @@ import os
 import random
 import re
 import signal
-import socket
 import threading
 import time
 import unittest
 from pathlib import Path
 
-from tests.hosting.trial import Host, folder, package
+from tests.hosting.trial import PATIENCE, Host, folder, package
 
 COUNTER = """#!/usr/bin/python3
 import os, socket, threading, time
@@ -153,8 +152,7 @@ class Console(threading.Thread):
 
     def run(self) -> None:
         rng = random.Random(self.number)
-        with socket.socket(socket.AF_UNIX) as link:
-            link.connect(str(self.host.run / "cm"))
+        with self.host.link("cm") as link:
             lines = link.makefile("rw")
             while not self.stop.is_set():
                 name = f"k{self.number}n{rng.randrange(3)}"
@@ -210,7 +208,7 @@ class Live(unittest.TestCase):
         time.sleep(1.5)
         self.stop.set()
         for console in self.consoles:
-            console.join(30)
+            console.join(PATIENCE)
             self.assertFalse(console.is_alive(), "a console is stuck")
             self.assertGreater(console.count, 5)
             self.assertEqual(console.strange, [])
@@ -222,7 +220,8 @@ class Live(unittest.TestCase):
                 self.assertNotIn(fault, host.said(name), name)
         self.assertNotIn("drowsy", on)
         self.assertIn("once:long", on)
-        self.assertEqual(len(host.sandboxes()), 2 * len(on))
+        # One that is just being made has a further process for a moment.
+        host.wait_until(lambda: len(host.sandboxes()) == 2 * len(on), "two processes for each that is on")
         held = [event["held_ms"] for event in host.events("replaced")]
         worst = max(float(one) for name in STAY for one in re.findall(r"worst ([\d.]+) ms", host.said(name)))
         print(f"  {len(held)} managers replaced, connects held at most {max(held):.0f} ms, the longest "

@@ -6,13 +6,12 @@ from __future__ import annotations
 import os
 import random
 import signal
-import socket
 import threading
 import time
 import unittest
 from pathlib import Path
 
-from tests.hosting.trial import Host, cmdline, folder, package
+from tests.hosting.trial import PATIENCE, Host, cmdline, folder, package
 
 SECONDS = float(os.environ.get("COMPONENT_HOST_STRESS", "10"))
 SERVER = """#!/usr/bin/python3
@@ -81,9 +80,7 @@ def line_of(what: str, number: int) -> str:
 def session(host: Host, seed: int, until: float, faults: list[str]) -> None:
     """Random commands over one console, and random kills of sandboxes."""
     rng = random.Random(seed)
-    with socket.socket(socket.AF_UNIX) as link:
-        link.settimeout(60)
-        link.connect(str(host.run / "cm"))
+    with host.link("cm") as link:
         lines = link.makefile("rw")
         while time.monotonic() < until:
             what = rng.choice(DEEDS)
@@ -136,7 +133,7 @@ class Stress(unittest.TestCase):
             for pid in host.manager_pids() if kills else ():
                 os.kill(pid, signal.SIGKILL)
         for thread in threads:
-            thread.join(90)
+            thread.join(PATIENCE)
             self.assertFalse(thread.is_alive(), "a console is stuck")
         self.assertEqual(faults, [])
         host.wait_until(lambda: agrees(host), "agreement of what counts as on and what runs")

@@ -2,6 +2,7 @@
 
 from __future__ import annotations
 
+import contextlib
 import json
 import os
 import re
@@ -14,6 +15,9 @@ import tempfile
 import time
 from pathlib import Path
 from typing import Any, Callable
+
+from cm_tools.host.front import RUNNER
+from cm_tools.meeting import connected
 
 TOOLS = Path(__file__).resolve().parent.parent.parent
 EXAMPLE = TOOLS.parent / "examples/host"
@@ -81,8 +85,12 @@ class Host:
             self.process = subprocess.Popen(
                 words, stdout=out, stderr=subprocess.STDOUT, stdin=subprocess.DEVNULL,
                 env={**os.environ, **(environment or {})}, start_new_session=True)
-        if waits:
-            self.wait(r"^(root|resumed) ")
+        try:
+            if waits:
+                self.wait(r"^(root|resumed) ")
+        except BaseException:
+            self.remove()
+            raise
 
     def text(self) -> str:
         """What it showed so far."""
@@ -91,7 +99,8 @@ class Host:
     def events(self, word: str = "") -> list[dict[str, Any]]:
         """Its log so far, or the events of one word."""
         found = []
-        for line in (self.run / "log/events.jsonl").read_text().splitlines():
+        # The last line may be in the middle of being written.
+        for line in (self.run / "log/events.jsonl").read_text().split("\n")[:-1]:
             event = json.loads(line)
             if word in ("", event["event"]):
                 found.append(event)
@@ -115,11 +124,13 @@ class Host:
                 raise AssertionError(f"no {what}; its screen:\n{self.text()[-3000:]}")
             time.sleep(0.02)
 
+    def link(self, name: str) -> socket.socket:
+        """A connection to a socket in its folder."""
+        return connected(str(self.run / name), PATIENCE, self.process.poll, PATIENCE)
+
     def ask(self, *lines: str) -> list[str]:
         """The replies to commands, each with its further lines."""
-        with socket.socket(socket.AF_UNIX) as link:
-            link.settimeout(PATIENCE)
-            link.connect(str(self.run / "cm"))
+        with self.link("cm") as link:
             link.sendall("".join(line + "\n" for line in (*lines, "quit")).encode())
             text = link.makefile().read()
         return [one for one in re.split(r"\n(?! )", text) if one]
@@ -131,9 +142,7 @@ class Host:
 
     def own(self, words: str) -> Any:
         """What the runner itself answers."""
-        with socket.socket(socket.AF_UNIX) as link:
-            link.settimeout(PATIENCE)
-            link.connect(str(self.run / "host"))
+        with self.link("host") as link:
             link.sendall(words.encode() + b"\n")
             return json.loads(link.makefile().readline())
 
@@ -151,7 +160,7 @@ class Host:
 
     def runner_pid(self) -> int:
         """The process of the runner."""
-        return next(pid for pid in self.below() if cmdline(pid)[1:3] == ["-m", "cm_tools.host.runner"])
+        return next(pid for pid in self.below() if cmdline(pid)[1:4] == list(RUNNER[:3]))
 
     def sandboxes(self) -> list[int]:
         """The processes in sandboxes, bwrap's own among them; each sandbox has two or more."""
@@ -174,12 +183,7 @@ class Host:
 
     def left(self) -> list[str]:
         """What it left behind that it shouldn't: processes, mounts, sockets."""
-        found = []
-        for _ in range(250):
-            found = [f"process {pid} {' '.join(cmdline(pid))[:80]}" for pid in mine(str(self.base))]
-            if not found:
-                break
-            time.sleep(0.02)
+        found = [f"process {pid} {' '.join(cmdline(pid))[:80]}" for pid in still_there(str(self.base))]
         if str(self.run) in Path("/proc/self/mountinfo").read_text():
             found.append("a mount")
         return found
@@ -231,3 +235,18 @@ def mine(base: str) -> list[int]:
             if any(base in word for word in cmdline(int(entry.name))):
                 found.append(int(entry.name))
     return found
+
+
+def still_there(base: str) -> list[int]:
+    """Processes with this folder in a word of theirs that don't end, as it is waited for."""
+    until = time.monotonic() + PATIENCE
+    while (found := mine(base)) and time.monotonic() < until:
+        time.sleep(0.02)
+    return found
+
+
+def kill_all(base: str) -> None:
+    """Ends all processes with this folder in a word of theirs."""
+    for pid in mine(base):
+        with contextlib.suppress(ProcessLookupError):
+            os.kill(pid, signal.SIGKILL)

@@ -112,6 +112,7 @@ def _copied(script: str, copy: str) -> str:
     place = os.path.abspath(script)
     top = os.path.dirname(os.path.dirname(place))
     for name in "tools", "examples", "docs", ".ci", "bench":
-        shutil.copytree(os.path.join(top, name), os.path.join(copy, name), symlinks=True)
+        shutil.copytree(os.path.join(top, name), os.path.join(copy, name), symlinks=True,
+                        ignore=shutil.ignore_patterns("__pycache__"))
     subprocess.run(["chown", "-R", f"{OTHER_USER}:{OTHER_USER}", copy], check=True)
     return os.path.join(copy, os.path.relpath(place, top))
