@@ -237,7 +237,7 @@ fn events<R: Threads + Wait + Sync>(
     manager.events(rt, alloc, pass, &mut QuietGates, target, 0)
 }
 
-/// Makes the call of a name. A name that no call has is answered as want of memory.
+/// Makes the call of a name. A name that no call has is answered as out of memory.
 pub fn call<R: Threads + Wait + Sync>(
     rt: &R,
     alloc: Global,

@@ -6,14 +6,15 @@ use Rattle.cm_world.specs.declared.action.Outcome.{Outcome}
 use Rattle.cm_world.specs.declared.action.Outcome.TheVariants as outcome
 use Rattle.cm_world.specs.declared.answer.Refusal.{Refusal}
 use Rattle.cm_world.specs.declared.answer.Refusal.TheVariants as refusal
-use Rattle.cm_answers.specs.Answers.{failure, is_well}
+use Rattle.cm_answers.specs.Answers.{failure}
+use Rattle.cm_answers.specs.AnswersInside.{is_well}
 
--- what can't be done, where it isn't for want of memory
+-- what can't be done, where it isn't for lack of memory
 abbrev pub cannot : ActKind → ℕ → Outcome → Refusal
 cannot kind.Resolve a o = refusal.CannotResolve a o
 cannot _ a o = refusal.CannotStart a o
 
--- an outcome that is neither a good one nor want of memory
+-- an outcome that is neither a good one nor lack of memory
 pub fails_so : (k : ActKind) (a : ℕ) (o : Outcome) → o ≢ outcome.Resolved → o ≢ outcome.Started → o ≢ outcome.Stopped → o ≢ outcome.Killed → o ≢ outcome.NoMemory → failure k a o ≡ Some (cannot k a o)
 fails_so k a outcome.Resolved resolved started stopped killed memory = absurd (resolved refl)
 fails_so k a outcome.Started resolved started stopped killed memory = absurd (started refl)

@@ -1,5 +1,6 @@
+-- Promised.
 -- The lines of a check of all routes.
-use Rattle.std.specs.Prelude.{◌≡◌, ◌⊎◌, List, [], ◌∷◌, ◌++◌, ℕ, Option, Some, None, Result, Ok, Err}
+use Rattle.std.specs.Prelude.{List, [], ◌∷◌, ◌++◌, ℕ, Some, None, Result, Ok, Err}
 use Rattle.cm_names.specs.declared.moniker.Moniker.{Moniker}
 use Rattle.cm_world.specs.declared.reply.Reply.{Reply}
 use Rattle.cm_world.specs.declared.reply.Reply.TheVariants as reply
@@ -18,27 +19,21 @@ route_by (Ok (reply.Given route)) = Ok route
 route_by (Ok r) = Err (refusal_of r)
 route_by (Err x) = Err x
 
--- the line of a path, with its route or its refusal; want of memory and a full history end the call in its
+-- the line of a path, with its route or its refusal; lack of memory and a full history end the call in its
 -- place
 abbrev pub line_of : Moniker → List ℕ → Result Route Refusal → Result (List Checked) Refusal
 line_of m p (Err refusal.Memory) = Err refusal.Memory
 line_of m p (Err refusal.HistoryFull) = Err refusal.HistoryFull
 line_of m p found = Ok (record { moniker = m; path = Some p; result = found } ∷ [])
 
--- what ends the call in place of such a line
-abbrev pub end_of_line : Result Route Refusal → Option Refusal
-end_of_line (Err refusal.Memory) = Some refusal.Memory
-end_of_line (Err refusal.HistoryFull) = Some refusal.HistoryFull
-end_of_line _ = None
-
 -- the line of an instance that isn't resolved
 abbrev pub unresolved_line : Moniker → Checked
 unresolved_line m = record { moniker = m; path = None; result = Err refusal.NoSuchUse }
 
--- these lines in front of others, unless the call ended among those
-abbrev pub in_front : List Checked → Result (List Checked) Refusal → Result (List Checked) Refusal
-in_front lines (Ok others) = Ok (lines ++ others)
-in_front lines (Err x) = Err x
+-- these lines before others, unless the call ended among those
+abbrev pub in_prefix : List Checked → Result (List Checked) Refusal → Result (List Checked) Refusal
+in_prefix lines (Ok others) = Ok (lines ++ others)
+in_prefix lines (Err x) = Err x
 
 -- the rows that a survey gives, or the refusal that the reply, or what was needed before it, stands for
 abbrev pub surveyed_by : Result Reply Refusal → Result (List SurveyRow) Refusal
@@ -50,8 +45,3 @@ surveyed_by (Err x) = Err x
 abbrev pub doctored_by : Result (List Checked) Refusal → Result Answer Refusal
 doctored_by (Ok lines) = Ok (answer.Doctored lines)
 doctored_by (Err x) = Err x
-
--- further lines come behind these, unless memory runs out; or the call ends
-abbrev pub Adds : List Checked → Result (List Checked) Refusal → Result (List Checked) Refusal → Type 0
-Adds lines (Ok more) end = (end ≡ Ok (lines ++ more)) ⊎ (end ≡ Err refusal.Memory)
-Adds lines (Err x) end = end ≡ Err x

@@ -1,3 +1,4 @@
+-- Inside.
 -- What a call asks of the instance that its target names, and by which event.
 use Rattle.std.specs.Prelude.{ℕ, Bool, true, false, Option, Some, None, Result}
 use Rattle.cm_world.specs.declared.action.ActKind.TheVariants as kind
@@ -12,11 +13,11 @@ use Rattle.cm_answers.specs.declared.question.Question.{Question}
 use Rattle.cm_answers.specs.declared.question.Question.TheVariants as question
 use Rattle.cm_answers.specs.declared.question.Request.{Request}
 use Rattle.cm_answers.specs.declared.question.Request.TheVariants as request
-use Rattle.cm_answers.specs.declared.question.Wish.{Wish}
-use Rattle.cm_answers.specs.declared.question.Wish.TheVariants as wish
+use Rattle.cm_answers.specs.declared.question.EventRef.{EventRef}
+use Rattle.cm_answers.specs.declared.question.EventRef.TheVariants as wish
 use Rattle.cm_answers.specs.declared.question.Follow.{Follow}
 use Rattle.cm_answers.specs.declared.question.Follow.TheVariants as follow
-use Rattle.cm_answers.specs.Answers.{created_in, has_left}
+use Rattle.cm_answers.specs.AnswersInside.{created_in, has_left}
 
 -- the command that makes this request of a target
 abbrev pub requested_by : Target → Request → Command
@@ -52,7 +53,7 @@ event_for request.Survey = event.Survey
 event_for request.Exited = event.Exited
 
 -- the event that one turn makes
-abbrev pub event_of : Wish → Event
+abbrev pub event_of : EventRef → Event
 event_of (wish.Find m) = event.Find m.now
 event_of (wish.Ask r i) = event_for r i
 event_of (wish.Begin k i) = event.Begin k i

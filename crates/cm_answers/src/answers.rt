@@ -4,8 +4,9 @@ ghost use Rattle.std.specs.Prelude.{◌≡◌};
 ghost use Rattle.cm_answers.specs.Answers.{ends_call, failure};
 ghost use Rattle.cm_answers.specs.Answers.{answer_unless, found_by, decided_by, decision, refusal_of};
 ghost use Rattle.cm_answers.specs.Answers as spec;
+ghost use Rattle.cm_answers.specs.AnswersInside as spec_inside;
 
-use crate::Acted;
+use crate::ActionResult;
 use cm_world::{ActKind, Answer, Outcome, Refusal, Reply};
 
 /// The refusal that a reply stands for.
@@ -21,7 +22,7 @@ pub fn refusing(reply: Reply) -> Refusal
         Reply::Closing(row) => Refusal::ParentClosing(row),
         Reply::Full => Refusal::Full,
         Reply::NotDynamic => Refusal::NotDynamic,
-        Reply::NotFound(front) => Refusal::NotFound(front),
+        Reply::NotFound(prefix) => Refusal::NotFound(prefix),
         Reply::Gone(row) => Refusal::Gone(row),
         Reply::Shut(row) => Refusal::Shut(row),
         Reply::ClientOff => Refusal::ClientOff,
@@ -102,7 +103,7 @@ pub fn behind(end: Option<Refusal>, answer: Result<Answer, Refusal>) -> Result<A
 
 /// The child that a create made, if it made one.
 pub(crate) fn created_in(went: &Result<Reply, Refusal>) -> Option<u64>
-    ensures { result ≡ spec.created_in went.now }
+    ensures { result ≡ spec_inside.created_in went.now }
 {
     match went {
         Ok(Reply::Created(inc)) => Some(*inc),
@@ -112,22 +113,22 @@ pub(crate) fn created_in(went: &Result<Reply, Refusal>) -> Option<u64>
 
 /// Whether an exit found its program on.
 pub(crate) fn has_left(went: &Result<Reply, Refusal>) -> bool
-    ensures { result ≡ spec.has_left went.now }
+    ensures { result ≡ spec_inside.has_left went.now }
 {
     matches!(went, Ok(Reply::Left(_)))
 }
 
 /// What ends a call that needed this.
-pub fn ending(went: Result<Acted, Refusal>) -> Option<Refusal>
+pub fn ending(went: Result<ActionResult, Refusal>) -> Option<Refusal>
     ensures { result ≡ ends_call went }
 {
     match went {
         Err(refusal) => Some(refusal),
-        Ok(Acted::Quiet(reply)) => {
+        Ok(ActionResult::Quiet(reply)) => {
             drop(reply);
             None
         }
-        Ok(Acted::Ended(kind, action, outcome)) => failing(kind, action, outcome),
+        Ok(ActionResult::Ended(kind, action, outcome)) => failing(kind, action, outcome),
     }
 }
 
@@ -150,7 +151,7 @@ fn failing(kind: ActKind, action: u64, outcome: Outcome) -> Option<Refusal>
 
 /// What ends a call that marks an instance: the mark was refused, or wasn't made.
 pub fn unmarked(asked: Result<Reply, Refusal>) -> Option<Refusal>
-    ensures { result ≡ spec.unmarked_by asked }
+    ensures { result ≡ spec_inside.unmarked_by asked }
 {
     match asked {
         Ok(Reply::Marked) => None,

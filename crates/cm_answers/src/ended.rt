@@ -1,28 +1,29 @@
 //! What the end of an action means for the call that asked for it.
 
 ghost use Rattle.std.specs.Prelude.{◌≡◌};
-ghost use Rattle.cm_answers.specs.Answers.{EndsIn, FailsBy, answer_by, ends_eager, is_killed};
-ghost use Rattle.cm_answers.specs.Answers.{is_well, made_by};
+ghost use Rattle.cm_answers.specs.Answers.{ends_eager, is_killed};
+ghost use Rattle.cm_answers.specs.AnswersInside.{EndsIn, FailsBy, answer_by};
+ghost use Rattle.cm_answers.specs.AnswersInside.{is_well, made_by};
 
-use crate::Acted;
+use crate::ActionResult;
 use crate::answers::{ending, refusing};
 use cm_world::{ActKind, Answer, Outcome, Refusal, Reply};
 
 /// The number of the action and its outcome; no number where the instance was so already.
 ///
 /// `Err` with what ends the call: the action failed or was refused, or the call ended in it.
-fn outcome_of(went: Result<Acted, Refusal>) -> Result<(Option<u64>, Outcome), Refusal>
+fn outcome_of(went: Result<ActionResult, Refusal>) -> Result<(Option<u64>, Outcome), Refusal>
     ensures { EndsIn went result }
 {
     match went {
-        Ok(Acted::Ended(kind, action, outcome)) => {
-            match ending(Ok(Acted::Ended(kind, action, outcome))) {
+        Ok(ActionResult::Ended(kind, action, outcome)) => {
+            match ending(Ok(ActionResult::Ended(kind, action, outcome))) {
                 None => Ok((Some(action), outcome)),
                 Some(refusal) => Err(refusal),
             }
         }
-        Ok(Acted::Quiet(Reply::Already)) => Ok((None, Outcome::Resolved)),
-        Ok(Acted::Quiet(reply)) => Err(refusing(reply)),
+        Ok(ActionResult::Quiet(Reply::Already)) => Ok((None, Outcome::Resolved)),
+        Ok(ActionResult::Quiet(reply)) => Err(refusing(reply)),
         Err(refusal) => Err(refusal),
     }
 }
@@ -46,7 +47,7 @@ fn answer_for(kind: ActKind, action: Option<u64>, outcome: Outcome) -> Answer
 }
 
 /// The answer of a call that acts on an instance.
-pub fn acted(kind: ActKind, went: Result<Acted, Refusal>) -> Result<Answer, Refusal>
+pub fn acted(kind: ActKind, went: Result<ActionResult, Refusal>) -> Result<Answer, Refusal>
     ensures { result ≡ answer_by kind went }
 {
     match outcome_of(went) {
@@ -66,18 +67,18 @@ fn went_well(outcome: Outcome) -> bool
 }
 
 /// The same again where it ends a call that needed it, and `None` where the call goes on.
-pub fn if_failed(went: Result<Acted, Refusal>) -> Option<Result<Acted, Refusal>>
+pub fn if_failed(went: Result<ActionResult, Refusal>) -> Option<Result<ActionResult, Refusal>>
     ensures { FailsBy went result }
 {
     match went {
-        Ok(Acted::Ended(kind, action, outcome)) => {
+        Ok(ActionResult::Ended(kind, action, outcome)) => {
             if went_well(outcome) {
                 None
             } else {
-                Some(Ok(Acted::Ended(kind, action, outcome)))
+                Some(Ok(ActionResult::Ended(kind, action, outcome)))
             }
         }
-        Ok(Acted::Quiet(reply)) => {
+        Ok(ActionResult::Quiet(reply)) => {
             drop(reply);
             None
         }
@@ -86,11 +87,11 @@ pub fn if_failed(went: Result<Acted, Refusal>) -> Option<Result<Acted, Refusal>>
 }
 
 /// What ends the call where the start of an eager child came to this.
-pub fn ending_of_eager(went: Result<Acted, Refusal>) -> Option<Refusal>
+pub fn ending_of_eager(went: Result<ActionResult, Refusal>) -> Option<Refusal>
     ensures { result ≡ ends_eager went }
 {
     match went {
-        Ok(Acted::Ended(_, _, Outcome::NoMemory)) => Some(Refusal::Memory),
+        Ok(ActionResult::Ended(_, _, Outcome::NoMemory)) => Some(Refusal::Memory),
         Ok(acted) => {
             drop(acted);
             None

@@ -16,8 +16,8 @@ pub mod ended;
 mod lines;
 mod question;
 
-pub use acted::Acted;
+pub use acted::ActionResult;
 pub use answers::{behind, decided, ending, found, refusing, unless_ended, unmarked};
 pub use ended::{ending_of_eager, if_failed};
 pub use lines::{doctored, found_at, or_memory, route_in, rows_in, with_unresolved};
-pub use question::{Follow, Question, Request, Wish, following, question_of};
+pub use question::{EventRef, Follow, Question, Request, following, question_of};

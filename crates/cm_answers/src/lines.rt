@@ -1,7 +1,8 @@
 //! The lines of a check of all routes.
 
 ghost use Rattle.std.specs.Prelude.{◌≡◌, ◌∷◌, ◌++◌, [], Some, Ok, Err, IfOk, IfErr};
-ghost use Rattle.cm_answers.specs.Lines.{Adds, doctored_by, end_of_line, line_of, route_by};
+ghost use Rattle.cm_answers.specs.Lines.{doctored_by, line_of, route_by};
+ghost use Rattle.cm_answers.specs.LinesInside.{AddsLines, end_of_line};
 ghost use Rattle.cm_answers.specs.Lines.{surveyed_by, unresolved_line};
 
 use crate::answers::refusing;
@@ -94,7 +95,7 @@ pub fn or_memory(lines: Result<List<Checked>, Memory>) -> Result<List<Checked>, 
     }
 }
 
-/// What ends the check where this was found for a path: want of memory, or of room in the history.
+/// What ends the check where this was found for a path: lack of memory, or of room in the history.
 fn end_in(found: &Result<Shared<Route>, Refusal>) -> Option<Refusal>
     ensures { result ≡ end_of_line found.now }
 {
@@ -115,7 +116,7 @@ pub fn found_at(
     path: &CapPath,
     found: Result<Shared<Route>, Refusal>,
 ) -> Result<List<Checked>, Refusal>
-    ensures { Adds lines (line_of row.now.moniker path.now found) result }
+    ensures { AddsLines lines (line_of row.now.moniker path.now found) result }
 {
     match end_in(&found) {
         Some(refusal) => {

@@ -49,7 +49,7 @@ pub enum Request<'a> {
 
 /// An event that one turn makes. What it names is lent, and copied for its entry alone.
 #[derive(Clone, Copy)]
-pub enum Wish<'a> {
+pub enum EventRef<'a> {
     /// To find the instance at this moniker.
     Find(&'a Moniker),
     /// This, of the instance of this incarnation.

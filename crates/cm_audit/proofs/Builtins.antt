@@ -16,15 +16,15 @@ use Rattle.cm_command.proofs.written.ReadCommands.{rights_are}
 use Rattle.cm_command.proofs.scripts.OneScript.{words_one_way}
 use Rattle.cm_reply.specs.Journal.{builtin_text, builtin_words, provided_rights}
 use Rattle.cm_reply.specs.Legible.{IsLegibleAs, IsLegibleBuiltin}
-use Rattle.cm_reply.specs.Lists.{Text, when_some}
+use Rattle.cm_reply.specs.Lists.{TextBytes, when_some}
 
 -- what words say is legible
-pub legible_by : (ws : List Text) (b : Builtin) → BuiltinWords ws b → IsLegibleBuiltin b
+pub legible_by : (ws : List TextBytes) (b : Builtin) → BuiltinWords ws b → IsLegibleBuiltin b
 legible_by ws b (BuiltinWords.protocol h) = record { name = h; stands = (refl, refl) }
 legible_by ws b (BuiltinWords.directory {w = w} {r = r} h p rights) = record { name = h; stands = (p, (r, refl, rights_are w r rights)) }
 
 -- a builtin by its parts
-made : (b : Builtin) (k : Kind) (path : Text) (rights : Option RightSet) → b.kind ≡ k → b.path ≡ path → b.rights ≡ rights → b ≡ record { kind = k; name = b.name; path = path; rights = rights }
+made : (b : Builtin) (k : Kind) (path : TextBytes) (rights : Option RightSet) → b.kind ≡ k → b.path ≡ path → b.rights ≡ rights → b ≡ record { kind = k; name = b.name; path = path; rights = rights }
 made b k path rights kinds paths same =
     ap (λ x. record { kind = x; name = b.name; path = b.path; rights = b.rights }) kinds
     ∙ ap (λ x. record { kind = k; name = b.name; path = x; rights = b.rights }) paths
@@ -57,18 +57,18 @@ one_builtin b c h k same =
     words_one_way _ b c (subst (λ t. BuiltinText t b) words (is_said b h)) (is_said c k)
 
 -- no legible builtin has a line whose words say none
-pub unsaid : (t w : Text) → t ≡ codes "builtin " ++ w → ((b : Builtin) → BuiltinText w b → ⊥) → (b : Builtin) → IsLegibleBuiltin b → t ≡ builtin_text b → ⊥
+pub unsaid : (t w : TextBytes) → t ≡ codes "builtin " ++ w → ((b : Builtin) → BuiltinText w b → ⊥) → (b : Builtin) → IsLegibleBuiltin b → t ≡ builtin_text b → ⊥
 unsaid t w is none b legible same =
     none b (subst (λ x. BuiltinText x b) (append_cancel_left (codes "builtin ") _ _ (sym same ∙ is)) (is_said b legible))
 
 -- nor one whose words say another, which is written otherwise
-pub unwritten : (t w : Text) (b : Builtin) → t ≡ codes "builtin " ++ w → BuiltinText w b → (t ≡ builtin_text b → ⊥) → (c : Builtin) → IsLegibleBuiltin c → t ≡ builtin_text c → ⊥
+pub unwritten : (t w : TextBytes) (b : Builtin) → t ≡ codes "builtin " ++ w → BuiltinText w b → (t ≡ builtin_text b → ⊥) → (c : Builtin) → IsLegibleBuiltin c → t ≡ builtin_text c → ⊥
 unwritten t w b is said other c legible same =
     let there : BuiltinText w c = subst (λ x. BuiltinText x c) (append_cancel_left (codes "builtin ") _ _ (sym same ∙ is)) (is_said c legible) in
     let one : b ≡ c = words_one_way _ b c said there in
     other (same ∙ ap builtin_text (sym one))
 
 -- a fault of the words is that they say none
-pub fault_unsaid : (w : Text) (e : CommandFault) (n : ℕ) → e ≡ fault.BadCommand n → ((e ≡ fault.Memory → ⊥) → IsBuiltinFault w e) → (b : Builtin) → BuiltinText w b → ⊥
+pub fault_unsaid : (w : TextBytes) (e : CommandFault) (n : ℕ) → e ≡ fault.BadCommand n → ((e ≡ fault.Memory → ⊥) → IsBuiltinFault w e) → (b : Builtin) → BuiltinText w b → ⊥
 fault_unsaid w (fault.BadCommand m) n is told b said = (told (λ same. cc same)).0 (b, said)
 fault_unsaid w fault.Memory n is told b said = absurd (cc is)

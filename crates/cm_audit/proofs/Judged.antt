@@ -3,7 +3,7 @@ use Rattle.std.proofs.Common.{◌≡◌, ◌≢◌, ◌⊎◌, inl, inr, ◌↔�
 use Rattle.cm_decl.specs.declared.decl.Decl.{Decl}
 use Rattle.cm_decl.specs.Valid.{IsValid}
 use Rattle.cm_decl.proofs.faults.FirstFaults.{valid_faultless}
-use Rattle.cm_valid.specs.Reports.{Reports}
+use Rattle.cm_valid.specs.ReportsInside.{Reports}
 use Rattle.cm_valid.specs.declared.fault.ValidFault.{ValidFault}
 use Rattle.cm_valid.specs.declared.fault.ValidFault.TheVariants.{Memory}
 use Rattle.cm_names.specs.declared.memory.Memory.{Memory as Want}
@@ -22,14 +22,14 @@ use Rattle.cm_world.specs.Legal.{Legal}
 use Rattle.cm_world.proofs.trees.Once.{replies_once}
 use Rattle.cm_world.proofs.trees.Finding.{some_same}
 use Rattle.cm_order.specs.Picking.{MayBePicked}
-use Rattle.cm_reply.specs.Lists.{Text}
+use Rattle.cm_reply.specs.Lists.{TextBytes}
 use Rattle.cm_reply.specs.Replies.{replied_text}
-use Rattle.cm_laws.specs.Story.{Story, world_of, Tells}
+use Rattle.cm_laws.specs.Story.{Story, world_of, AddsEntry}
 use Rattle.cm_laws.specs.Clients.{picked_by}
 use Rattle.cm_steps.specs.Enabled.{IsEnabledBut, BringsValid}
 use Rattle.cm_steps.specs.Chosen.{PicksThis}
 use Rattle.cm_audit.specs.Expected.{Expects, IsOther, no_step_text, other_pick_text}
-use Rattle.cm_audit.specs.Reading.{IsJudged, Took, TellsRow, TellsNoPick}
+use Rattle.cm_audit.specs.Reading.{IsEntryJudged, StepTaken, TellsRow, TellsNoPick}
 use Rattle.cm_audit.proofs.Telling.{one_stop, row_fits}
 
 -- ---- enabled
@@ -63,12 +63,12 @@ not_faulty d e reports known =
 
 -- ---- an event that gets one reply
 
-pub judged_other : (old new : Story) (caller : ℕ) (e : Event) (given : Text) (r : Reply) (o : Option Text)
-    → (IsPick e → ⊥) → IsEnabled (world_of old) caller e → Tells old new caller e r
-    → MatchOption o (given ≡ replied_text r) (λ t. (t ≡ replied_text r) × (given ≢ t)) → IsJudged old new caller e given o
+pub judged_other : (old new : Story) (caller : ℕ) (e : Event) (given : TextBytes) (r : Reply) (o : Option TextBytes)
+    → (IsPick e → ⊥) → IsEnabled (world_of old) caller e → AddsEntry old new caller e r
+    → MatchOption o (given ≡ replied_text r) (λ t. (t ≡ replied_text r) × (given ≢ t)) → IsEntryJudged old new caller e given o
 judged_other old new caller e given r None none can tells same = record { reply = r; tells = tells; same = same }
 judged_other old new caller e given r (Some t) none can tells other =
-    subst (λ (x : Text). Expects (world_of old) (length old.entries + 1) (length old.entries + 1) caller e given x) (sym other.0)
+    subst (λ (x : TextBytes). Expects (world_of old) (length old.entries + 1) (length old.entries + 1) caller e given x) (sym other.0)
     (Expects.reply r none can tells.step.allowed (λ q allowed same.
     other.1 (same ∙ ap replied_text (replies_once (world_of old) caller e q r none allowed tells.step.allowed) ∙ sym other.0)))
 
@@ -126,13 +126,13 @@ pick_fits s legal t i r it is =
     let may = told_picks (world_of s) t i r it is in
     row_fits s.frame s.entries legal i may.1.row may.1.may.row
 
-pub judged_this : (old new : Story) (caller t row : ℕ) (given : Text) (r : Reply) (o : Option Text)
+pub judged_this : (old new : Story) (caller t row : ℕ) (given : TextBytes) (r : Reply) (o : Option TextBytes)
     → Legal (start old.frame) old.entries → PicksThis old new caller t row r → TellsRow given (Some row)
     → MatchOption o (given ≡ replied_text r) (λ x. (x ≡ other_pick_text) × (given ≢ replied_text r))
-    → IsJudged old new caller (event.Pick t) given o
+    → IsEntryJudged old new caller (event.Pick t) given o
 judged_this old new caller t row given r None legal picks tells same = record { reply = r; tells = picks.step; same = same }
 judged_this old new caller t row given r (Some x) legal picks tells other =
-    subst (λ (y : Text). Expects (world_of old) (length old.entries + 1) (length old.entries + 1) caller (event.Pick t) given y) (sym other.0)
+    subst (λ (y : TextBytes). Expects (world_of old) (length old.entries + 1) (length old.entries + 1) caller (event.Pick t) given y) (sym other.0)
     (Expects.other_pick picks.step.step.enabled (λ q allowed same. by q allowed same (done_or_row (world_of old).rows (world_of old).next_action t q allowed)))
   where
     by : (q : Reply) → Allowed (world_of old) caller (event.Pick t) q → given ≡ replied_text q → (q ≡ reply.Done) ⊎ ((i : ℕ) × (picked_by (event.Pick t) q ≡ Some i)) → ⊥
@@ -142,21 +142,21 @@ judged_this old new caller t row given r (Some x) legal picks tells other =
         other.1 (same ∙ ap replied_text (same_pick (world_of old).rows (world_of old).next_action t row q r allowed picks.step.step.allowed (tell.1 ∙ ap Some here) picks.this))
 
 -- where the row that is told may not be picked, or none is told
-pub tells_none : (s : Story) → Legal (start s.frame) s.entries → (t : ℕ) (given : Text) → TellsRow given None → TellsNoPick (world_of s) t given
+pub tells_none : (s : Story) → Legal (start s.frame) s.entries → (t : ℕ) (given : TextBytes) → TellsRow given None → TellsNoPick (world_of s) t given
 tells_none s legal t given tells i r it is same = tells t i r is (pick_fits s legal t i r it is) same
 
-pub tells_other : (s : Story) → Legal (start s.frame) s.entries → (t row : ℕ) (given : Text) → TellsRow given (Some row) → (MayBePicked (world_of s).rows t row → ⊥) → TellsNoPick (world_of s) t given
+pub tells_other : (s : Story) → Legal (start s.frame) s.entries → (t row : ℕ) (given : TextBytes) → TellsRow given (Some row) → (MayBePicked (world_of s).rows t row → ⊥) → TellsNoPick (world_of s) t given
 tells_other s legal t row given tells may i r it is same =
     may (subst (MayBePicked (world_of s).rows t) (tells t i r is (pick_fits s legal t i r it is) same) (told_picks (world_of s) t i r it is))
 
 -- the realm's own pick
-pub judged_own : (old new : Story) (caller t : ℕ) (given : Text) (r : Reply) (o : Option Text)
-    → TellsNoPick (world_of old) t given → Tells old new caller (event.Pick t) r
+pub judged_own : (old new : Story) (caller t : ℕ) (given : TextBytes) (r : Reply) (o : Option TextBytes)
+    → TellsNoPick (world_of old) t given → AddsEntry old new caller (event.Pick t) r
     → MatchOption o (given ≡ replied_text r) (λ x. (x ≡ other_pick_text) × (given ≢ replied_text r))
-    → IsJudged old new caller (event.Pick t) given o
+    → IsEntryJudged old new caller (event.Pick t) given o
 judged_own old new caller t given r None none tells same = record { reply = r; tells = tells; same = same }
 judged_own old new caller t given r (Some x) none tells other =
-    subst (λ (y : Text). Expects (world_of old) (length old.entries + 1) (length old.entries + 1) caller (event.Pick t) given y) (sym other.0)
+    subst (λ (y : TextBytes). Expects (world_of old) (length old.entries + 1) (length old.entries + 1) caller (event.Pick t) given y) (sym other.0)
     (Expects.other_pick tells.step.enabled (λ q allowed same. by q allowed same (done_or_row (world_of old).rows (world_of old).next_action t q allowed) (done_or_row (world_of old).rows (world_of old).next_action t r tells.step.allowed)))
   where
     by : (q : Reply) → Allowed (world_of old) caller (event.Pick t) q → given ≡ replied_text q → (q ≡ reply.Done) ⊎ ((i : ℕ) × (picked_by (event.Pick t) q ≡ Some i)) → (r ≡ reply.Done) ⊎ ((i : ℕ) × (picked_by (event.Pick t) r ≡ Some i)) → ⊥
@@ -170,32 +170,32 @@ pub enabled_by : (w : World) (caller : ℕ) (e : Event) (a : Bool) (r : Result B
 enabled_by w caller e a (Ok b) is valid but = is_enabled_by w caller e a b is valid but
 enabled_by w caller e a (Err m) is valid but = tt
 
-pub brings_by : (e : Event) (a : ℕ) (f : Finish) (url : Text) (d : Decl) (r : Result Bool Want) → e ≡ event.End a f → f ≡ finish.Resolved url d → IfOk r (λ b. IsTrue b ↔ IsValid d) → IfOk r (λ b. IsTrue b ↔ BringsValid e)
+pub brings_by : (e : Event) (a : ℕ) (f : Finish) (url : TextBytes) (d : Decl) (r : Result Bool Want) → e ≡ event.End a f → f ≡ finish.Resolved url d → IfOk r (λ b. IsTrue b ↔ IsValid d) → IfOk r (λ b. IsTrue b ↔ BringsValid e)
 brings_by e a f url d r is so told = subst (λ (x : Event). IfOk r (λ b. IsTrue b ↔ BringsValid x)) (sym (is ∙ ap (event.End a) so)) told
 
-pub no_step_by : (w : World) (next caller : ℕ) (e : Event) (given text : Text) (b : Bool) → b ≡ false → (IsTrue b ↔ IsEnabled w caller e) → text ≡ no_step_text → Expects w next next caller e given text
+pub no_step_by : (w : World) (next caller : ℕ) (e : Event) (given text : TextBytes) (b : Bool) → b ≡ false → (IsTrue b ↔ IsEnabled w caller e) → text ≡ no_step_text → Expects w next next caller e given text
 no_step_by w next caller e given text b none told same =
-    subst (λ (x : Text). Expects w next next caller e given x) (sym same) (Expects.no_step (λ h. true≢false (sym (told.1 h) ∙ none)))
+    subst (λ (x : TextBytes). Expects w next next caller e given x) (sym same) (Expects.no_step (λ h. true≢false (sym (told.1 h) ∙ none)))
 
 -- a pick for a target that lives and isn't being shut down
-pub unclosing_by : (w : World) (next caller t : ℕ) (given text : Text) (b : Bool) → b ≡ false → b ≡ may_close w.rows t → text ≡ no_step_text → Expects w next next caller (event.Pick t) given text
+pub unclosing_by : (w : World) (next caller t : ℕ) (given text : TextBytes) (b : Bool) → b ≡ false → b ≡ may_close w.rows t → text ≡ no_step_text → Expects w next next caller (event.Pick t) given text
 unclosing_by w next caller t given text b none told same =
-    subst (λ (x : Text). Expects w next next caller (event.Pick t) given x) (sym same) (Expects.no_step (λ h. true≢false (sym h.0 ∙ sym told ∙ none)))
+    subst (λ (x : TextBytes). Expects w next next caller (event.Pick t) given x) (sym same) (Expects.no_step (λ h. true≢false (sym h.0 ∙ sym told ∙ none)))
 
-pub judged_other_by : (old new : Story) (caller : ℕ) (e : Event) (given : Text) (r : Reply) (o : Result (Option Text) Want)
-    → (IsPick e → ⊥) → IsEnabled (world_of old) caller e → Tells old new caller e r
-    → IfOk o (λ x. MatchOption x (given ≡ replied_text r) (λ t. (t ≡ replied_text r) × (given ≢ t))) → IfOk o (λ x. IsJudged old new caller e given x)
+pub judged_other_by : (old new : Story) (caller : ℕ) (e : Event) (given : TextBytes) (r : Reply) (o : Result (Option TextBytes) Want)
+    → (IsPick e → ⊥) → IsEnabled (world_of old) caller e → AddsEntry old new caller e r
+    → IfOk o (λ x. MatchOption x (given ≡ replied_text r) (λ t. (t ≡ replied_text r) × (given ≢ t))) → IfOk o (λ x. IsEntryJudged old new caller e given x)
 judged_other_by old new caller e given r (Ok o) none can tells told = judged_other old new caller e given r o none can tells told
 judged_other_by old new caller e given r (Err m) none can tells told = tt
 
-pub judged_own_by : (old new : Story) (caller t : ℕ) (given : Text) (r : Reply) (o : Result (Option Text) Want)
-    → TellsNoPick (world_of old) t given → Tells old new caller (event.Pick t) r
-    → IfOk o (λ x. MatchOption x (given ≡ replied_text r) (λ y. (y ≡ other_pick_text) × (given ≢ replied_text r))) → IfOk o (λ x. IsJudged old new caller (event.Pick t) given x)
+pub judged_own_by : (old new : Story) (caller t : ℕ) (given : TextBytes) (r : Reply) (o : Result (Option TextBytes) Want)
+    → TellsNoPick (world_of old) t given → AddsEntry old new caller (event.Pick t) r
+    → IfOk o (λ x. MatchOption x (given ≡ replied_text r) (λ y. (y ≡ other_pick_text) × (given ≢ replied_text r))) → IfOk o (λ x. IsEntryJudged old new caller (event.Pick t) given x)
 judged_own_by old new caller t given r (Ok o) none tells told = judged_own old new caller t given r o none tells told
 judged_own_by old new caller t given r (Err m) none tells told = tt
 
-pub judged_this_by : (old new : Story) (caller t row : ℕ) (given : Text) (r : Reply) (o : Result (Option Text) Want)
+pub judged_this_by : (old new : Story) (caller t row : ℕ) (given : TextBytes) (r : Reply) (o : Result (Option TextBytes) Want)
     → Legal (start old.frame) old.entries → PicksThis old new caller t row r → TellsRow given (Some row)
-    → IfOk o (λ x. MatchOption x (given ≡ replied_text r) (λ y. (y ≡ other_pick_text) × (given ≢ replied_text r))) → IfOk o (λ x. IsJudged old new caller (event.Pick t) given x)
+    → IfOk o (λ x. MatchOption x (given ≡ replied_text r) (λ y. (y ≡ other_pick_text) × (given ≢ replied_text r))) → IfOk o (λ x. IsEntryJudged old new caller (event.Pick t) given x)
 judged_this_by old new caller t row given r (Ok o) legal picks tells told = judged_this old new caller t row given r o legal picks tells told
 judged_this_by old new caller t row given r (Err m) legal picks tells told = tt

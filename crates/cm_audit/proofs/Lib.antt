@@ -4,5 +4,5 @@ pub mod Telling
 pub mod Judged
 pub mod Rows
 pub mod Builtins
-pub mod Fronts
+pub mod Prefixes
 pub mod Only

@@ -1,8 +1,8 @@
 -- Places of a journal: from one line to the next, and the verdict that is found there.
 use Rattle.std.proofs.Common.{◌≡◌, ◌⊎◌, inl, inr, ℕ, suc, ◌+◌, ◌-◌, ◌<◌, ◌≤◌, min, Bool, true, false, cond, ◌==◌, List, [], ◌∷◌, ◌++◌, length, refl, sym, ap, subst, ◌∙◌, arith, rules, length-append}
 use Rattle.std.proofs.lemmas.List.{append_assoc, append-nil}
-use Rattle.cm_command.specs.Scripts.{lines_of, in_front}
-use Rattle.cm_reply.specs.Lists.{Text}
+use Rattle.cm_command.specs.Scripts.{lines_of, in_prefix}
+use Rattle.cm_reply.specs.Lists.{TextBytes}
 use Rattle.cm_world.specs.declared.event.Event.{Event}
 use Rattle.cm_world.specs.declared.frame.Builtin.{Builtin}
 use Rattle.cm_world.specs.declared.reply.Entry.{Entry}
@@ -14,22 +14,22 @@ use Rattle.cm_command.specs.Words.{IsUrlText}
 use Rattle.cm_audit.specs.declared.head.HeadLine.{HeadLine}
 use Rattle.cm_audit.specs.declared.head.HeadLine.TheVariants as said
 use Rattle.cm_audit.specs.Expected.{Expects, number_text}
-use Rattle.cm_audit.specs.declared.fault.LineFault.{LineFault}
-use Rattle.cm_audit.specs.declared.fault.LineFault.TheVariants as fault
-use Rattle.cm_audit.specs.Journal.{Stage, before, head, told, Reads, ReadsAll, IsBad, IsUnended, frame_of, root_text}
+use Rattle.cm_audit.specs.declared.fault.JournalLineFault.{JournalLineFault}
+use Rattle.cm_audit.specs.declared.fault.JournalLineFault.TheVariants as fault
+use Rattle.cm_audit.specs.Journal.{Stage, before, head, told, Reads, ReadsAll, IsBad, HasNoRoot, frame_of, root_text}
 use Rattle.cm_audit.specs.Verdict.{size_of, bytes_of, journal_limit, IsLegalJournal, HasIllegal, HasBadText}
-use Rattle.cm_audit.specs.Reading.{IsAt, IsCut, PassesLimit, IsStop, IsIllegal, IsLineFault, IsHeadLine, Took, stage_of, stop_at}
+use Rattle.cm_audit.specs.Reading.{IsAt, IsCut, PassesLimit, IsStop, IsIllegal, IsJournalLineFault, IsHeadLine, StepTaken, stage_of, stop_at}
 
 -- ---- lines, one more
 
-first_is : (t : Text) (ts : List Text) (u : Text) (us : List Text) → t ∷ ts ≡ u ∷ us → t ≡ u
+first_is : (t : TextBytes) (ts : List TextBytes) (u : TextBytes) (us : List TextBytes) → t ∷ ts ≡ u ∷ us → t ≡ u
 first_is t ts u us e = cc e
 
-pub size_more : (front : List Text) (t : Text) → size_of (front ++ t ∷ []) ≡ size_of front + (length t + 1)
+pub size_more : (prefix : List TextBytes) (t : TextBytes) → size_of (prefix ++ t ∷ []) ≡ size_of prefix + (length t + 1)
 size_more [] t = omega arith
 size_more (u ∷ us) t = let more : size_of (us ++ t ∷ []) ≡ size_of us + (length t + 1) = size_more us t in omega (arith, more)
 
-pub reads_more : (ts : List Text) (t : Text) (s m u : Stage) → ReadsAll s ts m → Reads m t u → ReadsAll s (ts ++ t ∷ []) u
+pub reads_more : (ts : List TextBytes) (t : TextBytes) (s m u : Stage) → ReadsAll s ts m → Reads m t u → ReadsAll s (ts ++ t ∷ []) u
 reads_more [] t s m u same read = (u, subst (λ x. Reads x t u) (sym same) read, refl)
 reads_more (x ∷ xs) t s m u all read = (all.0, all.1, reads_more xs t all.0 m u all.2 read)
 
@@ -37,19 +37,19 @@ reads_more (x ∷ xs) t s m u all read = (all.0, all.1, reads_more xs t all.0 m 
 taken_more : (l s t r b : ℕ) → min l s + r ≡ l → min r (t + 1) + b ≡ r → min l (s + (t + 1)) + b ≡ l
 taken_more l s t r b e f = omega arith
 
-module _ {bytes rest : Text} {n : ℕ} {s : Stage} (at : IsAt bytes n rest s) (t behind : Text) (lines : lines_of rest ≡ t ∷ lines_of behind) (end : min (length rest) (length t + 1) + length behind ≡ length rest) where
-  lines_more : lines_of bytes ≡ at.front ++ t ∷ lines_of behind
-  lines_more = at.lines ∙ ap (λ ls. at.front ++ ls) lines
+module _ {bytes rest : TextBytes} {n : ℕ} {s : Stage} (at : IsAt bytes n rest s) (t behind : TextBytes) (lines : lines_of rest ≡ t ∷ lines_of behind) (end : min (length rest) (length t + 1) + length behind ≡ length rest) where
+  lines_more : lines_of bytes ≡ at.prefix ++ t ∷ lines_of behind
+  lines_more = at.lines ∙ ap (λ ls. at.prefix ++ ls) lines
 
-  pub taken_next : bytes_of bytes (at.front ++ t ∷ []) + length behind ≡ length bytes
+  pub taken_next : bytes_of bytes (at.prefix ++ t ∷ []) + length behind ≡ length bytes
   taken_next =
-      ap (λ k. min (length bytes) k + length behind) (size_more at.front t)
-      ∙ taken_more (length bytes) (size_of at.front) (length t) (length rest) (length behind) at.taken end
+      ap (λ k. min (length bytes) k + length behind) (size_more at.prefix t)
+      ∙ taken_more (length bytes) (size_of at.prefix) (length t) (length rest) (length behind) at.taken end
 
   -- the next line isn't in the grammar
   pub bad : IsBad s t → HasBadText bytes n
   bad wrong = record {
-    front = at.front;
+    prefix = at.prefix;
     rest = t ∷ lines_of behind;
     lines = lines_more;
     short = at.short;
@@ -62,22 +62,22 @@ module _ {bytes rest : Text} {n : ℕ} {s : Stage} (at : IsAt bytes n rest s) (t
   -- or passes the limit
   pub beyond : journal_limit + length behind < length bytes → HasBadText bytes n
   beyond over = record {
-    front = at.front;
+    prefix = at.prefix;
     rest = t ∷ lines_of behind;
     lines = lines_more;
     short = at.short;
     stage = s;
     reads = at.reads;
-    fails = inl (let all : bytes_of bytes (at.front ++ t ∷ []) + length behind ≡ length bytes = taken_next in omega (arith, all, over));
+    fails = inl (let all : bytes_of bytes (at.prefix ++ t ∷ []) + length behind ≡ length bytes = taken_next in omega (arith, all, over));
     number_is = at.counted;
   }
 
-pub passes : {bytes rest : Text} {n : ℕ} {s : Stage} → IsAt bytes n rest s → PassesLimit (length bytes) rest → HasBadText bytes n
+pub passes : {bytes rest : TextBytes} {n : ℕ} {s : Stage} → IsAt bytes n rest s → PassesLimit (length bytes) rest → HasBadText bytes n
 passes at p = beyond at p.line p.behind p.lines p.end p.beyond
 
-pub at_start : (bytes : Text) → IsAt bytes 1 bytes before
+pub at_start : (bytes : TextBytes) → IsAt bytes 1 bytes before
 at_start bytes = record {
-  front = [];
+  prefix = [];
   lines = refl;
   taken = omega arith;
   short = omega arith;
@@ -87,28 +87,28 @@ at_start bytes = record {
 }
 
 -- the next line leads on
-pub at_next : {bytes rest t behind : Text} {n : ℕ} {s u : Stage} → IsAt bytes n rest s → IsCut (length bytes) rest t behind → Reads s t u → IsAt bytes (n + 1) behind u
+pub at_next : {bytes rest t behind : TextBytes} {n : ℕ} {s u : Stage} → IsAt bytes n rest s → IsCut (length bytes) rest t behind → Reads s t u → IsAt bytes (n + 1) behind u
 at_next {bytes} {rest} {t} {behind} {n} {s} {u} at cut read =
-    let all : bytes_of bytes (at.front ++ t ∷ []) + length behind ≡ length bytes = taken_next at t behind cut.lines cut.end in
-    let count : length (at.front ++ t ∷ []) ≡ length at.front + 1 = length-append at.front (t ∷ []) in
+    let all : bytes_of bytes (at.prefix ++ t ∷ []) + length behind ≡ length bytes = taken_next at t behind cut.lines cut.end in
+    let count : length (at.prefix ++ t ∷ []) ≡ length at.prefix + 1 = length-append at.prefix (t ∷ []) in
     record {
-      front = at.front ++ t ∷ [];
-      lines = at.lines ∙ ap (λ ls. at.front ++ ls) cut.lines ∙ sym (append_assoc at.front (t ∷ []) (lines_of behind));
+      prefix = at.prefix ++ t ∷ [];
+      lines = at.lines ∙ ap (λ ls. at.prefix ++ ls) cut.lines ∙ sym (append_assoc at.prefix (t ∷ []) (lines_of behind));
       taken = all;
       short = omega (arith, all, cut.within);
       counted = omega (arith, at.counted, count);
       early = omega (arith, at.early, at.taken, all, cut.shorter);
-      reads = reads_more at.front t before s u at.reads read;
+      reads = reads_more at.prefix t before s u at.reads read;
     }
 
 -- ---- the first line
 
 -- is no longer than the bytes
-first_short : (bs t : Text) (ts : List Text) → lines_of bs ≡ t ∷ ts → length t ≤ length bs
+first_short : (bs t : TextBytes) (ts : List TextBytes) → lines_of bs ≡ t ∷ ts → length t ≤ length bs
 first_short [] t ts e = absurd (cc e)
 first_short (b ∷ bs) t ts e = by (b == 10) (lines_of bs) (first_short bs) e
   where
-    by : (v : Bool) (ls : List Text) → ((u : Text) (us : List Text) → ls ≡ u ∷ us → length u ≤ length bs) → cond v ([] ∷ ls) (in_front b ls) ≡ t ∷ ts → length t ≤ length (b ∷ bs)
+    by : (v : Bool) (ls : List TextBytes) → ((u : TextBytes) (us : List TextBytes) → ls ≡ u ∷ us → length u ≤ length bs) → cond v ([] ∷ ls) (in_prefix b ls) ≡ t ∷ ts → length t ≤ length (b ∷ bs)
     by true ls ih is = let none : length t ≡ 0 = ap length (sym (first_is [] ls t ts is)) in omega (arith, none)
     by false [] ih is = let one : length t ≡ 1 = ap length (sym (first_is (b ∷ []) [] t ts is)) in omega (arith, one)
     by false (u ∷ us) ih is =
@@ -116,7 +116,7 @@ first_short (b ∷ bs) t ts e = by (b == 10) (lines_of bs) (first_short bs) e
         let short : length u ≤ length bs = ih u us refl in
         omega (arith, more, short)
 
-pub cut_made : (size : ℕ) (rest t behind : Text) → length rest ≤ size → lines_of rest ≡ t ∷ lines_of behind → min (length rest) (length t + 1) + length behind ≡ length rest → length behind < length rest → size - length behind ≤ journal_limit → IsCut size rest t behind
+pub cut_made : (size : ℕ) (rest t behind : TextBytes) → length rest ≤ size → lines_of rest ≡ t ∷ lines_of behind → min (length rest) (length t + 1) + length behind ≡ length rest → length behind < length rest → size - length behind ≤ journal_limit → IsCut size rest t behind
 cut_made size rest t behind within lines end shorter small =
     let short : length t ≤ length rest = first_short rest t (lines_of behind) lines in
     record {
@@ -129,19 +129,19 @@ cut_made size rest t behind within lines end shorter small =
 
 -- ---- the end
 
-pub no_rest : {bytes rest : Text} {n : ℕ} {s : Stage} → IsAt bytes n rest s → length rest ≡ 0 → IsAt bytes n [] s
+pub no_rest : {bytes rest : TextBytes} {n : ℕ} {s : Stage} → IsAt bytes n rest s → length rest ≡ 0 → IsAt bytes n [] s
 no_rest {rest = []} at e = at
 no_rest {rest = b ∷ bs} at e = absurd (omega (arith, e))
 
-lines_end : {bytes : Text} {n : ℕ} {s : Stage} (at : IsAt bytes n [] s) → lines_of bytes ≡ at.front
-lines_end at = at.lines ∙ append-nil at.front
+lines_end : {bytes : TextBytes} {n : ℕ} {s : Stage} (at : IsAt bytes n [] s) → lines_of bytes ≡ at.prefix
+lines_end at = at.lines ∙ append-nil at.prefix
 
-pub unended : {bytes rest : Text} {n : ℕ} {s : Stage} → IsAt bytes n rest s → length rest ≡ 0 → IsUnended s → HasBadText bytes n
+pub unended : {bytes rest : TextBytes} {n : ℕ} {s : Stage} → IsAt bytes n rest s → length rest ≡ 0 → HasNoRoot s → HasBadText bytes n
 unended {bytes} {n = n} {s = s} at e none = by (no_rest at e)
   where
     by : IsAt bytes n [] s → HasBadText bytes n
     by end = record {
-      front = end.front;
+      prefix = end.prefix;
       rest = [];
       lines = end.lines;
       short = end.short;
@@ -151,7 +151,7 @@ unended {bytes} {n = n} {s = s} at e none = by (no_rest at e)
       number_is = end.counted;
     }
 
-pub legal : {bytes rest : Text} {n : ℕ} (s : Story) → IsAt bytes n rest (stage_of s) → length rest ≡ 0 → IsLegalJournal bytes (length s.entries)
+pub legal : {bytes rest : TextBytes} {n : ℕ} (s : Story) → IsAt bytes n rest (stage_of s) → length rest ≡ 0 → IsLegalJournal bytes (length s.entries)
 legal {bytes} {n = n} s at e = by (no_rest at e)
   where
     by : IsAt bytes n [] (stage_of s) → IsLegalJournal bytes (length s.entries)
@@ -159,21 +159,21 @@ legal {bytes} {n = n} s at e = by (no_rest at e)
       frame = s.frame;
       entries = s.entries;
       reads = subst (λ ls. ReadsAll before ls (stage_of s)) (sym (lines_end end)) end.reads;
-      short = let all : bytes_of bytes end.front + 0 ≡ length bytes = end.taken in omega (arith, all, end.short);
+      short = let all : bytes_of bytes end.prefix + 0 ≡ length bytes = end.taken in omega (arith, all, end.short);
       counts = refl;
     }
 
 -- ---- a line with a fault
 
-pub illegal : {bytes rest t behind : Text} {n number : ℕ} {given expected : Text} (s : Story) → IsAt bytes n rest (stage_of s) → IsCut (length bytes) rest t behind → IsIllegal s t number given expected → HasIllegal bytes number given expected
+pub illegal : {bytes rest t behind : TextBytes} {n number : ℕ} {given expected : TextBytes} (s : Story) → IsAt bytes n rest (stage_of s) → IsCut (length bytes) rest t behind → IsIllegal s t number given expected → HasIllegal bytes number given expected
 unfolding world_of
 illegal {bytes} {rest} {t} {behind} s at cut wrong =
-    let all : bytes_of bytes (at.front ++ t ∷ []) + length behind ≡ length bytes = taken_next at t behind cut.lines cut.end in
+    let all : bytes_of bytes (at.prefix ++ t ∷ []) + length behind ≡ length bytes = taken_next at t behind cut.lines cut.end in
     record {
-      front = at.front;
+      prefix = at.prefix;
       here = t;
       rest = lines_of behind;
-      lines = at.lines ∙ ap (λ ls. at.front ++ ls) cut.lines;
+      lines = at.lines ∙ ap (λ ls. at.prefix ++ ls) cut.lines;
       short = omega (arith, all, cut.within);
       frame = s.frame;
       entries = s.entries;
@@ -184,25 +184,25 @@ illegal {bytes} {rest} {t} {behind} s at cut wrong =
       expects = wrong.expects;
     }
 
-pub stops : {bytes rest t behind : Text} {n : ℕ} (s : Story) → IsAt bytes n rest (stage_of s) → IsCut (length bytes) rest t behind → (x : LineFault) → IsLineFault s t x → IsStop bytes (stop_at n x)
+pub stops : {bytes rest t behind : TextBytes} {n : ℕ} (s : Story) → IsAt bytes n rest (stage_of s) → IsCut (length bytes) rest t behind → (x : JournalLineFault) → IsJournalLineFault s t x → IsStop bytes (stop_at n x)
 stops {t = t} {behind = behind} s at cut fault.Bad wrong = bad at t behind cut.lines cut.end wrong
 stops s at cut (fault.Illegal number given expected) wrong = illegal s at cut wrong
 stops s at cut fault.Memory wrong = tt
 
 -- ---- where a line leads
 
-pub root_reads : (t : Text) (bs : List Builtin) (x : HeadLine) (url : Text) → x ≡ said.Root url → IsHeadLine t x → Reads (head bs) t (told (frame_of bs url) [])
+pub root_reads : (t : TextBytes) (bs : List Builtin) (x : HeadLine) (url : TextBytes) → x ≡ said.Root url → IsHeadLine t x → Reads (head bs) t (told (frame_of bs url) [])
 root_reads t bs x url is so =
     let here : IsUrlText url × (t ≡ root_text url) = subst (IsHeadLine t) is so in
     subst (λ l. Reads (head bs) l (told (frame_of bs url) [])) (sym here.1) (Reads.root here.0)
 
-pub builtin_reads : (t : Text) (bs new : List Builtin) (x : HeadLine) (b : Builtin) → x ≡ said.Builtin b → new ≡ bs ++ b ∷ [] → IsHeadLine t x → Reads (head bs) t (head new)
+pub builtin_reads : (t : TextBytes) (bs new : List Builtin) (x : HeadLine) (b : Builtin) → x ≡ said.Builtin b → new ≡ bs ++ b ∷ [] → IsHeadLine t x → Reads (head bs) t (head new)
 builtin_reads t bs new x b is more so =
     let here : IsHeadLine t (said.Builtin b) = subst (IsHeadLine t) is so in
     subst (λ l. Reads (head bs) l (head new)) (sym here.1)
     (subst (λ ns. Reads (head bs) (builtin_text b) (head ns)) (sym more) (Reads.builtin b here.0))
 
-pub took_reads : (old new : Story) (t : Text) (number caller : ℕ) (e : Event) (given : Text) → number ≡ length old.entries + 1 → IsEntryLine t number caller e given → Took old new caller e given → Reads (stage_of old) t (stage_of new)
+pub took_reads : (old new : Story) (t : TextBytes) (number caller : ℕ) (e : Event) (given : TextBytes) → number ≡ length old.entries + 1 → IsEntryLine t number caller e given → StepTaken old new caller e given → Reads (stage_of old) t (stage_of new)
 unfolding world_of
 took_reads old new t number caller e given next line took =
     let here : IsEntryLine t (length old.entries + 1) caller e (replied_text took.reply) =
@@ -211,13 +211,13 @@ took_reads old new t number caller e given next line took =
     (subst (λ es. Reads (stage_of old) t (told old.frame es)) (sym took.tells.entries)
     (Reads.entry (entry_of caller e took.reply) here took.tells.step))
 
-pub next_expected : (s : Story) (t : Text) (number caller : ℕ) (e : Event) (given expected : Text) (x : LineFault) → (number ≡ length s.entries + 1 → ⊥) → IsEntryLine t number caller e given → expected ≡ number_text (length s.entries + 1) → x ≡ fault.Illegal number given expected → IsLineFault s t x
+pub next_expected : (s : Story) (t : TextBytes) (number caller : ℕ) (e : Event) (given expected : TextBytes) (x : JournalLineFault) → (number ≡ length s.entries + 1 → ⊥) → IsEntryLine t number caller e given → expected ≡ number_text (length s.entries + 1) → x ≡ fault.Illegal number given expected → IsJournalLineFault s t x
 next_expected s t number caller e given expected x other line same is =
-    subst (IsLineFault s t) (sym is) (record {
+    subst (IsJournalLineFault s t) (sym is) (record {
       caller = caller;
       event = e;
       line = line;
-      expects = subst (λ (y : Text). Expects (world_of s) (length s.entries + 1) number caller e given y) (sym same) (Expects.number other);
+      expects = subst (λ (y : TextBytes). Expects (world_of s) (length s.entries + 1) number caller e given y) (sym same) (Expects.number other);
     })
 
 entries_of : Stage → List Entry
@@ -225,11 +225,11 @@ entries_of (told f es) = es
 entries_of s = []
 
 -- an entry's line is one entry more
-pub one_more : (s u : Story) (t : Text) → Reads (stage_of s) t (stage_of u) → length u.entries ≡ length s.entries + 1
+pub one_more : (s u : Story) (t : TextBytes) → Reads (stage_of s) t (stage_of u) → length u.entries ≡ length s.entries + 1
 unfolding entries_of
 one_more s u t read = by _ _ t read refl refl
   where
-    by : (x y : Stage) (l : Text) → Reads x l y → x ≡ stage_of s → y ≡ stage_of u → length u.entries ≡ length s.entries + 1
+    by : (x y : Stage) (l : TextBytes) → Reads x l y → x ≡ stage_of s → y ≡ stage_of u → length u.entries ≡ length s.entries + 1
     by x y l (Reads.entry {es = es} e line step) a b =
         ap length (ap entries_of (sym b)) ∙ length-append es (e ∷ []) ∙ ap (λ ls. length ls + 1) (ap entries_of a)
     by x y l (Reads.skips other) a b = absurd (cc a)

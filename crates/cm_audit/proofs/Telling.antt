@@ -26,7 +26,7 @@ use Rattle.cm_world.proofs.trees.Finding.{some_same}
 use Rattle.cm_world.proofs.trees.Walks.{below_next}
 use Rattle.cm_command.proofs.written.WritesLine.{decimal_is}
 use Rattle.cm_command.proofs.scripts.LaneLemmas.{decimal_lacks}
-use Rattle.cm_reply.specs.Lists.{Text}
+use Rattle.cm_reply.specs.Lists.{TextBytes}
 use Rattle.cm_reply.specs.Replies.{replied_text}
 use Rattle.cm_laws.specs.Clients.{picked_by}
 use Rattle.cm_laws.proofs.sound.Healthy.{IsHealthy, healthy_history}
@@ -36,12 +36,12 @@ use Rattle.cm_audit.proofs.Fitting.{incarnations_fit}
 -- ---- numbers in texts
 
 -- the second byte, which tells `stopping` from `shutdown`
-abbrev pub second : Text → ℕ
+abbrev pub second : TextBytes → ℕ
 second (b ∷ c ∷ bs) = c
 second _ = 0
 
--- what stands in front of the first space
-pub one_number : (m n : ℕ) (rest more : Text) → m < 2 ^ 64 → n < 2 ^ 64 → decimal m ++ (codes " " ++ rest) ≡ decimal n ++ (codes " " ++ more) → m ≡ n
+-- what stands before the first space
+pub one_number : (m n : ℕ) (rest more : TextBytes) → m < 2 ^ 64 → n < 2 ^ 64 → decimal m ++ (codes " " ++ rest) ≡ decimal n ++ (codes " " ++ more) → m ≡ n
 one_number m n rest more small few e =
     let a : slice_split (λ b. b == 32) (decimal m ++ (codes " " ++ rest)) ≡ decimal m ∷ slice_split (λ b. b == 32) rest = slice_split_at (λ b. b == 32) (decimal m) 32 rest (decimal_lacks (decimal m) (decimal_is m small).0) refl in
     let c : slice_split (λ b. b == 32) (decimal n ++ (codes " " ++ more)) ≡ decimal n ∷ slice_split (λ b. b == 32) more = slice_split_at (λ b. b == 32) (decimal n) 32 more (decimal_lacks (decimal n) (decimal_is n few).0) refl in
@@ -54,7 +54,7 @@ one_number m n rest more small few e =
 -- a legal history's rows have incarnations of 64 bits
 pub row_fits : (f : Frame) (es : List Entry) → Legal (start f) es → (i : ℕ) (r : Row) → row_of (replay (start f) es).rows i ≡ Some r → i < 2 ^ 64
 row_fits f es legal i r lives =
-    let low : i < (replay (start f) es).next_inc = below_next (replay (start f) es).rows (replay (start f) es).next_inc i r (healthy_history f es legal).sound.orderly.rising lives in
+    let low : i < (replay (start f) es).next_inc = below_next (replay (start f) es).rows (replay (start f) es).next_inc i r (healthy_history f es legal).sound.orderly.increasing lives in
     let few : (replay (start f) es).next_inc < 2 ^ 64 = incarnations_fit f es legal in
     omega (arith, low, few)
 

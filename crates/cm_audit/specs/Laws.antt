@@ -1,3 +1,4 @@
+-- Inside.
 -- Laws of verdicts.
 use Rattle.std.specs.Prelude.{◌≡◌, ℕ, ◌≤◌, ◌<◌, ◌^◌, ◌==◌, false, List, ◌++◌, flat_map, length, All}
 use Rattle.cm_world.specs.declared.event.Event.{Event}
@@ -7,17 +8,18 @@ use Rattle.cm_world.specs.declared.reply.Reply.{Reply}
 use Rattle.cm_world.specs.World.{start}
 use Rattle.cm_world.specs.Step.{Allowed}
 use Rattle.cm_world.specs.Legal.{Legal, replay}
-use Rattle.cm_reply.specs.Lists.{Text}
+use Rattle.cm_reply.specs.Lists.{TextBytes}
 use Rattle.cm_reply.specs.Journal.{journal_text, line}
 use Rattle.cm_reply.specs.Replies.{replied_text}
-use Rattle.cm_reply.specs.Legible.{IsLegible, IsLegibleReply, IsLegibleFrame}
+use Rattle.cm_reply.specs.Legible.{IsLegible}
+use Rattle.cm_reply.specs.LegibleInside.{IsLegibleReply, IsLegibleFrame}
 use Rattle.cm_audit.specs.declared.verdict.Audit.{Audit}
 use Rattle.cm_audit.specs.Journal.{journal_line}
 use Rattle.cm_audit.specs.Verdict.{IsVerdict, IsLegalJournal, journal_limit}
 
 -- a text has one verdict at most
 abbrev pub OneVerdict : Type 0
-OneVerdict = (bytes : Text) (v u : Audit) → IsVerdict bytes v → IsVerdict bytes u → v ≡ u
+OneVerdict = (bytes : TextBytes) (v u : Audit) → IsVerdict bytes v → IsVerdict bytes u → v ≡ u
 
 -- of the replies that an event may get behind a legal history no two have one text
 abbrev pub TextsTellReplies : Type 0
@@ -29,13 +31,13 @@ TextsTellReplies =
     → replied_text r ≡ replied_text q
     → r ≡ q
 
--- the verdict on a front that passes the limit is the verdict on all
-abbrev pub FrontsTell : Type 0
-FrontsTell =
-    (front rest : Text) (v : Audit)
-    → journal_limit < length front
-    → IsVerdict front v
-    → IsVerdict (front ++ rest) v
+-- the verdict on a prefix that passes the limit is the verdict on all
+abbrev pub PrefixesTell : Type 0
+PrefixesTell =
+    (prefix rest : TextBytes) (v : Audit)
+    → journal_limit < length prefix
+    → IsVerdict prefix v
+    → IsVerdict (prefix ++ rest) v
 
 -- behind a legal history each incarnation, and so each that an entry names, has 64 bits
 abbrev pub IncarnationsFit : Type 0
@@ -56,16 +58,17 @@ RepliesAreLegible =
     (f : Frame) (es : List Entry) → IsLegibleFrame f → Legal (start f) es → IsLegibleHistory es
     → All (λ (e : Entry). IsLegibleReply e.reply) es
 
--- what stands in front of a journal: whole lines, none of which is the one that a journal begins with
-pub record IsInFront (front : Text) : Type 0 where
-  pub lines : List Text
-  pub whole : front ≡ flat_map line lines
-  pub clean : All (λ (t : Text). All (λ b. (b == 10) ≡ false) t) lines
-  pub others : All (λ (t : Text). t ≡ journal_line → ⊥) lines
+-- what stands before a journal: whole lines, none of which is the one that a journal begins with
+pub record IsInPrefix (prefix : TextBytes) : Type 0 where
+  pub lines : List TextBytes
+  pub whole : prefix ≡ flat_map line lines
+  pub clean : All (λ (t : TextBytes). All (λ b. (b == 10) ≡ false) t) lines
+  pub others : All (λ (t : TextBytes). t ≡ journal_line → ⊥) lines
 
--- the journal of a legal history of legible events is legal, whatever lines stand in front of it
+-- the journal of a legal history of legible events is legal, whatever lines stand before it
 abbrev pub JournalsAreLegal : Type 0
 JournalsAreLegal =
-    (front : Text) (f : Frame) (es : List Entry) → IsInFront front → IsLegibleFrame f → Legal (start f) es
-    → IsLegibleHistory es → length (front ++ journal_text f es) ≤ journal_limit
-    → IsLegalJournal (front ++ journal_text f es) (length es)
+    (prefix : TextBytes) (f : Frame) (es : List Entry) → IsInPrefix prefix → IsLegibleFrame f
+    → Legal (start f) es
+    → IsLegibleHistory es → length (prefix ++ journal_text f es) ≤ journal_limit
+    → IsLegalJournal (prefix ++ journal_text f es) (length es)

@@ -1,3 +1,4 @@
+-- Inside.
 -- What the functions that read a journal promise.
 use Rattle.std.specs.Prelude.{◌≡◌, ℕ, ◌+◌, ◌^◌, ◌<◌, ◌≤◌, min, List, [], ◌∷◌, ◌++◌, length}
 use Rattle.std.specs.Prelude.{Option, Some, None}
@@ -6,19 +7,19 @@ use Rattle.cm_world.specs.declared.event.Event.TheVariants.{Pick}
 use Rattle.cm_world.specs.declared.reply.Reply.{Reply}
 use Rattle.cm_world.specs.World.{World}
 use Rattle.cm_world.specs.Step.{IsPickReply}
-use Rattle.cm_laws.specs.Story.{Story, world_of, Tells}
+use Rattle.cm_laws.specs.Story.{Story, world_of, AddsEntry}
 use Rattle.cm_laws.specs.Clients.{picked_by}
 use Rattle.cm_command.specs.Scripts.{lines_of}
 use Rattle.cm_command.specs.Words.{IsUrlText}
-use Rattle.cm_reply.specs.Lists.{Text}
+use Rattle.cm_reply.specs.Lists.{TextBytes}
 use Rattle.cm_reply.specs.Journal.{builtin_text}
 use Rattle.cm_reply.specs.Replies.{replied_text}
 use Rattle.cm_reply.specs.Legible.{IsLegibleBuiltin}
 use Rattle.cm_reply.specs.Lines.{IsEntryLine}
-use Rattle.cm_audit.specs.declared.fault.Stop.{Stop}
-use Rattle.cm_audit.specs.declared.fault.Stop.TheVariants as stop
-use Rattle.cm_audit.specs.declared.fault.LineFault.{LineFault}
-use Rattle.cm_audit.specs.declared.fault.LineFault.TheVariants as fault
+use Rattle.cm_audit.specs.declared.fault.ReadingStop.{ReadingStop}
+use Rattle.cm_audit.specs.declared.fault.ReadingStop.TheVariants as stop
+use Rattle.cm_audit.specs.declared.fault.JournalLineFault.{JournalLineFault}
+use Rattle.cm_audit.specs.declared.fault.JournalLineFault.TheVariants as fault
 use Rattle.cm_audit.specs.declared.head.HeadLine.{HeadLine}
 use Rattle.cm_audit.specs.declared.head.HeadLine.TheVariants as said
 use Rattle.cm_audit.specs.declared.verdict.Audit.TheVariants as audit
@@ -30,18 +31,18 @@ use Rattle.cm_audit.specs.Verdict.{IsVerdict, bytes_of, journal_limit}
 
 -- the lines of the bytes are some that were read and led to this stage, of which none passes the limit, and
 -- those of the rest, of which the first has that number
-pub record IsAt (bytes : Text) (number : ℕ) (rest : Text) (stage : Stage) : Type 0 where
-  pub front : List Text
-  pub lines : lines_of bytes ≡ front ++ lines_of rest
-  pub taken : bytes_of bytes front + length rest ≡ length bytes
-  pub short : bytes_of bytes front ≤ journal_limit
-  pub counted : number ≡ length front + 1
+pub record IsAt (bytes : TextBytes) (number : ℕ) (rest : TextBytes) (stage : Stage) : Type 0 where
+  pub prefix : List TextBytes
+  pub lines : lines_of bytes ≡ prefix ++ lines_of rest
+  pub taken : bytes_of bytes prefix + length rest ≡ length bytes
+  pub short : bytes_of bytes prefix ≤ journal_limit
+  pub counted : number ≡ length prefix + 1
   -- each line has a byte, or its line feed
-  pub early : number ≤ bytes_of bytes front + 1
-  pub reads : ReadsAll before front stage
+  pub early : number ≤ bytes_of bytes prefix + 1
+  pub reads : ReadsAll before prefix stage
 
 -- the line and what stands behind it are the rest of so many bytes, and it ends within the limit
-pub record IsCut (size : ℕ) (rest t behind : Text) : Type 0 where
+pub record IsCut (size : ℕ) (rest t behind : TextBytes) : Type 0 where
   pub lines : lines_of rest ≡ t ∷ lines_of behind
   pub end : min (length rest) (length t + 1) + length behind ≡ length rest
   pub shorter : length behind < length rest
@@ -49,28 +50,28 @@ pub record IsCut (size : ℕ) (rest t behind : Text) : Type 0 where
   pub short : length t ≤ journal_limit
 
 -- the first line of the rest of so many bytes passes the limit
-pub record PassesLimit (size : ℕ) (rest : Text) : Type 0 where
-  pub line : Text
-  pub behind : Text
+pub record PassesLimit (size : ℕ) (rest : TextBytes) : Type 0 where
+  pub line : TextBytes
+  pub behind : TextBytes
   pub lines : lines_of rest ≡ line ∷ lines_of behind
   pub end : min (length rest) (length line + 1) + length behind ≡ length rest
   pub beyond : journal_limit + length behind < size
 
 -- why the reading ends before the last line: there is a verdict, or memory ran out
-abbrev pub IsStop : Text → Stop → Type 0
+abbrev pub IsStop : TextBytes → ReadingStop → Type 0
 IsStop bytes (stop.Verdict verdict) = IsVerdict bytes verdict
 IsStop bytes stop.Memory = Unit {0}
 
 -- the fault of a line of that number, as it ends the reading
-abbrev pub stop_at : ℕ → LineFault → Stop
+abbrev pub stop_at : ℕ → JournalLineFault → ReadingStop
 stop_at number fault.Bad = stop.Verdict (audit.BadText number)
 stop_at number (fault.Illegal n given expected) = stop.Verdict (audit.Illegal n given expected)
 stop_at number fault.Memory = stop.Memory
 
 -- ---- one line
 
--- what a line in front of the entries says
-abbrev pub IsHeadLine : Text → HeadLine → Type 0
+-- what a line before the entries says
+abbrev pub IsHeadLine : TextBytes → HeadLine → Type 0
 IsHeadLine t (said.Builtin b) = IsLegibleBuiltin b × (t ≡ builtin_text b)
 IsHeadLine t (said.Root url) = IsUrlText url × (t ≡ root_text url)
 IsHeadLine t said.Other = IsBad (head []) t
@@ -80,42 +81,42 @@ abbrev pub stage_of : Story → Stage
 stage_of s = told s.frame s.entries
 
 -- the line is an entry that isn't legal, with the number and the reply that stand there and what is expected
-pub record IsIllegal (s : Story) (t : Text) (number : ℕ) (given expected : Text) : Type 0 where
+pub record IsIllegal (s : Story) (t : TextBytes) (number : ℕ) (given expected : TextBytes) : Type 0 where
   pub caller : ℕ
   pub event : Event
   pub line : IsEntryLine t number caller event given
   pub expects : Expects (world_of s) (length s.entries + 1) number caller event given expected
 
 -- what is wrong with a line behind the entries of a realm
-abbrev pub IsLineFault : Story → Text → LineFault → Type 0
-IsLineFault s t fault.Bad = IsBad (stage_of s) t
-IsLineFault s t (fault.Illegal number given expected) = IsIllegal s t number given expected
-IsLineFault s t fault.Memory = Unit {0}
+abbrev pub IsJournalLineFault : Story → TextBytes → JournalLineFault → Type 0
+IsJournalLineFault s t fault.Bad = IsBad (stage_of s) t
+IsJournalLineFault s t (fault.Illegal number given expected) = IsIllegal s t number given expected
+IsJournalLineFault s t fault.Memory = Unit {0}
 
 -- ---- one event, with the reply that a journal gives it
 
 -- the realm made the step, and this is the text of its reply
-pub record Took (old new : Story) (caller : ℕ) (event : Event) (given : Text) : Type 0 where
+pub record StepTaken (old new : Story) (caller : ℕ) (event : Event) (given : TextBytes) : Type 0 where
   pub reply : Reply
-  pub tells : Tells old new caller event reply
+  pub tells : AddsEntry old new caller event reply
   pub same : given ≡ replied_text reply
 
 -- the event is legal with that reply, and the realm made its step; or this is expected in its place
-abbrev pub IsJudged : Story → Story → ℕ → Event → Text → Option Text → Type 0
-IsJudged old new caller event given None = Took old new caller event given
-IsJudged old new caller event given (Some expected) =
+abbrev pub IsEntryJudged : Story → Story → ℕ → Event → TextBytes → Option TextBytes → Type 0
+IsEntryJudged old new caller event given None = StepTaken old new caller event given
+IsEntryJudged old new caller event given (Some expected) =
     let next = length old.entries + 1 in
     Expects (world_of old) next next caller event given expected
 
 -- a text from which the row is read that a pick's reply tells, if it is the text of one that tells a row
-abbrev pub TellsRow : Text → Option ℕ → Type 0
+abbrev pub TellsRow : TextBytes → Option ℕ → Type 0
 TellsRow given None =
     (t i : ℕ) (r : Reply) → picked_by (Pick t) r ≡ Some i → i < 2 ^ 64 → given ≡ replied_text r → ⊥
 TellsRow given (Some row) =
     (t i : ℕ) (r : Reply) → picked_by (Pick t) r ≡ Some i → i < 2 ^ 64 → given ≡ replied_text r → i ≡ row
 
 -- no reply that a pick may get and that picks a row has this text
-abbrev pub TellsNoPick : World → ℕ → Text → Type 0
+abbrev pub TellsNoPick : World → ℕ → TextBytes → Type 0
 TellsNoPick w target given =
     (i : ℕ) (r : Reply)
     → IsPickReply w.rows w.next_action target r

@@ -5,8 +5,8 @@ ghost use Rattle.cm_audit.specs.Reading.{IsStop};
 ghost use Rattle.cm_audit.specs.Verdict.{IsVerdict};
 
 use crate::entries::audit_entries;
-use crate::fault::Stop;
-use crate::head::{Begun, find_journal, read_head};
+use crate::fault::ReadingStop;
+use crate::head::{AfterRoot, find_journal, read_head};
 use crate::verdict::Audit;
 use cm_names::{List, Memory};
 use cm_steps::Realm;
@@ -22,7 +22,7 @@ const LIMITS: Limits = Limits {
 
 /// The verdict on a journal.
 ///
-/// Lines are parted by 0x0A, which ends the last one too or doesn't. All lines in front of the first
+/// Lines are parted by 0x0A, which ends the last one too or doesn't. All lines before the first
 /// line `journal` are skipped, so that what `run --journal` writes can be audited as it is. Then come
 /// lines of builtin capabilities as [`cm_reply::header_text`] writes them, the line `root URL`, and
 /// entries as [`cm_reply::entry_text`] writes them; the last ` => ` of a line parts its event from its
@@ -41,13 +41,13 @@ pub fn audit(alloc: Global, text: &[u8]) -> Result<Audit, Memory>
 {
     match audited(alloc, text) {
         Ok(verdict) => Ok(verdict),
-        Err(Stop::Verdict(verdict)) => Ok(verdict),
-        Err(Stop::Memory) => Err(Memory),
+        Err(ReadingStop::Verdict(verdict)) => Ok(verdict),
+        Err(ReadingStop::Memory) => Err(Memory),
     }
 }
 
 /// The verdict where all lines were read, or why the reading ended before.
-fn audited(alloc: Global, text: &[u8]) -> Result<Audit, Stop>
+fn audited(alloc: Global, text: &[u8]) -> Result<Audit, ReadingStop>
     ensures verdict { IfOk result (λ verdict. IsVerdict text.now verdict) }
     ensures stop { IfErr result (λ stop. IsStop text.now stop) }
 {
@@ -60,7 +60,7 @@ fn audited(alloc: Global, text: &[u8]) -> Result<Audit, Stop>
         Ok(head) => head,
         Err(stop) => return Err(stop),
     };
-    let Begun { number, rest, root } = head;
+    let AfterRoot { number, rest, root } = head;
     let mut realm = Realm::new(alloc, root, builtins, LIMITS)?;
     audit_entries(alloc, text, number, rest, &mut realm)
 }

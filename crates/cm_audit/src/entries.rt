@@ -5,10 +5,10 @@ ghost use Rattle.std.specs.Prelude.{IfOk, IfErr, MatchResult};
 ghost use Rattle.cm_reply.specs.Lines.{IsEntryLine};
 ghost use Rattle.cm_audit.specs.Expected as spec;
 ghost use Rattle.cm_audit.specs.Journal.{Reads};
-ghost use Rattle.cm_audit.specs.Reading.{IsAt, IsLineFault, IsStop, stage_of};
+ghost use Rattle.cm_audit.specs.Reading.{IsAt, IsJournalLineFault, IsStop, stage_of};
 ghost use Rattle.cm_audit.specs.Verdict.{IsVerdict, journal_limit};
 
-use crate::fault::{LineFault, Stop, bad_text, stop_at};
+use crate::fault::{JournalLineFault, ReadingStop, bad_text, stop_at};
 use crate::judging::judge;
 use crate::lines::cut_within;
 use crate::verdict::Audit;
@@ -25,7 +25,7 @@ pub fn audit_entries(
     number: u32,
     rest: &[u8],
     realm: &mut Realm,
-) -> Result<Audit, Stop>
+) -> Result<Audit, ReadingStop>
     requires begun { IsAt text.now number rest.now (stage_of realm.old) }
     requires none { realm.old.entries ≡ [] }
     ensures verdict { IfOk result (λ verdict. IsVerdict text.now verdict) }
@@ -49,26 +49,26 @@ pub fn audit_entries(
 
 /// Takes the entry of a line: the realm makes its step, if it is legal. What the realm comes to
 /// otherwise is free.
-fn take_entry(alloc: Global, realm: &mut Realm, line: &[u8]) -> Result<(), LineFault>
+fn take_entry(alloc: Global, realm: &mut Realm, line: &[u8]) -> Result<(), JournalLineFault>
     requires few { length realm.old.entries < 2 ^ 32 }
     requires short { length line.now ≤ journal_limit }
     ensures { MatchResult result
         (λ _. Reads (stage_of realm.old) line.now (stage_of realm.new))
-        (λ fault. IsLineFault realm.old line.now fault) }
+        (λ fault. IsJournalLineFault realm.old line.now fault) }
 {
     match read_entry(alloc, line) {
         Ok(entry) => judge_entry(alloc, realm, entry),
-        Err(EntryFault::NotAnEntry) => Err(LineFault::Bad),
-        Err(EntryFault::Memory) => Err(LineFault::Memory),
+        Err(EntryFault::NotAnEntry) => Err(JournalLineFault::Bad),
+        Err(EntryFault::Memory) => Err(JournalLineFault::Memory),
     }
 }
 
 /// Judges an entry that was read: the realm makes its step, if it is legal.
-fn judge_entry(alloc: Global, realm: &mut Realm, entry: JournalLine) -> Result<(), LineFault>
+fn judge_entry(alloc: Global, realm: &mut Realm, entry: JournalLine) -> Result<(), JournalLineFault>
     requires { length realm.old.entries < 2 ^ 32 }
     ensures { (t : Seq ℕ) → IsEntryLine t entry.number entry.caller entry.event entry.reply →
         MatchResult result (λ _. Reads (stage_of realm.old) t (stage_of realm.new))
-        (λ fault. IsLineFault realm.old t fault) }
+        (λ fault. IsJournalLineFault realm.old t fault) }
 {
     let JournalLine {
         number,
@@ -88,10 +88,10 @@ fn judge_entry(alloc: Global, realm: &mut Realm, entry: JournalLine) -> Result<(
 }
 
 /// That this is expected in the place of an entry's reply.
-fn illegal(number: u64, given: Text, expected: Text) -> LineFault
-    ensures { result ≡ LineFault.Illegal number given expected }
+fn illegal(number: u64, given: Text, expected: Text) -> JournalLineFault
+    ensures { result ≡ JournalLineFault.Illegal number given expected }
 {
-    LineFault::Illegal {
+    JournalLineFault::Illegal {
         number,
         given,
         expected,

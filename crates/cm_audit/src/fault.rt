@@ -8,27 +8,27 @@ use cm_names::{Memory, Text};
 
 /// Why the reading ends before the last line.
 #[derive(Drop)]
-pub enum Stop {
+pub enum ReadingStop {
     /// There is a verdict already.
     Verdict(Audit),
     /// Memory ran out.
     Memory,
 }
 
-impl From<Memory> for Stop {
+impl From<Memory> for ReadingStop {
     ghost use Rattle.std.specs.Prelude.{◌≡◌};
-    ghost use Rattle.cm_audit.specs.declared.fault.Stop.TheVariants.{Memory as OutOfMemory};
+    ghost use Rattle.cm_audit.specs.declared.fault.ReadingStop.TheVariants.{Memory as OutOfMemory};
 
     ghost from_gives = { λ _ e. e ≡ OutOfMemory };
 
-    fn from(_: Memory) -> Stop {
-        Stop::Memory
+    fn from(_: Memory) -> ReadingStop {
+        ReadingStop::Memory
     }
 }
 
 /// What is wrong with a line behind that of the root.
 #[derive(Drop)]
-pub enum LineFault {
+pub enum JournalLineFault {
     /// It is no entry.
     Bad,
     /// It is an entry that isn't legal there, as [`Audit::Illegal`] tells of it.
@@ -44,39 +44,39 @@ pub enum LineFault {
     Memory,
 }
 
-impl From<Memory> for LineFault {
+impl From<Memory> for JournalLineFault {
     ghost use Rattle.std.specs.Prelude.{◌≡◌};
-    ghost use Rattle.cm_audit.specs.declared.fault.LineFault.TheVariants.{Memory as OutOfMemory};
+    ghost use Rattle.cm_audit.specs.declared.fault.JournalLineFault.TheVariants.{Memory as OutOfMemory};
 
     ghost from_gives = { λ _ e. e ≡ OutOfMemory };
 
-    fn from(_: Memory) -> LineFault {
-        LineFault::Memory
+    fn from(_: Memory) -> JournalLineFault {
+        JournalLineFault::Memory
     }
 }
 
 /// Why the reading ends at the line of that number.
-pub fn stop_at(line: u32, fault: LineFault) -> Stop
+pub fn stop_at(line: u32, fault: JournalLineFault) -> ReadingStop
     ensures { result ≡ reading.stop_at line fault }
 {
     match fault {
-        LineFault::Bad => bad_text(line),
-        LineFault::Illegal {
+        JournalLineFault::Bad => bad_text(line),
+        JournalLineFault::Illegal {
             number,
             given,
             expected,
-        } => Stop::Verdict(Audit::Illegal {
+        } => ReadingStop::Verdict(Audit::Illegal {
             number,
             given,
             expected,
         }),
-        LineFault::Memory => Stop::Memory,
+        JournalLineFault::Memory => ReadingStop::Memory,
     }
 }
 
 /// The line of that number isn't in the grammar, or passes the limit.
-pub fn bad_text(line: u32) -> Stop
-    ensures { result ≡ Stop.Verdict (Audit.BadText line) }
+pub fn bad_text(line: u32) -> ReadingStop
+    ensures { result ≡ ReadingStop.Verdict (Audit.BadText line) }
 {
-    Stop::Verdict(Audit::BadText(line))
+    ReadingStop::Verdict(Audit::BadText(line))
 }

@@ -1,4 +1,4 @@
-//! The lines of a journal in front of its entries.
+//! The lines of a journal before its entries.
 
 ghost use Rattle.std.specs.Prelude.{◌≡◌, ◌≤◌, ◌<◌, ◌^◌, ◌++◌, [], length, codes};
 ghost use Rattle.std.specs.Prelude.{IfOk, MatchOption, MatchResult};
@@ -10,7 +10,7 @@ ghost use Rattle.cm_audit.specs.Journal.{head, told, frame_of};
 ghost use Rattle.cm_audit.specs.Reading.{IsAt, IsHeadLine, IsStop};
 ghost use Rattle.cm_audit.specs.Verdict.{journal_limit};
 
-use crate::fault::{Stop, bad_text};
+use crate::fault::{ReadingStop, bad_text};
 use crate::lines::cut_within;
 use cm_command::reader::read_builtin;
 use cm_command::tokens::read_url;
@@ -21,7 +21,7 @@ use cm_reply::builtin_text;
 use cm_world::Builtin;
 use std::alloc::Global;
 
-/// What a line in front of the entries says.
+/// What a line before the entries says.
 #[derive(Drop)]
 pub enum HeadLine {
     /// There is this builtin capability.
@@ -34,7 +34,7 @@ pub enum HeadLine {
 
 /// What is left of a journal, and the number of its first line.
 #[derive(Clone, Copy)]
-pub struct Place<'a> {
+pub struct JournalPlace<'a> {
     /// The number of the first line that is left.
     pub number: u32,
     /// The bytes that are left.
@@ -43,7 +43,7 @@ pub struct Place<'a> {
 
 /// What stands behind the line of the root.
 #[derive(Drop)]
-pub struct Begun<'a> {
+pub struct AfterRoot<'a> {
     /// The number of the first line that is left.
     pub number: u32,
     /// The bytes that are left.
@@ -52,8 +52,8 @@ pub struct Begun<'a> {
     pub root: Text,
 }
 
-/// What stands behind the first line `journal`. What stands in front of it is skipped.
-pub fn find_journal(text: &[u8]) -> Result<Place<'_>, Stop>
+/// What stands behind the first line `journal`. What stands before it is skipped.
+pub fn find_journal(text: &[u8]) -> Result<JournalPlace<'_>, ReadingStop>
     ensures { MatchResult result
         (λ place. IsAt text.now place.number place.rest.now (head []))
         (λ stop. IsStop text.now stop) }
@@ -67,7 +67,7 @@ pub fn find_journal(text: &[u8]) -> Result<Place<'_>, Stop>
         number += 1;
         rest = cut.behind;
         if is_same(cut.line, "journal") {
-            return Ok(Place { number, rest });
+            return Ok(JournalPlace { number, rest });
         }
     }
     Err(bad_text(number))
@@ -83,7 +83,7 @@ pub fn read_head<'a>(
     number: u32,
     rest: &'a [u8],
     builtins: &mut List<Builtin>,
-) -> Result<Begun<'a>, Stop>
+) -> Result<AfterRoot<'a>, ReadingStop>
     requires begun { IsAt text.now number rest.now (head []) }
     requires none { builtins.old ≡ [] }
     ensures { MatchResult result
@@ -100,7 +100,7 @@ pub fn read_head<'a>(
         match read_head_line(alloc, cut.line)? {
             HeadLine::Builtin(builtin) => builtins.push(builtin)?,
             HeadLine::Root(root) => {
-                return Ok(Begun {
+                return Ok(AfterRoot {
                     number: at + 1,
                     rest: cut.behind,
                     root,
@@ -114,7 +114,7 @@ pub fn read_head<'a>(
     Err(bad_text(at))
 }
 
-/// What a line in front of the entries says. `Err` where memory runs out.
+/// What a line before the entries says. `Err` where memory runs out.
 fn read_head_line(alloc: Global, line: &[u8]) -> Result<HeadLine, Memory>
     requires { length line.now ≤ journal_limit }
     ensures { IfOk result (λ said. IsHeadLine line.now said) }

@@ -8,7 +8,7 @@ ghost use Rattle.cm_world.specs.Laws.{IsPick};
 ghost use Rattle.cm_laws.specs.Story.{world_of};
 ghost use Rattle.cm_reply.specs.Replies as spec;
 ghost use Rattle.cm_audit.specs.Expected.{no_step_text};
-ghost use Rattle.cm_audit.specs.Reading.{IsJudged};
+ghost use Rattle.cm_audit.specs.Reading.{IsEntryJudged};
 
 use crate::picks::judge_pick;
 use crate::steps::make_step;
@@ -30,7 +30,7 @@ pub fn judge(
 ) -> Result<Option<Text>, Memory>
     requires { Legal (start realm.old.frame) realm.old.entries }
     ensures { IfOk result
-        (λ found. IsJudged realm.old realm.new caller event.now given.now found) }
+        (λ found. IsEntryJudged realm.old realm.new caller event.now given.now found) }
 {
     match event {
         Event::Pick(target) => judge_pick(alloc, realm, caller, *target, given),
@@ -48,7 +48,7 @@ fn judge_other(
 ) -> Result<Option<Text>, Memory>
     requires { IsPick event.now → ⊥ }
     ensures { IfOk result
-        (λ found. IsJudged realm.old realm.new caller event.now given.now found) }
+        (λ found. IsEntryJudged realm.old realm.new caller event.now given.now found) }
 {
     if !is_enabled(alloc, realm, caller, event)? {
         return Ok(Some(no_such_step(alloc)?));

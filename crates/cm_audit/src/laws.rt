@@ -3,7 +3,7 @@
 //! These functions do nothing: what each of them promises is a fact about journals, which its proof
 //! shows.
 
-ghost use Rattle.cm_audit.specs.Laws.{FrontsTell, IncarnationsFit, OneVerdict};
+ghost use Rattle.cm_audit.specs.Laws.{PrefixesTell, IncarnationsFit, OneVerdict};
 ghost use Rattle.cm_audit.specs.Laws.{TextsTellReplies};
 
 /// A text has one verdict at most, so that [`audit`](crate::audit) is the only one that it can have.
@@ -17,10 +17,10 @@ pub fn texts_tell_replies()
     ensures { TextsTellReplies }
 {}
 
-/// The verdict on a front of a text which has more bytes than a journal may have is the verdict on the
+/// The verdict on a prefix of a text which has more bytes than a journal may have is the verdict on the
 /// whole, so that no more need be read.
-pub fn fronts_tell()
-    ensures { FrontsTell }
+pub fn prefixes_tell()
+    ensures { PrefixesTell }
 {}
 
 /// The incarnations of all instances have 64 bits, behind every legal history.

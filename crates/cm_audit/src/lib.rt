@@ -14,7 +14,7 @@
 //! | `Expected` | what is expected in the place of a wrong reply |
 //! | `Verdict` | the verdict on a journal, and how it is written |
 //! | `Reading` | what the functions that read a journal promise |
-//! | `Laws` | that a text has one verdict, and that a front which is too large has that of the whole |
+//! | `Laws` | that a text has one verdict, and that a prefix which is too large has that of the whole |
 #![tactic(auto)]
 
 mod auditor;

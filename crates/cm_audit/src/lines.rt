@@ -5,7 +5,7 @@ ghost use Rattle.cm_audit.specs.Reading.{IsCut, PassesLimit};
 
 use cm_command::cut_line;
 
-/// The most bytes of a journal, with all that stands in front of it.
+/// The most bytes of a journal, with all that stands before it.
 const JOURNAL_LIMIT: usize = 268_435_456;
 
 /// A line, and what stands behind it.

@@ -4,13 +4,14 @@
 //! reply tells of is the one that is tried.
 
 ghost use Rattle.std.specs.Prelude.{◌≡◌, ◌≢◌, Some, IfOk, MatchOption};
-ghost use Rattle.cm_command.specs.Numbers.{IsNumber, IsNumberText};
+ghost use Rattle.cm_command.specs.Numbers.{IsNumberText};
+ghost use Rattle.cm_command.specs.NumbersInside.{IsU64Text};
 ghost use Rattle.cm_world.specs.World.{start};
 ghost use Rattle.cm_world.specs.Legal.{Legal};
 ghost use Rattle.cm_laws.specs.Story.{world_of};
 ghost use Rattle.cm_reply.specs.Replies as spec;
 ghost use Rattle.cm_audit.specs.Expected.{other_pick_text};
-ghost use Rattle.cm_audit.specs.Reading.{IsJudged, TellsNoPick, TellsRow};
+ghost use Rattle.cm_audit.specs.Reading.{IsEntryJudged, TellsNoPick, TellsRow};
 
 use crate::judging::{no_such_step, text_of};
 use cm_command::read_number;
@@ -35,7 +36,7 @@ pub fn judge_pick(
 ) -> Result<Option<Text>, Memory>
     requires { Legal (start realm.old.frame) realm.old.entries }
     ensures { IfOk result
-        (λ found. IsJudged realm.old realm.new caller (Event.Pick target) given.now found) }
+        (λ found. IsEntryJudged realm.old realm.new caller (Event.Pick target) given.now found) }
 {
     match row_told(given) {
         Some(row) => judge_told_pick(alloc, realm, caller, target, row, given),
@@ -55,7 +56,7 @@ fn judge_told_pick(
     requires legal { Legal (start realm.old.frame) realm.old.entries }
     requires told { TellsRow given.now (Some row) }
     ensures { IfOk result
-        (λ found. IsJudged realm.old realm.new caller (Event.Pick target) given.now found) }
+        (λ found. IsEntryJudged realm.old realm.new caller (Event.Pick target) given.now found) }
 {
     if !realm.may_close(target) {
         return Ok(Some(no_such_step(alloc)?));
@@ -79,7 +80,7 @@ fn judge_own_pick(
 ) -> Result<Option<Text>, Memory>
     requires { TellsNoPick (world_of realm.old) target given.now }
     ensures { IfOk result
-        (λ found. IsJudged realm.old realm.new caller (Event.Pick target) given.now found) }
+        (λ found. IsEntryJudged realm.old realm.new caller (Event.Pick target) given.now found) }
 {
     if !realm.enabled(alloc, caller, &Event::Pick(target))? {
         return Ok(Some(no_such_step(alloc)?));
@@ -120,7 +121,7 @@ fn row_told(given: &str) -> Option<u64>
 
 /// The number of 64 bits that the digits are.
 fn number_in(digits: &[u8]) -> Option<u64>
-    ensures { MatchOption result (IsNumber digits.now → ⊥) (λ n. IsNumberText digits.now n) }
+    ensures { MatchOption result (IsU64Text digits.now → ⊥) (λ n. IsNumberText digits.now n) }
 {
     match read_number(digits) {
         Ok(number) => Some(number),

@@ -4,7 +4,7 @@ ghost use Rattle.std.specs.Prelude.{◌≡◌, IfOk};
 ghost use Rattle.cm_world.specs.End.{HasValid};
 ghost use Rattle.cm_world.specs.Step.{IsEnabled, MayAwait, MayEnd};
 ghost use Rattle.cm_world.specs.Laws.{IsPick};
-ghost use Rattle.cm_laws.specs.Story.{world_of, Tells};
+ghost use Rattle.cm_laws.specs.Story.{world_of, AddsEntry};
 ghost use Rattle.cm_steps.specs.Ends.{finish_of};
 
 use cm_decl::Give;
@@ -27,7 +27,7 @@ pub fn make_step(
 ) -> Result<Reply, NoStep>
     requires enabled { IsEnabled (world_of realm.old) caller event.now }
     requires other { IsPick event.now → ⊥ }
-    ensures { IfOk result (λ reply. Tells realm.old realm.new caller event.now reply) }
+    ensures { IfOk result (λ reply. AddsEntry realm.old realm.new caller event.now reply) }
 {
     match event {
         Event::Find(moniker) => realm.find(alloc, caller, moniker.clone()?),
@@ -63,7 +63,7 @@ fn create(
     url: &Text,
     gives: &List<Give>,
 ) -> Result<Reply, NoStep>
-    ensures { IfOk result (λ reply. Tells realm.old realm.new caller
+    ensures { IfOk result (λ reply. AddsEntry realm.old realm.new caller
         (Event.Create parent coll.now name.now url.now gives.now) reply) }
 {
     let coll = coll.clone()?;
@@ -98,7 +98,7 @@ fn end(
 ) -> Result<Reply, NoStep>
     requires { MayEnd (world_of realm.old).acts caller action finish.now }
     ensures { IfOk result
-        (λ reply. Tells realm.old realm.new caller (Event.End action finish.now) reply) }
+        (λ reply. AddsEntry realm.old realm.new caller (Event.End action finish.now) reply) }
 {
     let ending = ending_of(alloc, finish)?;
     Ok(realm.end(caller, action, ending))
@@ -108,7 +108,7 @@ fn end(
 fn await_end(realm: &mut Realm, caller: u32, action: u64) -> Result<Reply, NoStep>
     requires { let w = world_of realm.old in MayAwait w.acts w.joins caller action }
     ensures { IfOk result
-        (λ reply. Tells realm.old realm.new caller (Event.Await action) reply) }
+        (λ reply. AddsEntry realm.old realm.new caller (Event.Await action) reply) }
 {
     match realm.await_end(caller, action) {
         Some(reply) => Ok(reply),

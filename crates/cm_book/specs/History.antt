@@ -1,3 +1,4 @@
+-- Promised.
 -- What contracts see of a book.
 use Rattle.std.specs.Prelude.{ℕ, List}
 use Rattle.cm_world.specs.declared.reply.Entry.{Entry}

@@ -1,3 +1,4 @@
+-- Promised.
 -- How a book keeps its history.
 use Rattle.std.specs.Prelude.{ℕ, ◌+◌, ◌≤◌, length}
 use Rattle.std.specs.Vec.{vec_capacity}
@@ -9,6 +10,6 @@ abbrev pub history_of : Inside → History
 history_of a = record { entries = a.entries.items; reserved = a.reserved; limit = a.limit }
 
 -- the memory for what is reserved is there, and all is within the limit
-pub record HasRoom (a : Inside) : Type 0 where
+pub record BookHasRoom (a : Inside) : Type 0 where
   pub room : length a.entries.items + a.reserved ≤ vec_capacity a.entries
   pub within : length a.entries.items + a.reserved ≤ a.limit

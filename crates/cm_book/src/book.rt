@@ -2,7 +2,7 @@
 
 ghost use Rattle.std.specs.Prelude.{◌≡◌, ◌++◌, ◌∷◌, [], ◌≤◌, ◌<◌, ◌^◌, ◌+◌, ◌-◌, length, IsTrue, ◌↔◌, IfErr};
 ghost use Rattle.std.specs.Prelude.{OnOk, OnErr};
-ghost use Rattle.cm_book.specs.Refusal.{Fits, Refuses};
+ghost use Rattle.cm_book.specs.Refusal.{FitsLimit, BookRefuses};
 
 use cm_world::Entry;
 use std::alloc::Global;
@@ -40,11 +40,11 @@ impl Model for Book {
 
     ghost Value = { History };
 
-    ghost use Rattle.cm_book.specs.Room.{history_of, HasRoom};
+    ghost use Rattle.cm_book.specs.Room.{history_of, BookHasRoom};
 
     ghost view = { history_of };
 
-    ghost invariant = { HasRoom };
+    ghost invariant = { BookHasRoom };
 }
 
 impl Book {
@@ -76,7 +76,7 @@ impl Book {
     /// Whether `need` entries more are within the limit, besides those that are there and those
     /// that room is reserved for.
     pub fn fits(&self, need: u32) -> bool
-        ensures fits { IsTrue result ↔ Fits self.now need }
+        ensures fits { IsTrue result ↔ FitsLimit self.now need }
         ensures bound { self.now.limit < 2 ^ 64 }
     {
         need as u64 <= self.limit - (self.entries.len() as u64 + self.reserved)
@@ -90,9 +90,9 @@ impl Book {
     pub fn reserve(&mut self, need: u32) -> Result<(), BookFault>
         ensures ok { let reserved = self.old.reserved + need in
             OnOk result (self.new ≡ record self.old { reserved = reserved }) }
-        ensures fits { OnOk result (Fits self.old need) }
+        ensures fits { OnOk result (FitsLimit self.old need) }
         ensures err { OnErr result (self.new ≡ self.old) }
-        ensures refused { IfErr result (Refuses self.old need) }
+        ensures refused { IfErr result (BookRefuses self.old need) }
         ensures bound { self.old.limit < 2 ^ 64 }
     {
         let used = self.entries.len() as u64 + self.reserved;

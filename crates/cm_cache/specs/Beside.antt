@@ -1,3 +1,4 @@
+-- Inside.
 -- Answers that are kept beside a history, and what becomes of them with an entry more.
 use Rattle.std.specs.Prelude.{◌≡◌, ℕ, ◌+◌, List, [], Bool, true, false, not, ◌&&◌, ◌||◌, is_some}
 use Rattle.std.specs.Prelude.{if◌then◌else◌}
@@ -12,41 +13,41 @@ use Rattle.cm_world.specs.declared.route.Walked.{Walked}
 use Rattle.cm_world.specs.Expiring.{goes_with, is_stopped}
 use Rattle.cm_world.specs.World.{World, start}
 use Rattle.cm_world.specs.Legal.{replay}
-use Rattle.cm_cache.specs.declared.answer.Answer.{Answer}
-use Rattle.cm_cache.specs.declared.keeper.Found.{Found}
-use Rattle.cm_cache.specs.declared.keeper.Found.TheVariants.{Again, New, Passing}
-use Rattle.cm_cache.specs.Answers.{answer_of, kept_at, put_in}
+use Rattle.cm_cache.specs.declared.answer.CachedAnswer.{CachedAnswer}
+use Rattle.cm_cache.specs.declared.keeper.CacheLookup.{CacheLookup}
+use Rattle.cm_cache.specs.declared.keeper.CacheLookup.TheVariants.{Again, New, Passing}
+use Rattle.cm_cache.specs.AnswersInside.{answer_of, kept_at, put_in}
 use Rattle.cm_cache.specs.Keeping.{IsKeptOf, is_lasting, resolves, comes_or_goes, forgets}
 use Rattle.cm_cache.specs.Right.{uses_of, AreRight}
 
--- the answers that a keeper has, and how many answers were there for one who asked again
-pub record Held : Type 0 where
-  pub answers : List Answer
+-- the answers that a keeper has, and how many answers were cache hits
+pub record CacheContents : Type 0 where
+  pub answers : List CachedAnswer
   pub number : ℕ
 
-abbrev pub nothing_held : Held
+abbrev pub nothing_held : CacheContents
 nothing_held = record { answers = []; number = 0 }
 
 -- behind an entry that asks for a use whose walk comes to this answer: where one is kept, it was there once
 -- more; else this one is kept, if it lasts
-abbrev pub asked_for : ℕ → List ℕ → Walked → Held → Held
+abbrev pub asked_for : ℕ → List ℕ → Walked → CacheContents → CacheContents
 asked_for i path v h =
     if is_some (kept_at h.answers i path) then record h { number = h.number + 1 }
     else if is_lasting v then record h { answers = put_in h.answers i path v }
     else h
 
 -- what becomes of it with the answer of such a walk, where none is kept
-abbrev pub finding : ℕ → List ℕ → Walked → Found
+abbrev pub finding : ℕ → List ℕ → Walked → CacheLookup
 finding i path v = if is_lasting v then New (answer_of i path v) else Passing
 
 -- and what is held then
-abbrev pub found_by : Found → Held → Held
+abbrev pub found_by : CacheLookup → CacheContents → CacheContents
 found_by Again h = record h { number = h.number + 1 }
 found_by (New a) h = record h { answers = put_in h.answers a.inc a.path a.walked }
 found_by Passing h = h
 
 -- whether an answer is kept from now on
-abbrev pub is_new : Found → Bool
+abbrev pub is_new : CacheLookup → Bool
 is_new (New a) = true
 is_new found = false
 
@@ -55,16 +56,16 @@ abbrev pub is_emptied : Event → Reply → Bool → Bool
 is_emptied event reply doomed = resolves event reply || comes_or_goes reply || doomed
 
 -- and what is held behind such an entry
-abbrev pub followed : Event → Reply → Bool → Held → Held
+abbrev pub followed : Event → Reply → Bool → CacheContents → CacheContents
 followed event reply doomed h = if is_emptied event reply doomed then record h { answers = [] } else h
 
 -- what is told so is what the entry does in this world, as far as it counts
-abbrev pub IsTold : World → Entry → Bool → Type 0
-IsTold w e doomed = is_emptied e.event e.reply doomed ≡ forgets w e
+abbrev pub IsReported : World → Entry → Bool → Type 0
+IsReported w e doomed = is_emptied e.event e.reply doomed ≡ forgets w e
 
 -- beside a history: each answer is that of the walk in the tree that the history leaves; the uses that they
 -- were put for are those that it keeps; and so many were there
-pub record IsBeside (f : Frame) (es : List Entry) (h : Held) : Type 0 where
+pub record IsBeside (f : Frame) (es : List Entry) (h : CacheContents) : Type 0 where
   pub right : AreRight (replay (start f) es).rows (replay (start f) es).frame.builtins h.answers
   pub keeps : IsKeptOf f es (record { uses = uses_of h.answers; number = h.number })
 

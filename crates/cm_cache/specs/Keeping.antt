@@ -1,3 +1,4 @@
+-- Promised.
 -- Which answers a legal history keeps, and how often a kept answer was there for one who asked.
 use Rattle.std.specs.Prelude.{◌≡◌, ℕ, ◌+◌, List, [], ◌∷◌, ◌++◌, Bool, true, false, not, ◌&&◌, ◌||◌, ◌==◌}
 use Rattle.std.specs.Prelude.{nat_le, length, Option, Some, None, if◌then◌else◌}
@@ -20,22 +21,22 @@ use Rattle.cm_world.specs.After.{after, dooms}
 use Rattle.cm_cache.specs.Answers.{most}
 
 -- the use of a path by an instance
-pub record Asked : Type 0 where
+pub record UseKey : Type 0 where
   pub inc : ℕ
   pub path : List ℕ
 
 -- the uses whose answers are kept, in the order in which they came, and how many answers were there
-pub record Kept : Type 0 where
-  pub uses : List Asked
+pub record KeptUses : Type 0 where
+  pub uses : List UseKey
   pub number : ℕ
 
-abbrev pub nothing : Kept
+abbrev pub nothing : KeptUses
 nothing = record { uses = []; number = 0 }
 
-abbrev pub is_use : Asked → Asked → Bool
+abbrev pub is_use : UseKey → UseKey → Bool
 is_use u v = (v.inc == u.inc) && bytes_eq v.path u.path
 
-abbrev pub has_use : List Asked → Asked → Bool
+abbrev pub has_use : List UseKey → UseKey → Bool
 has_use uses u = list_any (is_use u) uses
 
 -- ---- an entry that asks
@@ -44,11 +45,11 @@ has_use uses u = list_any (is_use u) uses
 abbrev pub is_ready : World → ℕ → Bool
 is_ready w i = not (is_gone w.rows i) && is_resolved w.rows i
 
-abbrev pub asks_if : Bool → ℕ → List ℕ → Option Asked
+abbrev pub asks_if : Bool → ℕ → List ℕ → Option UseKey
 asks_if ready i path = if ready then Some (record { inc = i; path = path }) else None
 
 -- the use that an entry asks for: one of an instance that is ready, and for an opening is on
-abbrev pub asked_by : World → Event → Option Asked
+abbrev pub asked_by : World → Event → Option UseKey
 asked_by w (Route i path) = asks_if (is_ready w i) i path
 asked_by w (OpenUse i path) = asks_if (is_ready w i && is_on w.rows i) i path
 asked_by w _ = None
@@ -60,12 +61,12 @@ is_lasting (Given route) = nat_le (length route.hops) 64
 is_lasting _ = true
 
 -- the uses with one more; a full list is emptied first
-abbrev pub with_use : Asked → List Asked → List Asked
+abbrev pub with_use : UseKey → List UseKey → List UseKey
 with_use u uses = if nat_le most (length uses) then u ∷ [] else uses ++ u ∷ []
 
 -- behind an entry that asks for a use whose walk comes to this answer: where the use is kept, its answer was
 -- there once more; else it is kept from now on, if its answer lasts
-abbrev pub counted_for : Asked → Walked → Kept → Kept
+abbrev pub counted_for : UseKey → Walked → KeptUses → KeptUses
 counted_for u v kept =
     if has_use kept.uses u then record kept { number = kept.number + 1 }
     else if is_lasting v then record kept { uses = with_use u kept.uses }
@@ -92,34 +93,34 @@ dooms_some w e = list_any (λ r. dooms w e r.inc) (after w e).rows
 abbrev pub forgets : World → Entry → Bool
 forgets w e = resolves e.event e.reply || comes_or_goes e.reply || dooms_some w e
 
-abbrev pub emptied : Kept → Kept
+abbrev pub emptied : KeptUses → KeptUses
 emptied kept = record kept { uses = [] }
 
 -- ---- histories
 
 -- behind an entry that doesn't ask
-abbrev pub forgetting : World → Entry → Kept → Kept
+abbrev pub forgetting : World → Entry → KeptUses → KeptUses
 forgetting w e kept = if forgets w e then emptied kept else kept
 
 -- behind an entry that asks for this use, if it asks
-abbrev pub KeepsBy : Option Asked → World → Entry → Kept → Kept → Type 0
+abbrev pub KeepsBy : Option UseKey → World → Entry → KeptUses → KeptUses → Type 0
 KeepsBy None w e old new = new ≡ forgetting w e old
 KeepsBy (Some u) w e old new =
     (v : Walked) × IsWalked w.rows w.frame.builtins (UseAt u.inc u.path) v × (new ≡ counted_for u v old)
 
 -- behind an entry that is made in this world
-abbrev pub Keeps : World → Entry → Kept → Kept → Type 0
-Keeps w e old new = KeepsBy (asked_by w e.event) w e old new
+abbrev pub KeepsUses : World → Entry → KeptUses → KeptUses → Type 0
+KeepsUses w e old new = KeepsBy (asked_by w e.event) w e old new
 
 -- entry by entry
-abbrev pub KeepsAll : World → List Entry → Kept → Kept → Type 0
+abbrev pub KeepsAll : World → List Entry → KeptUses → KeptUses → Type 0
 KeepsAll w [] old new = new ≡ old
-KeepsAll w (e ∷ es) old new = (mid : Kept) × Keeps w e old mid × KeepsAll (after w e) es mid new
+KeepsAll w (e ∷ es) old new = (mid : KeptUses) × KeepsUses w e old mid × KeepsAll (after w e) es mid new
 
 -- what a history from a frame keeps; it begins with nothing
-abbrev pub IsKeptOf : Frame → List Entry → Kept → Type 0
+abbrev pub IsKeptOf : Frame → List Entry → KeptUses → Type 0
 IsKeptOf f es kept = KeepsAll (start f) es nothing kept
 
 -- and how many answers were there
 abbrev pub IsKeptNumber : Frame → List Entry → ℕ → Type 0
-IsKeptNumber f es n = (kept : Kept) × IsKeptOf f es kept × (kept.number ≡ n)
+IsKeptNumber f es n = (kept : KeptUses) × IsKeptOf f es kept × (kept.number ≡ n)

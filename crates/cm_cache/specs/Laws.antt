@@ -1,3 +1,4 @@
+-- Inside.
 -- Laws of what a cache and a history keep, as statements. Functions of this crate promise them.
 use Rattle.std.specs.Prelude.{◌≡◌, ℕ, ◌≤◌, List, [], ◌∷◌, ◌++◌, false, ◌&&◌, ◌==◌, Some, None, map}
 use Rattle.std.specs.Prelude.{length, is_some, nat_le, if◌then◌else◌}
@@ -13,14 +14,15 @@ use Rattle.cm_world.specs.World.{World, start}
 use Rattle.cm_world.specs.Route.{IsWalked}
 use Rattle.cm_world.specs.After.{after}
 use Rattle.cm_world.specs.Legal.{Legal, replay}
-use Rattle.cm_world.specs.Sound.{IsRising, IsOrderly}
-use Rattle.cm_cache.specs.declared.answer.Answer.{Answer}
-use Rattle.cm_cache.specs.Answers.{kept_at, put_in, most}
-use Rattle.cm_cache.specs.Keeping.{Asked, Kept, Keeps, IsKeptOf, forgets, has_use, with_use}
+use Rattle.cm_world.specs.Sound.{IncarnationsIncrease, IsOrderly}
+use Rattle.cm_cache.specs.declared.answer.CachedAnswer.{CachedAnswer}
+use Rattle.cm_cache.specs.Answers.{most}
+use Rattle.cm_cache.specs.AnswersInside.{kept_at, put_in}
+use Rattle.cm_cache.specs.Keeping.{UseKey, KeptUses, KeepsUses, IsKeptOf, forgets, has_use, with_use}
 use Rattle.cm_cache.specs.Right.{bare, uses_of, AreRight}
 
 -- what is left of the others before the answer to this use is put: all, unless it is new and the list is full
-abbrev pub left_for : List Answer → ℕ → List ℕ → List Answer
+abbrev pub left_for : List CachedAnswer → ℕ → List ℕ → List CachedAnswer
 left_for answers i path =
     if is_some (kept_at answers i path) then answers
     else if nat_le most (length answers) then [] else answers
@@ -28,14 +30,14 @@ left_for answers i path =
 -- behind a put its use has this answer, each other one what was left of it
 abbrev pub WhatIsPutIsKept : Type 0
 WhatIsPutIsKept =
-    (answers : List Answer) (i j : ℕ) (path other : List ℕ) (v : Walked)
+    (answers : List CachedAnswer) (i j : ℕ) (path other : List ℕ) (v : Walked)
     → kept_at (put_in answers i path v) j other
     ≡ (if (i == j) && bytes_eq path other then Some v else kept_at (left_for answers i path) j other)
 
 -- a history keeps at most one list of uses, with one number
 abbrev pub HistoriesKeepOnce : Type 0
 HistoriesKeepOnce =
-    (f : Frame) (es : List Entry) (k l : Kept) → IsKeptOf f es k → IsKeptOf f es l → k ≡ l
+    (f : Frame) (es : List Entry) (k l : KeptUses) → IsKeptOf f es k → IsKeptOf f es l → k ≡ l
 
 -- the trees of legal histories are orderly
 abbrev pub TreesAreOrderly : Type 0
@@ -46,18 +48,18 @@ TreesAreOrderly =
 -- where they are, a legal history keeps some
 abbrev pub HistoriesKeep : Type 0
 HistoriesKeep =
-    TreesAreOrderly → (f : Frame) (es : List Entry) → Legal (start f) es → (k : Kept) × IsKeptOf f es k
+    TreesAreOrderly → (f : Frame) (es : List Entry) → Legal (start f) es → (k : KeptUses) × IsKeptOf f es k
 
 -- what is kept behind an entry more
 abbrev pub KeepingGoesOn : Type 0
 KeepingGoesOn =
-    (f : Frame) (es : List Entry) (e : Entry) (k l : Kept) → IsKeptOf f es k
-    → Keeps (replay (start f) es) e k l → IsKeptOf f (es ++ e ∷ []) l
+    (f : Frame) (es : List Entry) (e : Entry) (k l : KeptUses) → IsKeptOf f es k
+    → KeepsUses (replay (start f) es) e k l → IsKeptOf f (es ++ e ∷ []) l
 
 -- uses are at most as many as are kept at most, and the number is at most that of the entries
 abbrev pub KeptAreFew : Type 0
 KeptAreFew =
-    (f : Frame) (es : List Entry) (k : Kept) → IsKeptOf f es k
+    (f : Frame) (es : List Entry) (k : KeptUses) → IsKeptOf f es k
     → (length k.uses ≤ most) × (k.number ≤ length es)
 
 -- trees that are the same without what no walk reads have the same walks
@@ -69,14 +71,14 @@ WalksReadBareRows =
 -- an entry that doesn't empty what is kept leaves these rows as they are
 abbrev pub BareRowsStay : Type 0
 BareRowsStay =
-    (w : World) (e : Entry) → IsRising w.next_inc w.rows → forgets w e ≡ false
+    (w : World) (e : Entry) → IncarnationsIncrease w.next_inc w.rows → forgets w e ≡ false
     → map bare (after w e).rows ≡ map bare w.rows
 
 -- so each walk comes to what it came to before
 abbrev pub WalksStay : Type 0
 WalksStay =
     (w : World) (e : Entry) (builtins : List Builtin) (begin : Start) (v : Walked)
-    → IsRising w.next_inc w.rows → forgets w e ≡ false
+    → IncarnationsIncrease w.next_inc w.rows → forgets w e ≡ false
     → IsWalked w.rows builtins begin v → IsWalked (after w e).rows builtins begin v
 
 -- ---- caches beside histories
@@ -84,31 +86,34 @@ WalksStay =
 -- a cache keeps an answer exactly for the uses of its answers
 abbrev pub UsesAreKept : Type 0
 UsesAreKept =
-    (answers : List Answer) (u : Asked) → has_use (uses_of answers) u ≡ is_some (kept_at answers u.inc u.path)
+    (answers : List CachedAnswer) (u : UseKey)
+    → has_use (uses_of answers) u ≡ is_some (kept_at answers u.inc u.path)
 
 -- a put for another use adds it to them as a history does
 abbrev pub PutsAddUses : Type 0
 PutsAddUses =
-    (answers : List Answer) (i : ℕ) (path : List ℕ) (v : Walked) → kept_at answers i path ≡ None
+    (answers : List CachedAnswer) (i : ℕ) (path : List ℕ) (v : Walked) → kept_at answers i path ≡ None
     → uses_of (put_in answers i path v) ≡ with_use (record { inc = i; path = path }) (uses_of answers)
 
 -- of right answers the one that is kept for a use is that of its walk
 abbrev pub RightAnswers : Type 0
 RightAnswers =
-    (rows : List Row) (builtins : List Builtin) (answers : List Answer) (i : ℕ) (path : List ℕ) (v : Walked)
+    (rows : List Row) (builtins : List Builtin) (answers : List CachedAnswer) (i : ℕ) (path : List ℕ)
+    (v : Walked)
     → AreRight rows builtins answers → kept_at answers i path ≡ Some v
     → IsWalked rows builtins (UseAt i path) v
 
 -- the answer of a walk, put for another use, leaves them right
 abbrev pub PutsStayRight : Type 0
 PutsStayRight =
-    (rows : List Row) (builtins : List Builtin) (answers : List Answer) (i : ℕ) (path : List ℕ) (v : Walked)
+    (rows : List Row) (builtins : List Builtin) (answers : List CachedAnswer) (i : ℕ) (path : List ℕ)
+    (v : Walked)
     → AreRight rows builtins answers → kept_at answers i path ≡ None → IsWalked rows builtins (UseAt i path) v
     → AreRight rows builtins (put_in answers i path v)
 
 -- and so does an entry that doesn't empty what is kept
 abbrev pub AnswersStayRight : Type 0
 AnswersStayRight =
-    (w : World) (e : Entry) (builtins : List Builtin) (answers : List Answer)
-    → IsRising w.next_inc w.rows → forgets w e ≡ false
+    (w : World) (e : Entry) (builtins : List Builtin) (answers : List CachedAnswer)
+    → IncarnationsIncrease w.next_inc w.rows → forgets w e ≡ false
     → AreRight w.rows builtins answers → AreRight (after w e).rows builtins answers

@@ -1,4 +1,5 @@
 pub mod Answers
+pub mod AnswersInside
 pub mod Places
 pub mod Keeping
 pub mod Right

@@ -1,3 +1,4 @@
+-- Inside.
 -- How a cache finds its answers.
 use Rattle.std.specs.Prelude.{◌≡◌, ℕ, ◌+◌, List, [], ◌∷◌, Bool, Option, Some, None, option_map}
 use Rattle.std.specs.Prelude.{option_and_then, if◌then◌else◌}
@@ -5,7 +6,7 @@ use Rattle.std.specs.Ordering.{nat_cmp}
 use Rattle.std.specs.Cmp.Lexicographic.{slice_cmp}
 use Rattle.std.specs.BTreeMap.{BTreeMap, get}
 use Rattle.cm_cache.specs.declared.cache.Cache.TheInside.{Inside}
-use Rattle.cm_cache.specs.Answers.{is_of}
+use Rattle.cm_cache.specs.AnswersInside.{is_of}
 
 -- the number of a path
 abbrev pub place_at : BTreeMap (List ℕ) ℕ → List ℕ → Option ℕ
@@ -21,5 +22,5 @@ place_of passes [] = None
 place_of passes (x ∷ xs) = if passes x then Some 0 else option_map (λ n. n + 1) (place_of passes xs)
 
 -- each use has the number of the place of its answer
-pub record IsPlaced (a : Inside) : Type 0 where
+pub record IsIndexedByUse (a : Inside) : Type 0 where
   pub each : (i : ℕ) (path : List ℕ) → placed a.places i path ≡ place_of (is_of i path) a.answers.items

@@ -1,3 +1,4 @@
+-- Inside.
 -- Laws of one entry more, as statements: what is kept beside a history is so beside the history with it.
 use Rattle.std.specs.Prelude.{◌≡◌, ℕ, ◌≤◌, List, [], ◌∷◌, ◌++◌, Bool, true, false, Some, None, length}
 use Rattle.cm_names.specs.declared.moniker.Moniker.{Moniker}
@@ -17,12 +18,12 @@ use Rattle.cm_world.specs.Route.{IsWalked}
 use Rattle.cm_world.specs.End.{changed, set_on, rows_by}
 use Rattle.cm_world.specs.Marks.{mark_reply}
 use Rattle.cm_world.specs.Legal.{replay}
-use Rattle.cm_world.specs.Sound.{IsRising}
-use Rattle.cm_cache.specs.Answers.{kept_at}
+use Rattle.cm_world.specs.Sound.{IncarnationsIncrease}
+use Rattle.cm_cache.specs.AnswersInside.{kept_at}
 use Rattle.cm_cache.specs.Keeping.{asked_by, IsKeptNumber}
-use Rattle.cm_cache.specs.declared.keeper.Found.TheVariants.{Again}
-use Rattle.cm_cache.specs.Beside.{Held, nothing_held, asked_for, finding, found_by, followed}
-use Rattle.cm_cache.specs.Beside.{IsTold, IsBeside}
+use Rattle.cm_cache.specs.declared.keeper.CacheLookup.TheVariants.{Again}
+use Rattle.cm_cache.specs.Beside.{CacheContents, nothing_held, asked_for, finding, found_by, followed}
+use Rattle.cm_cache.specs.Beside.{IsReported, IsBeside}
 use Rattle.cm_cache.specs.Beside.{goes_some, goes_some_by}
 
 -- ---- what is beside a history
@@ -34,45 +35,46 @@ NothingAtFirst = (f : Frame) → IsBeside f [] nothing_held
 -- an answer that is there for a use is that of its walk in the tree that the history leaves
 abbrev pub BesideIsRight : Type 0
 BesideIsRight =
-    (f : Frame) (es : List Entry) (h : Held) (i : ℕ) (path : List ℕ) (v : Walked) → IsBeside f es h
+    (f : Frame) (es : List Entry) (h : CacheContents) (i : ℕ) (path : List ℕ) (v : Walked) → IsBeside f es h
     → kept_at h.answers i path ≡ Some v
     → IsWalked (replay (start f) es).rows (replay (start f) es).frame.builtins (UseAt i path) v
 
 -- the number is the one that the history has, and at most that of its entries
 abbrev pub BesideIsNumber : Type 0
-BesideIsNumber = (f : Frame) (es : List Entry) (h : Held) → IsBeside f es h → IsKeptNumber f es h.number
+BesideIsNumber = (f : Frame) (es : List Entry) (h : CacheContents) → IsBeside f es h
+    → IsKeptNumber f es h.number
 
 abbrev pub BesideIsFew : Type 0
-BesideIsFew = (f : Frame) (es : List Entry) (h : Held) → IsBeside f es h → h.number ≤ length es
+BesideIsFew = (f : Frame) (es : List Entry) (h : CacheContents) → IsBeside f es h → h.number ≤ length es
 
 -- ---- an entry more
 
 -- one that asks for no use, where it is told whether it dooms an instance
 abbrev pub UnaskedGoOn : Type 0
 UnaskedGoOn =
-    (f : Frame) (es : List Entry) (e : Entry) (doomed : Bool) (h : Held)
-    → IsRising (replay (start f) es).next_inc (replay (start f) es).rows
-    → asked_by (replay (start f) es) e.event ≡ None → IsTold (replay (start f) es) e doomed
+    (f : Frame) (es : List Entry) (e : Entry) (doomed : Bool) (h : CacheContents)
+    → IncarnationsIncrease (replay (start f) es).next_inc (replay (start f) es).rows
+    → asked_by (replay (start f) es) e.event ≡ None → IsReported (replay (start f) es) e doomed
     → IsBeside f es h → IsBeside f (es ++ e ∷ []) (followed e.event e.reply doomed h)
 
 -- one that asks for a use, with what its walk comes to
 abbrev pub AskedGoOn : Type 0
 AskedGoOn =
-    (f : Frame) (es : List Entry) (e : Entry) (i : ℕ) (path : List ℕ) (v : Walked) (h : Held)
+    (f : Frame) (es : List Entry) (e : Entry) (i : ℕ) (path : List ℕ) (v : Walked) (h : CacheContents)
     → asked_by (replay (start f) es) e.event ≡ Some (record { inc = i; path = path })
     → IsWalked (replay (start f) es).rows (replay (start f) es).frame.builtins (UseAt i path) v
     → IsBeside f es h → IsBeside f (es ++ e ∷ []) (asked_for i path v h)
 
--- where its answer is kept, it was there again
+-- where its answer is kept, it was a cache hit
 abbrev pub KeptAreFound : Type 0
 KeptAreFound =
-    (i : ℕ) (path : List ℕ) (v : Walked) (h : Held) → kept_at h.answers i path ≡ Some v
+    (i : ℕ) (path : List ℕ) (v : Walked) (h : CacheContents) → kept_at h.answers i path ≡ Some v
     → found_by Again h ≡ asked_for i path v h
 
 -- and else it is kept from then on, if it lasts
 abbrev pub NewAreFound : Type 0
 NewAreFound =
-    (i : ℕ) (path : List ℕ) (v : Walked) (h : Held) → kept_at h.answers i path ≡ None
+    (i : ℕ) (path : List ℕ) (v : Walked) (h : CacheContents) → kept_at h.answers i path ≡ None
     → found_by (finding i path v) h ≡ asked_for i path v h
 
 -- ---- which entries doom an instance
@@ -87,25 +89,26 @@ may_doom event r = false
 
 -- no other does, as far as it counts
 abbrev pub OthersDoomNone : Type 0
-OthersDoomNone = (w : World) (e : Entry) → may_doom e.event e.reply ≡ false → IsTold w e false
+OthersDoomNone = (w : World) (e : Entry) → may_doom e.event e.reply ≡ false → IsReported w e false
 
 -- a mark does if it is one to be destroyed
 abbrev pub MarksDoom : Type 0
 MarksDoom =
     (w : World) (caller i : ℕ) (doom : Bool) → mark_reply w.rows doom i ≡ reply.Marked
-    → IsTold w (record { caller = caller; event = Mark doom i; reply = reply.Marked }) doom
+    → IsReported w (record { caller = caller; event = Mark doom i; reply = reply.Marked }) doom
 
 -- an exit does where some row goes with the one whose program has ended
 abbrev pub ExitsDoom : Type 0
 ExitsDoom =
-    (w : World) (caller i : ℕ) (m : Moniker) → IsRising w.next_inc w.rows
-    → IsTold w (record { caller = caller; event = Exited i; reply = reply.Left m })
+    (w : World) (caller i : ℕ) (m : Moniker) → IncarnationsIncrease w.next_inc w.rows
+    → IsReported w (record { caller = caller; event = Exited i; reply = reply.Left m })
     (goes_some (changed i (set_on false) w.rows) i)
 
 -- an end does where it stopped its row and some row goes with it
 abbrev pub EndsDoom : Type 0
 EndsDoom =
-    (w : World) (caller a : ℕ) (finish : Finish) (o : Outcome) (x : Act) → IsRising w.next_inc w.rows
+    (w : World) (caller a : ℕ) (finish : Finish) (o : Outcome) (x : Act)
+    → IncarnationsIncrease w.next_inc w.rows
     → act_of w.acts a ≡ Some x
-    → IsTold w (record { caller = caller; event = End a finish; reply = reply.Ended o })
+    → IsReported w (record { caller = caller; event = End a finish; reply = reply.Ended o })
     (goes_some_by o (rows_by x.inc w.next_inc finish o w.rows) x.inc)

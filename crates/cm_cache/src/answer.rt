@@ -5,7 +5,7 @@ use cm_world::Walked;
 
 /// What the walk from a use came to.
 #[derive(Drop)]
-pub struct Answer {
+pub struct CachedAnswer {
     /// The instance, by its incarnation.
     pub inc: u64,
     /// The path of its use.

@@ -2,9 +2,10 @@
 
 ghost use Rattle.std.specs.Prelude.{◌≡◌, [], ◌++◌, ◌∷◌, ◌<◌, length, None, IsOk, IfOk, OnOk, OnErr};
 ghost use Rattle.std.specs.Option.{option_copied};
-ghost use Rattle.cm_cache.specs.Answers.{kept_at, put_in, answer_of, most};
+ghost use Rattle.cm_cache.specs.Answers.{most};
+ghost use Rattle.cm_cache.specs.AnswersInside.{kept_at, put_in, answer_of};
 
-use crate::answer::Answer;
+use crate::answer::CachedAnswer;
 use crate::places;
 use crate::places::Paths;
 use cm_names::{CapPath, Memory};
@@ -21,21 +22,21 @@ pub const MOST: usize = 16_384;
 #[derive(Drop)]
 pub struct Cache {
     alloc: Global,
-    answers: Vec<Answer>,
+    answers: Vec<CachedAnswer>,
     places: BTreeMap<u64, Paths>,
 }
 
 impl Model for Cache {
     ghost use Rattle.std.specs.Prelude.{List as Seq};
-    ghost use Rattle.cm_cache.specs.declared.answer.Answer.{Answer as Kept};
+    ghost use Rattle.cm_cache.specs.declared.answer.CachedAnswer.{CachedAnswer as KeptUses};
 
-    ghost Value = { Seq Kept };
+    ghost Value = { Seq KeptUses };
 
-    ghost use Rattle.cm_cache.specs.Places.{IsPlaced};
+    ghost use Rattle.cm_cache.specs.Places.{IsIndexedByUse};
 
     ghost view = { λ a. a.answers.items };
 
-    ghost invariant = { IsPlaced };
+    ghost invariant = { IsIndexedByUse };
 }
 
 impl Cache {
@@ -124,7 +125,8 @@ impl Cache {
         self.answers.reserve(1)?;
         let place = self.answers.len();
         places::put(self.alloc, &mut self.places, inc, key, place)?;
-        self.answers.push_reserved(Answer { inc, path, walked });
+        self.answers
+            .push_reserved(CachedAnswer { inc, path, walked });
         Ok(())
     }
 }

@@ -2,11 +2,11 @@
 
 ghost use Rattle.std.specs.Prelude.{◌≡◌, ◌+◌, ◌<◌, ◌^◌, ℕ, IfOk, OnOk, OnErr, IsTrue};
 ghost use Rattle.cm_world.specs.declared.action.Finish.{Finish};
-ghost use Rattle.cm_cache.specs.Answers.{kept_at};
+ghost use Rattle.cm_cache.specs.AnswersInside.{kept_at};
 ghost use Rattle.cm_cache.specs.Beside.{nothing_held, found_by, is_new, is_emptied, followed, finding};
 ghost use Rattle.cm_cache.specs.Keeping as keeping;
 
-use crate::answer::Answer;
+use crate::answer::CachedAnswer;
 use crate::cache::Cache;
 use cm_names::{CapPath, Memory};
 use cm_world::{Event, Outcome, Reply, Walked};
@@ -18,11 +18,11 @@ const LONGEST: usize = 64;
 
 /// What becomes of the answers that are kept with an entry that asks for a use.
 #[derive(Drop)]
-pub enum Found {
+pub enum CacheLookup {
     /// The answer was there.
     Again,
     /// This answer is kept from now on.
-    New(Answer),
+    New(CachedAnswer),
     /// The answer isn't kept.
     Passing,
 }
@@ -30,18 +30,18 @@ pub enum Found {
 /// What becomes of the answers with an entry that asks for a use of which none is kept, and whose
 /// walk comes to this: a copy of it is kept, unless it waits for a declaration or is a route of
 /// more than 64 hops. `Err` where memory runs out.
-pub fn found_by_walk(inc: u64, path: &CapPath, walked: &Walked) -> Result<Found, Memory>
+pub fn found_by_walk(inc: u64, path: &CapPath, walked: &Walked) -> Result<CacheLookup, Memory>
     ensures { IfOk result (λ found. found ≡ finding inc path.now walked.now) }
 {
     if !lasts(walked) {
-        return Ok(Found::Passing);
+        return Ok(CacheLookup::Passing);
     }
     let path = path.clone()?;
     let walked = walked.clone()?;
-    Ok(Found::New(Answer { inc, path, walked }))
+    Ok(CacheLookup::New(CachedAnswer { inc, path, walked }))
 }
 
-/// The answers that a history keeps, and how many of them were there for one who asked again.
+/// The answers that a history keeps, and how many of them were cache hits.
 ///
 /// It is told of each entry of the history: [`Keeper::ask`] of those that ask for a use of an
 /// instance that isn't gone and is resolved, and for an opening is on, [`Keeper::follow`] of all
@@ -51,24 +51,24 @@ pub fn found_by_walk(inc: u64, path: &CapPath, walked: &Walked) -> Result<Found,
 /// a pointer for it.
 #[derive(Drop)]
 pub struct Keeper {
-    shelf: Box<Shelf>,
+    store: Box<KeeperParts>,
 }
 
 /// What a keeper has.
 #[derive(Drop)]
-struct Shelf {
+struct KeeperParts {
     /// The answers that are kept.
     cache: Cache,
-    /// How many answers were there for one who asked again.
+    /// How many answers were cache hits.
     number: u64,
 }
 
 impl Model for Keeper {
-    ghost use Rattle.cm_cache.specs.Beside.{Held};
+    ghost use Rattle.cm_cache.specs.Beside.{CacheContents};
 
-    ghost Value = { Held };
+    ghost Value = { CacheContents };
 
-    ghost view = { λ a. record { answers = a.shelf.value.cache; number = a.shelf.value.number } };
+    ghost view = { λ a. record { answers = a.store.value.cache; number = a.store.value.number } };
 }
 
 impl Keeper {
@@ -77,15 +77,15 @@ impl Keeper {
         ensures { IfOk result (λ made. made ≡ nothing_held) }
     {
         let cache = Cache::new(alloc)?;
-        let shelf = Box::new(alloc, Shelf { cache, number: 0 })?;
-        Ok(Keeper { shelf })
+        let store = Box::new(alloc, KeeperParts { cache, number: 0 })?;
+        Ok(Keeper { store })
     }
 
-    /// How many answers were there for one who asked again.
+    /// How many answers were cache hits.
     pub fn number(&self) -> u64
         ensures { result ≡ self.now.number }
     {
-        self.shelf.number
+        self.store.number
     }
 
     /// A copy of the answer that is kept for this use of an instance, or `None`. `Err` where memory
@@ -93,7 +93,7 @@ impl Keeper {
     pub fn recall(&self, inc: u64, path: &CapPath) -> Result<Option<Walked>, Memory>
         ensures { IfOk result (λ found. found ≡ kept_at self.now.answers inc path.now) }
     {
-        match self.shelf.cache.get(inc, path) {
+        match self.store.cache.get(inc, path) {
             None => Ok(None),
             Some(walked) => Ok(Some(walked.clone()?)),
         }
@@ -103,22 +103,22 @@ impl Keeper {
     /// one.
     ///
     /// `Err` where memory runs out for a new one, and then all is as before.
-    pub fn ask(&mut self, found: Found) -> Result<(), Memory>
+    pub fn ask(&mut self, found: CacheLookup) -> Result<(), Memory>
         requires { self.old.number + 1 < 2 ^ 64 }
         ensures ok { OnOk result (self.new ≡ found_by found self.old) }
         ensures fresh { OnErr result (IsTrue (is_new found)) }
         ensures err { OnErr result (self.new ≡ self.old) }
     {
         match found {
-            Found::Again => {
-                self.shelf.number += 1;
+            CacheLookup::Again => {
+                self.store.number += 1;
                 Ok(())
             }
-            Found::New(answer) => {
-                let Answer { inc, path, walked } = answer;
-                self.shelf.cache.put(inc, path, walked)
+            CacheLookup::New(answer) => {
+                let CachedAnswer { inc, path, walked } = answer;
+                self.store.cache.put(inc, path, walked)
             }
-            Found::Passing => Ok(()),
+            CacheLookup::Passing => Ok(()),
         }
     }
 
@@ -131,7 +131,7 @@ impl Keeper {
     {
         let emptied = resolves(event, reply) || comes_or_goes(reply) || doomed;
         if emptied {
-            self.shelf.cache.forget_all();
+            self.store.cache.forget_all();
         }
         emptied
     }

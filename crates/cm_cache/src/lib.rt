@@ -27,6 +27,6 @@ pub(crate) mod places;
 #[cfg(test)]
 mod tests;
 
-pub use answer::Answer;
+pub use answer::CachedAnswer;
 pub use cache::Cache;
-pub use keeper::{Found, Keeper, found_by_walk};
+pub use keeper::{CacheLookup, Keeper, found_by_walk};

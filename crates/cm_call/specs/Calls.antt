@@ -1,36 +1,28 @@
+-- Promised.
 -- What the words behind the program's name ask for.
-use Rattle.std.specs.Prelude.{◌≡◌, ◌<◌, ◌≤◌, ◌^◌, ℕ, Bool, true, false, List, [], ◌∷◌, codes}
+use Rattle.std.specs.Prelude.{ℕ, Bool, true, false, List, [], ◌∷◌, codes}
 use Rattle.std.specs.Prelude.{Option, Some, None, Result, Ok, Err, if◌then◌else◌}
 use Rattle.std.specs.Str.{bytes_eq}
 use Rattle.std.specs.Str.Parse.{digits_value, without_leading_plus}
-use Rattle.clap.specs.Words.{first_of, found_of}
-use Rattle.clap.specs.Walk.{Rule, Row, Text, rows_of}
+use Rattle.clap.specs.Words.{first_of}
+use Rattle.clap.specs.Walk.{Rule, Row, Text}
 use Rattle.clap.specs.Simple.{App, new_app, new_rule, with_rule, on_top, matches_of}
 use Rattle.clap.specs.Faults.{fault_of}
 use Rattle.clap.specs.Kinds.{Kinds}
 use Rattle.clap.specs.ValueTests.{accepts}
 use Rattle.clap.specs.declared.builder.ValueParser.TheVariants as value
 use Rattle.clap.specs.declared.builder.ArgAction.TheVariants.{Set, SetTrue}
-use Rattle.clap.specs.declared.ArgMatches.{ArgMatches}
 use Rattle.cm_names.specs.Steps.{◌>>=◌}
 use Rattle.cm_call.specs.declared.call.Call.{Call}
 use Rattle.cm_call.specs.declared.call.Call.TheVariants.{Run, Check, Generate, Serve, Audit}
 use Rattle.cm_call.specs.declared.call.RunOptions.{RunOptions}
-use Rattle.cm_call.specs.declared.call.ServeOptions.{ServeOptions}
 use Rattle.cm_call.specs.declared.call.Wanted.{Wanted}
 use Rattle.cm_call.specs.declared.call.Wanted.TheVariants.{Answers, Environments, Storage}
-use Rattle.cm_call.specs.declared.call.Workload.{Workload}
 use Rattle.cm_call.specs.declared.call.WordsFault.{WordsFault}
-use Rattle.cm_call.specs.declared.call.WordsFault.TheVariants.{Usage, Memory}
+use Rattle.cm_call.specs.declared.call.WordsFault.TheVariants.{Usage}
 
-abbrev pub Read : Type 0 → Type 0
-Read A = Result A WordsFault
-
--- what a function returned is what reading gives, unless memory ran out
-abbrev pub Gives : {X : Type 0} → Read X → Read X → Type 0
-Gives (Ok x) read = read ≡ Ok x
-Gives (Err Memory) read = Unit {0}
-Gives (Err Usage) read = read ≡ Err Usage
+abbrev pub WordsResult : Type 0 → Type 0
+WordsResult A = Result A WordsFault
 
 -- `--journal`, which has no value
 abbrev pub journal_rule : Rule
@@ -115,14 +107,8 @@ is_free [] = true
 is_free (kind ∷ kinds) = false
 
 -- what a parser makes of words, where it finds no fault in them
-abbrev pub rows_read : App → List Text → Read (List Row)
+abbrev pub rows_read : App → List Text → WordsResult (List Row)
 rows_read app words = if is_free (fault_of app words) then Ok (matches_of app words) else Err Usage
-
--- what a parse gives is that, unless memory ran out
-abbrev pub Parses : App → List Text → Result ArgMatches WordsFault → Type 0
-Parses app words (Ok matches) = rows_read app words ≡ Ok (rows_of (found_of matches))
-Parses app words (Err Memory) = Unit {0}
-Parses app words (Err Usage) = rows_read app words ≡ Err Usage
 
 abbrev pub is_yes : Option Text → Bool
 is_yes None = false
@@ -139,54 +125,54 @@ options_in rows =
 abbrev pub report_in : Wanted → List Row → RunOptions
 report_in wanted rows = record { wanted = wanted; repository = first_of (codes "repo") rows }
 
-abbrev pub on_rows : {X : Type 0} → (List Row → X) → Read (List Row) → Read X
+abbrev pub on_rows : {X : Type 0} → (List Row → X) → WordsResult (List Row) → WordsResult X
 on_rows f (Ok rows) = Ok (f rows)
 on_rows f (Err e) = Err e
 
-abbrev pub run_words : List Text → Read Call
+abbrev pub run_words : List Text → WordsResult Call
 run_words words = on_rows (λ rows. Run (options_in rows)) (rows_read run_app words)
 
-abbrev pub report_words : Wanted → List Text → Read Call
+abbrev pub report_words : Wanted → List Text → WordsResult Call
 report_words wanted words = on_rows (λ rows. Run (report_in wanted rows)) (rows_read report_app words)
 
-abbrev pub check_words : List Text → Read Call
+abbrev pub check_words : List Text → WordsResult Call
 check_words words = on_rows (λ rows. Check) (rows_read check_app words)
 
-abbrev pub audit_words : List Text → Read Call
+abbrev pub audit_words : List Text → WordsResult Call
 audit_words words = on_rows (λ rows. Audit) (rows_read audit_app words)
 
 -- the number that a text is, if it is one from low to high; a plus may stand before its digits
-abbrev pub number_in : ℕ → ℕ → Option Text → Read ℕ
+abbrev pub number_in : ℕ → ℕ → Option Text → WordsResult ℕ
 number_in low high None = Err Usage
 number_in low high (Some text) =
     if accepts false (value.Unsigned low high) text then Ok (digits_value 10 (without_leading_plus text))
     else Err Usage
 
 -- the workload that rows of a parse ask for
-unfoldable pub workload_in : List Row → Read Call
+unfoldable pub workload_in : List Row → WordsResult Call
 workload_in rows = do
   seed ← number_in 0 last_seed (first_of (codes "seed") rows)
   size ← number_in 1 most_instances (first_of (codes "size") rows)
   Ok (Generate (record { seed = seed; size = size }))
 
 -- what the words behind `generate` ask for
-unfoldable pub generate_words : List Text → Read Call
+unfoldable pub generate_words : List Text → WordsResult Call
 generate_words words = do
   rows ← rows_read generate_app words
   workload_in rows
 
 -- the text that was given
-abbrev pub text_in : Option Text → Read Text
+abbrev pub text_in : Option Text → WordsResult Text
 text_in None = Err Usage
 text_in (Some text) = Ok text
 
 -- the number that was given, from low to high, or the other one where none was
-abbrev pub number_or : ℕ → ℕ → ℕ → Option Text → Read ℕ
+abbrev pub number_or : ℕ → ℕ → ℕ → Option Text → WordsResult ℕ
 number_or other low high None = Ok other
 number_or other low high (Some text) = number_in low high (Some text)
 
 -- what rows of a parse ask to serve
-unfoldable pub serving_in : List Row → Read Call
+unfoldable pub serving_in : List Row → WordsResult Call
 serving_in rows = do
   socket ← text_in (first_of (codes "socket") rows)
   root ← text_in (first_of (codes "root") rows)
@@ -201,34 +187,13 @@ serving_in rows = do
     workers = workers;
   }))
 
-unfoldable pub serve_words : List Text → Read Call
+unfoldable pub serve_words : List Text → WordsResult Call
 serve_words words = do
   rows ← rows_read serve_app words
   serving_in rows
 
--- what words can ask to serve
-pub record IsServing (o : ServeOptions) : Type 0 where
-  pub some_sessions : 0 < o.sessions
-  pub sessions : o.sessions ≤ most_sessions
-  pub some_workers : 0 < o.workers
-  pub workers : o.workers ≤ most_workers
-
--- a workload that words can ask for
-pub record IsWorkload (w : Workload) : Type 0 where
-  pub seed : w.seed < 2 ^ 31
-  pub some : 0 < w.size
-  pub limit : w.size ≤ 10000
-
--- what is asked for can be done
-abbrev pub IsPossible : Call → Type 0
-IsPossible (Run options) = Unit {0}
-IsPossible Check = Unit {0}
-IsPossible (Generate w) = IsWorkload w
-IsPossible (Serve o) = IsServing o
-IsPossible Audit = Unit {0}
-
 -- what words ask for: the first is the command, and the others are for its parser
-unfoldable pub words_of : List Text → Read Call
+unfoldable pub words_of : List Text → WordsResult Call
 words_of [] = Err Usage
 words_of (word ∷ words) =
     if bytes_eq word (codes "run") then run_words words

@@ -1,3 +1,4 @@
+-- Promised.
 -- The script that a generated workload is: a tree in which each instance has up to four children and uses a
 -- protocol of its parent.
 use Rattle.std.specs.Prelude.{ℕ, zero, suc, ◌+◌, ◌-◌, ◌*◌, ◌/◌, ◌%◌, ◌^◌, ◌==◌, List, [], ◌∷◌, ◌++◌, codes}
@@ -26,8 +27,8 @@ use Rattle.cm_command.specs.declared.script.Line.{Line}
 use Rattle.cm_command.specs.declared.script.Script.{Script}
 
 -- bytes of UTF-8
-abbrev pub Text : Type 0
-Text = List ℕ
+abbrev pub WordBytes : Type 0
+WordBytes = List ℕ
 
 -- ---- instance k of n, counted from 0, which is the root
 
@@ -40,15 +41,15 @@ abbrev pub kids_of : ℕ → ℕ → List ℕ
 kids_of n k = filter (λ c. nat_lt c n) (range_with_len (k * 4 + 1) 4)
 
 -- its name
-abbrev pub name_of : ℕ → Text
+abbrev pub name_of : ℕ → WordBytes
 name_of k = codes "i" ++ decimal k
 
 -- its URL
-abbrev pub url_of : ℕ → Text
+abbrev pub url_of : ℕ → WordBytes
 url_of k = codes "fuchsia-pkg://gen/p#meta/" ++ (decimal k ++ codes ".cm")
 
 -- the protocol that it declares, and that its children use
-abbrev pub protocol_of : ℕ → Text
+abbrev pub protocol_of : ℕ → WordBytes
 protocol_of k = codes "p." ++ decimal k
 
 -- the names from the root to it, of which there are no more than so many

@@ -1,3 +1,4 @@
+-- Inside.
 -- A small workload, computed.
 use Rattle.std.specs.Prelude.{◌≡◌, [], ◌∷◌, codes}
 use Rattle.cm_names.specs.Moniker.{text_of_parts}

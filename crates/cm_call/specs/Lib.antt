@@ -1,3 +1,4 @@
 pub mod Calls
+pub mod CallsInside
 pub mod Generated
 pub mod GeneratedExamples

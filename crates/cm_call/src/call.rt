@@ -4,7 +4,7 @@ ghost use Rattle.std.specs.Prelude.{◌≡◌, ◌<◌, ◌≤◌, option_map, I
 ghost use Rattle.clap.specs.Words.{app_of, first_of, found_of, rule_of};
 ghost use Rattle.clap.specs.Walk.{rows_of};
 ghost use Rattle.clap.specs.Faults.{is_simple_and_free};
-ghost use Rattle.cm_call.specs.Calls.{Gives, IsPossible, Parses};
+ghost use Rattle.cm_call.specs.CallsInside.{GivesCall, IsPossible, Parses};
 ghost use Rattle.cm_call.specs.Calls as spec;
 
 use clap::builder::ValueParser;
@@ -21,7 +21,7 @@ pub enum Wanted {
         /// Whether it is.
         journal: bool,
     },
-    /// One line that counts the answers, and those to uses that were still there.
+    /// One line that counts the answers, and those to uses that were cache hits.
     Summary {
         /// So many instances the script is for.
         instances: usize,
@@ -247,7 +247,7 @@ fn has_flag(matches: &ArgMatches<'_>, id: &str) -> bool
 }
 
 fn copy_at(alloc: Global, matches: &ArgMatches<'_>, id: &str) -> Result<Option<Text>, WordsFault>
-    ensures { Gives result (Ok (first_of id.now (rows_of (found_of matches.now)))) }
+    ensures { GivesCall result (Ok (first_of id.now (rows_of (found_of matches.now)))) }
 {
     match text_at(matches, id) {
         None => Ok(None),
@@ -257,7 +257,7 @@ fn copy_at(alloc: Global, matches: &ArgMatches<'_>, id: &str) -> Result<Option<T
 
 /// The number at `id`, if it lies from low to high.
 fn number_at(matches: &ArgMatches<'_>, id: &str, low: u64, high: u64) -> Result<u64, WordsFault>
-    ensures gives { Gives result
+    ensures gives { GivesCall result
         (spec.number_in low high (first_of id.now (rows_of (found_of matches.now)))) }
     ensures within { IfOk result (λ number. (low ≤ number) × (number ≤ high)) }
 {
@@ -269,7 +269,7 @@ fn number_at(matches: &ArgMatches<'_>, id: &str, low: u64, high: u64) -> Result<
 
 /// The number that the text is, if it lies from low to high.
 fn number_in(text: &str, low: u64, high: u64) -> Result<u64, WordsFault>
-    ensures gives { Gives result (spec.number_in low high (Some text.now)) }
+    ensures gives { GivesCall result (spec.number_in low high (Some text.now)) }
     ensures within { IfOk result (λ number. (low ≤ number) × (number ≤ high)) }
 {
     let number = match text.parse::<u64>() {
@@ -283,7 +283,7 @@ fn number_in(text: &str, low: u64, high: u64) -> Result<u64, WordsFault>
 }
 
 fn options_of(alloc: Global, matches: &ArgMatches<'_>) -> Result<RunOptions, WordsFault>
-    ensures { Gives result (Ok (spec.options_in (rows_of (found_of matches.now)))) }
+    ensures { GivesCall result (Ok (spec.options_in (rows_of (found_of matches.now)))) }
 {
     let journal = has_flag(matches, "journal");
     let repository = copy_at(alloc, matches, "repo")?;
@@ -295,7 +295,7 @@ fn options_of(alloc: Global, matches: &ArgMatches<'_>) -> Result<RunOptions, Wor
 
 /// What the words behind `run` ask for.
 fn read_run(alloc: Global, words: &[Text]) -> Result<Call, WordsFault>
-    ensures gives { Gives result (spec.run_words words.now) }
+    ensures gives { GivesCall result (spec.run_words words.now) }
     ensures possible { IfOk result IsPossible }
 {
     let matches = parsed(run_command(alloc)?, words)?;
@@ -304,7 +304,7 @@ fn read_run(alloc: Global, words: &[Text]) -> Result<Call, WordsFault>
 
 /// What the words behind the name of a report ask for, which is that report.
 fn read_report(alloc: Global, wanted: Wanted, words: &[Text]) -> Result<Call, WordsFault>
-    ensures gives { Gives result (spec.report_words wanted words.now) }
+    ensures gives { GivesCall result (spec.report_words wanted words.now) }
     ensures possible { IfOk result IsPossible }
 {
     let matches = parsed(report_command(alloc)?, words)?;
@@ -314,7 +314,7 @@ fn read_report(alloc: Global, wanted: Wanted, words: &[Text]) -> Result<Call, Wo
 
 /// What the words behind `check` ask for.
 fn read_check(alloc: Global, words: &[Text]) -> Result<Call, WordsFault>
-    ensures gives { Gives result (spec.check_words words.now) }
+    ensures gives { GivesCall result (spec.check_words words.now) }
     ensures possible { IfOk result IsPossible }
 {
     let _matches = parsed(check_command(alloc), words)?;
@@ -323,7 +323,7 @@ fn read_check(alloc: Global, words: &[Text]) -> Result<Call, WordsFault>
 
 /// What the words behind `audit` ask for.
 fn read_audit(alloc: Global, words: &[Text]) -> Result<Call, WordsFault>
-    ensures gives { Gives result (spec.audit_words words.now) }
+    ensures gives { GivesCall result (spec.audit_words words.now) }
     ensures possible { IfOk result IsPossible }
 {
     let _matches = parsed(audit_command(alloc), words)?;
@@ -333,7 +333,7 @@ fn read_audit(alloc: Global, words: &[Text]) -> Result<Call, WordsFault>
 /// The workload that a parse asks for.
 #[tactic(auto, unfolding(crate::specs::Calls::workload_in))]
 fn workload_of(matches: &ArgMatches<'_>) -> Result<Call, WordsFault>
-    ensures gives { Gives result (spec.workload_in (rows_of (found_of matches.now))) }
+    ensures gives { GivesCall result (spec.workload_in (rows_of (found_of matches.now))) }
     ensures possible { IfOk result IsPossible }
 {
     let seed = number_at(matches, "seed", 0, 2_147_483_647)?;
@@ -347,7 +347,7 @@ fn workload_of(matches: &ArgMatches<'_>) -> Result<Call, WordsFault>
 /// What the words behind `generate` ask for.
 #[tactic(auto, unfolding(crate::specs::Calls::generate_words))]
 fn read_generate(alloc: Global, words: &[Text]) -> Result<Call, WordsFault>
-    ensures gives { Gives result (spec.generate_words words.now) }
+    ensures gives { GivesCall result (spec.generate_words words.now) }
     ensures possible { IfOk result IsPossible }
 {
     let matches = parsed(generate_command(alloc)?, words)?;
@@ -356,7 +356,7 @@ fn read_generate(alloc: Global, words: &[Text]) -> Result<Call, WordsFault>
 
 /// The text at `id`, which has to be there.
 fn needed_at(alloc: Global, matches: &ArgMatches<'_>, id: &str) -> Result<Text, WordsFault>
-    ensures { Gives result (spec.text_in (first_of id.now (rows_of (found_of matches.now)))) }
+    ensures { GivesCall result (spec.text_in (first_of id.now (rows_of (found_of matches.now)))) }
 {
     let Some(text) = text_at(matches, id) else {
         return Err(WordsFault::Usage);
@@ -367,7 +367,7 @@ fn needed_at(alloc: Global, matches: &ArgMatches<'_>, id: &str) -> Result<Text, 
 /// The number at `id`, if it lies from 1 to high, or the other one where none is there.
 fn count_at(matches: &ArgMatches<'_>, id: &str, other: u64, high: u64) -> Result<u64, WordsFault>
     requires { (0 < other) × (other ≤ high) }
-    ensures gives { Gives result
+    ensures gives { GivesCall result
         (spec.number_or other 1 high (first_of id.now (rows_of (found_of matches.now)))) }
     ensures within { IfOk result (λ number. (0 < number) × (number ≤ high)) }
 {
@@ -380,7 +380,7 @@ fn count_at(matches: &ArgMatches<'_>, id: &str, other: u64, high: u64) -> Result
 /// What a parse asks to serve.
 #[tactic(auto, unfolding(crate::specs::Calls::serving_in))]
 fn serving_of(alloc: Global, matches: &ArgMatches<'_>) -> Result<Call, WordsFault>
-    ensures gives { Gives result (spec.serving_in (rows_of (found_of matches.now))) }
+    ensures gives { GivesCall result (spec.serving_in (rows_of (found_of matches.now))) }
     ensures possible { IfOk result IsPossible }
 {
     let socket = needed_at(alloc, matches, "socket")?;
@@ -400,7 +400,7 @@ fn serving_of(alloc: Global, matches: &ArgMatches<'_>) -> Result<Call, WordsFaul
 /// What the words behind `serve` ask for.
 #[tactic(auto, unfolding(crate::specs::Calls::serve_words))]
 fn read_serve(alloc: Global, words: &[Text]) -> Result<Call, WordsFault>
-    ensures gives { Gives result (spec.serve_words words.now) }
+    ensures gives { GivesCall result (spec.serve_words words.now) }
     ensures possible { IfOk result IsPossible }
 {
     let matches = parsed(serve_command(alloc)?, words)?;
@@ -417,7 +417,7 @@ fn read_serve(alloc: Global, words: &[Text]) -> Result<Call, WordsFault>
 /// further words; `Err(Memory)` where memory runs out. The words are this project's own choice.
 #[tactic(auto, unfolding(crate::specs::Calls::words_of))]
 pub fn read_words(alloc: Global, words: &[Text]) -> Result<Call, WordsFault>
-    ensures gives { Gives result (spec.words_of words.now) }
+    ensures gives { GivesCall result (spec.words_of words.now) }
     ensures possible { IfOk result IsPossible }
 {
     let Some((word, others)) = words.split_first() else {

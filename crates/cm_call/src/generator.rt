@@ -14,7 +14,7 @@ use cm_names::{Availability, Bytes, CapPath, Dependency, List, Memory, Name, Tex
 use cm_read::write_decl;
 use std::alloc::Global;
 
-/// A name, where the text is one; want of memory else, which the generator's own never are.
+/// A name, where the text is one; lack of memory else, which the generator's own never are.
 fn read_name(alloc: Global, text: &Text) -> Result<Name, Memory>
     ensures { IfOk result (λ name. name ≡ text.now) }
 {

@@ -2,7 +2,7 @@
 
 ghost use Rattle.std.specs.Prelude.{◌≡◌, ◌≤◌, ◌<◌, ◌^◌, [], ◌∷◌, All, IfOk, length, map};
 ghost use Rattle.std.specs.List.{range_with_len};
-ghost use Rattle.cm_call.specs.Calls.{IsWorkload};
+ghost use Rattle.cm_call.specs.CallsInside.{IsWorkload};
 ghost use Rattle.cm_call.specs.Generated as spec;
 
 use crate::call::Workload;

@@ -1,3 +1,4 @@
+-- Inside.
 -- The words that may stand behind the origin of a group.
 use Rattle.std.specs.Prelude.{◌≡◌, ℕ, ◌≤◌, List, ◌++◌, codes, IsTrue}
 use Rattle.cm_names.specs.Name.{IsName}

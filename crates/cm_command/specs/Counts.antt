@@ -1,23 +1,24 @@
--- How many fronts of a text a text of some kind begins with.
+-- Inside.
+-- How many prefixes of a text a text of some kind begins with.
 use Rattle.std.specs.Prelude.{◌≡◌, ℕ, ◌+◌, ◌<◌, ◌≤◌, ◌^◌, max, List, length, take}
-use Rattle.cm_names.specs.Fronts.{Begins}
+use Rattle.cm_names.specs.Prefixes.{HasCompletion}
 use Rattle.cm_command.specs.declared.tokens.WordFault.{WordFault}
 use Rattle.cm_command.specs.declared.tokens.WordFault.TheVariants.{Bad, Memory}
 
--- the fronts of the text that some text of the kind begins with are its first n, the empty one among them
-pub record CountsFronts (P : List ℕ → Type 0) (t : List ℕ) (n : ℕ) : Type 0 where
+-- the prefixes of the text that some text of the kind begins with are its first n, the empty one among them
+pub record CountsPrefixes (P : List ℕ → Type 0) (t : List ℕ) (n : ℕ) : Type 0 where
   pub within : n ≤ length t + 1
-  pub begins : (i : ℕ) → n ≡ i + 1 → Begins P (take i t)
-  pub stops : n ≤ length t → Begins P (take n t) → ⊥
+  pub begins : (i : ℕ) → n ≡ i + 1 → HasCompletion P (take i t)
+  pub stops : n ≤ length t → HasCompletion P (take n t) → ⊥
 
--- the fault of a word that is none of the kind: how many of its fronts may stand
+-- the fault of a word that is none of the kind: how many of its prefixes may stand
 abbrev pub IsWordFault : (List ℕ → Type 0) → List ℕ → WordFault → Type 0
-IsWordFault P t (Bad n) = (P t → ⊥) × CountsFronts P t n
+IsWordFault P t (Bad n) = (P t → ⊥) × CountsPrefixes P t n
 IsWordFault P t Memory = Unit {0}
 
 -- the same of a reader that takes no memory
 abbrev pub IsSureFault : (List ℕ → Type 0) → List ℕ → WordFault → Type 0
-IsSureFault P t (Bad n) = (P t → ⊥) × CountsFronts P t n
+IsSureFault P t (Bad n) = (P t → ⊥) × CountsPrefixes P t n
 IsSureFault P t Memory = ⊥
 
 -- the fault of a word behind so many bytes

@@ -1,3 +1,4 @@
+-- Promised.
 -- How the faults of scripts are written.
 use Rattle.std.specs.Prelude.{ℕ, List, ◌++◌, codes, decimal}
 use Rattle.cm_command.specs.declared.fault.ScriptNumber.{ScriptNumber}

@@ -1,3 +1,4 @@
+-- Promised.
 -- Which line is which command.
 use Rattle.std.specs.Prelude.{◌≡◌, ℕ, ◌+◌, ◌<◌, ◌≤◌, ◌^◌, List, [], ◌∷◌, ◌++◌, codes, Some, None, IsTrue}
 use Rattle.cm_names.specs.declared.availability.Availability.TheVariants as availability
@@ -5,7 +6,7 @@ use Rattle.cm_names.specs.declared.dependency.Dependency.TheVariants as dependen
 use Rattle.cm_names.specs.Name.{IsName}
 use Rattle.cm_names.specs.Path.{is_path, is_subdir, service_path}
 use Rattle.cm_names.specs.Rights.{RightSet}
-use Rattle.cm_names.specs.Fronts.{IsLongestFront}
+use Rattle.cm_names.specs.Prefixes.{IsLongestPrefix}
 use Rattle.cm_decl.specs.declared.kind.Kind.{Kind}
 use Rattle.cm_decl.specs.declared.kind.Kind.TheVariants as kind
 use Rattle.cm_decl.specs.declared.origin.Origin.{Origin}
@@ -21,11 +22,11 @@ use Rattle.cm_command.specs.Numbers.{IsNumberText}
 use Rattle.cm_command.specs.Words.{words_of, IsUrlText, IsTargetText, IsOriginText, IsRightsText}
 
 -- bytes
-abbrev pub Text : Type 0
-Text = List ℕ
+abbrev pub LineBytes : Type 0
+LineBytes = List ℕ
 
 -- what a group gives that has no word behind its origin: all else is the default
-abbrev pub plain_give : Kind → Text → Origin → Give
+abbrev pub plain_give : Kind → LineBytes → Origin → Give
 plain_give kind name origin = record {
   kind = kind;
   source_name = name;
@@ -38,103 +39,111 @@ plain_give kind name origin = record {
 }
 
 -- the word, which is the n-th in the order of what a group may add, makes the first give the second
-pub data Adds : ℕ → Text → Give → Give → Type 0 where
-  target : {name : Text} {g : Give} → IsName name
-      → Adds 0 (codes "as=" ++ name) g (record g { target_name = name })
-  rights : {w : Text} {r : RightSet} {g : Give} → g.kind ≡ kind.Directory → IsRightsText w r
-      → Adds 1 (codes "rights=" ++ w) g (record g { rights = Some r })
-  subdir : {w : Text} {g : Give} → g.kind ≡ kind.Directory → IsTrue (is_subdir w)
-      → Adds 2 (codes "subdir=" ++ w) g (record g { subdir = Some w })
-  weak : {g : Give} → Adds 3 (codes "weak") g (record g { dependency = dependency.Weak })
-  optional : {g : Give} → Adds 4 (codes "optional") g (record g { availability = availability.Optional })
+pub data AddsWord : ℕ → LineBytes → Give → Give → Type 0 where
+  target : {name : LineBytes} {g : Give} → IsName name
+      → AddsWord 0 (codes "as=" ++ name) g (record g { target_name = name })
+  rights : {w : LineBytes} {r : RightSet} {g : Give} → g.kind ≡ kind.Directory → IsRightsText w r
+      → AddsWord 1 (codes "rights=" ++ w) g (record g { rights = Some r })
+  subdir : {w : LineBytes} {g : Give} → g.kind ≡ kind.Directory → IsTrue (is_subdir w)
+      → AddsWord 2 (codes "subdir=" ++ w) g (record g { subdir = Some w })
+  weak : {g : Give} → AddsWord 3 (codes "weak") g (record g { dependency = dependency.Weak })
+  optional : {g : Give} → AddsWord 4 (codes "optional") g (record g { availability = availability.Optional })
   transitional : {g : Give}
-      → Adds 4 (codes "transitional") g (record g { availability = availability.Transitional })
+      → AddsWord 4 (codes "transitional") g (record g { availability = availability.Transitional })
   same_as_target : {g : Give}
-      → Adds 4 (codes "same_as_target") g (record g { availability = availability.SameAsTarget })
+      → AddsWord 4 (codes "same_as_target") g (record g { availability = availability.SameAsTarget })
 
 mutual
   -- groups, each of which begins with the word `+`
-  pub data Groups : List Text → List Give → Type 0 where
+  pub data Groups : List LineBytes → List Give → Type 0 where
     no_group : Groups [] []
-    group : {k : Kind} {name from : Text} {origin : Origin} {ws : List Text} {gs : List Give} → IsName name
-        → IsOriginText from origin → Behind 0 (plain_give k name origin) ws gs
+    group : {k : Kind} {name from : LineBytes} {origin : Origin} {ws : List LineBytes} {gs : List Give}
+        → IsName name
+        → IsOriginText from origin → HasAdditions 0 (plain_give k name origin) ws gs
         → Groups (codes "+" ∷ kind_word k ∷ name ∷ from ∷ ws) gs
 
   -- what stands behind a group's origin: additions from the n-th on, each once at most and in
   -- their order, and further groups
-  pub data Behind : ℕ → Give → List Text → List Give → Type 0 where
-    whole : {n : ℕ} {g : Give} {ws : List Text} {gs : List Give} → Groups ws gs → Behind n g ws (g ∷ gs)
-    addition : {n m : ℕ} {g h : Give} {w : Text} {ws : List Text} {gs : List Give} → n ≤ m → Adds m w g h
-        → Behind (m + 1) h ws gs → Behind n g (w ∷ ws) gs
+  pub data HasAdditions : ℕ → Give → List LineBytes → List Give → Type 0 where
+    whole : {n : ℕ} {g : Give} {ws : List LineBytes} {gs : List Give} → Groups ws gs
+        → HasAdditions n g ws (g ∷ gs)
+    addition : {n m : ℕ} {g h : Give} {w : LineBytes} {ws : List LineBytes} {gs : List Give} → n ≤ m
+        → AddsWord m w g h
+        → HasAdditions (m + 1) h ws gs → HasAdditions n g (w ∷ ws) gs
 
 -- the commands, each with its words
-pub data CommandWords : List Text → Command → Type 0 where
-  resolve : {t : Text} {a : Target} → IsTargetText t a
+pub data CommandWords : List LineBytes → Command → Type 0 where
+  resolve : {t : LineBytes} {a : Target} → IsTargetText t a
       → CommandWords (codes "resolve" ∷ t ∷ []) (command.Resolve a)
-  start : {t : Text} {a : Target} → IsTargetText t a → CommandWords (codes "start" ∷ t ∷ []) (command.Start a)
-  stop : {t : Text} {a : Target} → IsTargetText t a → CommandWords (codes "stop" ∷ t ∷ []) (command.Stop a)
-  shutdown : {t : Text} {a : Target} → IsTargetText t a
+  start : {t : LineBytes} {a : Target} → IsTargetText t a
+      → CommandWords (codes "start" ∷ t ∷ []) (command.Start a)
+  stop : {t : LineBytes} {a : Target} → IsTargetText t a
+      → CommandWords (codes "stop" ∷ t ∷ []) (command.Stop a)
+  shutdown : {t : LineBytes} {a : Target} → IsTargetText t a
       → CommandWords (codes "shutdown" ∷ t ∷ []) (command.Shutdown a)
-  create : {t coll name url : Text} {a : Target} {ws : List Text} {gives : List Give} → IsTargetText t a
+  create : {t coll name url : LineBytes} {a : Target} {ws : List LineBytes} {gives : List Give}
+      → IsTargetText t a
       → IsName coll → IsName name → IsUrlText url → Groups ws gives
       → CommandWords (codes "create" ∷ t ∷ coll ∷ name ∷ url ∷ ws) (command.Create a coll name url gives)
-  destroy : {t : Text} {a : Target} → IsTargetText t a
+  destroy : {t : LineBytes} {a : Target} → IsTargetText t a
       → CommandWords (codes "destroy" ∷ t ∷ []) (command.Destroy a)
-  list : {t coll : Text} {a : Target} → IsTargetText t a → IsName coll
+  list : {t coll : LineBytes} {a : Target} → IsTargetText t a → IsName coll
       → CommandWords (codes "list" ∷ t ∷ coll ∷ []) (command.ListChildren a coll)
-  open_use : {t path : Text} {a : Target} → IsTargetText t a → IsTrue (is_path path)
+  open_use : {t path : LineBytes} {a : Target} → IsTargetText t a → IsTrue (is_path path)
       → CommandWords (codes "open" ∷ t ∷ path ∷ []) (command.OpenUse a path)
-  open_exposed : {t name : Text} {a : Target} → IsTargetText t a → IsName name
+  open_exposed : {t name : LineBytes} {a : Target} → IsTargetText t a → IsName name
       → CommandWords (codes "open-exposed" ∷ t ∷ name ∷ []) (command.OpenExposed a name)
-  route_of : {t path : Text} {a : Target} → IsTargetText t a → IsTrue (is_path path)
+  route_of : {t path : LineBytes} {a : Target} → IsTargetText t a → IsTrue (is_path path)
       → CommandWords (codes "route" ∷ t ∷ path ∷ []) (command.RouteOf a path)
-  doctor : {t : Text} {a : Target} → IsTargetText t a
+  doctor : {t : LineBytes} {a : Target} → IsTargetText t a
       → CommandWords (codes "doctor" ∷ t ∷ []) (command.Doctor a)
-  show : {t : Text} {a : Target} → IsTargetText t a → CommandWords (codes "show" ∷ t ∷ []) (command.Show a)
-  survey : {t : Text} {a : Target} → IsTargetText t a
+  show : {t : LineBytes} {a : Target} → IsTargetText t a
+      → CommandWords (codes "show" ∷ t ∷ []) (command.Show a)
+  survey : {t : LineBytes} {a : Target} → IsTargetText t a
       → CommandWords (codes "survey" ∷ t ∷ []) (command.Survey a)
-  exited : {t : Text} {a : Target} → IsTargetText t a
+  exited : {t : LineBytes} {a : Target} → IsTargetText t a
       → CommandWords (codes "exited" ∷ t ∷ []) (command.Exited a)
-  events : {t from : Text} {a : Target} {n : ℕ} → IsTargetText t a → IsNumberText from n → n < 2 ^ 64
+  events : {t from : LineBytes} {a : Target} {n : ℕ} → IsTargetText t a → IsNumberText from n → n < 2 ^ 64
       → CommandWords (codes "events" ∷ t ∷ from ∷ []) (command.Events a n)
 
 -- the line asks for that command
-abbrev pub CommandText : Text → Command → Type 0
+abbrev pub CommandText : LineBytes → Command → Type 0
 CommandText t c = CommandWords (words_of t) c
 
 -- the line asks for some command
-abbrev pub IsCommandText : Text → Type 0
+abbrev pub IsCommandText : LineBytes → Type 0
 IsCommandText t = (c : Command) × CommandText t c
 
 -- the fault of a line that asks for none
-abbrev pub IsCommandFault : Text → CommandFault → Type 0
-IsCommandFault t (BadCommand n) = (IsCommandText t → ⊥) × IsLongestFront IsCommandText t n
+abbrev pub IsCommandFault : LineBytes → CommandFault → Type 0
+IsCommandFault t (BadCommand n) = (IsCommandText t → ⊥) × IsLongestPrefix IsCommandText t n
 IsCommandFault t Memory = ⊥
 
 -- the words behind `builtin`; a protocol's path is `/svc/` and its name
-pub data BuiltinWords : List Text → Builtin → Type 0 where
-  protocol : {name : Text} → IsName name
+pub data BuiltinWords : List LineBytes → Builtin → Type 0 where
+  protocol : {name : LineBytes} → IsName name
       → BuiltinWords (codes "protocol" ∷ name ∷ [])
       (record { kind = kind.Protocol; name = name; path = service_path name; rights = None })
-  directory : {name path w : Text} {r : RightSet} → IsName name → IsTrue (is_path path) → IsRightsText w r
+  directory : {name path w : LineBytes} {r : RightSet} → IsName name → IsTrue (is_path path)
+      → IsRightsText w r
       → BuiltinWords (codes "directory" ∷ name ∷ path ∷ w ∷ [])
       (record { kind = kind.Directory; name = name; path = path; rights = Some r })
 
 -- what stands behind `builtin ` says that there is that capability
-abbrev pub BuiltinText : Text → Builtin → Type 0
+abbrev pub BuiltinText : LineBytes → Builtin → Type 0
 BuiltinText t b = BuiltinWords (words_of t) b
 
 -- what stands there says that there is some capability
-abbrev pub IsBuiltinText : Text → Type 0
+abbrev pub IsBuiltinText : LineBytes → Type 0
 IsBuiltinText t = (b : Builtin) × BuiltinText t b
 
 -- what stands there says no such thing
-abbrev pub IsBuiltinFault : Text → CommandFault → Type 0
-IsBuiltinFault t (BadCommand n) = (IsBuiltinText t → ⊥) × IsLongestFront IsBuiltinText t n
+abbrev pub IsBuiltinFault : LineBytes → CommandFault → Type 0
+IsBuiltinFault t (BadCommand n) = (IsBuiltinText t → ⊥) × IsLongestPrefix IsBuiltinText t n
 IsBuiltinFault t Memory = ⊥
 
 -- ---- laws
 
 -- a line asks for one command at most
-abbrev pub ReadsOneWay : Type 0
-ReadsOneWay = (t : Text) (c d : Command) → CommandText t c → CommandText t d → c ≡ d
+abbrev pub LinesReadOneWay : Type 0
+LinesReadOneWay = (t : LineBytes) (c d : Command) → CommandText t c → CommandText t d → c ≡ d

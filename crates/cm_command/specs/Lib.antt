@@ -1,12 +1,16 @@
 pub mod Numbers
+pub mod NumbersInside
 pub mod Words
+pub mod WordsInside
 pub mod Grammar
 pub mod Counts
 pub mod PathPlaces
 pub mod Additions
 pub mod Pieces
 pub mod Written
+pub mod WrittenInside
 pub mod FaultText
 pub mod Scripts
+pub mod ScriptsInside
 pub mod Laws
 pub mod Places

@@ -1,5 +1,6 @@
+-- Promised.
 -- How numbers are written.
-use Rattle.std.specs.Prelude.{◌≡◌, ℕ, ◌+◌, ◌-◌, ◌*◌, ◌<◌, ◌^◌, List, [], ◌∷◌, Bool, ◌&&◌, nat_le, All, IsTrue}
+use Rattle.std.specs.Prelude.{◌≡◌, ℕ, ◌+◌, ◌-◌, ◌*◌, List, [], ◌∷◌, Bool, ◌&&◌, nat_le, All, IsTrue}
 
 -- a decimal digit
 abbrev pub is_digit : ℕ → Bool
@@ -18,7 +19,3 @@ IsDecimal (d ∷ ds) = IsTrue (is_digit d) × All (λ b. IsTrue (is_digit b)) ds
 -- the text of the number n
 abbrev pub IsNumberText : List ℕ → ℕ → Type 0
 IsNumberText t n = IsDecimal t × (value_behind 0 t ≡ n)
-
--- the text of some number of 64 bits
-abbrev pub IsNumber : List ℕ → Type 0
-IsNumber t = (n : ℕ) × IsNumberText t n × (n < 2 ^ 64)

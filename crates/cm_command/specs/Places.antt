@@ -1,3 +1,4 @@
+-- Inside.
 -- Where a line stands behind some of its words: which word leads on, and to what.
 use Rattle.std.specs.Prelude.{◌≡◌, ◌⊎◌, ℕ, ◌+◌, ◌-◌, ◌<◌, ◌≤◌, ◌^◌, List, [], ◌∷◌, ◌++◌, codes}
 use Rattle.std.specs.Prelude.{Some, None, Result, MatchResult, IsTrue}
@@ -15,23 +16,23 @@ use Rattle.cm_command.specs.declared.command.Command.{Command}
 use Rattle.cm_command.specs.declared.command.Command.TheVariants as command
 use Rattle.cm_command.specs.declared.place.Verb.{Verb}
 use Rattle.cm_command.specs.declared.place.Verb.TheVariants as verb
-use Rattle.cm_command.specs.declared.place.Sentence.{Sentence}
-use Rattle.cm_command.specs.declared.place.Sentence.TheVariants as sentence
+use Rattle.cm_command.specs.declared.place.ParsedLine.{ParsedLine}
+use Rattle.cm_command.specs.declared.place.ParsedLine.TheVariants as sentence
 use Rattle.cm_command.specs.declared.place.Creation.{Creation}
-use Rattle.cm_command.specs.declared.place.Place.{Place}
-use Rattle.cm_command.specs.declared.place.Place.TheVariants as place
+use Rattle.cm_command.specs.declared.place.LineState.{LineState}
+use Rattle.cm_command.specs.declared.place.LineState.TheVariants as place
 use Rattle.cm_command.specs.declared.tokens.WordFault.{WordFault}
 use Rattle.cm_command.specs.declared.tokens.WordFault.TheVariants as word_fault
 use Rattle.cm_command.specs.declared.command.CommandFault.{CommandFault}
 use Rattle.cm_command.specs.declared.command.CommandFault.TheVariants as command_fault
 use Rattle.cm_command.specs.Counts.{IsWordFault}
 use Rattle.cm_command.specs.Numbers.{IsNumberText}
-use Rattle.cm_command.specs.Pieces.{Leads, Wants}
+use Rattle.cm_command.specs.Pieces.{PiecesLead, Wants}
 use Rattle.cm_command.specs.Words.{words_of, IsUrlText, IsTargetText, IsOriginText, IsRightsText}
-use Rattle.cm_command.specs.Grammar.{Text, Adds, plain_give}
+use Rattle.cm_command.specs.Grammar.{LineBytes, AddsWord, plain_give}
 
 -- the word of a verb
-abbrev pub verb_word : Verb → Text
+abbrev pub verb_word : Verb → LineBytes
 verb_word verb.Resolve = codes "resolve"
 verb_word verb.Start = codes "start"
 verb_word verb.Stop = codes "stop"
@@ -55,19 +56,19 @@ verbs =
     ∷ verb.OpenExposed ∷ verb.Route ∷ verb.Doctor ∷ verb.Show ∷ verb.Survey ∷ verb.Exited ∷ verb.Events ∷ []
 
 -- the word of some verb
-abbrev pub IsVerbWord : Text → Type 0
+abbrev pub IsVerbWord : LineBytes → Type 0
 IsVerbWord w = (v : Verb) × (w ≡ verb_word v)
 
 -- the word of some kind
-abbrev pub IsKindWord : Text → Type 0
+abbrev pub IsKindWord : LineBytes → Type 0
 IsKindWord w = (k : Kind) × (w ≡ kind_word k)
 
 -- the place behind the words of a command
-abbrev pub asks : Command → Place
+abbrev pub asks : Command → LineState
 asks c = place.Whole (sentence.Command c)
 
 -- the place behind a verb and its target
-abbrev pub behind_target : Verb → Target → Place
+abbrev pub behind_target : Verb → Target → LineState
 behind_target verb.Resolve a = asks (command.Resolve a)
 behind_target verb.Start a = asks (command.Start a)
 behind_target verb.Stop a = asks (command.Stop a)
@@ -85,29 +86,29 @@ behind_target verb.Exited a = asks (command.Exited a)
 behind_target verb.Events a = place.Streaming a
 
 -- a builtin protocol, whose path is that of its name
-abbrev pub protocol_of : Text → Builtin
+abbrev pub protocol_of : LineBytes → Builtin
 protocol_of name = record { kind = kind.Protocol; name = name; path = service_path name; rights = None }
 
 -- a builtin directory
-abbrev pub directory_of : Text → Text → RightSet → Builtin
+abbrev pub directory_of : LineBytes → LineBytes → RightSet → Builtin
 directory_of name path r = record { kind = kind.Directory; name = name; path = path; rights = Some r }
 
 -- the place behind the words of a builtin capability
-abbrev pub provides : Builtin → Place
+abbrev pub provides : Builtin → LineState
 provides b = place.Whole (sentence.Builtin b)
 
 -- the place behind the name of a builtin capability
-abbrev pub behind_builtin : Kind → Text → Place
+abbrev pub behind_builtin : Kind → LineBytes → LineState
 behind_builtin kind.Protocol name = provides (protocol_of name)
 behind_builtin kind.Directory name = place.BuiltinPath name
 
 -- the place behind a child's URL
-abbrev pub create : Target → Text → Text → Text → Place
+abbrev pub create : Target → LineBytes → LineBytes → LineBytes → LineState
 create parent coll name url =
     place.Groups (record { parent = parent; coll = coll; name = name; url = url; gives = [] })
 
 -- the place behind the origin of what a group gives: all else is the default
-abbrev pub give : Creation → Kind → Text → Origin → Place
+abbrev pub give : Creation → Kind → LineBytes → Origin → LineState
 give c kind name origin = place.Additions c (plain_give kind name origin) 0
 
 -- a creation with one give more
@@ -115,61 +116,62 @@ abbrev pub with_give : Creation → Give → Creation
 with_give c g = record c { gives = c.gives ++ g ∷ [] }
 
 -- the word leads from the first place to the second
-abbrev pub Steps : Place → Text → Place → Type 0
-Steps place.Start w p = (v : Verb) × (w ≡ verb_word v) × (p ≡ place.Verb v)
-Steps (place.Verb v) w p = (a : Target) × IsTargetText w a × (p ≡ behind_target v a)
-Steps (place.Listing a) w p = IsName w × (p ≡ asks (command.ListChildren a w))
-Steps (place.Opening a) w p = IsTrue (is_path w) × (p ≡ asks (command.OpenUse a w))
-Steps (place.OpeningExposed a) w p = IsName w × (p ≡ asks (command.OpenExposed a w))
-Steps (place.Routing a) w p = IsTrue (is_path w) × (p ≡ asks (command.RouteOf a w))
-Steps (place.Streaming a) w p = (n : ℕ) × IsNumberText w n × (n < 2 ^ 64) × (p ≡ asks (command.Events a n))
-Steps (place.Creating a) w p = IsName w × (p ≡ place.CreatingIn a w)
-Steps (place.CreatingIn a coll) w p = IsName w × (p ≡ place.CreatingNamed a coll w)
-Steps (place.CreatingNamed a coll name) w p = IsUrlText w × (p ≡ create a coll name w)
-Steps (place.Groups c) w p = (w ≡ codes "+") × (p ≡ place.GroupKind c)
-Steps (place.GroupKind c) w p = (k : Kind) × (w ≡ kind_word k) × (p ≡ place.GroupName c k)
-Steps (place.GroupName c k) w p = IsName w × (p ≡ place.GroupFrom c k w)
-Steps (place.GroupFrom c k name) w p = (o : Origin) × IsOriginText w o × (p ≡ give c k name o)
-Steps (place.Additions c g n) w p =
+abbrev pub WordLeads : LineState → LineBytes → LineState → Type 0
+WordLeads place.Start w p = (v : Verb) × (w ≡ verb_word v) × (p ≡ place.Verb v)
+WordLeads (place.Verb v) w p = (a : Target) × IsTargetText w a × (p ≡ behind_target v a)
+WordLeads (place.Listing a) w p = IsName w × (p ≡ asks (command.ListChildren a w))
+WordLeads (place.Opening a) w p = IsTrue (is_path w) × (p ≡ asks (command.OpenUse a w))
+WordLeads (place.OpeningExposed a) w p = IsName w × (p ≡ asks (command.OpenExposed a w))
+WordLeads (place.Routing a) w p = IsTrue (is_path w) × (p ≡ asks (command.RouteOf a w))
+WordLeads (place.Streaming a) w p = (n : ℕ) × IsNumberText w n × (n < 2 ^ 64)
+    × (p ≡ asks (command.Events a n))
+WordLeads (place.Creating a) w p = IsName w × (p ≡ place.CreatingIn a w)
+WordLeads (place.CreatingIn a coll) w p = IsName w × (p ≡ place.CreatingNamed a coll w)
+WordLeads (place.CreatingNamed a coll name) w p = IsUrlText w × (p ≡ create a coll name w)
+WordLeads (place.Groups c) w p = (w ≡ codes "+") × (p ≡ place.GroupKind c)
+WordLeads (place.GroupKind c) w p = (k : Kind) × (w ≡ kind_word k) × (p ≡ place.GroupName c k)
+WordLeads (place.GroupName c k) w p = IsName w × (p ≡ place.GroupFrom c k w)
+WordLeads (place.GroupFrom c k name) w p = (o : Origin) × IsOriginText w o × (p ≡ give c k name o)
+WordLeads (place.Additions c g n) w p =
     ((w ≡ codes "+") × (p ≡ place.GroupKind (with_give c g)))
-    ⊎ ((m : ℕ) × (h : Give) × (n ≤ m) × Adds m w g h × (p ≡ place.Additions c h (m + 1)))
-Steps place.BuiltinKind w p = (k : Kind) × (w ≡ kind_word k) × (p ≡ place.BuiltinName k)
-Steps (place.BuiltinName k) w p = IsName w × (p ≡ behind_builtin k w)
-Steps (place.BuiltinPath name) w p = IsTrue (is_path w) × (p ≡ place.BuiltinRights name w)
-Steps (place.BuiltinRights name path) w p =
+    ⊎ ((m : ℕ) × (h : Give) × (n ≤ m) × AddsWord m w g h × (p ≡ place.Additions c h (m + 1)))
+WordLeads place.BuiltinKind w p = (k : Kind) × (w ≡ kind_word k) × (p ≡ place.BuiltinName k)
+WordLeads (place.BuiltinName k) w p = IsName w × (p ≡ behind_builtin k w)
+WordLeads (place.BuiltinPath name) w p = IsTrue (is_path w) × (p ≡ place.BuiltinRights name w)
+WordLeads (place.BuiltinRights name path) w p =
     (r : RightSet) × IsRightsText w r × (p ≡ provides (directory_of name path r))
-Steps (place.Whole s) w p = ⊥
+WordLeads (place.Whole s) w p = ⊥
 
 -- the command of a creation that is whole
-abbrev pub created : Creation → Sentence
+abbrev pub created : Creation → ParsedLine
 created c = sentence.Command (command.Create c.parent c.coll c.name c.url c.gives)
 
 -- the line may end at the place, and says that
-abbrev pub Ends : Place → Sentence → Type 0
-Ends (place.Groups c) s = s ≡ created c
-Ends (place.Additions c g n) s = s ≡ created (with_give c g)
-Ends (place.Whole t) s = s ≡ t
-Ends _ s = ⊥
+abbrev pub EndsLine : LineState → ParsedLine → Type 0
+EndsLine (place.Groups c) s = s ≡ created c
+EndsLine (place.Additions c g n) s = s ≡ created (with_give c g)
+EndsLine (place.Whole t) s = s ≡ t
+EndsLine _ s = ⊥
 
 -- the words of the text lead from the place to the end of that command
-abbrev pub LeadsTo : Place → Text → Command → Type 0
-LeadsTo p t c = Leads Steps Ends p (words_of t) (sentence.Command c)
+abbrev pub LeadsTo : LineState → LineBytes → Command → Type 0
+LeadsTo p t c = PiecesLead WordLeads EndsLine p (words_of t) (sentence.Command c)
 
 -- where the word leads from the place, or the fault of one that leads nowhere
-abbrev pub StepsFrom : Place → Text → Result Place WordFault → Type 0
-StepsFrom p w r = MatchResult r (λ q. Steps p w q) (λ e. IsWordFault (Wants Steps p) w e)
+abbrev pub StepsFrom : LineState → LineBytes → Result LineState WordFault → Type 0
+StepsFrom p w r = MatchResult r (λ q. WordLeads p w q) (λ e. IsWordFault (Wants WordLeads p) w e)
 
 -- the fault of a line of that length whose words lead to a place where it may not end
-abbrev pub IsUnended : Place → ℕ → WordFault → Type 0
-IsUnended p len (word_fault.Bad n) = ((s : Sentence) → Ends p s → ⊥) × (n ≡ len + 1)
+abbrev pub IsUnended : LineState → ℕ → WordFault → Type 0
+IsUnended p len (word_fault.Bad n) = ((s : ParsedLine) → EndsLine p s → ⊥) × (n ≡ len + 1)
 IsUnended p len word_fault.Memory = Unit {0}
 
--- some front can be completed, and the count stays in 32 bits
+-- some prefix can be completed, and the count stays in 32 bits
 abbrev pub IsShort : WordFault → Type 0
 IsShort (word_fault.Bad n) = (1 ≤ n) × (n ≤ 2 ^ 32)
 IsShort word_fault.Memory = Unit {0}
 
--- the fault of a line, which tells the length of the longest front that can be completed
+-- the fault of a line, which tells the length of the longest prefix that can be completed
 abbrev pub line_fault : WordFault → CommandFault
 line_fault (word_fault.Bad n) = command_fault.BadCommand (n - 1)
 line_fault word_fault.Memory = command_fault.Memory

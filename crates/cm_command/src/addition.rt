@@ -10,7 +10,7 @@ ghost use Rattle.cm_command.specs.Additions.{IsTargetWord};
 ghost use Rattle.cm_command.specs.Counts.{IsWordFault};
 
 use crate::rights::read_rights;
-use crate::tokens::{WordFault, behind, fault_of_either, read_name, read_subdir, text_fronts};
+use crate::tokens::{WordFault, behind, fault_of_either, read_name, read_subdir, text_prefixes};
 use crate::words::{is_same, strip};
 use cm_decl::Kind;
 use cm_names::{Name, Rights, SubDir};
@@ -45,7 +45,7 @@ fn read_literal(word: &[u8], literal: &str) -> Result<(), WordFault>
     if is_same(word, literal) {
         Ok(())
     } else {
-        Err(WordFault::Bad(text_fronts(literal, word)))
+        Err(WordFault::Bad(text_prefixes(literal, word)))
     }
 }
 
@@ -55,7 +55,7 @@ fn read_target(alloc: Global, word: &[u8]) -> Result<Name, WordFault>
         (λ e. IsWordFault (λ t. (name : Seq ℕ) × IsTargetWord t name) word.now e) }
 {
     let Some(name) = strip(word, "as=") else {
-        return Err(WordFault::Bad(text_fronts("as=", word)));
+        return Err(WordFault::Bad(text_prefixes("as=", word)));
     };
     match read_name(alloc, name) {
         Ok(name) => Ok(name),
@@ -69,7 +69,7 @@ fn read_rights_word(alloc: Global, word: &[u8]) -> Result<Rights, WordFault>
         (λ e. IsWordFault (λ t. (rights : RightSet) × IsRightsWord t rights) word.now e) }
 {
     let Some(words) = strip(word, "rights=") else {
-        return Err(WordFault::Bad(text_fronts("rights=", word)));
+        return Err(WordFault::Bad(text_prefixes("rights=", word)));
     };
     match read_rights(alloc, words) {
         Ok(rights) => Ok(rights),
@@ -83,7 +83,7 @@ fn read_subdir_word(alloc: Global, word: &[u8]) -> Result<SubDir, WordFault>
         (λ e. IsWordFault (λ t. (subdir : Seq ℕ) × IsSubdirWord t subdir) word.now e) }
 {
     let Some(subdir) = strip(word, "subdir=") else {
-        return Err(WordFault::Bad(text_fronts("subdir=", word)));
+        return Err(WordFault::Bad(text_prefixes("subdir=", word)));
     };
     match read_subdir(alloc, subdir) {
         Ok(subdir) => Ok(subdir),
@@ -201,7 +201,7 @@ fn from_target(alloc: Global, kind: Kind, word: &[u8]) -> Result<Addition, WordF
 /// rights and a subdirectory stand at directories alone. `+`, which begins another group, is read
 /// whatever the number is.
 ///
-/// `Err(Bad(n))` comes where the word is none of these, with the count of its fronts that one of
+/// `Err(Bad(n))` comes where the word is none of these, with the count of its prefixes that one of
 /// them begins with. `Err(Memory)` comes where memory runs out.
 pub fn read_addition(
     alloc: Global,

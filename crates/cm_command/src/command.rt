@@ -81,7 +81,7 @@ pub enum Command {
 /// Why a line is no command.
 #[derive(Clone, Copy)]
 pub enum CommandFault {
-    /// Number 70: the line is not in the grammar. So many bytes are the longest front of the line
+    /// Number 70: the line is not in the grammar. So many bytes are the longest prefix of the line
     /// that some command begins with.
     BadCommand(u32),
     /// Memory ran out.

@@ -93,7 +93,7 @@ impl Verb {
 
 /// What a whole line says.
 #[derive(Drop)]
-pub enum Sentence {
+pub enum ParsedLine {
     /// It asks for a command.
     Command(Command),
     /// It says that there is a builtin capability.
@@ -117,7 +117,7 @@ pub struct Creation {
 
 /// Where a line stands behind some of its words, and what they have said.
 #[derive(Drop)]
-pub enum Place {
+pub enum LineState {
     /// The verb is next.
     Start,
     /// The target is next.
@@ -157,5 +157,5 @@ pub enum Place {
     /// The directory's rights are next.
     BuiltinRights(Name, CapPath),
     /// The line is whole.
-    Whole(Sentence),
+    Whole(ParsedLine),
 }

@@ -2,13 +2,13 @@
 //! which judges all others, and those that ask for nothing.
 
 ghost use Rattle.std.specs.Prelude.{IfOk, IfSome};
-ghost use Rattle.cm_command.specs.declared.place.Place.TheVariants as place;
-ghost use Rattle.cm_command.specs.declared.place.Sentence.TheVariants as sentence;
+ghost use Rattle.cm_command.specs.declared.place.LineState.TheVariants as place;
+ghost use Rattle.cm_command.specs.declared.place.ParsedLine.TheVariants as sentence;
 ghost use Rattle.cm_command.specs.Grammar.{CommandText};
-ghost use Rattle.cm_command.specs.Places.{Ends, LeadsTo};
+ghost use Rattle.cm_command.specs.Places.{EndsLine, LeadsTo};
 
 use crate::Command;
-use crate::place::{Place, Sentence, Verb};
+use crate::place::{LineState, ParsedLine, Verb};
 use crate::step::{step, take_target, verb_of};
 use crate::tokens::WordFault;
 use crate::words::cut;
@@ -16,11 +16,11 @@ use cm_names::Memory;
 use std::alloc::Global;
 
 /// The command of a line that ends at the place, if the words before it are the whole of one.
-fn said_at(at: Place) -> Option<Command>
-    ensures { IfSome result (λ command. Ends at (sentence.Command command)) }
+fn said_at(at: LineState) -> Option<Command>
+    ensures { IfSome result (λ command. EndsLine at (sentence.Command command)) }
 {
     match at {
-        Place::Whole(Sentence::Command(command)) => Some(command),
+        LineState::Whole(ParsedLine::Command(command)) => Some(command),
         other => {
             drop(other);
             None
@@ -30,7 +30,7 @@ fn said_at(at: Place) -> Option<Command>
 
 /// The command that one word says from the place on, if it is the last one and leads to a whole
 /// command.
-fn by_last_word(alloc: Global, at: Place, rest: &[u8]) -> Result<Option<Command>, Memory>
+fn by_last_word(alloc: Global, at: LineState, rest: &[u8]) -> Result<Option<Command>, Memory>
     ensures { IfOk result (λ found. IfSome found (LeadsTo at rest.now)) }
 {
     let (word, further) = cut(rest, b' ');

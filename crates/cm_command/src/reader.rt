@@ -3,12 +3,12 @@
 ghost use Rattle.std.specs.Prelude.{◌≡◌, ◌≢◌, ◌<◌, ◌^◌, length, IfOk, IfErr, MatchResult};
 ghost use Rattle.cm_command.specs.Counts.{IsWordFault};
 ghost use Rattle.cm_command.specs.Grammar.{BuiltinText, CommandText, IsBuiltinFault, IsCommandFault};
-ghost use Rattle.cm_command.specs.Grammar.{ReadsOneWay};
-ghost use Rattle.cm_command.specs.Pieces.{Leads, Says};
-ghost use Rattle.cm_command.specs.Places.{Ends, IsShort, IsUnended, Steps, line_fault};
+ghost use Rattle.cm_command.specs.Grammar.{LinesReadOneWay};
+ghost use Rattle.cm_command.specs.Pieces.{PiecesLead, SaysText};
+ghost use Rattle.cm_command.specs.Places.{EndsLine, IsShort, IsUnended, WordLeads, line_fault};
 ghost use Rattle.cm_command.specs.Words.{words_of};
 
-use crate::place::{Place, Sentence};
+use crate::place::{LineState, ParsedLine};
 use crate::quick::quick_command;
 use crate::step::{end, step};
 use crate::tokens::{WordFault, behind};
@@ -18,33 +18,33 @@ use cm_world::Builtin;
 use std::alloc::Global;
 
 /// What the line says, read from that place on.
-fn read_line(alloc: Global, start: Place, line: &[u8]) -> Result<Sentence, WordFault>
+fn read_line(alloc: Global, start: LineState, line: &[u8]) -> Result<ParsedLine, WordFault>
     requires { length line.now < 2 ^ 32 }
-    ensures { MatchResult result (λ s. Leads Steps Ends start (words_of line.now) s)
-        (λ e. IsWordFault (Says 32 Steps Ends start) line.now e) }
+    ensures { MatchResult result (λ s. PiecesLead WordLeads EndsLine start (words_of line.now) s)
+        (λ e. IsWordFault (SaysText 32 WordLeads EndsLine start) line.now e) }
 {
     let mut place = start;
     let mut rest = line;
-    let mut front = 0;
+    let mut prefix = 0;
     'words: loop {
         let (word, further) = cut(rest, b' ');
         let next = match step(alloc, place, word) {
             Ok(next) => next,
-            Err(fault) => return Err(behind(front, fault)),
+            Err(fault) => return Err(behind(prefix, fault)),
         };
         let Some(more) = further else {
             return last(next, line.len());
         };
         place = next;
-        front = front + word.len() + 1;
+        prefix = prefix + word.len() + 1;
         rest = more;
     }
 }
 
 /// What a line of that length says, whose words lead to that place.
-fn last(place: Place, len: usize) -> Result<Sentence, WordFault>
+fn last(place: LineState, len: usize) -> Result<ParsedLine, WordFault>
     requires { len < 2 ^ 32 }
-    ensures { MatchResult result (λ s. Ends place s) (λ e. IsUnended place len e) }
+    ensures { MatchResult result (λ s. EndsLine place s) (λ e. IsUnended place len e) }
 {
     match end(place) {
         Ok(said) => match said {
@@ -61,7 +61,7 @@ fn fault_of(fault: WordFault) -> CommandFault
     ensures { result ≡ line_fault fault }
 {
     match fault {
-        WordFault::Bad(fronts) => CommandFault::BadCommand((fronts - 1) as u32),
+        WordFault::Bad(prefixes) => CommandFault::BadCommand((prefixes - 1) as u32),
         WordFault::Memory => CommandFault::Memory,
     }
 }
@@ -72,10 +72,10 @@ fn judge_line(alloc: Global, line: &[u8]) -> Result<Command, CommandFault>
     ensures ok { IfOk result (λ command. CommandText line.now command) }
     ensures fault { IfErr result (λ e. e ≢ CommandFault.Memory → IsCommandFault line.now e) }
 {
-    match read_line(alloc, Place::Start, line) {
+    match read_line(alloc, LineState::Start, line) {
         Ok(sentence) => match sentence {
-            Sentence::Command(command) => Ok(command),
-            Sentence::Builtin(_builtin) => unreachable!(),
+            ParsedLine::Command(command) => Ok(command),
+            ParsedLine::Builtin(_builtin) => unreachable!(),
         },
         Err(fault) => Err(fault_of(fault)),
     }
@@ -84,7 +84,7 @@ fn judge_line(alloc: Global, line: &[u8]) -> Result<Command, CommandFault>
 /// The command that the line asks for.
 ///
 /// The words of the line stand with one space between them. `Err(BadCommand(n))` comes where the
-/// line is in the grammar of no command: its first n bytes are the longest front of it that some
+/// line is in the grammar of no command: its first n bytes are the longest prefix of it that some
 /// command begins with. `Err(Memory)` comes where memory runs out. The grammar is this project's
 /// own choice.
 pub fn read_command(alloc: Global, line: &[u8]) -> Result<Command, CommandFault>
@@ -100,7 +100,7 @@ pub fn read_command(alloc: Global, line: &[u8]) -> Result<Command, CommandFault>
 
 /// The builtin capability that stands behind the word `builtin` and a space.
 ///
-/// `Err(BadCommand(n))` comes where the words name none: their first n bytes are the longest front
+/// `Err(BadCommand(n))` comes where the words name none: their first n bytes are the longest prefix
 /// of them that such words begin with. `Err(Memory)` comes where memory runs out. The grammar is
 /// this project's own choice.
 pub fn read_builtin(alloc: Global, words: &[u8]) -> Result<Builtin, CommandFault>
@@ -108,10 +108,10 @@ pub fn read_builtin(alloc: Global, words: &[u8]) -> Result<Builtin, CommandFault
     ensures ok { IfOk result (λ builtin. BuiltinText words.now builtin) }
     ensures fault { IfErr result (λ e. e ≢ CommandFault.Memory → IsBuiltinFault words.now e) }
 {
-    match read_line(alloc, Place::BuiltinKind, words) {
+    match read_line(alloc, LineState::BuiltinKind, words) {
         Ok(sentence) => match sentence {
-            Sentence::Builtin(builtin) => Ok(builtin),
-            Sentence::Command(_command) => unreachable!(),
+            ParsedLine::Builtin(builtin) => Ok(builtin),
+            ParsedLine::Command(_command) => unreachable!(),
         },
         Err(fault) => Err(fault_of(fault)),
     }
@@ -119,5 +119,5 @@ pub fn read_builtin(alloc: Global, words: &[u8]) -> Result<Builtin, CommandFault
 
 /// Law: a line asks for one command at most.
 pub fn reads_one_way()
-    ensures { ReadsOneWay }
+    ensures { LinesReadOneWay }
 {}

@@ -7,18 +7,20 @@ ghost use Rattle.std.specs.Prelude.{◌≡◌, map, Contains, MatchOption, Match
 ghost use Rattle.std.specs.List.{list_any};
 ghost use Rattle.std.specs.Str.{bytes_eq};
 ghost use Rattle.cm_names.specs.Rights.{RightSet};
-ghost use Rattle.cm_command.specs.Counts.{CountsFronts, IsWordFault};
+ghost use Rattle.cm_command.specs.Counts.{CountsPrefixes, IsWordFault};
 ghost use Rattle.cm_command.specs.Words as spec;
-ghost use Rattle.cm_command.specs.Words.{IsRightsText, IsUnused};
+ghost use Rattle.cm_command.specs.WordsInside as spec_inside;
+ghost use Rattle.cm_command.specs.Words.{IsRightsText};
+ghost use Rattle.cm_command.specs.WordsInside.{IsUnused};
 
-use crate::tokens::{WordFault, behind, text_fronts};
+use crate::tokens::{WordFault, behind, text_prefixes};
 use crate::words::{cut, is_same};
 use cm_names::{List, Rights, Text};
 use std::alloc::Global;
 
 /// The words that stand for rights.
 fn right_words() -> [&'static str; 14]
-    ensures { map (λ w. w.now) result ≡ spec.right_words }
+    ensures { map (λ w. w.now) result ≡ spec_inside.right_words }
 {
     [
         "connect",
@@ -45,24 +47,24 @@ fn is_used(used: &[Text], word: &str) -> bool
     used.iter().any(|earlier| word == earlier.as_str())
 }
 
-/// How many fronts of the piece an unused word begins with.
-fn unused_fronts(used: &[Text], piece: &[u8]) -> usize
-    ensures { CountsFronts (IsUnused used.now) piece.now result }
+/// How many prefixes of the piece an unused word begins with.
+fn unused_prefixes(used: &[Text], piece: &[u8]) -> usize
+    ensures { CountsPrefixes (IsUnused used.now) piece.now result }
 {
-    let mut fronts = 0;
+    let mut prefixes = 0;
     for word in right_words() {
         if is_used(used, word) {
             continue;
         }
-        fronts = fronts.max(text_fronts(word, piece));
+        prefixes = prefixes.max(text_prefixes(word, piece));
     }
-    fronts
+    prefixes
 }
 
 /// The word that the piece is.
 fn right_word(piece: &[u8]) -> Option<&'static str>
-    ensures { MatchOption result (Contains spec.right_words piece.now → ⊥)
-        (λ word. (word.now ≡ piece.now) × Contains spec.right_words piece.now) }
+    ensures { MatchOption result (Contains spec_inside.right_words piece.now → ⊥)
+        (λ word. (word.now ≡ piece.now) × Contains spec_inside.right_words piece.now) }
 {
     for word in right_words() {
         if is_same(piece, word) {
@@ -78,17 +80,17 @@ fn read_right(alloc: Global, used: &[Text], piece: &[u8]) -> Result<Text, WordFa
         (λ e. IsWordFault (IsUnused used.now) piece.now e) }
 {
     let Some(word) = right_word(piece) else {
-        return Err(WordFault::Bad(unused_fronts(used, piece)));
+        return Err(WordFault::Bad(unused_prefixes(used, piece)));
     };
     if is_used(used, word) {
-        return Err(WordFault::Bad(unused_fronts(used, piece)));
+        return Err(WordFault::Bad(unused_prefixes(used, piece)));
     }
     Ok(Text::from_str(alloc, word)?)
 }
 
 /// The rights that the word stands for: words for rights, joined by commas, none of them twice.
 ///
-/// `Err(Bad(n))` comes where the word is none of that kind, with the count of its fronts that some
+/// `Err(Bad(n))` comes where the word is none of that kind, with the count of its prefixes that some
 /// word of the kind begins with. `Err(Memory)` comes where memory runs out.
 pub fn read_rights(alloc: Global, word: &[u8]) -> Result<Rights, WordFault>
     ensures { MatchResult result (λ rights. IsRightsText word.now rights)

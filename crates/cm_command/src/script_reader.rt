@@ -4,6 +4,7 @@ ghost use Rattle.std.specs.Prelude.{◌≡◌, ◌≢◌, ◌<◌, ◌≤◌, �
 ghost use Rattle.std.specs.Prelude.{length, codes, IfOk, IfErr, OnOk, min, IsTrue, ◌↔◌, MatchOption};
 ghost use Rattle.std.specs.Prelude.{MatchResult};
 ghost use Rattle.cm_command.specs.Scripts as spec;
+ghost use Rattle.cm_command.specs.ScriptsInside as spec_inside;
 ghost use Rattle.cm_command.specs.Words.{IsUrlText};
 ghost use Rattle.cm_command.specs.Grammar.{BuiltinText, IsBuiltinText};
 
@@ -69,7 +70,7 @@ pub enum LineFault {
 /// - `TooLarge` where more than 67,108,864 bytes stand up to its end;
 /// - `BadCommand` where a header line isn't in the grammar, stands behind a command or `sync`, is a
 ///   second root line or repeats a builtin's kind and name; the position is 0 in the last three
-///   cases, else the length of the line's longest front that such a line begins with;
+///   cases, else the length of the line's longest prefix that such a line begins with;
 /// - `NoRoot` where it is `sync` and no root line came before;
 /// - `BadLane` where any other line doesn't begin with a decimal number without a needless zero and
 ///   a space, `TooManyLanes` where that number is above 15, `NoRoot` where no root line came
@@ -80,7 +81,7 @@ pub enum LineFault {
 /// `Err(Memory)` comes where memory runs out. It reads the bytes once.
 pub fn read_script(alloc: Global, bytes: &[u8]) -> Result<Script, ScriptFault>
     ensures ok { IfOk result (λ script. spec.IsScript bytes.now script) }
-    ensures fault { IfErr result (λ e. e ≢ ScriptFault.Memory → spec.IsScriptFault bytes.now e) }
+    ensures fault { IfErr result (λ e. e ≢ ScriptFault.Memory → spec_inside.IsScriptFault bytes.now e) }
 {
     let mut draft = Draft::new(alloc);
     let number = draft.take_lines(alloc, bytes)?;
@@ -89,7 +90,7 @@ pub fn read_script(alloc: Global, bytes: &[u8]) -> Result<Script, ScriptFault>
 
 /// The fault of the script whose line of that number has that fault.
 fn fault_at(line: u32, fault: LineFault) -> ScriptFault
-    ensures { result ≡ spec.fault_at line fault }
+    ensures { result ≡ spec_inside.fault_at line fault }
 {
     match fault {
         LineFault::Bad(number, at) => bad(line, number, at),
@@ -128,7 +129,7 @@ struct LaneStart<'a> {
 fn lane_start(line: &[u8]) -> Option<LaneStart<'_>>
     requires { length line.now ≤ spec.line_limit }
     ensures { MatchOption result ((n : ℕ) (rest : Seq ℕ) → spec.IsLane line.now n rest → ⊥)
-        (λ start. spec.StartsLane line.now start.digits start.lane start.rest.now) }
+        (λ start. spec_inside.StartsLane line.now start.digits start.lane start.rest.now) }
 {
     let (digits, rest) = cut(line, b' ');
     let Some(rest) = rest else {
@@ -146,8 +147,8 @@ fn lane_start(line: &[u8]) -> Option<LaneStart<'_>>
 
 /// The fault of a line whose part behind so many bytes has that fault.
 fn fault_behind(len: u32, fault: CommandFault) -> LineFault
-    requires { len + spec.place_of fault < 2 ^ 32 }
-    ensures { result ≡ spec.fault_behind len fault }
+    requires { len + spec_inside.place_of fault < 2 ^ 32 }
+    ensures { result ≡ spec_inside.fault_behind len fault }
 {
     match fault {
         CommandFault::BadCommand(at) => LineFault::Bad(ScriptNumber::BadCommand, len + at),
@@ -159,13 +160,13 @@ fn fault_behind(len: u32, fault: CommandFault) -> LineFault
 fn read_url_at(alloc: Global, len: u32, url: &[u8]) -> Result<Text, LineFault>
     requires { len + length url.now < 2 ^ 31 }
     ensures { MatchResult result (λ text. (text ≡ url.now) × IsUrlText url.now)
-        (λ e. spec.IsUrlFault len url.now e) }
+        (λ e. spec_inside.IsUrlFault len url.now e) }
 {
     match read_url(alloc, url) {
         Ok(url) => Ok(url),
         Err(fault) => match fault {
-            WordFault::Bad(fronts) => {
-                let at = (fronts - 1) as u32;
+            WordFault::Bad(prefixes) => {
+                let at = (prefixes - 1) as u32;
                 Err(LineFault::Bad(ScriptNumber::BadCommand, len + at))
             }
             WordFault::Memory => Err(LineFault::Memory),
@@ -198,7 +199,7 @@ pub fn cut_line(bytes: &[u8]) -> (&[u8], &[u8])
 /// The first fault of a line of that length and end, as the limits go.
 fn exceeded(len: usize, end: usize) -> Option<ScriptNumber>
     ensures { MatchOption result ((len ≤ spec.line_limit) × (end ≤ spec.script_limit))
-        (λ fault. spec.ExceedsLimit len end fault) }
+        (λ fault. spec_inside.ExceedsLimit len end fault) }
 {
     if len > LINE_LIMIT {
         Some(ScriptNumber::LineTooLong)
@@ -239,8 +240,8 @@ impl Draft {
     /// Takes all lines of a script, and gives the number that the next line would have.
     fn take_lines(&mut self, alloc: Global, bytes: &[u8]) -> Result<u32, ScriptFault>
         requires { self.old ≡ spec.no_draft }
-        ensures ok { IfOk result (λ number. spec.Onward bytes.now number self.new []) }
-        ensures fault { IfErr result (λ e. e ≢ ScriptFault.Memory → spec.IsScriptFault bytes.now e) }
+        ensures ok { IfOk result (λ number. spec_inside.Continuation bytes.now number self.new []) }
+        ensures fault { IfErr result (λ e. e ≢ ScriptFault.Memory → spec_inside.IsScriptFault bytes.now e) }
     {
         let mut number: u32 = 1;
         let mut rest = bytes;
@@ -262,8 +263,8 @@ impl Draft {
     /// Takes one line more.
     fn take(&mut self, alloc: Global, number: u32, line: &[u8]) -> Result<(), LineFault>
         requires { length line.now ≤ spec.line_limit }
-        ensures { MatchResult result (λ _. spec.Takes number line.now self.old self.new)
-            (λ e. spec.IsLineFault self.old line.now e) }
+        ensures { MatchResult result (λ _. spec.TakesScriptLine number line.now self.old self.new)
+            (λ e. spec_inside.IsLineFault self.old line.now e) }
     {
         match self.block.take() {
             Some(block) => self.take_inside(block, line),
@@ -275,8 +276,8 @@ impl Draft {
     fn take_outside(&mut self, alloc: Global, number: u32, line: &[u8]) -> Result<(), LineFault>
         requires closed { self.old.block ≡ None }
         requires short { length line.now ≤ spec.line_limit }
-        ensures { MatchResult result (λ _. spec.Takes number line.now self.old self.new)
-            (λ e. spec.IsLineFault self.old line.now e) }
+        ensures { MatchResult result (λ _. spec.TakesScriptLine number line.now self.old self.new)
+            (λ e. spec_inside.IsLineFault self.old line.now e) }
     {
         if is_blank(line) {
             return Ok(());
@@ -298,7 +299,7 @@ impl Draft {
 
     /// Takes a line of the open block.
     fn take_inside(&mut self, mut block: Block, line: &[u8]) -> Result<(), LineFault>
-        ensures { MatchResult result (λ _. spec.TakesInside line.now block self.old self.new)
+        ensures { MatchResult result (λ _. spec_inside.TakesInside line.now block self.old self.new)
             (λ e. e ≡ LineFault.Memory) }
     {
         if is_same(line, "%%") {
@@ -315,8 +316,8 @@ impl Draft {
         requires closed { self.old.block ≡ None }
         requires short { length url.now ≤ spec.line_limit }
         ensures { MatchResult result
-            (λ _. spec.Takes number (codes "manifest " ++ url.now) self.old self.new)
-            (λ e. spec.IsLineFault self.old (codes "manifest " ++ url.now) e) }
+            (λ _. spec.TakesScriptLine number (codes "manifest " ++ url.now) self.old self.new)
+            (λ e. spec_inside.IsLineFault self.old (codes "manifest " ++ url.now) e) }
     {
         if self.begun {
             return Err(LineFault::Bad(ScriptNumber::BadCommand, 0));
@@ -338,8 +339,8 @@ impl Draft {
         requires closed { self.old.block ≡ None }
         requires short { length words.now ≤ spec.line_limit }
         ensures { MatchResult result
-            (λ _. (n : ℕ) → spec.Takes n (codes "builtin " ++ words.now) self.old self.new)
-            (λ e. spec.IsLineFault self.old (codes "builtin " ++ words.now) e) }
+            (λ _. (n : ℕ) → spec.TakesScriptLine n (codes "builtin " ++ words.now) self.old self.new)
+            (λ e. spec_inside.IsLineFault self.old (codes "builtin " ++ words.now) e) }
     {
         if self.begun {
             return Err(LineFault::Bad(ScriptNumber::BadCommand, 0));
@@ -360,8 +361,8 @@ impl Draft {
         requires closed { self.old.block ≡ None }
         requires short { length url.now ≤ spec.line_limit }
         ensures { MatchResult result
-            (λ _. (n : ℕ) → spec.Takes n (codes "root " ++ url.now) self.old self.new)
-            (λ e. spec.IsLineFault self.old (codes "root " ++ url.now) e) }
+            (λ _. (n : ℕ) → spec.TakesScriptLine n (codes "root " ++ url.now) self.old self.new)
+            (λ e. spec_inside.IsLineFault self.old (codes "root " ++ url.now) e) }
     {
         if self.begun {
             return Err(LineFault::Bad(ScriptNumber::BadCommand, 0));
@@ -381,8 +382,8 @@ impl Draft {
     fn sync(&mut self, alloc: Global) -> Result<(), LineFault>
         requires { self.old.block ≡ None }
         ensures { MatchResult result
-            (λ _. (n : ℕ) → spec.Takes n (codes "sync") self.old self.new)
-            (λ e. spec.IsLineFault self.old (codes "sync") e) }
+            (λ _. (n : ℕ) → spec.TakesScriptLine n (codes "sync") self.old self.new)
+            (λ e. spec_inside.IsLineFault self.old (codes "sync") e) }
     {
         if self.root.is_none() {
             return Err(LineFault::Bad(ScriptNumber::NoRoot, 0));
@@ -397,9 +398,9 @@ impl Draft {
     fn command(&mut self, alloc: Global, number: u32, line: &[u8]) -> Result<(), LineFault>
         requires closed { self.old.block ≡ None }
         requires short { length line.now ≤ spec.line_limit }
-        requires other { spec.IsOther line.now }
-        ensures { MatchResult result (λ _. spec.Takes number line.now self.old self.new)
-            (λ e. spec.IsLineFault self.old line.now e) }
+        requires other { spec_inside.IsOrdinaryLine line.now }
+        ensures { MatchResult result (λ _. spec.TakesScriptLine number line.now self.old self.new)
+            (λ e. spec_inside.IsLineFault self.old line.now e) }
     {
         let Some(start) = lane_start(line) else {
             return Err(LineFault::Bad(ScriptNumber::BadLane, 0));
@@ -426,7 +427,7 @@ impl Draft {
     /// The script, once all lines were read.
     fn finish(self, number: u32) -> Result<Script, ScriptFault>
         ensures { MatchResult result (λ script. spec.IsWhole self script)
-            (λ e. spec.IsLastFault self number e) }
+            (λ e. spec_inside.IsLastFault self number e) }
     {
         let Draft {
             manifests,

@@ -3,19 +3,19 @@
 ghost use Rattle.std.specs.Prelude.{◌≡◌, ℕ, List as Seq, Some, IfOk, MatchOption, MatchResult};
 ghost use Rattle.cm_decl.specs.declared.kind.Kind.{Kind as OneKind};
 ghost use Rattle.cm_decl.specs.Words.{kind_word};
-ghost use Rattle.cm_command.specs.declared.place.Place.TheVariants as place;
-ghost use Rattle.cm_command.specs.declared.place.Sentence.{Sentence as Said};
+ghost use Rattle.cm_command.specs.declared.place.LineState.TheVariants as place;
+ghost use Rattle.cm_command.specs.declared.place.ParsedLine.{ParsedLine as Said};
 ghost use Rattle.cm_command.specs.Additions.{IsAddition};
-ghost use Rattle.cm_command.specs.Counts.{CountsFronts, IsWordFault};
+ghost use Rattle.cm_command.specs.Counts.{CountsPrefixes, IsWordFault};
 ghost use Rattle.cm_command.specs.Places as spec;
-ghost use Rattle.cm_command.specs.Places.{Ends, IsVerbWord, IsKindWord, Steps, StepsFrom, verb_word};
+ghost use Rattle.cm_command.specs.Places.{EndsLine, IsVerbWord, IsKindWord, WordLeads, StepsFrom, verb_word};
 
 use crate::Command;
 use crate::addition::{Addition, read_addition};
-use crate::place::{Creation, Place, Sentence, Verb};
+use crate::place::{Creation, LineState, ParsedLine, Verb};
 use crate::rights::read_rights;
 use crate::tokens::{
-    WordFault, read_name, read_number, read_origin, read_path, read_target, read_url, text_fronts,
+    WordFault, read_name, read_number, read_origin, read_path, read_target, read_url, text_prefixes,
 };
 use crate::words::is_same;
 use cm_decl::{Give, Kind, Origin};
@@ -25,34 +25,34 @@ use std::alloc::Global;
 
 /// The place behind one word more.
 ///
-/// `Err(Bad)` comes where no place stands behind the word, and tells how many of its fronts some
+/// `Err(Bad)` comes where no place stands behind the word, and tells how many of its prefixes some
 /// word that leads on begins with. `Err(Memory)` comes where memory runs out.
-pub fn step(alloc: Global, place: Place, word: &[u8]) -> Result<Place, WordFault>
+pub fn step(alloc: Global, place: LineState, word: &[u8]) -> Result<LineState, WordFault>
     ensures { StepsFrom place word.now result }
 {
     match place {
-        Place::Start => take_verb(word),
-        Place::Verb(verb) => take_target(alloc, verb, word),
-        Place::Listing(target) => take_listing(alloc, target, word),
-        Place::Opening(target) => take_opening(alloc, target, word),
-        Place::OpeningExposed(target) => take_opening_exposed(alloc, target, word),
-        Place::Routing(target) => take_routing(alloc, target, word),
-        Place::Streaming(target) => take_streaming(target, word),
-        Place::Creating(parent) => take_collection(alloc, parent, word),
-        Place::CreatingIn(parent, coll) => take_child(alloc, parent, coll, word),
-        Place::CreatingNamed(parent, coll, name) => take_url(alloc, parent, coll, name, word),
-        Place::Groups(creation) => take_group(creation, word),
-        Place::GroupKind(creation) => take_group_kind(creation, word),
-        Place::GroupName(creation, kind) => take_group_name(alloc, creation, kind, word),
-        Place::GroupFrom(creation, kind, name) => take_from(alloc, creation, kind, name, word),
-        Place::Additions(creation, give, from) => {
+        LineState::Start => take_verb(word),
+        LineState::Verb(verb) => take_target(alloc, verb, word),
+        LineState::Listing(target) => take_listing(alloc, target, word),
+        LineState::Opening(target) => take_opening(alloc, target, word),
+        LineState::OpeningExposed(target) => take_opening_exposed(alloc, target, word),
+        LineState::Routing(target) => take_routing(alloc, target, word),
+        LineState::Streaming(target) => take_streaming(target, word),
+        LineState::Creating(parent) => take_collection(alloc, parent, word),
+        LineState::CreatingIn(parent, coll) => take_child(alloc, parent, coll, word),
+        LineState::CreatingNamed(parent, coll, name) => take_url(alloc, parent, coll, name, word),
+        LineState::Groups(creation) => take_group(creation, word),
+        LineState::GroupKind(creation) => take_group_kind(creation, word),
+        LineState::GroupName(creation, kind) => take_group_name(alloc, creation, kind, word),
+        LineState::GroupFrom(creation, kind, name) => take_from(alloc, creation, kind, name, word),
+        LineState::Additions(creation, give, from) => {
             take_addition(alloc, creation, give, from, word)
         }
-        Place::BuiltinKind => take_builtin_kind(word),
-        Place::BuiltinName(kind) => take_builtin_name(alloc, kind, word),
-        Place::BuiltinPath(name) => take_builtin_path(alloc, name, word),
-        Place::BuiltinRights(name, path) => take_builtin_rights(alloc, name, path, word),
-        Place::Whole(sentence) => {
+        LineState::BuiltinKind => take_builtin_kind(word),
+        LineState::BuiltinName(kind) => take_builtin_name(alloc, kind, word),
+        LineState::BuiltinPath(name) => take_builtin_path(alloc, name, word),
+        LineState::BuiltinRights(name, path) => take_builtin_rights(alloc, name, path, word),
+        LineState::Whole(sentence) => {
             drop(sentence);
             Err(WordFault::Bad(0))
         }
@@ -60,17 +60,17 @@ pub fn step(alloc: Global, place: Place, word: &[u8]) -> Result<Place, WordFault
 }
 
 /// The place behind a verb.
-fn take_verb(word: &[u8]) -> Result<Place, WordFault>
+fn take_verb(word: &[u8]) -> Result<LineState, WordFault>
     ensures { StepsFrom place.Start word.now result }
 {
     match read_verb(word) {
-        Ok(verb) => Ok(Place::Verb(verb)),
+        Ok(verb) => Ok(LineState::Verb(verb)),
         Err(fault) => Err(fault),
     }
 }
 
 /// The place behind a target.
-pub fn take_target(alloc: Global, verb: Verb, word: &[u8]) -> Result<Place, WordFault>
+pub fn take_target(alloc: Global, verb: Verb, word: &[u8]) -> Result<LineState, WordFault>
     ensures { StepsFrom (place.Verb verb) word.now result }
 {
     match read_target(alloc, word) {
@@ -80,7 +80,7 @@ pub fn take_target(alloc: Global, verb: Verb, word: &[u8]) -> Result<Place, Word
 }
 
 /// The place behind the collection of `list`.
-fn take_listing(alloc: Global, target: Target, word: &[u8]) -> Result<Place, WordFault>
+fn take_listing(alloc: Global, target: Target, word: &[u8]) -> Result<LineState, WordFault>
     ensures { StepsFrom (place.Listing target) word.now result }
 {
     match read_name(alloc, word) {
@@ -90,7 +90,7 @@ fn take_listing(alloc: Global, target: Target, word: &[u8]) -> Result<Place, Wor
 }
 
 /// The place behind the path of `open`.
-fn take_opening(alloc: Global, target: Target, word: &[u8]) -> Result<Place, WordFault>
+fn take_opening(alloc: Global, target: Target, word: &[u8]) -> Result<LineState, WordFault>
     ensures { StepsFrom (place.Opening target) word.now result }
 {
     match read_path(alloc, word) {
@@ -100,7 +100,7 @@ fn take_opening(alloc: Global, target: Target, word: &[u8]) -> Result<Place, Wor
 }
 
 /// The place behind the name of `open-exposed`.
-fn take_opening_exposed(alloc: Global, target: Target, word: &[u8]) -> Result<Place, WordFault>
+fn take_opening_exposed(alloc: Global, target: Target, word: &[u8]) -> Result<LineState, WordFault>
     ensures { StepsFrom (place.OpeningExposed target) word.now result }
 {
     match read_name(alloc, word) {
@@ -110,7 +110,7 @@ fn take_opening_exposed(alloc: Global, target: Target, word: &[u8]) -> Result<Pl
 }
 
 /// The place behind the path of `route`.
-fn take_routing(alloc: Global, target: Target, word: &[u8]) -> Result<Place, WordFault>
+fn take_routing(alloc: Global, target: Target, word: &[u8]) -> Result<LineState, WordFault>
     ensures { StepsFrom (place.Routing target) word.now result }
 {
     match read_path(alloc, word) {
@@ -120,7 +120,7 @@ fn take_routing(alloc: Global, target: Target, word: &[u8]) -> Result<Place, Wor
 }
 
 /// The place behind the number of `events`.
-fn take_streaming(target: Target, word: &[u8]) -> Result<Place, WordFault>
+fn take_streaming(target: Target, word: &[u8]) -> Result<LineState, WordFault>
     ensures { StepsFrom (place.Streaming target) word.now result }
 {
     match read_number(word) {
@@ -130,21 +130,26 @@ fn take_streaming(target: Target, word: &[u8]) -> Result<Place, WordFault>
 }
 
 /// The place behind the collection of `create`.
-fn take_collection(alloc: Global, parent: Target, word: &[u8]) -> Result<Place, WordFault>
+fn take_collection(alloc: Global, parent: Target, word: &[u8]) -> Result<LineState, WordFault>
     ensures { StepsFrom (place.Creating parent) word.now result }
 {
     match read_name(alloc, word) {
-        Ok(coll) => Ok(Place::CreatingIn(parent, coll)),
+        Ok(coll) => Ok(LineState::CreatingIn(parent, coll)),
         Err(fault) => Err(fault),
     }
 }
 
 /// The place behind the child's name of `create`.
-fn take_child(alloc: Global, parent: Target, coll: Name, word: &[u8]) -> Result<Place, WordFault>
+fn take_child(
+    alloc: Global,
+    parent: Target,
+    coll: Name,
+    word: &[u8],
+) -> Result<LineState, WordFault>
     ensures { StepsFrom (place.CreatingIn parent coll) word.now result }
 {
     match read_name(alloc, word) {
-        Ok(name) => Ok(Place::CreatingNamed(parent, coll, name)),
+        Ok(name) => Ok(LineState::CreatingNamed(parent, coll, name)),
         Err(fault) => Err(fault),
     }
 }
@@ -156,7 +161,7 @@ fn take_url(
     coll: Name,
     name: Name,
     word: &[u8],
-) -> Result<Place, WordFault>
+) -> Result<LineState, WordFault>
     ensures { StepsFrom (place.CreatingNamed parent coll name) word.now result }
 {
     match read_url(alloc, word) {
@@ -166,22 +171,22 @@ fn take_url(
 }
 
 /// The place behind the word `+`.
-fn take_group(creation: Creation, word: &[u8]) -> Result<Place, WordFault>
+fn take_group(creation: Creation, word: &[u8]) -> Result<LineState, WordFault>
     ensures { StepsFrom (place.Groups creation) word.now result }
 {
     if is_same(word, "+") {
-        Ok(Place::GroupKind(creation))
+        Ok(LineState::GroupKind(creation))
     } else {
-        Err(WordFault::Bad(text_fronts("+", word)))
+        Err(WordFault::Bad(text_prefixes("+", word)))
     }
 }
 
 /// The place behind the kind of a group.
-fn take_group_kind(creation: Creation, word: &[u8]) -> Result<Place, WordFault>
+fn take_group_kind(creation: Creation, word: &[u8]) -> Result<LineState, WordFault>
     ensures { StepsFrom (place.GroupKind creation) word.now result }
 {
     match read_kind(word) {
-        Ok(kind) => Ok(Place::GroupName(creation, kind)),
+        Ok(kind) => Ok(LineState::GroupName(creation, kind)),
         Err(fault) => Err(fault),
     }
 }
@@ -192,11 +197,11 @@ fn take_group_name(
     creation: Creation,
     kind: Kind,
     word: &[u8],
-) -> Result<Place, WordFault>
+) -> Result<LineState, WordFault>
     ensures { StepsFrom (place.GroupName creation kind) word.now result }
 {
     match read_name(alloc, word) {
-        Ok(name) => Ok(Place::GroupFrom(creation, kind, name)),
+        Ok(name) => Ok(LineState::GroupFrom(creation, kind, name)),
         Err(fault) => Err(fault),
     }
 }
@@ -208,7 +213,7 @@ fn take_from(
     kind: Kind,
     name: Name,
     word: &[u8],
-) -> Result<Place, WordFault>
+) -> Result<LineState, WordFault>
     ensures { StepsFrom (place.GroupFrom creation kind name) word.now result }
 {
     match read_origin(alloc, word) {
@@ -224,7 +229,7 @@ fn take_addition(
     give: Give,
     from: u32,
     word: &[u8],
-) -> Result<Place, WordFault>
+) -> Result<LineState, WordFault>
     ensures { StepsFrom (place.Additions creation give from) word.now result }
 {
     match read_addition(alloc, from, give.kind, word) {
@@ -234,17 +239,17 @@ fn take_addition(
 }
 
 /// The place behind the kind of a builtin capability.
-fn take_builtin_kind(word: &[u8]) -> Result<Place, WordFault>
+fn take_builtin_kind(word: &[u8]) -> Result<LineState, WordFault>
     ensures { StepsFrom place.BuiltinKind word.now result }
 {
     match read_kind(word) {
-        Ok(kind) => Ok(Place::BuiltinName(kind)),
+        Ok(kind) => Ok(LineState::BuiltinName(kind)),
         Err(fault) => Err(fault),
     }
 }
 
 /// The place behind the name of a builtin capability.
-fn take_builtin_name(alloc: Global, kind: Kind, word: &[u8]) -> Result<Place, WordFault>
+fn take_builtin_name(alloc: Global, kind: Kind, word: &[u8]) -> Result<LineState, WordFault>
     ensures { StepsFrom (place.BuiltinName kind) word.now result }
 {
     match read_name(alloc, word) {
@@ -254,11 +259,11 @@ fn take_builtin_name(alloc: Global, kind: Kind, word: &[u8]) -> Result<Place, Wo
 }
 
 /// The place behind the path of a builtin directory.
-fn take_builtin_path(alloc: Global, name: Name, word: &[u8]) -> Result<Place, WordFault>
+fn take_builtin_path(alloc: Global, name: Name, word: &[u8]) -> Result<LineState, WordFault>
     ensures { StepsFrom (place.BuiltinPath name) word.now result }
 {
     match read_path(alloc, word) {
-        Ok(path) => Ok(Place::BuiltinRights(name, path)),
+        Ok(path) => Ok(LineState::BuiltinRights(name, path)),
         Err(fault) => Err(fault),
     }
 }
@@ -269,7 +274,7 @@ fn take_builtin_rights(
     name: Name,
     path: CapPath,
     word: &[u8],
-) -> Result<Place, WordFault>
+) -> Result<LineState, WordFault>
     ensures { StepsFrom (place.BuiltinRights name path) word.now result }
 {
     match read_rights(alloc, word) {
@@ -290,15 +295,15 @@ pub fn verb_of(word: &[u8]) -> Option<Verb>
     None
 }
 
-/// How many fronts of the word some verb begins with.
-fn verb_fronts(word: &[u8]) -> usize
-    ensures { CountsFronts IsVerbWord word.now result }
+/// How many prefixes of the word some verb begins with.
+fn verb_prefixes(word: &[u8]) -> usize
+    ensures { CountsPrefixes IsVerbWord word.now result }
 {
-    let mut fronts = 0;
+    let mut prefixes = 0;
     for verb in Verb::all() {
-        fronts = fronts.max(text_fronts(verb.word(), word));
+        prefixes = prefixes.max(text_prefixes(verb.word(), word));
     }
-    fronts
+    prefixes
 }
 
 /// The verb that the word is.
@@ -308,7 +313,7 @@ fn read_verb(word: &[u8]) -> Result<Verb, WordFault>
 {
     match verb_of(word) {
         Some(verb) => Ok(verb),
-        None => Err(WordFault::Bad(verb_fronts(word))),
+        None => Err(WordFault::Bad(verb_prefixes(word))),
     }
 }
 
@@ -323,18 +328,18 @@ fn read_kind(word: &[u8]) -> Result<Kind, WordFault>
     if is_same(word, "directory") {
         return Ok(Kind::Directory);
     }
-    Err(WordFault::Bad(text_fronts("protocol", word).max(text_fronts("directory", word))))
+    Err(WordFault::Bad(text_prefixes("protocol", word).max(text_prefixes("directory", word))))
 }
 
 /// The place behind the command.
-fn asks(command: Command) -> Place
+fn asks(command: Command) -> LineState
     ensures { result ≡ spec.asks command }
 {
-    Place::Whole(Sentence::Command(command))
+    LineState::Whole(ParsedLine::Command(command))
 }
 
 /// The place behind a verb and its target.
-fn behind_target(verb: Verb, target: Target) -> Place
+fn behind_target(verb: Verb, target: Target) -> LineState
     ensures { result ≡ spec.behind_target verb target }
 {
     match verb {
@@ -342,24 +347,24 @@ fn behind_target(verb: Verb, target: Target) -> Place
         Verb::Start => asks(Command::Start(target)),
         Verb::Stop => asks(Command::Stop(target)),
         Verb::Shutdown => asks(Command::Shutdown(target)),
-        Verb::Create => Place::Creating(target),
+        Verb::Create => LineState::Creating(target),
         Verb::Destroy => asks(Command::Destroy(target)),
-        Verb::List => Place::Listing(target),
-        Verb::Open => Place::Opening(target),
-        Verb::OpenExposed => Place::OpeningExposed(target),
-        Verb::Route => Place::Routing(target),
+        Verb::List => LineState::Listing(target),
+        Verb::Open => LineState::Opening(target),
+        Verb::OpenExposed => LineState::OpeningExposed(target),
+        Verb::Route => LineState::Routing(target),
         Verb::Doctor => asks(Command::Doctor(target)),
         Verb::Show => asks(Command::Show(target)),
         Verb::Survey => asks(Command::Survey(target)),
         Verb::Exited => asks(Command::Exited(target)),
-        Verb::Events => Place::Streaming(target),
+        Verb::Events => LineState::Streaming(target),
     }
 }
 
-fn create(alloc: Global, parent: Target, coll: Name, name: Name, url: Text) -> Place
+fn create(alloc: Global, parent: Target, coll: Name, name: Name, url: Text) -> LineState
     ensures { result ≡ spec.create parent coll name url }
 {
-    Place::Groups(Creation {
+    LineState::Groups(Creation {
         parent,
         coll,
         name,
@@ -369,7 +374,7 @@ fn create(alloc: Global, parent: Target, coll: Name, name: Name, url: Text) -> P
 }
 
 /// The place behind the origin of what a group gives.
-fn give(creation: Creation, kind: Kind, name: Name, from: Origin) -> Result<Place, Memory>
+fn give(creation: Creation, kind: Kind, name: Name, from: Origin) -> Result<LineState, Memory>
     ensures { IfOk result (λ next. next ≡ spec.give creation kind name from) }
 {
     let target_name = name.clone()?;
@@ -383,72 +388,72 @@ fn give(creation: Creation, kind: Kind, name: Name, from: Origin) -> Result<Plac
         dependency: Dependency::Strong,
         availability: Availability::Required,
     };
-    Ok(Place::Additions(creation, give, 0))
+    Ok(LineState::Additions(creation, give, 0))
 }
 
 /// The place behind an addition.
-fn add(creation: Creation, mut give: Give, addition: Addition) -> Result<Place, Memory>
+fn add(creation: Creation, mut give: Give, addition: Addition) -> Result<LineState, Memory>
     ensures { IfOk result
         (λ next. (n : ℕ) (t : Seq ℕ) → IsAddition n give.kind t addition
-        → Steps (place.Additions creation give n) t next) }
+        → WordLeads (place.Additions creation give n) t next) }
 {
     match addition {
-        Addition::Group => Ok(Place::GroupKind(with_give(creation, give)?)),
+        Addition::Group => Ok(LineState::GroupKind(with_give(creation, give)?)),
         Addition::Target(name) => {
             give.target_name = name;
-            Ok(Place::Additions(creation, give, 1))
+            Ok(LineState::Additions(creation, give, 1))
         }
         Addition::Rights(rights) => {
             give.rights = Some(rights);
-            Ok(Place::Additions(creation, give, 2))
+            Ok(LineState::Additions(creation, give, 2))
         }
         Addition::Subdir(subdir) => {
             give.subdir = Some(subdir);
-            Ok(Place::Additions(creation, give, 3))
+            Ok(LineState::Additions(creation, give, 3))
         }
         Addition::Weak => {
             give.dependency = Dependency::Weak;
-            Ok(Place::Additions(creation, give, 4))
+            Ok(LineState::Additions(creation, give, 4))
         }
         Addition::Optional => {
             give.availability = Availability::Optional;
-            Ok(Place::Additions(creation, give, 5))
+            Ok(LineState::Additions(creation, give, 5))
         }
         Addition::Transitional => {
             give.availability = Availability::Transitional;
-            Ok(Place::Additions(creation, give, 5))
+            Ok(LineState::Additions(creation, give, 5))
         }
         Addition::SameAsTarget => {
             give.availability = Availability::SameAsTarget;
-            Ok(Place::Additions(creation, give, 5))
+            Ok(LineState::Additions(creation, give, 5))
         }
     }
 }
 
 /// The place behind the name of a builtin capability.
-fn behind_builtin(alloc: Global, kind: Kind, name: Name) -> Result<Place, Memory>
+fn behind_builtin(alloc: Global, kind: Kind, name: Name) -> Result<LineState, Memory>
     ensures { IfOk result (λ next. next ≡ spec.behind_builtin kind name) }
 {
     match kind {
         Kind::Protocol => {
             let path = CapPath::service(alloc, &name)?;
-            Ok(Place::Whole(Sentence::Builtin(Builtin {
+            Ok(LineState::Whole(ParsedLine::Builtin(Builtin {
                 kind,
                 name,
                 path,
                 rights: None,
             })))
         }
-        Kind::Directory => Ok(Place::BuiltinPath(name)),
+        Kind::Directory => Ok(LineState::BuiltinPath(name)),
     }
 }
 
 /// The place behind the rights of a builtin directory.
-fn provide(name: Name, path: CapPath, rights: Rights) -> Place
+fn provide(name: Name, path: CapPath, rights: Rights) -> LineState
     ensures { result ≡ spec.provides (spec.directory_of name path rights) }
 {
     let rights = Some(rights);
-    Place::Whole(Sentence::Builtin(Builtin {
+    LineState::Whole(ParsedLine::Builtin(Builtin {
         kind: Kind::Directory,
         name,
         path,
@@ -457,17 +462,17 @@ fn provide(name: Name, path: CapPath, rights: Rights) -> Place
 }
 
 /// What the line says, where it may end there.
-pub fn end(place: Place) -> Result<Option<Sentence>, Memory>
+pub fn end(place: LineState) -> Result<Option<ParsedLine>, Memory>
     ensures { IfOk result
-        (λ said. MatchOption said ((s : Said) → Ends place s → ⊥) (λ s. Ends place s)) }
+        (λ said. MatchOption said ((s : Said) → EndsLine place s → ⊥) (λ s. EndsLine place s)) }
 {
     match place {
-        Place::Groups(creation) => Ok(Some(created(creation))),
-        Place::Additions(creation, give, _from) => {
+        LineState::Groups(creation) => Ok(Some(created(creation))),
+        LineState::Additions(creation, give, _from) => {
             let creation = with_give(creation, give)?;
             Ok(Some(created(creation)))
         }
-        Place::Whole(sentence) => Ok(Some(sentence)),
+        LineState::Whole(sentence) => Ok(Some(sentence)),
         other => {
             drop(other);
             Ok(None)
@@ -483,7 +488,7 @@ fn with_give(mut creation: Creation, give: Give) -> Result<Creation, Memory>
     Ok(creation)
 }
 
-fn created(creation: Creation) -> Sentence
+fn created(creation: Creation) -> ParsedLine
     ensures { result ≡ spec.created creation }
 {
     let Creation {
@@ -493,7 +498,7 @@ fn created(creation: Creation) -> Sentence
         url,
         gives,
     } = creation;
-    Sentence::Command(Command::Create {
+    ParsedLine::Command(Command::Create {
         parent,
         coll,
         name,

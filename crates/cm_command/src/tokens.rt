@@ -1,7 +1,7 @@
 //! The words of a line, read one by one.
 //!
 //! Each reader gives the value that the word is. `Err(Bad(n))` comes where the word is none of
-//! that kind: n of its fronts, the empty one and the word itself among them, are fronts of some
+//! that kind: n of its prefixes, the empty one and the word itself among them, are prefixes of some
 //! word of the kind. `Err(Memory)` comes where memory runs out, and leaves it open whether the
 //! word is of the kind.
 //!
@@ -18,17 +18,22 @@ ghost use Rattle.std.specs.Str.{IsUtf8};
 ghost use Rattle.cm_names.specs.Name.{IsName, continues_name};
 ghost use Rattle.cm_names.specs.Path.{is_path, is_subdir, is_relative, parts_of};
 ghost use Rattle.cm_names.specs.Moniker as moniker;
-ghost use Rattle.cm_names.specs.Moniker.{IsChild, IsChildText, IsMonikerText};
+ghost use Rattle.cm_names.specs.MonikerInside as moniker_inside;
+ghost use Rattle.cm_names.specs.Moniker.{IsChildName};
+ghost use Rattle.cm_names.specs.MonikerInside.{IsChildText, IsMonikerText};
 ghost use Rattle.cm_names.specs.Child.{child_text};
 ghost use Rattle.cm_names.specs.Urls.{is_url_byte};
 ghost use Rattle.cm_decl.specs.declared.origin.Origin.{Origin as OneOrigin};
 ghost use Rattle.cm_world.specs.declared.event.Target.{Target as OneTarget};
-ghost use Rattle.cm_command.specs.Counts.{CountsFronts, IsWordFault, IsSureFault, Fits, fault_behind};
+ghost use Rattle.cm_command.specs.Counts.{CountsPrefixes, IsWordFault, IsSureFault, Fits, fault_behind};
 ghost use Rattle.cm_command.specs.Counts.{either_fault};
-ghost use Rattle.cm_command.specs.Numbers.{is_digit, IsNumber, IsNumberText};
-ghost use Rattle.cm_command.specs.PathPlaces.{path_front};
+ghost use Rattle.cm_command.specs.Numbers.{is_digit, IsNumberText};
+ghost use Rattle.cm_command.specs.NumbersInside.{IsU64Text};
+ghost use Rattle.cm_command.specs.PathPlaces.{path_prefix};
 ghost use Rattle.cm_command.specs.Words as spec;
-ghost use Rattle.cm_command.specs.Words.{IsChildOrigin, IsIncarnation, IsOriginText, IsTargetText, IsUrlText};
+ghost use Rattle.cm_command.specs.WordsInside as spec_inside;
+ghost use Rattle.cm_command.specs.Words.{IsOriginText, IsTargetText, IsUrlText};
+ghost use Rattle.cm_command.specs.WordsInside.{IsChildOrigin, IsIncarnation};
 
 use crate::words::{cut, is_digit, is_same, strip};
 use cm_decl::Origin;
@@ -51,8 +56,8 @@ const LONGEST_NAME: usize = 255;
 /// Why a word may not stand at its place.
 #[derive(Clone, Copy, Debug)]
 pub enum WordFault {
-    /// So many of its fronts can be completed to a word that may. The empty front and the whole
-    /// word count as fronts.
+    /// So many of its prefixes can be completed to a word that may. The empty prefix and the whole
+    /// word count as prefixes.
     Bad(usize),
     /// Memory ran out.
     Memory,
@@ -86,9 +91,9 @@ fn name_bytes(rest: &[u8]) -> usize
     rest.iter().take_while(|b| continues(**b)).count()
 }
 
-/// How many fronts of the word some name begins with.
-pub fn name_fronts(word: &[u8]) -> usize
-    ensures { CountsFronts IsName word.now result }
+/// How many prefixes of the word some name begins with.
+pub fn name_prefixes(word: &[u8]) -> usize
+    ensures { CountsPrefixes IsName word.now result }
 {
     match word {
         [] => 1,
@@ -109,13 +114,13 @@ pub fn read_name(alloc: Global, word: &[u8]) -> Result<Name, WordFault>
         (λ e. IsWordFault IsName word.now e) }
 {
     let Some(text) = text_of(word) else {
-        return Err(WordFault::Bad(name_fronts(word)));
+        return Err(WordFault::Bad(name_prefixes(word)));
     };
     match Name::read(alloc, text) {
         Ok(name) => Ok(name),
         Err(fault) => match fault {
             NameFault::Memory => Err(WordFault::Memory),
-            _ => Err(WordFault::Bad(name_fronts(word))),
+            _ => Err(WordFault::Bad(name_prefixes(word))),
         },
     }
 }
@@ -127,9 +132,9 @@ fn url_bytes(word: &[u8]) -> usize
     word.iter().take_while(|b| is_url_byte(**b)).count()
 }
 
-/// How many fronts of the word some URL begins with.
-fn url_fronts(word: &[u8]) -> usize
-    ensures fronts { CountsFronts IsUrlText word.now result }
+/// How many prefixes of the word some URL begins with.
+fn url_prefixes(word: &[u8]) -> usize
+    ensures prefixes { CountsPrefixes IsUrlText word.now result }
     ensures whole { 0 < length word.now → length word.now < result → IsUrlText word.now }
 {
     let bytes = url_bytes(word);
@@ -141,15 +146,15 @@ pub fn read_url(alloc: Global, word: &[u8]) -> Result<Text, WordFault>
     ensures { MatchResult result (λ text. (text ≡ word.now) × IsUrlText word.now)
         (λ e. IsWordFault IsUrlText word.now e) }
 {
-    let fronts = url_fronts(word);
+    let prefixes = url_prefixes(word);
     if word.is_empty() {
-        return Err(WordFault::Bad(fronts));
+        return Err(WordFault::Bad(prefixes));
     }
-    if fronts <= word.len() {
-        return Err(WordFault::Bad(fronts));
+    if prefixes <= word.len() {
+        return Err(WordFault::Bad(prefixes));
     }
     let Some(text) = text_of(word) else {
-        return Err(WordFault::Bad(fronts));
+        return Err(WordFault::Bad(prefixes));
     };
     Ok(Text::from_str(alloc, text)?)
 }
@@ -160,7 +165,7 @@ pub fn behind(len: usize, fault: WordFault) -> WordFault
     ensures { result ≡ fault_behind len fault }
 {
     match fault {
-        WordFault::Bad(fronts) => WordFault::Bad(len + fronts),
+        WordFault::Bad(prefixes) => WordFault::Bad(len + prefixes),
         WordFault::Memory => WordFault::Memory,
     }
 }
@@ -170,8 +175,8 @@ pub fn fault_of_either(first: WordFault, second: WordFault) -> WordFault
     ensures { result ≡ either_fault first second }
 {
     match first {
-        WordFault::Bad(fronts) => match second {
-            WordFault::Bad(others) => WordFault::Bad(fronts.max(others)),
+        WordFault::Bad(prefixes) => match second {
+            WordFault::Bad(others) => WordFault::Bad(prefixes.max(others)),
             WordFault::Memory => WordFault::Memory,
         },
         WordFault::Memory => WordFault::Memory,
@@ -195,27 +200,27 @@ fn common_len(literal: &[u8], word: &[u8]) -> usize
     len
 }
 
-/// How many fronts of the word the literal begins with.
-pub fn text_fronts(literal: &str, word: &[u8]) -> usize
-    ensures { CountsFronts (λ t. t ≡ literal.now) word.now result }
+/// How many prefixes of the word the literal begins with.
+pub fn text_prefixes(literal: &str, word: &[u8]) -> usize
+    ensures { CountsPrefixes (λ t. t ≡ literal.now) word.now result }
 {
     common_len(literal.as_bytes(), word) + 1
 }
 
-/// How many fronts of the word one of the literals begins with.
-pub fn literal_fronts(literals: &[&str], word: &[u8]) -> usize
-    ensures { CountsFronts (λ t. Contains (map (λ l. l.now) literals.now) t) word.now result }
+/// How many prefixes of the word one of the literals begins with.
+pub fn literal_prefixes(literals: &[&str], word: &[u8]) -> usize
+    ensures { CountsPrefixes (λ t. Contains (map (λ l. l.now) literals.now) t) word.now result }
 {
-    let mut fronts = 0;
+    let mut prefixes = 0;
     for literal in literals {
-        fronts = fronts.max(text_fronts(literal, word));
+        prefixes = prefixes.max(text_prefixes(literal, word));
     }
-    fronts
+    prefixes
 }
 
 /// Where the text of a path stands behind some of its bytes.
 #[derive(Clone, Copy)]
-enum PathPlace {
+enum PathState {
     /// At the beginning of a part.
     Slash,
     /// Behind a dot, which begins a part.
@@ -226,49 +231,49 @@ enum PathPlace {
     Inside,
 }
 
-impl PathPlace {
+impl PathState {
     /// Whether parts of a path may end here.
     fn may_end(self) -> bool
-        ensures { result ≡ is_relative (path_front self) }
+        ensures { result ≡ is_relative (path_prefix self) }
     {
         match self {
-            PathPlace::Slash | PathPlace::Dot | PathPlace::Dots => false,
-            PathPlace::Inside => true,
+            PathState::Slash | PathState::Dot | PathState::Dots => false,
+            PathState::Inside => true,
         }
     }
 
     /// The place behind one byte more, where some path goes on with it.
-    fn next(self, byte: u8) -> Option<PathPlace>
+    fn next(self, byte: u8) -> Option<PathState>
         ensures { MatchOption result
-            ((t : Seq ℕ) → is_relative (path_front self ++ byte ∷ t) ≡ false)
-            (λ next. (t : Seq ℕ) → is_relative (path_front self ++ byte ∷ t)
-            ≡ is_relative (path_front next ++ t)) }
+            ((t : Seq ℕ) → is_relative (path_prefix self ++ byte ∷ t) ≡ false)
+            (λ next. (t : Seq ℕ) → is_relative (path_prefix self ++ byte ∷ t)
+            ≡ is_relative (path_prefix next ++ t)) }
     {
         if byte == b'/' {
             match self {
-                PathPlace::Inside => Some(PathPlace::Slash),
+                PathState::Inside => Some(PathState::Slash),
                 _ => None,
             }
         } else if byte < 33 || byte > 126 {
             None
         } else if byte == b'.' {
             match self {
-                PathPlace::Slash => Some(PathPlace::Dot),
-                PathPlace::Dot => Some(PathPlace::Dots),
-                _ => Some(PathPlace::Inside),
+                PathState::Slash => Some(PathState::Dot),
+                PathState::Dot => Some(PathState::Dots),
+                _ => Some(PathState::Inside),
             }
         } else {
-            Some(PathPlace::Inside)
+            Some(PathState::Inside)
         }
     }
 }
 
-/// How many fronts of the word some parts of a path begin with, in at most `limit` bytes.
-fn part_fronts(limit: usize, word: &[u8]) -> usize
+/// How many prefixes of the word some parts of a path begin with, in at most `limit` bytes.
+fn part_prefixes(limit: usize, word: &[u8]) -> usize
     requires { 1 ≤ limit }
-    ensures { CountsFronts (λ t. IsTrue (is_relative t) × (length t ≤ limit)) word.now result }
+    ensures { CountsPrefixes (λ t. IsTrue (is_relative t) × (length t ≤ limit)) word.now result }
 {
-    let mut place = PathPlace::Slash;
+    let mut place = PathState::Slash;
     for (i, byte) in word.iter().enumerate() {
         match place.next(*byte) {
             Some(next) => {
@@ -286,13 +291,13 @@ fn part_fronts(limit: usize, word: &[u8]) -> usize
     word.len() + 1
 }
 
-/// How many fronts of the word some path begins with.
-fn path_fronts(word: &[u8]) -> usize
-    ensures { CountsFronts (λ t. IsTrue (is_path t)) word.now result }
+/// How many prefixes of the word some path begins with.
+fn path_prefixes(word: &[u8]) -> usize
+    ensures { CountsPrefixes (λ t. IsTrue (is_path t)) word.now result }
 {
     match strip(word, "/") {
-        Some(parts) => part_fronts(LONGEST - 1, parts) + 1,
-        None => text_fronts("/", word),
+        Some(parts) => part_prefixes(LONGEST - 1, parts) + 1,
+        None => text_prefixes("/", word),
     }
 }
 
@@ -302,22 +307,22 @@ pub fn read_path(alloc: Global, word: &[u8]) -> Result<CapPath, WordFault>
         (λ e. IsWordFault (λ t. IsTrue (is_path t)) word.now e) }
 {
     let Some(text) = text_of(word) else {
-        return Err(WordFault::Bad(path_fronts(word)));
+        return Err(WordFault::Bad(path_prefixes(word)));
     };
     match CapPath::read(alloc, text) {
         Ok(path) => Ok(path),
         Err(fault) => match fault {
             PathFault::Memory => Err(WordFault::Memory),
-            _ => Err(WordFault::Bad(path_fronts(word))),
+            _ => Err(WordFault::Bad(path_prefixes(word))),
         },
     }
 }
 
-/// How many fronts of the word some subdirectory begins with.
-fn subdir_fronts(word: &[u8]) -> usize
-    ensures { CountsFronts (λ t. IsTrue (is_subdir t)) word.now result }
+/// How many prefixes of the word some subdirectory begins with.
+fn subdir_prefixes(word: &[u8]) -> usize
+    ensures { CountsPrefixes (λ t. IsTrue (is_subdir t)) word.now result }
 {
-    part_fronts(LONGEST, word)
+    part_prefixes(LONGEST, word)
 }
 
 /// The subdirectory that the word is, of at most 4,096 bytes.
@@ -326,13 +331,13 @@ pub fn read_subdir(alloc: Global, word: &[u8]) -> Result<SubDir, WordFault>
         (λ e. IsWordFault (λ t. IsTrue (is_subdir t)) word.now e) }
 {
     let Some(text) = text_of(word) else {
-        return Err(WordFault::Bad(subdir_fronts(word)));
+        return Err(WordFault::Bad(subdir_prefixes(word)));
     };
     match SubDir::read(alloc, text) {
         Ok(subdir) => Ok(subdir),
         Err(fault) => match fault {
             PathFault::Memory => Err(WordFault::Memory),
-            _ => Err(WordFault::Bad(subdir_fronts(word))),
+            _ => Err(WordFault::Bad(subdir_prefixes(word))),
         },
     }
 }
@@ -351,11 +356,11 @@ fn next_number(number: u64, byte: u8) -> Option<u64>
 
 /// The number of 64 bits that the word is, in decimal digits without a needless zero in front.
 ///
-/// `Err(Bad(n))` comes where the word is no such number, with the count of its fronts that some
+/// `Err(Bad(n))` comes where the word is no such number, with the count of its prefixes that some
 /// number begins with. It takes no memory, so `Err(Memory)` never comes.
 pub fn read_number(word: &[u8]) -> Result<u64, WordFault>
     ensures { MatchResult result (λ n. IsNumberText word.now n)
-        (λ e. IsSureFault IsNumber word.now e) }
+        (λ e. IsSureFault IsU64Text word.now e) }
 {
     let mut number: u64 = 0;
     for (i, byte) in word.iter().enumerate() {
@@ -379,7 +384,7 @@ fn read_incarnation(word: &[u8]) -> Result<u64, WordFault>
         (λ e. IsWordFault IsIncarnation word.now e) }
 {
     let Some(digits) = strip(word, "@") else {
-        return Err(WordFault::Bad(text_fronts("@", word)));
+        return Err(WordFault::Bad(text_prefixes("@", word)));
     };
     match read_number(digits) {
         Ok(number) => Ok(number),
@@ -387,13 +392,13 @@ fn read_incarnation(word: &[u8]) -> Result<u64, WordFault>
     }
 }
 
-/// How many fronts of the word some moniker begins with, or `None` where it is one.
-fn moniker_fronts(word: &[u8]) -> Option<usize>
+/// How many prefixes of the word some moniker begins with, or `None` where it is one.
+fn moniker_prefixes(word: &[u8]) -> Option<usize>
     ensures { MatchOption result (IsMonikerText word.now)
-        (λ n. (IsMonikerText word.now → ⊥) × CountsFronts IsMonikerText word.now n) }
+        (λ n. (IsMonikerText word.now → ⊥) × CountsPrefixes IsMonikerText word.now n) }
 {
-    let front = &word[..word.len().min(LONGEST)];
-    match bad_place(front) {
+    let prefix = &word[..word.len().min(LONGEST)];
+    match bad_place(prefix) {
         Some(place) => Some(place + 1),
         None => {
             if word.len() > LONGEST {
@@ -410,8 +415,8 @@ fn judge_moniker(alloc: Global, word: &[u8]) -> Result<Moniker, WordFault>
     ensures { MatchResult result (λ moniker. IsTargetText word.now (Target.Named moniker))
         (λ e. IsWordFault IsMonikerText word.now e) }
 {
-    if let Some(fronts) = moniker_fronts(word) {
-        return Err(WordFault::Bad(fronts));
+    if let Some(prefixes) = moniker_prefixes(word) {
+        return Err(WordFault::Bad(prefixes));
     }
     let Some(text) = text_of(word) else {
         unreachable!();
@@ -427,7 +432,7 @@ fn judge_moniker(alloc: Global, word: &[u8]) -> Result<Moniker, WordFault>
 
 /// The word without a slash in front.
 fn behind_slash(word: &[u8]) -> &[u8]
-    ensures { result.now ≡ moniker.behind_slash word.now }
+    ensures { result.now ≡ moniker_inside.behind_slash word.now }
 {
     match word {
         [] => word,
@@ -437,7 +442,7 @@ fn behind_slash(word: &[u8]) -> &[u8]
 
 /// The name of a child that the word is, most often one without a collection.
 fn read_part(alloc: Global, word: &[u8]) -> Result<ChildName, WordFault>
-    ensures { MatchResult result (λ child. IsChild child × (word.now ≡ child_text child))
+    ensures { MatchResult result (λ child. IsChildName child × (word.now ≡ child_text child))
         (λ e. IsWordFault IsChildText word.now e) }
 {
     match read_name(alloc, word) {
@@ -450,7 +455,7 @@ fn read_part(alloc: Global, word: &[u8]) -> Result<ChildName, WordFault>
 /// The names of children that stand between the slashes, or `None` where something else does.
 fn children_in(alloc: Global, text: &[u8]) -> Result<Option<List<Shared<ChildName>>>, Memory>
     ensures { IfOk result (λ found. IfSome found (λ parts.
-        All IsChild parts × (map child_text parts ≡ parts_of text.now))) }
+        All IsChildName parts × (map child_text parts ≡ parts_of text.now))) }
 {
     let slashes = text.iter().filter(|b| **b == b'/').count();
     let mut parts = List::with_capacity(alloc, slashes.saturating_add(1))?;
@@ -472,7 +477,7 @@ fn children_in(alloc: Global, text: &[u8]) -> Result<Option<List<Shared<ChildNam
 
 /// The moniker that the word is, of at most 4,096 bytes.
 ///
-/// `Err(Bad(n))` comes where the word is no such moniker, with the count of its fronts that some
+/// `Err(Bad(n))` comes where the word is no such moniker, with the count of its prefixes that some
 /// moniker begins with. `Err(Memory)` comes where memory runs out.
 pub fn read_moniker(alloc: Global, word: &[u8]) -> Result<Moniker, WordFault>
     ensures { MatchResult result (λ moniker. IsTargetText word.now (Target.Named moniker))
@@ -503,7 +508,7 @@ pub fn read_target(alloc: Global, word: &[u8]) -> Result<Target, WordFault>
 
 /// The name of a child that the word is: a name, or two with a colon between them.
 fn read_child(alloc: Global, word: &[u8]) -> Result<ChildName, WordFault>
-    ensures { MatchResult result (λ child. IsChild child × (word.now ≡ child_text child))
+    ensures { MatchResult result (λ child. IsChildName child × (word.now ≡ child_text child))
         (λ e. IsWordFault IsChildText word.now e) }
 {
     let (first, second) = cut(word, b':');
@@ -530,7 +535,7 @@ fn read_child(alloc: Global, word: &[u8]) -> Result<ChildName, WordFault>
 /// The origin that is no child and that the word is.
 fn read_named_origin(word: &[u8]) -> Result<Origin, WordFault>
     ensures { MatchResult result (λ origin. IsOriginText word.now origin)
-        (λ e. IsWordFault (Contains spec.origin_words) word.now e) }
+        (λ e. IsWordFault (Contains spec_inside.origin_words) word.now e) }
 {
     if is_same(word, "parent") {
         return Ok(Origin::Parent);
@@ -544,7 +549,7 @@ fn read_named_origin(word: &[u8]) -> Result<Origin, WordFault>
     if is_same(word, "void") {
         return Ok(Origin::Void);
     }
-    Err(WordFault::Bad(literal_fronts(&["parent", "self", "framework", "void"], word)))
+    Err(WordFault::Bad(literal_prefixes(&["parent", "self", "framework", "void"], word)))
 }
 
 /// The name of the child that the word is: `#` and that name.
@@ -553,7 +558,7 @@ fn read_child_origin(alloc: Global, word: &[u8]) -> Result<ChildName, WordFault>
         (λ e. IsWordFault IsChildOrigin word.now e) }
 {
     let Some(child) = strip(word, "#") else {
-        return Err(WordFault::Bad(text_fronts("#", word)));
+        return Err(WordFault::Bad(text_prefixes("#", word)));
     };
     match read_child(alloc, child) {
         Ok(child) => Ok(child),

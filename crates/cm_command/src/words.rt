@@ -27,16 +27,16 @@ fn position_of(bytes: &[u8], separator: u8) -> Option<usize>
     memchr(separator, bytes)
 }
 
-/// What stands behind `front`, where the bytes begin with it.
-pub fn strip<'a>(bytes: &'a [u8], front: &str) -> Option<&'a [u8]>
-    ensures { MatchOption result ((rest : Seq ℕ) → bytes.now ≡ front.now ++ rest → ⊥)
-        (λ rest. bytes.now ≡ front.now ++ rest.now) }
+/// What stands behind `prefix`, where the bytes begin with it.
+pub fn strip<'a>(bytes: &'a [u8], prefix: &str) -> Option<&'a [u8]>
+    ensures { MatchOption result ((rest : Seq ℕ) → bytes.now ≡ prefix.now ++ rest → ⊥)
+        (λ rest. bytes.now ≡ prefix.now ++ rest.now) }
 {
-    let len = front.len();
+    let len = prefix.len();
     if len > bytes.len() {
         return None;
     }
-    if is_same(&bytes[..len], front) {
+    if is_same(&bytes[..len], prefix) {
         Some(&bytes[len..])
     } else {
         None

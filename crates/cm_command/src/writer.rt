@@ -4,6 +4,7 @@ ghost use Rattle.std.specs.Prelude.{◌≡◌, ◌++◌, ◌∷◌, codes, flat_
 ghost use Rattle.std.specs.List.{join_with_byte};
 ghost use Rattle.cm_command.specs.declared.command.Command.TheVariants as asked;
 ghost use Rattle.cm_command.specs.Written as spec;
+ghost use Rattle.cm_command.specs.WrittenInside as spec_inside;
 
 use crate::Command;
 use cm_decl::{Give, Origin};
@@ -16,7 +17,7 @@ use std::alloc::Global;
 /// It is the line of any command: for one whose monikers, URL and gives are in the grammar,
 /// [`crate::read_command`] gives the command back. `Err` where memory runs out.
 pub fn write_command(alloc: Global, command: &Command) -> Result<Text, Memory>
-    ensures { IfOk result (λ text. text ≡ spec.command_text command.now) }
+    ensures { IfOk result (λ text. text ≡ spec_inside.command_text command.now) }
 {
     match command {
         Command::Resolve(target) => with_target(alloc, "resolve", target),
@@ -47,7 +48,7 @@ pub fn write_command(alloc: Global, command: &Command) -> Result<Text, Memory>
 
 /// The line of an `events`.
 fn write_events(alloc: Global, target: &Target, from: u64) -> Result<Text, Memory>
-    ensures { IfOk result (λ text. text ≡ spec.command_text (asked.Events target.now from)) }
+    ensures { IfOk result (λ text. text ≡ spec_inside.command_text (asked.Events target.now from)) }
 {
     let mut text = with_target(alloc, "events", target)?;
     text.push_str(" ")?;
@@ -64,7 +65,7 @@ fn write_create(
     url: &Text,
     gives: &List<Give>,
 ) -> Result<Text, Memory>
-    ensures { IfOk result (λ text. text ≡ spec.command_text
+    ensures { IfOk result (λ text. text ≡ spec_inside.command_text
         (asked.Create parent.now coll.now name.now url.now gives.now)) }
 {
     let mut text = with_word(alloc, "create", parent, coll.as_str())?;
@@ -231,11 +232,11 @@ fn push_availability(text: &mut Text, availability: Availability) -> Result<(), 
 /// Law: the line that a command in the grammar is written as asks for it. So what
 /// [`crate::read_command`] gives for it is the command, since a line asks for one at most.
 pub fn writes_its_line()
-    ensures { spec.WritesItsLine }
+    ensures { spec_inside.WritesItsLine }
 {}
 
 /// Law: what a line asks for is a command in the grammar. So whatever [`crate::read_command`] gives
 /// is written as a line that asks for it again.
 pub fn what_is_read_is_writable()
-    ensures { spec.WhatIsReadIsWritable }
+    ensures { spec_inside.WhatIsReadIsWritable }
 {}

@@ -1,3 +1,4 @@
+-- Promised.
 -- Which row breaks which rule.
 use Rattle.std.specs.Prelude.{ℕ, List, Bool, false, not, ◌||◌, is_some, slice_get}
 use Rattle.std.specs.Option.{option_map_or}

@@ -1,3 +1,4 @@
+-- Promised.
 -- The rules that speak of two rows, and which other row a row clashes with.
 use Rattle.std.specs.Prelude.{ℕ, List, Bool, ◌&&◌, ◌||◌, Option, Some, None, take, slice_get, position}
 use Rattle.std.specs.Prelude.{option_map, option_and_then}
@@ -15,19 +16,19 @@ use Rattle.cm_decl.specs.declared.section.Section.TheVariants.{Offers, Exposes}
 use Rattle.cm_decl.specs.Rules.{Rule, RepeatedName, RepeatedTarget, RepeatedPath, PathInside, is_inside}
 
 -- where a row stands: its section, and its index there
-abbrev pub Place : Type 0
-Place = Section × ℕ
+abbrev pub RowPlace : Type 0
+RowPlace = Section × ℕ
 
 -- the place of the row of this section and index
-abbrev pub place : Section → ℕ → Place
+abbrev pub place : Section → ℕ → RowPlace
 place section index = (section, index)
 
 -- the first of these rows that passes
-abbrev pub first_row : {A : Type 0} → Section → (A → Bool) → List A → Option Place
+abbrev pub first_row : {A : Type 0} → Section → (A → Bool) → List A → Option RowPlace
 first_row section passes rows = option_map (place section) (position passes rows)
 
 -- the first row before the i-th of a section that clashes with it
-abbrev pub first_before : {A : Type 0} → Section → (A → A → Bool) → List A → ℕ → Option Place
+abbrev pub first_before : {A : Type 0} → Section → (A → A → Bool) → List A → ℕ → Option RowPlace
 first_before section clashes rows i =
     option_and_then (λ row. first_row section (λ earlier. clashes earlier row) (take i rows))
     (slice_get rows i)
@@ -38,7 +39,7 @@ or_else (Some x) other = Some x
 or_else None other = other
 
 -- the child that has the name of the i-th collection
-abbrev pub child_of_name : Decl → ℕ → Option Place
+abbrev pub child_of_name : Decl → ℕ → Option RowPlace
 child_of_name d i =
     option_and_then (λ k. first_row Children (λ c. bytes_eq c.name k.name) d.children)
     (slice_get d.collections i)
@@ -72,7 +73,7 @@ abbrev pub are_paths_nested : Usage → Usage → Bool
 are_paths_nested a b = is_inside a.path b.path || is_inside b.path a.path
 
 -- the earlier row that this one clashes with: the first, where several do
-abbrev pub clash : Decl → Rule → Section → ℕ → Option Place
+abbrev pub clash : Decl → Rule → Section → ℕ → Option RowPlace
 clash d RepeatedName Children i = first_before Children same_child_name d.children i
 clash d RepeatedName Collections i =
     or_else (child_of_name d i) (first_before Collections same_collection_name d.collections i)

@@ -1,3 +1,4 @@
+-- Promised.
 -- The faults of offers that are made to a child when it is created.
 use Rattle.std.specs.Prelude.{ℕ, List, [], ◌∷◌, length, take, Bool, false, ◌&&◌, ◌||◌, Option, option_map}
 use Rattle.std.specs.Prelude.{option_and_then, is_none, find, slice_get, if◌then◌else◌}

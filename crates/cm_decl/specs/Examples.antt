@@ -1,3 +1,4 @@
+-- Inside.
 -- Short declarations that worked examples speak of, and their faults. A name of one letter is
 -- written by its byte.
 use Rattle.std.specs.Prelude.{ℕ, List, [], ◌∷◌, false, Option, None}
@@ -18,8 +19,8 @@ use Rattle.cm_decl.specs.declared.section.Section.{Section}
 use Rattle.cm_decl.specs.declared.node.Node.{Node}
 use Rattle.cm_decl.specs.declared.node.Node.TheVariants as node
 use Rattle.cm_decl.specs.Graph.{static_name}
-use Rattle.cm_decl.specs.Clashes.{Place}
-use Rattle.cm_decl.specs.Faults.{Fault}
+use Rattle.cm_decl.specs.Clashes.{RowPlace}
+use Rattle.cm_decl.specs.Faults.{DeclFault}
 
 -- what declares nothing
 abbrev pub no_decl : Decl
@@ -150,7 +151,7 @@ twice_named = record no_decl {
 }
 
 -- a fault at a row, beside the row that it clashes with
-abbrev pub row_fault : ℕ → Section → ℕ → Option Place → Fault
+abbrev pub row_fault : ℕ → Section → ℕ → Option RowPlace → DeclFault
 row_fault number section i against =
     record { number = number; section = section; index = i; against = against; cycle = [] }
 

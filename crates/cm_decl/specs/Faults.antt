@@ -1,5 +1,6 @@
+-- Promised.
 -- The faults of a declaration, and the first of them. Their order is this project's own.
-use Rattle.std.specs.Prelude.{◌≡◌, ℕ, ◌<◌, List, [], Option, Some, None, IsTrue, ◌⊎◌}
+use Rattle.std.specs.Prelude.{◌≡◌, ℕ, ◌<◌, List, [], Option, IsTrue, ◌⊎◌}
 use Rattle.cm_decl.specs.declared.decl.Decl.{Decl}
 use Rattle.cm_decl.specs.declared.node.Node.{Node}
 use Rattle.cm_decl.specs.declared.section.Section.{Section}
@@ -7,19 +8,19 @@ use Rattle.cm_decl.specs.declared.section.Section.TheVariants.{Manifest, Program
 use Rattle.cm_decl.specs.declared.section.Section.TheVariants.{Capabilities, Uses, Offers, Exposes}
 use Rattle.cm_decl.specs.declared.section.Section.TheVariants.{Environments, Graph}
 use Rattle.cm_decl.specs.Rules.{Rule, number_of}
-use Rattle.cm_decl.specs.Clashes.{Place, clash}
+use Rattle.cm_decl.specs.Clashes.{RowPlace, clash}
 use Rattle.cm_decl.specs.Breaks.{breaks}
 
 -- what is reported: a number, a row, the row that it clashes with, and the nodes of a cycle
-pub record Fault : Type 0 where
+pub record DeclFault : Type 0 where
   pub number : ℕ
   pub section : Section
   pub index : ℕ
-  pub against : Option Place
+  pub against : Option RowPlace
   pub cycle : List Node
 
 -- a fault stands where its row breaks the rule of its number
-pub record Stands (d : Decl) (f : Fault) : Type 0 where
+pub record IsBroken (d : Decl) (f : DeclFault) : Type 0 where
   pub rule : Rule
   pub broken : IsTrue (breaks d rule f.section f.index)
   pub numbered : f.number ≡ number_of rule
@@ -40,22 +41,17 @@ section_rank Environments = 8
 section_rank Graph = 9
 
 -- the first is reported before the second: by section, then by index, then by number
-abbrev pub IsBefore : Fault → Fault → Type 0
+abbrev pub IsBefore : DeclFault → DeclFault → Type 0
 IsBefore f g =
     (section_rank f.section < section_rank g.section) ⊎
     ((section_rank f.section ≡ section_rank g.section) ×
     ((f.index < g.index) ⊎ ((f.index ≡ g.index) × (f.number < g.number))))
 
 -- a fault that stands, and before which none stands
-pub record IsFirst (d : Decl) (f : Fault) : Type 0 where
-  pub stands : Stands d f
-  pub none_before : (g : Fault) → Stands d g → IsBefore g f → ⊥
-
--- the first of the faults that stand in a part of the declaration, or none where none stands there
-abbrev pub IsFirstIn : Decl → (Fault → Type 0) → Option Fault → Type 0
-IsFirstIn d In None = (g : Fault) → Stands d g → In g → ⊥
-IsFirstIn d In (Some f) = Stands d f × In f × ((g : Fault) → Stands d g → In g → IsBefore g f → ⊥)
+pub record IsFirst (d : Decl) (f : DeclFault) : Type 0 where
+  pub stands : IsBroken d f
+  pub none_before : (g : DeclFault) → IsBroken d g → IsBefore g f → ⊥
 
 -- no fault stands
 abbrev pub IsFaultless : Decl → Type 0
-IsFaultless d = (f : Fault) → Stands d f → ⊥
+IsFaultless d = (f : DeclFault) → IsBroken d f → ⊥

@@ -1,10 +1,9 @@
+-- Promised.
 -- The order of the nodes of a realm graph.
 use Rattle.std.specs.Prelude.{ℕ, ◌+◌, List, length, Bool, Option, Some, None}
 use Rattle.std.specs.Ordering.{nat_cmp, ordering_then, is_le}
 use Rattle.std.specs.declared.cmp.Ordering.{Ordering}
 use Rattle.std.specs.Cmp.Lexicographic.{slice_cmp}
-use Rattle.std.specs.Cmp.{IsTotalOrder}
-use Rattle.std.proofs.lemmas.Cmp.{on_total, then_total, nat_cmp_total, nat_list_cmp_total}
 use Rattle.cm_decl.specs.declared.node.Node.{Node}
 use Rattle.cm_decl.specs.declared.node.Node.TheVariants.{Own, Child}
 use Rattle.cm_decl.specs.Words.{node_text}
@@ -38,9 +37,3 @@ node_cmp x y =
 -- whether the first is the second or stands before it
 abbrev pub node_at_most : Node → Node → Bool
 node_at_most x y = is_le (node_cmp x y)
-
--- the order is total
-pub node_cmp_total : IsTotalOrder node_cmp
-node_cmp_total =
-    then_total (on_total rank nat_cmp_total)
-    (then_total (on_total node_text nat_list_cmp_total) (on_total node_coll_length nat_cmp_total))

@@ -1,14 +1,15 @@
+-- Promised.
 -- Ways from node to node, over any relation.
 use Rattle.std.specs.Prelude.{List, [], ◌∷◌}
 
 -- the list leads from the first to the last: each depends directly on the next
-abbrev pub Way : {N : Type 0} → (N → N → Type 0) → N → List N → N → Type 0
-Way On x [] y = On x y
-Way On x (z ∷ zs) y = On x z × Way On z zs y
+abbrev pub DependencyPath : {N : Type 0} → (N → N → Type 0) → N → List N → N → Type 0
+DependencyPath On x [] y = On x y
+DependencyPath On x (z ∷ zs) y = On x z × DependencyPath On z zs y
 
 -- the first depends on the last, directly or through others
 abbrev pub Reaches : {N : Type 0} → (N → N → Type 0) → N → N → Type 0
-Reaches {N} On x y = (between : List N) × Way On x between y
+Reaches {N} On x y = (between : List N) × DependencyPath On x between y
 
 -- some node depends on itself, directly or through others
 abbrev pub HasCycle : {N : Type 0} → (N → N → Type 0) → Type 0

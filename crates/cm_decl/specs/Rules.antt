@@ -1,3 +1,4 @@
+-- Promised.
 -- The rules that the rows of a declaration have to keep, and the tests that they are made of. The rules
 -- are those of Fuchsia's component manifest reference (fuchsia.dev); their numbers are this project's own.
 use Rattle.std.specs.Prelude.{ℕ, List, [], ◌∷◌, ◌++◌, Bool, false, not, ◌&&◌, ◌||◌, is_none, nat_eq}
@@ -34,12 +35,6 @@ number_of RepeatedTarget = 54
 number_of RepeatedPath = 55
 number_of PathInside = 56
 number_of RequiredVoid = 57
-
--- all rules, by their numbers
-abbrev pub rules : List Rule
-rules =
-    RepeatedName ∷ UnknownRef ∷ NotDeclared ∷ TargetIsSource ∷ RepeatedTarget ∷ RepeatedPath ∷ PathInside
-    ∷ RequiredVoid ∷ []
 
 -- whether a child of this name is declared; a child in a collection never is
 abbrev pub is_child : Decl → ChildName → Bool

@@ -1,3 +1,4 @@
+-- Promised.
 -- Tests whether two values are the same.
 use Rattle.std.specs.Prelude.{Bool, true, false, ◌&&◌}
 use Rattle.std.specs.Str.{bytes_eq}

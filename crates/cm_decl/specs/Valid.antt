@@ -1,3 +1,4 @@
+-- Promised.
 -- Which declarations are valid, and the fault of one that isn't.
 use Rattle.std.specs.Prelude.{◌≡◌, List, [], Bool, true, false, not, ◌&&◌, None, is_none, IsTrue, ◌⊎◌}
 use Rattle.std.specs.List.{list_all}
@@ -11,7 +12,7 @@ use Rattle.cm_decl.specs.declared.section.Section.TheVariants.{Graph}
 use Rattle.cm_decl.specs.Graph.{is_strong_edge, StrongOn}
 use Rattle.cm_decl.specs.Reach.{NoCycle}
 use Rattle.cm_decl.specs.Cycle.{IsPickedCycle}
-use Rattle.cm_decl.specs.Faults.{Fault, IsFirst, IsFaultless}
+use Rattle.cm_decl.specs.Faults.{DeclFault, IsFirst, IsFaultless}
 
 -- whether the source is void
 abbrev pub is_void : Origin → Bool
@@ -65,15 +66,15 @@ pub record IsValid (d : Decl) : Type 0 where
   pub acyclic : NoCycle (StrongOn d [])
 
 -- the fault of a cycle, which stands at no row
-abbrev pub cycle_fault : List Node → Fault
+abbrev pub cycle_fault : List Node → DeclFault
 cycle_fault cycle = record { number = 58; section = Graph; index = 0; against = None; cycle = cycle }
 
 -- a declaration whose rows have no fault has that of the picked cycle of its realm graph
-pub record IsCycleFault (d : Decl) (f : Fault) : Type 0 where
+pub record IsCycleFault (d : Decl) (f : DeclFault) : Type 0 where
   pub faultless : IsFaultless d
   pub picked : IsPickedCycle (is_strong_edge d []) f.cycle
   pub whole : f ≡ cycle_fault f.cycle
 
 -- the fault of a declaration: the first that stands at a row, or else that of the cycle
-abbrev pub IsFaultOf : Decl → Fault → Type 0
-IsFaultOf d f = IsFirst d f ⊎ IsCycleFault d f
+abbrev pub IsDeclFault : Decl → DeclFault → Type 0
+IsDeclFault d f = IsFirst d f ⊎ IsCycleFault d f

@@ -1,3 +1,4 @@
+-- Promised.
 -- How kinds, sections and nodes are written.
 use Rattle.std.specs.Prelude.{ℕ, List, codes}
 use Rattle.cm_names.specs.Child.{child_text}

@@ -12,11 +12,11 @@ ghost use Rattle.cm_decl.specs.declared.node.DynChild.{DynChild as Dynamic};
 ghost use Rattle.cm_decl.specs.declared.origin.Origin.TheVariants as origin;
 ghost use Rattle.cm_decl.specs.declared.section.Section.TheVariants as section;
 ghost use Rattle.cm_decl.specs.Clashes.{place};
-ghost use Rattle.cm_decl.specs.Faults.{Fault};
-ghost use Rattle.cm_decl.specs.Valid.{IsFaultOf, IsValid, cycle_fault};
+ghost use Rattle.cm_decl.specs.Faults.{DeclFault};
+ghost use Rattle.cm_decl.specs.Valid.{IsDeclFault, IsValid, cycle_fault};
 ghost use Rattle.cm_decl.specs.Dynamic.{bad_give};
-ghost use Rattle.cm_decl.specs.Graph.{IsOrder, realm};
-ghost use Rattle.cm_decl.specs.Realm.{Directly};
+ghost use Rattle.cm_decl.specs.GraphInside.{IsTopologicalOrder, realm};
+ghost use Rattle.cm_decl.specs.RealmGraph.{Directly};
 ghost use Rattle.cm_decl.specs.Cycle.{IsPickedCycle};
 ghost use Rattle.cm_decl.specs.Reach.{HasCycle, NoCycle};
 ghost use Rattle.cm_decl.specs.Examples.{named_as_child, used_of_nobody, offered_undeclared, given_back};
@@ -26,8 +26,8 @@ ghost use Rattle.cm_decl.specs.Examples.{b, p, q};
 
 /// A declaration has at most one fault, and a valid one has none.
 pub fn faults_once()
-    ensures once { (d : Declaration) (f g : Fault) → IsFaultOf d f → IsFaultOf d g → f ≡ g }
-    ensures valid { (d : Declaration) (f : Fault) → IsValid d → IsFaultOf d f → ⊥ }
+    ensures once { (d : Declaration) (f g : DeclFault) → IsDeclFault d f → IsDeclFault d g → f ≡ g }
+    ensures valid { (d : Declaration) (f : DeclFault) → IsValid d → IsDeclFault d f → ⊥ }
 {}
 
 /// A graph has at most one picked cycle, and where it has one, it has a cycle.
@@ -41,31 +41,31 @@ pub fn picks_once()
 /// A realm graph that has an order has no cycle.
 pub fn orders_no_cycle()
     ensures { (d : Declaration) (dynamic : Seq Dynamic) (order : Seq OneNode)
-        → IsOrder (realm d dynamic) order → NoCycle (Directly (realm d dynamic)) }
+        → IsTopologicalOrder (realm d dynamic) order → NoCycle (Directly (realm d dynamic)) }
 {}
 
 /// One declaration for each fault that a row can have: an undeclared name, a clash with an
 /// earlier row and so on. Where two faults stand, the first is the declaration's.
 pub fn has_each_fault()
-    ensures repeated_name { IsFaultOf named_as_child
+    ensures repeated_name { IsDeclFault named_as_child
         (row_fault 50 section.Collections 0 (Some (place section.Children 1))) }
-    ensures unknown_ref { IsFaultOf used_of_nobody (row_fault 51 section.Uses 0 None) }
-    ensures not_declared { IsFaultOf offered_undeclared (row_fault 52 section.Offers 0 None) }
-    ensures target_is_source { IsFaultOf given_back (row_fault 53 section.Offers 0 None) }
-    ensures repeated_target { IsFaultOf exposed_twice
+    ensures unknown_ref { IsDeclFault used_of_nobody (row_fault 51 section.Uses 0 None) }
+    ensures not_declared { IsDeclFault offered_undeclared (row_fault 52 section.Offers 0 None) }
+    ensures target_is_source { IsDeclFault given_back (row_fault 53 section.Offers 0 None) }
+    ensures repeated_target { IsDeclFault exposed_twice
         (row_fault 54 section.Exposes 2 (Some (place section.Exposes 0))) }
-    ensures repeated_path { IsFaultOf used_twice
+    ensures repeated_path { IsDeclFault used_twice
         (row_fault 55 section.Uses 1 (Some (place section.Uses 0))) }
-    ensures path_inside { IsFaultOf one_inside
+    ensures path_inside { IsDeclFault one_inside
         (row_fault 56 section.Uses 2 (Some (place section.Uses 0))) }
-    ensures required_void { IsFaultOf exposed_from_void (row_fault 57 section.Exposes 1 None) }
-    ensures first_of_two { IsFaultOf twice_named
+    ensures required_void { IsDeclFault exposed_from_void (row_fault 57 section.Exposes 1 None) }
+    ensures first_of_two { IsDeclFault twice_named
         (row_fault 50 section.Children 2 (Some (place section.Children 0))) }
 {}
 
 /// Two children with strong offers of each other's: 58 with the cycle from the least node on.
 pub fn goes_two_ways()
-    ensures { IsFaultOf (two_ways dependency.Strong)
+    ensures { IsDeclFault (two_ways dependency.Strong)
         (cycle_fault (child_node a ∷ child_node b ∷ child_node a ∷ [])) }
 {}
 

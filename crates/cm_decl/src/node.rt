@@ -13,7 +13,7 @@ use std::fmt;
 
 /// A child that was created in a collection, and the offers that were made to it alone.
 ///
-/// This is what `CreateChild` of `fuchsia.component.Realm` takes.
+/// This is what `CreateChild` of `fuchsia.component.RealmGraph` takes.
 #[derive(Debug, Clone, PartialEq, Eq)]
 pub struct DynChild {
     /// Its collection and its name there.
@@ -82,7 +82,8 @@ impl PartialEq for Node {
     ghost use Rattle.std.specs.Ordering.{eq_by_cmp};
     ghost use Rattle.std.specs.Cmp.{partial_equiv_from_equiv};
     ghost use Rattle.std.proofs.lemmas.Cmp.{eq_by_cmp_equiv};
-    ghost use Rattle.cm_decl.specs.NodeOrder.{node_cmp, node_cmp_total};
+    ghost use Rattle.cm_decl.specs.NodeOrder.{node_cmp};
+    ghost use Rattle.cm_decl.specs.NodeOrderInside.{node_cmp_total};
 
     ghost eq = { eq_by_cmp node_cmp };
 
@@ -95,7 +96,7 @@ impl PartialEq for Node {
 
 impl Eq for Node {
     ghost use Rattle.std.proofs.lemmas.Cmp.{eq_by_cmp_equiv};
-    ghost use Rattle.cm_decl.specs.NodeOrder.{node_cmp_total};
+    ghost use Rattle.cm_decl.specs.NodeOrderInside.{node_cmp_total};
 
     ghost laws = { eq_by_cmp_equiv node_cmp_total };
 }
@@ -103,7 +104,8 @@ impl Eq for Node {
 impl PartialOrd for Node {
     ghost use Rattle.std.specs.Ordering.{as_partial_cmp};
     ghost use Rattle.std.specs.Cmp.{partial_order_from_total};
-    ghost use Rattle.cm_decl.specs.NodeOrder.{node_cmp, node_cmp_total};
+    ghost use Rattle.cm_decl.specs.NodeOrder.{node_cmp};
+    ghost use Rattle.cm_decl.specs.NodeOrderInside.{node_cmp_total};
 
     ghost partial_cmp = { as_partial_cmp node_cmp };
 
@@ -116,7 +118,8 @@ impl PartialOrd for Node {
 
 impl Ord for Node {
     ghost use Rattle.std.proofs.Common.{refl};
-    ghost use Rattle.cm_decl.specs.NodeOrder.{node_cmp, node_cmp_total};
+    ghost use Rattle.cm_decl.specs.NodeOrder.{node_cmp};
+    ghost use Rattle.cm_decl.specs.NodeOrderInside.{node_cmp_total};
 
     ghost cmp = { node_cmp };
 

@@ -1,6 +1,6 @@
 pub mod Listing
 pub mod Gathering
-pub mod Peeling
-pub mod Falling
+pub mod Toposorting
+pub mod Topological
 pub mod Reversing
 pub mod Shaping

@@ -3,4 +3,4 @@ pub mod Placing
 pub mod Existing
 pub mod Realms
 pub mod Depending
-pub mod Rising
+pub mod Increasing

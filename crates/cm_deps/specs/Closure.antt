@@ -1,3 +1,4 @@
+-- Inside.
 -- What numbered nodes depend on, directly or through others.
 use Rattle.std.specs.Prelude.{◌≡◌, ℕ, ◌<◌, List, length}
 use Rattle.cm_deps.specs.Edges.{row, IsReach}

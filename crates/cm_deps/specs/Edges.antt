@@ -1,3 +1,4 @@
+-- Inside.
 -- Graphs of numbered nodes: the n-th list holds the nodes that the n-th node directly depends on.
 use Rattle.std.specs.Prelude.{◌≡◌, ℕ, ◌+◌, ◌<◌, List, [], ◌++◌, length, take, slice_get, get_or, count_by}
 use Rattle.std.specs.Prelude.{Bool, false, not, nat_eq, Some, IsTrue, ◌⊎◌}
@@ -25,29 +26,29 @@ abbrev pub Covers : List (List ℕ) → List (List ℕ) → Type 0
 Covers before after = (x y : ℕ) → IsTrue (holds (row after x) y) → IsTrue (holds (row before y) x)
 
 -- a node may be listed behind these: it isn't among them, and all that it depends on is
-pub record IsNext (after : List (List ℕ)) (front : List ℕ) (x : ℕ) : Type 0 where
+pub record IsNext (after : List (List ℕ)) (prefix : List ℕ) (x : ℕ) : Type 0 where
   pub inside : x < length after
-  pub new : holds front x ≡ false
-  pub ready : (y : ℕ) → IsTrue (holds (row after x) y) → IsTrue (holds front y)
+  pub new : holds prefix x ≡ false
+  pub ready : (y : ℕ) → IsTrue (holds (row after x) y) → IsTrue (holds prefix y)
 
 -- each node of the list may be listed behind those before it
-abbrev pub IsGrown : List (List ℕ) → List ℕ → Type 0
-IsGrown after order = (k x : ℕ) → slice_get order k ≡ Some x → IsNext after (take k order) x
+abbrev pub IsReverseTopological : List (List ℕ) → List ℕ → Type 0
+IsReverseTopological after order = (k x : ℕ) → slice_get order k ≡ Some x → IsNext after (take k order) x
 
 -- a node depends on one that isn't in the list
 abbrev pub Waits : List (List ℕ) → List ℕ → ℕ → Type 0
-Waits after front x = (y : ℕ) × IsTrue (holds (row after x) y) × (holds front y ≡ false)
+Waits after prefix x = (y : ℕ) × IsTrue (holds (row after x) y) × (holds prefix y ≡ false)
 
 -- nodes behind all that they depend on, as many as can be listed so: each other node depends
 -- on a node that isn't listed
-pub record IsPeeled (after : List (List ℕ)) (order : List ℕ) : Type 0 where
-  pub grown : IsGrown after order
+pub record IsToposorted (after : List (List ℕ)) (order : List ℕ) : Type 0 where
+  pub grown : IsReverseTopological after order
   pub rest : (x : ℕ) → x < length after → holds order x ≡ false → Waits after order x
 
 -- nodes are being listed: done are some of those that are listed
 pub record IsListing (after : List (List ℕ)) (order : List ℕ) (queued done : List Bool) : Type 0 where
   pub queued_size : length queued ≡ length after
-  pub grown : IsGrown after order
+  pub grown : IsReverseTopological after order
   pub listed : (x : ℕ) → is_set queued x ≡ holds order x
   pub known : (x : ℕ) → IsTrue (is_set done x) → IsTrue (holds order x)
   pub counted : count_by not queued + length order ≡ length after
@@ -70,7 +71,7 @@ pub record IsReach (after : List (List ℕ)) (start : ℕ) (found : List ℕ) : 
   pub only : (y : ℕ) → IsTrue (holds found y) → Reaches (On after) start y
 
 -- the flags tell which nodes are in the list, and none is there twice
-pub record IsSeen (seen : List Bool) (found : List ℕ) : Type 0 where
+pub record IsVisited (seen : List Bool) (found : List ℕ) : Type 0 where
   pub listed : (x : ℕ) → is_set seen x ≡ holds found x
   pub counted : count_by not seen + length found ≡ length seen
 

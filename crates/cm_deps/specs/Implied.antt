@@ -1,8 +1,9 @@
+-- Inside.
 -- The edges to the first node, which stands for the component itself, from the nodes that it
 -- doesn't depend on.
 use Rattle.std.specs.Prelude.{◌≡◌, ◌≢◌, ℕ, ◌<◌, List, [], ◌∷◌, ◌++◌, length, nat_eq}
 use Rattle.std.specs.Prelude.{Bool, false, not, ◌&&◌, IsTrue, ◌⊎◌, if◌then◌else◌}
-use Rattle.cm_deps.specs.Edges.{holds, On, IsBelow, IsPeeled, IsReach}
+use Rattle.cm_deps.specs.Edges.{holds, On, IsBelow, IsToposorted, IsReach}
 
 -- an implied edge: from a node that isn't the first, and that the first doesn't reach, to the first
 pub record IsApart (after : List (List ℕ)) (reached : List ℕ) (i j : ℕ) : Type 0 where
@@ -20,10 +21,10 @@ pub record IsFull (after : List (List ℕ)) (reached : List ℕ) (full : List (L
   pub only : (i j : ℕ) → On full i j → On after i j ⊎ IsApart after reached i j
 
 -- each node stands once, before all that it depends on, and these all stand there
-abbrev pub IsFalling : List (List ℕ) → List ℕ → Type 0
-IsFalling rows [] = Unit {0}
-IsFalling rows (x ∷ xs) =
-    (holds xs x ≡ false) × ((y : ℕ) → On rows x y → IsTrue (holds xs y)) × IsFalling rows xs
+abbrev pub IsTopological : List (List ℕ) → List ℕ → Type 0
+IsTopological rows [] = Unit {0}
+IsTopological rows (x ∷ xs) =
+    (holds xs x ≡ false) × ((y : ℕ) → On rows x y → IsTrue (holds xs y)) × IsTopological rows xs
 
 -- the list of a node with its implied edge; near tells whether the first node reaches it
 abbrev pub row_with : ℕ → List ℕ → Bool → List ℕ
@@ -31,13 +32,13 @@ row_with x row near = row ++ (if not (nat_eq x 0) && not near then 0 ∷ [] else
 
 -- all nodes were listed by the strong edges; here they stand once more, each before all that
 -- it depends on by all edges
-pub record IsOrdered (after full : List (List ℕ)) (order : List ℕ) : Type 0 where
+pub record IsOrderedGraph (after full : List (List ℕ)) (order : List ℕ) : Type 0 where
   pub listed : List ℕ
-  pub peeled : IsPeeled after listed
+  pub toposorted : IsToposorted after listed
   pub all : (x : ℕ) → x < length after → IsTrue (holds listed x)
   pub reached : List ℕ
   pub reach : IsReach after 0 reached
   pub edges : IsFull after reached full
-  pub falling : IsFalling full order
+  pub falling : IsTopological full order
   pub whole : (x : ℕ) → x < length after → IsTrue (holds order x)
   pub inside : (x : ℕ) → IsTrue (holds order x) → x < length after

@@ -1,3 +1,4 @@
+-- Inside.
 -- What holds of realm graphs.
 use Rattle.std.specs.Prelude.{◌≡◌, ℕ, List, [], ◌∷◌, ◌++◌, false, Some, ◌↔◌, ◌⊎◌}
 use Rattle.cm_decl.specs.declared.decl.Decl.{Decl}
@@ -6,7 +7,8 @@ use Rattle.cm_decl.specs.declared.node.Node.{Node}
 use Rattle.cm_decl.specs.declared.node.Node.TheVariants.{Child}
 use Rattle.cm_decl.specs.Reach.{NoCycle}
 use Rattle.cm_decl.specs.Cycle.{IsPickedCycle}
-use Rattle.cm_decl.specs.Graph.{is_node, is_strong_edge, StrongOn, DependsOn, WouldDepend}
+use Rattle.cm_decl.specs.Graph.{is_node, is_strong_edge, StrongOn}
+use Rattle.cm_decl.specs.GraphInside.{DependsOn, WouldDepend}
 
 -- a further child of a collection: it isn't a node yet, and no node depends on it
 pub record IsFurther (d : Decl) (dynamic : List DynChild) (collection : List ℕ) (k : DynChild) : Type 0 where

@@ -8,5 +8,5 @@ pub mod Sources
 pub mod Outcome
 pub mod Numbered
 pub mod Graph
-pub mod Leads
+pub mod LeadsToLeast
 pub mod Laws

@@ -1,3 +1,4 @@
+-- Inside.
 -- Realm graphs over numbers.
 use Rattle.std.specs.Prelude.{List}
 use Rattle.cm_decl.specs.declared.decl.Decl.{Decl}

@@ -1,13 +1,15 @@
+-- Inside.
 -- What a realm graph comes to.
 use Rattle.std.specs.Prelude.{List}
 use Rattle.cm_decl.specs.declared.decl.Decl.{Decl}
 use Rattle.cm_decl.specs.declared.node.DynChild.{DynChild}
-use Rattle.cm_decl.specs.Graph.{IsOrder, realm, is_strong_edge}
+use Rattle.cm_decl.specs.Graph.{is_strong_edge}
+use Rattle.cm_decl.specs.GraphInside.{IsTopologicalOrder, realm}
 use Rattle.cm_decl.specs.Cycle.{IsPickedCycle}
 use Rattle.cm_deps.specs.declared.outcome.Order.{Order}
 use Rattle.cm_deps.specs.declared.outcome.Order.TheVariants.{Ordered, Cycle}
 
 -- an order of the realm graph, its implied edges included, or the picked cycle of its strong edges
 abbrev pub IsOutcome : Decl → List DynChild → Order → Type 0
-IsOutcome d dynamic (Ordered order) = IsOrder (realm d dynamic) order
+IsOutcome d dynamic (Ordered order) = IsTopologicalOrder (realm d dynamic) order
 IsOutcome d dynamic (Cycle cycle) = IsPickedCycle (is_strong_edge d dynamic) cycle

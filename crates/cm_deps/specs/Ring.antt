@@ -1,18 +1,19 @@
+-- Inside.
 -- The loop that is picked in a graph of numbered nodes that can't be listed behind all that they depend on.
 use Rattle.std.specs.Prelude.{◌≡◌, ℕ, ◌<◌, ◌≤◌, List, [], ◌∷◌, ◌++◌, length, take, drop, get_or, Bool, false}
 use Rattle.std.specs.Prelude.{IsTrue, ◌⊎◌}
-use Rattle.cm_decl.specs.Reach.{Way, Reaches}
+use Rattle.cm_decl.specs.Reach.{DependencyPath, Reaches}
 use Rattle.cm_deps.specs.Edges.{holds, On}
 
 -- the second is the least node that isn't listed and on which the first directly depends
-pub record Leads (after : List (List ℕ)) (listed : ℕ → Bool) (x y : ℕ) : Type 0 where
+pub record LeadsToLeast (after : List (List ℕ)) (listed : ℕ → Bool) (x y : ℕ) : Type 0 where
   pub on : On after x y
   pub left : listed y ≡ false
   pub least : (z : ℕ) → On after x z → listed z ≡ false → y ≤ z
 
 -- each node that isn't listed depends on one that isn't
-abbrev pub GoesOn : List (List ℕ) → (ℕ → Bool) → Type 0
-GoesOn after listed =
+abbrev pub EachHasUnlisted : List (List ℕ) → (ℕ → Bool) → Type 0
+EachHasUnlisted after listed =
     (x : ℕ) → x < length after → listed x ≡ false → (y : ℕ) × On after x y × (listed y ≡ false)
 
 -- no node is there twice
@@ -23,12 +24,12 @@ Once (x ∷ xs) = (holds xs x ≡ false) × Once xs
 -- a walk that began at the first, passed these and came to the last
 abbrev pub IsTrail : (ℕ → ℕ → Type 0) → ℕ → List ℕ → ℕ → Type 0
 IsTrail Onward start [] x = start ≡ x
-IsTrail Onward start (w ∷ ws) x = (start ≡ w) × Way Onward start ws x
+IsTrail Onward start (w ∷ ws) x = (start ≡ w) × DependencyPath Onward start ws x
 
 -- a walk that passed no node twice, and came back to one that it had passed
 pub record IsWalk (after : List (List ℕ)) (listed : ℕ → Bool) (start : ℕ) (passed : List ℕ) (node : ℕ)
     : Type 0 where
-  pub trail : IsTrail (Leads after listed) start passed node
+  pub trail : IsTrail (LeadsToLeast after listed) start passed node
   pub once : Once passed
   pub back : IsTrue (holds passed node)
 
@@ -45,7 +46,7 @@ pub record IsFirstLeft (size : ℕ) (listed : ℕ → Bool) (x : ℕ) : Type 0 w
   pub first : (y : ℕ) → y < x → IsTrue (listed y)
 
 -- a loop that is begun at its least node
-pub record IsTurned (nodes ring : List ℕ) : Type 0 where
+pub record IsRotated (nodes ring : List ℕ) : Type 0 where
   pub place : ℕ
   pub inside : place < length nodes
   pub least : (x : ℕ) → IsTrue (holds nodes x) → get_or nodes place 0 ≤ x
@@ -58,8 +59,8 @@ pub record IsRing (after : List (List ℕ)) (listed : ℕ → Bool) (ring : List
   pub first : IsFirstLeft (length after) listed start
   pub head : ℕ
   pub others : List ℕ
-  pub reached : (start ≡ head) ⊎ Reaches (Leads after listed) start head
-  pub loop : Way (Leads after listed) head others head
+  pub reached : (start ≡ head) ⊎ Reaches (LeadsToLeast after listed) start head
+  pub loop : DependencyPath (LeadsToLeast after listed) head others head
   pub once : holds others head ≡ false
   pub least : (x : ℕ) → IsTrue (holds others x) → head ≤ x
   pub whole : ring ≡ head ∷ others

@@ -1,18 +1,19 @@
+-- Inside.
 -- What a graph of numbered nodes comes to.
 use Rattle.std.specs.Prelude.{ℕ, List}
 use Rattle.cm_deps.specs.declared.order.Shape.{Shape}
 use Rattle.cm_deps.specs.declared.order.Shape.TheVariants.{Ordered, Ring}
-use Rattle.cm_deps.specs.Edges.{holds, IsPeeled}
+use Rattle.cm_deps.specs.Edges.{holds, IsToposorted}
 use Rattle.cm_deps.specs.Ring.{IsRing}
-use Rattle.cm_deps.specs.Implied.{IsOrdered}
+use Rattle.cm_deps.specs.Implied.{IsOrderedGraph}
 
--- the picked loop of what peeling leaves
+-- the picked cycle of what the topological sort leaves
 pub record IsLeftRing (after : List (List ℕ)) (ring : List ℕ) : Type 0 where
   pub listed : List ℕ
-  pub peeled : IsPeeled after listed
+  pub toposorted : IsToposorted after listed
   pub picked : IsRing after (holds listed) ring
 
--- an order of the graph with its implied edges, or the picked loop
+-- an order of the graph with its implied edges, or the picked cycle
 abbrev pub IsShape : List (List ℕ) → Shape → Type 0
-IsShape after (Ordered full order) = IsOrdered after full.items order.items
+IsShape after (Ordered full order) = IsOrderedGraph after full.items order.items
 IsShape after (Ring ring) = IsLeftRing after ring.items

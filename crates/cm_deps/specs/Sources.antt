@@ -1,3 +1,4 @@
+-- Inside.
 -- The numbers of the nodes that a node strongly depends on.
 use Rattle.std.specs.Prelude.{◌≡◌, ℕ, ◌<◌, List, [], Bool, ◌&&◌, ◌||◌, length, map, filter, nat_lt}
 use Rattle.std.specs.Prelude.{unwrap_or}

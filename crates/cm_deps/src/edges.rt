@@ -2,8 +2,8 @@
 
 ghost use Rattle.std.specs.Prelude.{◌≡◌, ◌<◌, [], ℕ, length, false, IsTrue, IfOk, OnOk, replicate};
 ghost use Rattle.std.specs.List.{list_all};
-ghost use Rattle.cm_deps.specs.Edges.{is_set, holds, row, IsBelow, Covers, IsPeeled, IsListing};
-ghost use Rattle.cm_deps.specs.Edges.{IsSettled, Extends, IsReach, IsSeen, IsAdded};
+ghost use Rattle.cm_deps.specs.Edges.{is_set, holds, row, IsBelow, Covers, IsToposorted, IsListing};
+ghost use Rattle.cm_deps.specs.Edges.{IsSettled, Extends, IsReach, IsVisited, IsAdded};
 
 use cm_names::{List, Memory};
 use std::alloc::Global;
@@ -62,9 +62,9 @@ fn add_dependent(x: usize, nodes: &[usize], before: &mut Vec<List<usize>>) -> Re
 
 /// Puts the nodes in an order in which each stands behind all that it depends on, as many as can
 /// be put so.
-pub fn peel(alloc: Global, after: &[List<usize>]) -> Result<Vec<usize>, Memory>
+pub fn toposort(alloc: Global, after: &[List<usize>]) -> Result<Vec<usize>, Memory>
     requires { IsBelow after.now (length after.now) }
-    ensures { IfOk result (λ order. IsPeeled after.now order.items) }
+    ensures { IfOk result (λ order. IsToposorted after.now order.items) }
 {
     let count = after.len();
     let before = dependents(alloc, after)?;
@@ -168,9 +168,9 @@ fn add_after(
     requires below { IsBelow after.now (length after.now) }
     requires inside { node < length after.now }
     requires size { length seen.old.items ≡ length after.now }
-    requires seen { IsSeen seen.old.items found.old.items }
+    requires seen { IsVisited seen.old.items found.old.items }
     ensures size { OnOk result (length seen.new.items ≡ length after.now) }
-    ensures seen { OnOk result (IsSeen seen.new.items found.new.items) }
+    ensures seen { OnOk result (IsVisited seen.new.items found.new.items) }
     ensures added { OnOk result (IsAdded (row after.now node) found.old.items found.new.items) }
 {
     add_new(after[node].as_slice(), seen, found)?;
@@ -180,9 +180,9 @@ fn add_after(
 /// Puts those of these nodes into the list that aren't there yet.
 fn add_new(nodes: &[usize], seen: &mut Vec<bool>, found: &mut Vec<usize>) -> Result<(), Memory>
     requires inside { (y : ℕ) → IsTrue (holds nodes.now y) → y < length seen.old.items }
-    requires seen { IsSeen seen.old.items found.old.items }
+    requires seen { IsVisited seen.old.items found.old.items }
     ensures size { OnOk result (length seen.new.items ≡ length seen.old.items) }
-    ensures seen { OnOk result (IsSeen seen.new.items found.new.items) }
+    ensures seen { OnOk result (IsVisited seen.new.items found.new.items) }
     ensures added { OnOk result ((y : ℕ) → IsTrue (holds nodes.now y) →
         IsTrue (holds found.new.items y)) }
     ensures only { OnOk result ((y : ℕ) → IsTrue (holds found.new.items y) →
@@ -198,9 +198,9 @@ fn add_new(nodes: &[usize], seen: &mut Vec<bool>, found: &mut Vec<usize>) -> Res
 /// Puts a node into the list if it isn't there yet.
 fn add_if_new(x: usize, seen: &mut Vec<bool>, found: &mut Vec<usize>) -> Result<(), Memory>
     requires inside { x < length seen.old.items }
-    requires seen { IsSeen seen.old.items found.old.items }
+    requires seen { IsVisited seen.old.items found.old.items }
     ensures size { OnOk result (length seen.new.items ≡ length seen.old.items) }
-    ensures seen { OnOk result (IsSeen seen.new.items found.new.items) }
+    ensures seen { OnOk result (IsVisited seen.new.items found.new.items) }
     ensures added { OnOk result (IsTrue (holds found.new.items x)) }
     ensures only { OnOk result ((y : ℕ) → IsTrue (holds found.new.items y) →
         (holds found.old.items y ≡ false) → y ≡ x) }

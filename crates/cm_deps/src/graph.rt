@@ -4,11 +4,12 @@ ghost use Rattle.std.specs.Prelude.{◌≡◌, ◌&&◌, IsTrue, ◌↔◌, IfOk
 ghost use Rattle.std.specs.List.{list_any};
 ghost use Rattle.cm_decl.specs.declared.decl.Decl.{Decl as Declaration};
 ghost use Rattle.cm_decl.specs.declared.node.DynChild.{DynChild as Dynamic};
-ghost use Rattle.cm_decl.specs.Graph.{DependsOn, WouldDepend, is_strong as passes_strong};
+ghost use Rattle.cm_decl.specs.Graph.{is_strong as passes_strong};
+ghost use Rattle.cm_decl.specs.GraphInside.{DependsOn, WouldDepend};
 ghost use Rattle.cm_decl.specs.Same.{same_node};
 ghost use Rattle.cm_deps.specs.Edges.{holds, row};
 ghost use Rattle.cm_deps.specs.Graph.{IsGraphOf};
-ghost use Rattle.cm_deps.specs.Leads.{leads_to, number_of, source_leads};
+ghost use Rattle.cm_deps.specs.LeadsToLeast.{leads_to, number_of, source_leads};
 ghost use Rattle.cm_deps.specs.Outcome.{IsOutcome};
 ghost use Rattle.cm_deps.specs.Sources.{numbers_at};
 

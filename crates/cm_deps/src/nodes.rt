@@ -7,7 +7,7 @@ ghost use Rattle.cm_decl.specs.declared.node.Node.{Node as OneNode};
 ghost use Rattle.cm_decl.specs.Graph.{is_node, static_node, dynamic_node};
 ghost use Rattle.cm_decl.specs.NodeOrder.{node_cmp};
 ghost use Rattle.cm_decl.specs.Same.{same_node};
-ghost use Rattle.cm_deps.specs.Nodes.{IsNodes, IsNumber, IsRising};
+ghost use Rattle.cm_deps.specs.Nodes.{IsNodes, IsNodeNumber, IsIncreasing};
 
 use cm_decl::{Child, Decl, DynChild, Node};
 use cm_names::{ChildName, Memory};
@@ -15,7 +15,7 @@ use std::alloc::Global;
 use std::collections::BTreeSet;
 
 /// The component itself, its declared children and these children of its collections, each once,
-/// in rising order.
+/// in increasing order.
 pub(crate) fn sorted_nodes(
     alloc: Global,
     decl: &Decl,
@@ -61,8 +61,8 @@ fn put_dynamic(children: &[DynChild], nodes: &mut BTreeSet<Node>) -> Result<(), 
 
 /// The number of a node, if it is one of these.
 pub(crate) fn number(nodes: &[Node], node: &Node) -> Option<usize>
-    ensures some { IfSome result (IsNumber nodes.now node.now) }
-    ensures none { IsRising nodes.now →
+    ensures some { IfSome result (IsNodeNumber nodes.now node.now) }
+    ensures none { IsIncreasing nodes.now →
         IfNone result (list_any (same_node node.now) nodes.now ≡ false) }
 {
     nodes.binary_search(node).ok()

@@ -1,11 +1,11 @@
 //! The order of a graph of numbered nodes, in which the first stands for the component itself.
 
 ghost use Rattle.std.specs.Prelude.{◌≡◌, ◌<◌, ℕ, length, IsTrue, IfOk};
-ghost use Rattle.cm_deps.specs.Edges.{holds, IsBelow, IsPeeled};
+ghost use Rattle.cm_deps.specs.Edges.{holds, IsBelow, IsToposorted};
 ghost use Rattle.cm_deps.specs.Implied.{IsFull, row_with};
 ghost use Rattle.cm_deps.specs.Shapes.{IsShape};
 
-use crate::edges::{peel, reach};
+use crate::edges::{reach, toposort};
 use crate::ring::{flags, ring};
 use cm_names::{List, Memory};
 use std::alloc::Global;
@@ -20,17 +20,17 @@ pub enum Shape {
         /// Each node once, before all nodes that it depends on.
         order: Vec<usize>,
     },
-    /// The picked loop.
+    /// The picked cycle.
     Ring(Vec<usize>),
 }
 
-/// The order of the nodes with the implied edges, or the picked loop.
+/// The order of the nodes with the implied edges, or the picked cycle.
 pub fn arrange(alloc: Global, after: &[List<usize>]) -> Result<Shape, Memory>
     requires below { IsBelow after.now (length after.now) }
     requires some { 0 < length after.now }
     ensures { IfOk result (IsShape after.now) }
 {
-    let listed = peel(alloc, after)?;
+    let listed = toposort(alloc, after)?;
     match ring(alloc, after, listed.as_slice())? {
         Some(ring) => return Ok(Shape::Ring(ring)),
         None => return put_in_order(alloc, after, listed.as_slice()),
@@ -41,13 +41,13 @@ pub fn arrange(alloc: Global, after: &[List<usize>]) -> Result<Shape, Memory>
 fn put_in_order(alloc: Global, after: &[List<usize>], listed: &[usize]) -> Result<Shape, Memory>
     requires below { IsBelow after.now (length after.now) }
     requires some { 0 < length after.now }
-    requires peeled { IsPeeled after.now listed.now }
+    requires toposorted { IsToposorted after.now listed.now }
     requires all { (x : ℕ) → x < length after.now → IsTrue (holds listed.now x) }
     ensures { IfOk result (IsShape after.now) }
 {
     let reached = reach(alloc, after, 0)?;
     let full = with_implied(alloc, after, reached.as_slice())?;
-    let mut order = peel(alloc, full.as_slice())?;
+    let mut order = toposort(alloc, full.as_slice())?;
     order.reverse();
     Ok(Shape::Ordered { full, order })
 }

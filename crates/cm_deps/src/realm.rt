@@ -14,7 +14,7 @@ use std::collections::BTreeMap;
 /// by its place among the nodes.
 #[derive(Drop)]
 pub struct NumberedRealm {
-    /// The nodes in rising order.
+    /// The nodes in increasing order.
     pub nodes: Vec<Node>,
     /// For each name that something is strongly offered to, the numbers of the sources.
     pub offered: BTreeMap<Name, List<usize>>,

@@ -1,9 +1,9 @@
-//! The picked loop of a graph of numbered nodes that has one.
+//! The picked cycle of a graph of numbered nodes that has one.
 
 ghost use Rattle.std.specs.Prelude.{◌≡◌, ◌<◌, ◌≤◌, ℕ, drop, length, get_or, false, IsTrue};
 ghost use Rattle.std.specs.Prelude.{IfOk, IfNone, IfSome, MatchOption};
-ghost use Rattle.cm_deps.specs.Edges.{is_set, holds, IsBelow, IsPeeled};
-ghost use Rattle.cm_deps.specs.Ring.{GoesOn, IsWalk, IsLeastLeft, IsFirstLeft, IsTurned, IsRing};
+ghost use Rattle.cm_deps.specs.Edges.{is_set, holds, IsBelow, IsToposorted};
+ghost use Rattle.cm_deps.specs.Ring.{EachHasUnlisted, IsWalk, IsLeastLeft, IsFirstLeft, IsRotated, IsRing};
 
 use crate::edges::unset;
 use cm_names::{List, Memory};
@@ -11,7 +11,7 @@ use std::alloc::Global;
 
 /// The nodes that a walk passed, and where it is.
 #[derive(Drop)]
-struct Trail {
+struct WalkSoFar {
     passed: Vec<usize>,
     node: usize,
 }
@@ -25,7 +25,7 @@ pub fn ring(
     order: &[usize],
 ) -> Result<Option<Vec<usize>>, Memory>
     requires below { IsBelow after.now (length after.now) }
-    requires peeled { IsPeeled after.now order.now }
+    requires toposorted { IsToposorted after.now order.now }
     ensures { IfOk result (λ found. MatchOption found
         ((x : ℕ) → x < length after.now → IsTrue (holds order.now x))
         (λ ring. IsRing after.now (holds order.now) ring.items)) }
@@ -73,12 +73,12 @@ fn walk(
     after: &[List<usize>],
     listed: &[bool],
     start: usize,
-) -> Result<Trail, Memory>
+) -> Result<WalkSoFar, Memory>
     requires below { IsBelow after.now (length after.now) }
     requires size { length listed.now ≡ length after.now }
     requires inside { start < length after.now }
     requires left { is_set listed.now start ≡ false }
-    requires goes_on { GoesOn after.now (is_set listed.now) }
+    requires goes_on { EachHasUnlisted after.now (is_set listed.now) }
     ensures { IfOk result (λ walk.
         IsWalk after.now (is_set listed.now) start walk.passed.items walk.node) }
 {
@@ -87,13 +87,13 @@ fn walk(
     let mut node = start;
     for _step in 0..after.len() {
         if seen[node] {
-            return Ok(Trail { passed, node });
+            return Ok(WalkSoFar { passed, node });
         }
         seen[node] = true;
         passed.push(node)?;
         node = least_left(after[node].as_slice(), listed);
     }
-    Ok(Trail { passed, node })
+    Ok(WalkSoFar { passed, node })
 }
 
 /// The least of these nodes that isn't listed.
@@ -128,7 +128,7 @@ fn place_of(nodes: &[usize], node: usize) -> usize
 /// The loop that begins at this place, begun at its least node.
 fn round(alloc: Global, passed: &[usize], first: usize) -> Result<Vec<usize>, Memory>
     requires inside { first < length passed.now }
-    ensures { IfOk result (λ ring. IsTurned (drop first passed.now) ring.items) }
+    ensures { IfOk result (λ ring. IsRotated (drop first passed.now) ring.items) }
 {
     turned(alloc, &passed[first..])
 }
@@ -136,7 +136,7 @@ fn round(alloc: Global, passed: &[usize], first: usize) -> Result<Vec<usize>, Me
 /// The loop, begun at its least node.
 fn turned(alloc: Global, nodes: &[usize]) -> Result<Vec<usize>, Memory>
     requires some { 0 < length nodes.now }
-    ensures { IfOk result (λ ring. IsTurned nodes.now ring.items) }
+    ensures { IfOk result (λ ring. IsRotated nodes.now ring.items) }
 {
     let place = place_of_least(nodes);
     let mut ring = Vec::new(alloc);

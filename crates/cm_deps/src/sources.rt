@@ -4,7 +4,7 @@ ghost use Rattle.std.specs.Prelude.{◌≡◌, ◌∷◌, [], ℕ, length, IfOk,
 ghost use Rattle.std.specs.Str.{bytes_eq};
 ghost use Rattle.cm_decl.specs.declared.decl.Decl.{Decl as Declaration};
 ghost use Rattle.cm_decl.specs.Graph as spec;
-ghost use Rattle.cm_deps.specs.Nodes.{IsRising};
+ghost use Rattle.cm_deps.specs.Nodes.{IsIncreasing};
 ghost use Rattle.cm_deps.specs.Sources.{IsEdges, IsOffered, Lists, ListsMore};
 ghost use Rattle.cm_deps.specs.Sources.{numbers_at, strong_sources};
 
@@ -34,7 +34,7 @@ pub(crate) fn is_strong(dependency: Dependency) -> bool
 
 /// Puts the number of the node that a source is into the list, if it is one.
 fn add_source(nodes: &[Node], source: &Origin, numbers: &mut List<usize>) -> Result<(), Memory>
-    requires { IsRising nodes.now }
+    requires { IsIncreasing nodes.now }
     ensures { OnOk result (ListsMore nodes.now (source.now ∷ []) numbers.old numbers.new) }
 {
     let Some(node) = node_of(source)? else {
@@ -48,7 +48,7 @@ fn add_source(nodes: &[Node], source: &Origin, numbers: &mut List<usize>) -> Res
 
 /// Puts the numbers of the sources of what is given strongly into the list.
 fn add_gives(nodes: &[Node], gives: &[Give], numbers: &mut List<usize>) -> Result<(), Memory>
-    requires { IsRising nodes.now }
+    requires { IsIncreasing nodes.now }
     ensures { OnOk result (ListsMore nodes.now (strong_sources gives.now) numbers.old numbers.new) }
 {
     for give in gives {
@@ -61,7 +61,7 @@ fn add_gives(nodes: &[Node], gives: &[Give], numbers: &mut List<usize>) -> Resul
 
 /// The numbers of the children that the component itself strongly uses.
 fn own_numbers(alloc: Global, nodes: &[Node], decl: &Decl) -> Result<List<usize>, Memory>
-    requires { IsRising nodes.now }
+    requires { IsIncreasing nodes.now }
     ensures { IfOk result (Lists nodes.now (spec.own_sources decl.now)) }
 {
     let mut numbers = List::new(alloc);
@@ -86,7 +86,7 @@ pub(crate) fn offered(
     nodes: &[Node],
     offers: &[Offer],
 ) -> Result<BTreeMap<Name, List<usize>>, Memory>
-    requires { IsRising nodes.now }
+    requires { IsIncreasing nodes.now }
     ensures { IfOk result (IsOffered nodes.now offers.now) }
 {
     let mut numbers = BTreeMap::new(alloc);
@@ -105,7 +105,7 @@ fn add_offer(
     offer: &Offer,
     numbers: &mut BTreeMap<Name, List<usize>>,
 ) -> Result<(), Memory>
-    requires { IsRising nodes.now }
+    requires { IsIncreasing nodes.now }
     ensures here { OnOk result (ListsMore nodes.now (offer.now.give.from ∷ [])
         (numbers_at numbers.old offer.now.to) (numbers_at numbers.new offer.now.to)) }
     ensures others { OnOk result ((name : Seq ℕ) → (bytes_eq offer.now.to name ≡ false) →
@@ -125,7 +125,7 @@ fn declared_numbers(
     offered: &BTreeMap<Name, List<usize>>,
     node: &Node,
 ) -> Result<List<usize>, Memory>
-    requires rising { IsRising nodes.now }
+    requires increasing { IsIncreasing nodes.now }
     requires offered { IsOffered nodes.now decl.now.offers offered.now }
     ensures { IfOk result (Lists nodes.now (spec.sources_of decl.now [] node.now)) }
 {
@@ -167,7 +167,7 @@ pub(crate) fn declared_edges(
     decl: &Decl,
     offered: &BTreeMap<Name, List<usize>>,
 ) -> Result<Vec<List<usize>>, Memory>
-    requires rising { IsRising nodes.now }
+    requires increasing { IsIncreasing nodes.now }
     requires offered { IsOffered nodes.now decl.now.offers offered.now }
     ensures { IfOk result (λ rows. IsEdges decl.now [] nodes.now rows.items) }
 {
@@ -185,7 +185,7 @@ pub(crate) fn add_given(
     dynamic: &[DynChild],
     rows: &mut Vec<List<usize>>,
 ) -> Result<(), Memory>
-    requires rising { IsRising nodes.now }
+    requires increasing { IsIncreasing nodes.now }
     requires size { length rows.old.items ≡ length nodes.now }
     ensures { (d : Declaration) → IsEdges d [] nodes.now rows.old.items →
         OnOk result (IsEdges d dynamic.now nodes.now rows.new.items) }

@@ -1,3 +1,4 @@
+-- Inside.
 -- Children of collections that nothing strongly comes from: they can't stand in a ring.
 use Rattle.std.specs.Prelude.{List, Bool, false, not, ◌&&◌, is_some, IsTrue}
 use Rattle.std.specs.List.{list_all}
@@ -34,7 +35,7 @@ abbrev pub is_plain_child : DynChild → Bool
 is_plain_child k = is_some k.name.coll && list_all is_plain_give k.gives
 
 -- nothing that is declared, and nothing that children of collections were given, is of that kind
-pub record AreApart (d : Decl) (dynamic : List DynChild) : Type 0 where
+pub record NoneOfKind (d : Decl) (dynamic : List DynChild) : Type 0 where
   pub offers : IsTrue (list_all is_plain_offer d.offers)
   pub usages : IsTrue (list_all is_plain_use d.uses)
   pub children : IsTrue (list_all is_plain_child dynamic)

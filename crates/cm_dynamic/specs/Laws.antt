@@ -1,3 +1,4 @@
+-- Inside.
 -- Laws of the answers, as statements. Functions of this crate promise them, and nothing is assumed.
 use Rattle.std.specs.Prelude.{◌≡◌, ℕ, List, None, IsTrue}
 use Rattle.cm_decl.specs.declared.rows.Give.{Give}
@@ -12,7 +13,7 @@ abbrev pub EachRoomIsOfSomeLimit : Type 0
 EachRoomIsOfSomeLimit = (rows : List Row) (free : ℕ) → (limit next : ℕ) × TellsRoom limit rows next free
 
 -- the parent of a new child is resolved, and has no child of that name that isn't doomed
-pub record CanTake (rows : List Row) (p : ℕ) (coll name : List ℕ) : Type 0 where
+pub record CanTakeChild (rows : List Row) (p : ℕ) (coll name : List ℕ) : Type 0 where
   pub resolved : IsTrue (is_resolved rows p)
   pub unused : child_of rows p (dynamic_name coll name) ≡ None
 
@@ -20,4 +21,4 @@ pub record CanTake (rows : List Row) (p : ℕ) (coll name : List ℕ) : Type 0 w
 abbrev pub ParentsCanTake : Type 0
 ParentsCanTake =
     (rows : List Row) (free p : ℕ) (coll name : List ℕ) (gives : List Give)
-    → AnswersCreate rows free p coll name gives Yes → CanTake rows p coll name
+    → AnswersCreate rows free p coll name gives Yes → CanTakeChild rows p coll name

@@ -1,3 +1,4 @@
+-- Inside.
 -- The first bad offer to a new child, looked for from the first on.
 use Rattle.std.specs.Prelude.{◌≡◌, ℕ, List, [], Bool}
 use Rattle.std.specs.List.{filter_map, range_with_len}

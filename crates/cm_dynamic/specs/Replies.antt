@@ -1,3 +1,4 @@
+-- Inside.
 -- The replies that the answers of this crate stand for.
 use Rattle.std.specs.Prelude.{◌≡◌, ◌≤◌, ◌↔◌, ℕ, List, IsTrue, Option, option_map}
 use Rattle.cm_decl.specs.declared.decl.Decl.{Decl}
@@ -45,8 +46,8 @@ AnswersGraph d dynamic free answer =
     → Creates limit rows next d dynamic (create_reply next answer)
 
 -- a refusal is the one of the definition, if there is one
-abbrev pub Refuses : Option MayCreate → Option Reply → Type 0
-Refuses answer refusal = (next : ℕ) → option_map (create_reply next) answer ≡ refusal
+abbrev pub RefusesChange : Option MayCreate → Option Reply → Type 0
+RefusesChange answer refusal = (next : ℕ) → option_map (create_reply next) answer ≡ refusal
 
 -- ---- destroying
 

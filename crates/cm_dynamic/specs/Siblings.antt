@@ -1,10 +1,11 @@
+-- Inside.
 -- The children of a row that were created in its collections, one after another.
 use Rattle.std.specs.Prelude.{ℕ, List, not, ◌&&◌, Option, Some, None, is_some, option_and_then, if◌then◌else◌}
 use Rattle.std.specs.List.{filter_map}
 use Rattle.cm_names.specs.declared.child.ChildName.{ChildName}
 use Rattle.cm_decl.specs.declared.node.DynChild.{DynChild}
 use Rattle.cm_world.specs.declared.row.Row.{Row}
-use Rattle.cm_world.specs.Rows.{is_behind}
+use Rattle.cm_world.specs.RowsInside.{is_behind}
 use Rattle.cm_world.specs.Create.{dynamic_of}
 
 -- a row of that name, if the name is in a collection and the row isn't doomed

@@ -5,7 +5,7 @@
 //! only offers that were made to children alone can close a ring: where a new child has none of
 //! that kind, it stands in no ring, and no realm graph has to be made.
 
-ghost use Rattle.std.specs.Prelude.{◌≡◌, not, IsTrue};
+ghost use Rattle.std.specs.Prelude.{◌≡◌, ◌&&◌, not, IsTrue};
 ghost use Rattle.std.specs.List.{list_all};
 ghost use Rattle.cm_decl.specs.Graph.{is_strong as passes_strong};
 ghost use Rattle.cm_dynamic.specs.Apart as apart;
@@ -20,9 +20,15 @@ pub(crate) fn is_apart(decl: &Decl, gives: &[Give]) -> bool
     ensures offers { IsTrue result → IsTrue (list_all apart.is_plain_offer decl.now.offers) }
     ensures usages { IsTrue result → IsTrue (list_all apart.is_plain_use decl.now.uses) }
 {
-    is_plain(gives)
-        && are_offers_plain(decl.offers.as_slice())
-        && are_uses_plain(decl.uses.as_slice())
+    is_plain(gives) && are_declared_plain(decl)
+}
+
+/// Whether nothing that the instance declares comes strongly from a child of a collection.
+pub(crate) fn are_declared_plain(decl: &Decl) -> bool
+    ensures { result ≡ (list_all apart.is_plain_offer decl.now.offers
+        && list_all apart.is_plain_use decl.now.uses) }
+{
+    are_offers_plain(decl.offers.as_slice()) && are_uses_plain(decl.uses.as_slice())
 }
 
 /// Whether none of these offers comes strongly from a child of a collection.
@@ -68,7 +74,7 @@ fn is_plain_use(usage: &Usage) -> bool
 }
 
 /// Whether something comes strongly from a child of a collection.
-fn binds_created(dependency: Dependency, from: &Origin) -> bool
+pub(crate) fn binds_created(dependency: Dependency, from: &Origin) -> bool
     ensures { result ≡ apart.binds_created dependency from.now }
 {
     is_strong(dependency) && is_from_created(from)

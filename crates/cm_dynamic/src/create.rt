@@ -8,10 +8,11 @@ ghost use Rattle.cm_decl.specs.Graph.{StrongOn};
 ghost use Rattle.cm_decl.specs.Reach.{NoCycle};
 ghost use Rattle.cm_world.specs.Create as spec;
 ghost use Rattle.cm_world.specs.Rows.{decl_of};
-ghost use Rattle.cm_dynamic.specs.Replies.{AnswersCreate, AnswersGraph, Refuses};
+ghost use Rattle.cm_dynamic.specs.Replies.{AnswersCreate, AnswersGraph, RefusesChange};
 
 use crate::apart::is_apart;
 use crate::offers::bad_give;
+use crate::onward::is_onward;
 use crate::siblings::siblings_with;
 use cm_decl::{Collection, Decl, DynChild, Give, Node};
 use cm_deps::{Order, order_of};
@@ -68,8 +69,9 @@ pub enum MayCreate {
 ///
 /// The children of the parent in its collections have to make no ring as they are, as in every
 /// sound tree. Then only a child that is itself offered something of a child of a collection
-/// strongly can close one: for any other the children of the parent aren't gone through, and no
-/// realm graph is made.
+/// strongly can close one, and only where a child that it so comes from, directly or through
+/// others, was offered something of one of its name before. Those are looked at alone, each once.
+/// For any other the children of the parent aren't gone through, and no realm graph is made.
 ///
 /// This is what `CreateChild` of `fuchsia.component.Realm` (fuchsia.dev) is refused for:
 /// `NoCollection` stands for `COLLECTION_NOT_FOUND` and `Exists` for `INSTANCE_ALREADY_EXISTS`
@@ -100,6 +102,9 @@ pub fn may_create_acyclic<V: View>(
         return Ok(by_room(free));
     }
     let name = name_in(coll, child)?;
+    if is_onward(alloc, view, parent, decl, &name, gives)? {
+        return Ok(by_room(free));
+    }
     let children = siblings_with(alloc, view, parent, name, gives)?;
     by_graph(alloc, decl, children.as_slice(), free)
 }
@@ -125,7 +130,7 @@ fn refusal<V: View>(
     gives: &[Give],
 ) -> Result<Option<MayCreate>, Memory>
     ensures { let refused = spec.refused_create (V.rows view.now) parent coll.now child.now in
-        IfOk result (λ refusal. Refuses refusal (refused gives.now)) }
+        IfOk result (λ refusal. RefusesChange refusal (refused gives.now)) }
 {
     if is_gone(view, parent) {
         return Ok(Some(MayCreate::Gone(parent)));
@@ -149,7 +154,7 @@ fn refusal_by<V: View>(
     gives: &[Give],
 ) -> Result<Option<MayCreate>, Memory>
     ensures { let refused = spec.refused_by (V.rows view.now) parent decl.now coll.now child.now in
-        IfOk result (λ refusal. Refuses refusal (refused gives.now)) }
+        IfOk result (λ refusal. RefusesChange refusal (refused gives.now)) }
 {
     match collection(decl, coll) {
         None => Ok(Some(MayCreate::NoCollection)),
@@ -180,7 +185,7 @@ fn refusal_in<V: View>(
     gives: &[Give],
 ) -> Result<Option<MayCreate>, Memory>
     ensures { let refused = spec.refused_name (V.rows view.now) parent decl.now collection.now in
-        IfOk result (λ refusal. Refuses refusal (refused name.now gives.now)) }
+        IfOk result (λ refusal. RefusesChange refusal (refused name.now gives.now)) }
 {
     match view.child(parent, name) {
         None => refused_gives(view, decl, parent, collection, gives),
@@ -197,7 +202,7 @@ fn refused_gives<V: View>(
     gives: &[Give],
 ) -> Result<Option<MayCreate>, Memory>
     ensures { let refused = spec.refused_gives (V.rows view.now) parent decl.now collection.now in
-        IfOk result (λ refusal. Refuses refusal (refused gives.now)) }
+        IfOk result (λ refusal. RefusesChange refusal (refused gives.now)) }
 {
     if gives.is_empty() {
         return Ok(None);

@@ -15,6 +15,7 @@ pub mod create;
 pub mod destroy;
 pub mod laws;
 pub(crate) mod offers;
+pub(crate) mod onward;
 pub(crate) mod siblings;
 
 pub use create::{MayCreate, may_create_acyclic};

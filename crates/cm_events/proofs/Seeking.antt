@@ -52,7 +52,7 @@ or_nothing : (o : Option Work) → option_or o None ≡ o
 or_nothing None = refl
 or_nothing (Some w) = refl
 
--- one entry further to the front
+-- one entry further to the prefix
 stands_on : (begun : Option Work) (sought : Bool) (found whole here : Option Work) (wanted still : Bool) (now : Option Work) → ((w : Work) → begun ≡ Some w → here ≡ None) → Stands sought found (option_or here begun) whole wanted → TakesWork begun sought found still now → Stands still now here whole wanted
 stands_on None sought found whole here wanted still now once stands takes =
     subst (λ s. Stands s now here whole wanted) (sym takes.0) (subst (λ f. Stands sought f here whole wanted) (sym takes.1) (subst (λ h. Stands sought found h whole wanted) (or_nothing here) stands))
@@ -62,9 +62,9 @@ stands_on (Some w) true found whole here wanted still now once stands takes =
 stands_on (Some w) false found whole here wanted still now once stands takes =
     subst (λ s. Stands s now here whole wanted) (sym takes.0) (subst (λ f. HasFound f whole wanted) (sym takes.1) stands)
 
--- where none is looked for any more, or at the front
+-- where none is looked for any more, or at the start
 stands_over : (sought : Bool) (found here whole : Option Work) (wanted : Bool) → Stands sought found here whole wanted → (here ≡ None) ⊎ (sought ≡ false) → HasFound found whole wanted
-stands_over true found here whole wanted stands (inl front) = inl (stands.0 ∙ sym front ∙ stands.1)
+stands_over true found here whole wanted stands (inl prefix) = inl (stands.0 ∙ sym prefix ∙ stands.1)
 stands_over true found here whole wanted stands (inr none) = absurd (true≢false none)
 stands_over false found here whole wanted stands over = stands
 
@@ -85,9 +85,9 @@ all_on es start back b e left still wanted works now once next below at stand ta
     (subst (λ h. Stands (contains nat_eq left a) (work_at works a) h (work_of (take start es) a) (contains nat_eq wanted a)) (ap (λ n. work_of (take n es) a) next ∙ sym (work_of_more es b e a below at)) (stand a))
     (takes a)
 
-pub all_front : {S T : Type 0} (es : List Entry) (start back : ℕ) (left wanted : HashSet ℕ S) (works : HashMap ℕ (Bor Work) T) → back ≡ 0 → StandAll es start back left works wanted → (a : ℕ) → HasFound (work_at works a) (work_of (take start es) a) (contains nat_eq wanted a)
-all_front es start back left wanted works front stand a =
-    stands_over (contains nat_eq left a) (work_at works a) (work_of (take back es) a) (work_of (take start es) a) (contains nat_eq wanted a) (stand a) (inl (ap (λ n. work_of (take n es) a) front))
+pub all_prefix : {S T : Type 0} (es : List Entry) (start back : ℕ) (left wanted : HashSet ℕ S) (works : HashMap ℕ (Bor Work) T) → back ≡ 0 → StandAll es start back left works wanted → (a : ℕ) → HasFound (work_at works a) (work_of (take start es) a) (contains nat_eq wanted a)
+all_prefix es start back left wanted works prefix stand a =
+    stands_over (contains nat_eq left a) (work_at works a) (work_of (take back es) a) (work_of (take start es) a) (contains nat_eq wanted a) (stand a) (inl (ap (λ n. work_of (take n es) a) prefix))
 
 none_left : {S : Type 0} (set : HashSet ℕ S) (a : ℕ) → length set.keys ≡ 0 → contains nat_eq set a ≡ false
 none_left set a none = ap (λ ks. list_any (nat_eq a) ks) (nil_from_length set.keys none)

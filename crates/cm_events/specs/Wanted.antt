@@ -1,3 +1,4 @@
+-- Inside.
 -- Which actions of earlier entries a later part of a history tells of, and what is found of them.
 use Rattle.std.specs.Prelude.{◌≡◌, ◌⊎◌, ℕ, ◌==◌, Bool, false, cond, not, ◌&&◌, ◌||◌, List, [], ◌∷◌, ◌++◌}
 use Rattle.std.specs.Prelude.{Option, Some, None, is_some}
@@ -12,8 +13,8 @@ use Rattle.cm_events.specs.Stream.{begun_by, work_of, kind_of}
 -- no entry begins an action that one before it began
 abbrev pub BeginsOnce : List Entry → Type 0
 BeginsOnce es =
-    (front rest : List Entry) (e : Entry) (work : Work) → es ≡ front ++ e ∷ rest
-    → begun_by e.reply ≡ Some work → work_of front work.action ≡ None
+    (prefix rest : List Entry) (e : Entry) (work : Work) → es ≡ prefix ++ e ∷ rest
+    → begun_by e.reply ≡ Some work → work_of prefix work.action ≡ None
 
 -- whether the work of an action is wanted of the entries before one, where it is wanted by the entries behind
 -- that or not: an end that tells something wants it, and where it begins nobody wants it any more

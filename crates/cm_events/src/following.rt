@@ -18,7 +18,7 @@ use std::collections::{HashMap, HashSet};
 /// a moniker, where no two entries begin the same action. `Err` where memory runs out.
 ///
 /// It is what [`filter`](crate::filter) tells, and costs what the entries behind `from` cost: those
-/// before are read from the last one towards the front, once, and only as far as the earliest entry
+/// before are read from the last one towards the prefix, once, and only as far as the earliest entry
 /// that began an action of whose end is told. It keeps nothing of them but those actions' works.
 pub fn follow(
     alloc: Global,
@@ -113,7 +113,7 @@ fn want_told(wanted: &mut HashSet<u64>, action: u64, outcome: Outcome) -> Result
 }
 
 /// The works of wanted actions, as the first `start` entries begin them, read from the last of
-/// these towards the front until each is found.
+/// these towards the prefix until each is found.
 fn look_back<'a>(
     alloc: Global,
     entries: &'a [Entry],

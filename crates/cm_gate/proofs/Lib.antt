@@ -1,2 +1,3 @@
-pub mod Fronts
+pub mod Asking
+pub mod Prefixes
 pub mod Logs

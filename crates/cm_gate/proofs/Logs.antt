@@ -1,20 +1,20 @@
 -- Lemmas on what gates tell of calls that follow one another.
 use Rattle.std.proofs.Common.{◌≤◌, ℕ, ◌+◌, ◌-◌, ◌^◌, min, List, [], ◌++◌, Option, Some, None, ap, sym, ◌∙◌, append_assoc, append-nil, arith}
-use Rattle.cm_gate.specs.declared.asked.Asked.{Asked}
+use Rattle.cm_gate.specs.declared.asked.GateCall.{GateCall}
 use Rattle.cm_gate.specs.Logs.{Grew, RoseBy}
 
 -- a log to which nothing was done
-pub grew_nothing : (log : Option (List Asked)) → Grew log log []
+pub grew_nothing : (log : Option (List GateCall)) → Grew log log []
 grew_nothing None = tt
 grew_nothing (Some told) = sym (append-nil told)
 
 -- some questions, and then some more
-pub grew_trans : (a b c : Option (List Asked)) (xs ys : List Asked) → Grew a b xs → Grew b c ys → Grew a c (xs ++ ys)
+pub grew_trans : (a b c : Option (List GateCall)) (xs ys : List GateCall) → Grew a b xs → Grew b c ys → Grew a c (xs ++ ys)
 grew_trans a b None xs ys before behind = tt
 grew_trans a None (Some z) xs ys before behind = absurd behind
 grew_trans None (Some y) (Some z) xs ys before behind = absurd before
 grew_trans (Some x) (Some y) (Some z) xs ys before behind =
-    behind ∙ ap (λ (l : List Asked). l ++ ys) before ∙ append_assoc x xs ys
+    behind ∙ ap (λ (l : List GateCall). l ++ ys) before ∙ append_assoc x xs ys
 
 rose_none : (a b end : ℕ) → a ≤ b → min (a + 0) end ≤ b
 rose_none a b end h = grind arith

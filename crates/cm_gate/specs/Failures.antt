@@ -1,7 +1,8 @@
+-- Inside.
 -- Which answers say that a gate failed.
 use Rattle.std.specs.Prelude.{Bool, true, false}
-use Rattle.cm_gate.specs.declared.asked.Asked.{Asked}
-use Rattle.cm_gate.specs.declared.asked.Asked.TheVariants as asked
+use Rattle.cm_gate.specs.declared.asked.GateCall.{GateCall}
+use Rattle.cm_gate.specs.declared.asked.GateCall.TheVariants as asked
 use Rattle.cm_gate.specs.declared.asked.Fetched.{Fetched}
 use Rattle.cm_gate.specs.declared.asked.Fetched.TheVariants as fetched
 use Rattle.cm_gate.specs.declared.asked.Launched.{Launched}
@@ -28,7 +29,7 @@ is_failed_halt halted.Failed = true
 is_failed_halt halted.Stopped = false
 
 -- whether the gate that was asked failed
-abbrev pub is_failure : Asked → Bool
+abbrev pub is_failure : GateCall → Bool
 is_failure (asked.Fetch what answer) = is_failed_fetch answer
 is_failure (asked.Launch job answer) = is_failed_launch answer
 is_failure (asked.Halt job answer) = is_failed_halt answer

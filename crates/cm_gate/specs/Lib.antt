@@ -1,3 +1,4 @@
+pub mod Asks
 pub mod Failures
 pub mod Logs
 pub mod Manifests

@@ -1,3 +1,4 @@
+-- Inside.
 -- Manifests in memory, by their URLs.
 use Rattle.std.specs.Prelude.{ℕ, List, find, Option, Some, None}
 use Rattle.std.specs.Str.{bytes_eq}

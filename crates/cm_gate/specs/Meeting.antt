@@ -1,3 +1,4 @@
+-- Inside.
 -- Meeting gates, as contracts see them.
 use Rattle.std.specs.Prelude.{ℕ, List}
 use Rattle.cm_gate.specs.declared.manifests.Manifest.{Manifest}

@@ -1,8 +1,9 @@
+-- Inside.
 -- Where the manifest of a URL lies in a folder.
 use Rattle.std.specs.Prelude.{ℕ, List, ◌++◌, codes, length, ◌≤◌, Bool, not, ◌&&◌, ◌==◌, if◌then◌else◌}
 use Rattle.std.specs.Prelude.{Option, Some, None, Ok, Err, option_map}
 use Rattle.std.specs.List.{list_all}
-use Rattle.cm_names.specs.Moniker.{behind_slash}
+use Rattle.cm_names.specs.MonikerInside.{behind_slash}
 use Rattle.cm_names.specs.Path.{is_dots, parts_of}
 use Rattle.cm_gate.specs.declared.asked.Fetch.{Fetch}
 use Rattle.cm_gate.specs.declared.asked.Fetched.{Fetched}

@@ -1,3 +1,4 @@
+-- Inside.
 -- What a folder's file gave when it was opened and read.
 use Rattle.std.specs.Prelude.{◌≡◌, ◌⊎◌, ℕ, List, take, Option, Some, None}
 use Rattle.std.specs.declared.io.ErrorKind.{ErrorKind}
@@ -9,23 +10,23 @@ use Rattle.cm_gate.specs.declared.asked.Fetched.TheVariants as fetched
 
 -- these are the bytes that were left, or the first ones up to a limit; it says nothing where it isn't known
 -- what was left
-abbrev pub IsFront : ℕ → Option (List ℕ) → List ℕ → Type 0
-IsFront limit None bytes = Unit {0}
-IsFront limit (Some left) bytes = bytes ≡ take limit left
+abbrev pub IsPrefix : ℕ → Option (List ℕ) → List ℕ → Type 0
+IsPrefix limit None bytes = Unit {0}
+IsPrefix limit (Some left) bytes = bytes ≡ take limit left
 
 -- what was found in an open file is what was read of it, and it isn't told that there is no such file
 abbrev pub FindsIn : {File : Type 0} → (File → Option (List ℕ)) → File → Fetched → Type 0
-FindsIn left file (fetched.Found bytes) = IsFront 1048577 (left file) bytes
+FindsIn left file (fetched.Found bytes) = IsPrefix 1048577 (left file) bytes
 FindsIn left file fetched.Absent = ⊥
 FindsIn left file fetched.Failed = Unit {0}
 FindsIn left file fetched.Memory = Unit {0}
 
--- these bytes are the front of a file that was opened at a place of a folder
+-- these bytes are the prefix of a file that was opened at a place of a folder
 pub record IsReadAt {F File : Type 0} (opened : F → List ℕ → File → Type 0)
     (left : File → Option (List ℕ)) (folder : F) (place bytes : List ℕ) : Type 0 where
   pub file : File
   pub opens : opened folder place file
-  pub front : IsFront 1048577 (left file) bytes
+  pub prefix : IsPrefix 1048577 (left file) bytes
 
 -- there is no such file, or a file stands where a folder should
 abbrev pub IsMissing : ErrorKind → Type 0
@@ -54,11 +55,11 @@ FindsAt opened refused left folder place fetched.Failed = Unit {0}
 FindsAt opened refused left folder place fetched.Memory = Unit {0}
 
 -- so it is at the place of a fetch; nothing is there, too, where it has no place
-abbrev pub Finds : {F File : Type 0} → (F → List ℕ → File → Type 0) → (F → List ℕ → ErrorKind → Type 0) →
+abbrev pub FindsFile : {F File : Type 0} → (F → List ℕ → File → Type 0) → (F → List ℕ → ErrorKind → Type 0) →
     (File → Option (List ℕ)) → F → Fetch → Fetched → Type 0
-Finds opened refused left folder what (fetched.Found bytes) =
+FindsFile opened refused left folder what (fetched.Found bytes) =
     AtPlaceOf what (λ place. IsReadAt opened left folder place bytes)
-Finds opened refused left folder what fetched.Absent =
+FindsFile opened refused left folder what fetched.Absent =
     (place_of_fetch what ≡ None) ⊎ AtPlaceOf what (λ place. IsMissedAt refused folder place)
-Finds opened refused left folder what fetched.Failed = Unit {0}
-Finds opened refused left folder what fetched.Memory = Unit {0}
+FindsFile opened refused left folder what fetched.Failed = Unit {0}
+FindsFile opened refused left folder what fetched.Memory = Unit {0}

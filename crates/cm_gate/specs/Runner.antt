@@ -1,5 +1,6 @@
+-- Inside.
 -- What is asked of a runner over its socket, and what its answers mean.
-use Rattle.std.specs.Prelude.{ℕ, List, [], ◌∷◌, ◌++◌, codes, decimal, Bool, cond}
+use Rattle.std.specs.Prelude.{ℕ, List, [], ◌∷◌, ◌++◌, codes, decimal, cond, Option}
 use Rattle.std.specs.Str.{bytes_eq}
 use Rattle.cm_names.specs.Moniker.{moniker_text}
 use Rattle.cm_gate.specs.declared.asked.Job.{Job}
@@ -28,9 +29,9 @@ launched_by answer =
 abbrev pub halted_by : List ℕ → Halted
 halted_by answer = cond (bytes_eq answer (codes "stopped" ++ 10 ∷ [])) halted.Stopped halted.Failed
 
--- gates to a folder, as contracts see them: through what they read, whether a runner is asked, and how often
--- they failed
+-- gates to a folder, as contracts see them: through what they read and connect, the place of the runner that
+-- they ask, if they ask one, and how often they failed
 pub record FolderView (F : Type 0) : Type 0 where
   pub files : F
-  pub runs : Bool
+  pub runner : Option (List ℕ)
   pub faults : ℕ

@@ -92,7 +92,7 @@ impl Halted {
 
 /// A question, with the answer that it got.
 #[derive(Debug, Drop, Clone, PartialEq, Eq)]
-pub enum Asked {
+pub enum GateCall {
     /// A manifest was asked for.
     Fetch(Fetch, Fetched),
     /// A program was to be started.

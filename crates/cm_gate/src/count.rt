@@ -1,7 +1,7 @@
 //! Counts of faults.
 
 ghost use Rattle.std.specs.Prelude.{◌≡◌, ◌<◌, ◌≤◌, ◌^◌};
-ghost use Rattle.cm_io.specs.Counts.{count_after};
+ghost use Rattle.cm_io.specs.CountsInside.{count_after};
 
 use std::marker::Model;
 

@@ -1,21 +1,21 @@
 //! Gates to a folder of manifests.
 
-ghost use Rattle.std.specs.Prelude.{◌≡◌, ◌⊎◌, ◌<◌, ◌≤◌, ◌^◌, None, false, is_some};
-ghost use Rattle.cm_io.specs.Counts.{count_after};
+ghost use Rattle.std.specs.Prelude.{◌≡◌, ◌≢◌, ◌⊎◌, ◌<◌, ◌≤◌, ◌^◌, IfSome, None};
+ghost use Rattle.cm_io.specs.CountsInside.{count_after};
 ghost use Rattle.cm_io.specs.Outside.{Rose};
+ghost use Rattle.cm_gate.specs.Asks.{AsksHalt, AsksLaunch};
 ghost use Rattle.cm_gate.specs.Failures.{is_failed_fetch, is_failed_halt, is_failed_launch};
 ghost use Rattle.cm_gate.specs.Places.{HasAtMost, place_of_fetch};
-ghost use Rattle.cm_gate.specs.Reads.{Finds};
+ghost use Rattle.cm_gate.specs.Reads.{FindsFile};
 
 use crate::count::FaultCount;
 use crate::opening::find_at;
 use crate::place::place_of;
-use crate::{Fetch, Fetched, Folder, Gates, Halted, Job, Launched, Runner};
+use crate::{Fetch, Fetched, Folder, Gates, Halted, Job, Launched, Network, Runner};
 use cm_turn::Pass;
 use cm_world::{Entry, Frame};
 use std::alloc::Global;
 use std::marker::Model;
-use std::net::Net;
 use std::rt::Files;
 use std::sync::Wait;
 use std::thread::Threads;
@@ -24,11 +24,11 @@ use std::thread::Threads;
 ///
 /// The manifest of a URL is the file `repo/host/path/fragment`, where `repo` is the folder that the
 /// fetch names, and host, path and fragment are those of the URL. Programs are started and stopped
-/// by a [`Runner`]; where there is none, each launch answers `Running` and each halt `Stopped`. They
-/// tell no log.
+/// by a [`Runner`], which is asked over a connection of its own for each; where there is none, each
+/// launch answers `Running` and each halt `Stopped`. They tell no log.
 ///
 /// That manifests lie in a folder in this way is this project's own choice. Contracts see through
-/// what the gates read, whether they ask a runner, and how often they failed.
+/// what the gates read and connect, where the runner listens that they ask, and how often they failed.
 #[derive(Drop)]
 pub struct FolderGates<F> {
     files: F,
@@ -37,18 +37,17 @@ pub struct FolderGates<F> {
 }
 
 impl<F> Model for FolderGates<F> {
-    ghost use Rattle.std.specs.Prelude.{is_some};
     ghost use Rattle.cm_gate.specs.Runner.{FolderView};
 
     ghost Value = { FolderView F };
 
-    ghost view = { λ g. record { files = g.files; runs = is_some g.runner; faults = g.faults } };
+    ghost view = { λ g. record { files = g.files; runner = g.runner; faults = g.faults } };
 }
 
 impl<F: Files + Drop> FolderGates<F> {
     /// Gates that read through `files`, and have not failed yet.
     pub fn new(files: F, runner: Option<Runner>) -> FolderGates<F>
-        ensures { result ≡ record { files = files; runs = is_some runner; faults = 0 } }
+        ensures { result ≡ record { files = files; runner = runner; faults = 0 } }
     {
         FolderGates {
             files,
@@ -67,7 +66,7 @@ impl<F: Files + Drop> FolderGates<F> {
 
 /// What a fetch finds.
 fn find_file<F: Folder>(files: &F, alloc: Global, what: &Fetch) -> Fetched
-    ensures finds { Finds F.opened F.refused F.File.remaining files.now what.now result }
+    ensures finds { FindsFile F.opened F.refused F.File.remaining files.now what.now result }
     ensures no_repo { what.now.repo ≡ None → result ≡ Fetched.Absent }
     ensures nowhere { place_of_fetch what.now ≡ None →
         (result ≡ Fetched.Absent) ⊎ (result ≡ Fetched.Memory) }
@@ -83,7 +82,31 @@ fn find_file<F: Folder>(files: &F, alloc: Global, what: &Fetch) -> Fetched
     }
 }
 
-impl<F: Folder + Net + Drop> Gates for FolderGates<F> {
+/// What a launch comes to.
+fn launch_by<N: Network>(runner: &Option<Runner>, net: &N, job: &Job) -> Launched
+    ensures recorded { runner.now ≡ None → result ≡ Launched.Running }
+    ensures asks { IfSome runner.now (λ place. result ≢ Launched.Failed → AsksLaunch
+        N.connected N.Connection.wrote N.Connection.gave net.now place job.now result) }
+{
+    match runner {
+        Some(runner) => runner.launch(net, job),
+        None => Launched::Running,
+    }
+}
+
+/// What a halt comes to.
+fn halt_by<N: Network>(runner: &Option<Runner>, net: &N, job: &Job) -> Halted
+    ensures recorded { runner.now ≡ None → result ≡ Halted.Stopped }
+    ensures asks { IfSome runner.now (λ place. result ≢ Halted.Failed → AsksHalt
+        N.connected N.Connection.wrote N.Connection.gave net.now place job.now result) }
+{
+    match runner {
+        Some(runner) => runner.halt(net, job),
+        None => Halted::Stopped,
+    }
+}
+
+impl<F: Folder + Network + Drop> Gates for FolderGates<F> {
     ghost use Rattle.std.specs.Prelude.{None};
 
     ghost log = { λ _. None };
@@ -107,7 +130,7 @@ impl<F: Folder + Net + Drop> Gates for FolderGates<F> {
         _idle: &Pass<Entry, Frame>,
         what: &Fetch,
     ) -> Fetched
-        ensures finds { Finds F.opened F.refused F.File.remaining self.old.files what.now result }
+        ensures finds { FindsFile F.opened F.refused F.File.remaining self.old.files what.now result }
         ensures call { self.new
             ≡ record self.old { faults = count_after (is_failed_fetch result) self.old.faults } }
         ensures later { self.old.faults ≤ self.new.faults }
@@ -123,7 +146,9 @@ impl<F: Folder + Net + Drop> Gates for FolderGates<F> {
         answer
     }
 
-    /// Asks the runner, if there is one; else the program is taken to run.
+    /// Asks the runner, if there is one; else the program is taken to run. An answer but `Failed` is
+    /// what the runner answered to this very question, over a connection that was made to its place,
+    /// and it was told that this is taken.
     fn launch<R: Threads + Wait + Sync>(
         &mut self,
         _rt: &R,
@@ -135,17 +160,16 @@ impl<F: Folder + Net + Drop> Gates for FolderGates<F> {
         ensures later { self.old.faults ≤ self.new.faults }
         ensures fault { result ≡ Launched.Failed → Rose self.old.faults self.new.faults }
         ensures bound { self.new.faults < 2 ^ 64 }
-        ensures recorded { self.old.runs ≡ false → result ≡ Launched.Running }
+        ensures recorded { self.old.runner ≡ None → result ≡ Launched.Running }
+        ensures asks { IfSome self.old.runner (λ place. result ≢ Launched.Failed → AsksLaunch
+            F.connected F.Connection.wrote F.Connection.gave self.old.files place job.now result) }
     {
-        let answer = match &self.runner {
-            Some(runner) => runner.launch(&self.files, job),
-            None => Launched::Running,
-        };
+        let answer = launch_by(&self.runner, &self.files, job);
         self.faults.count(answer.is_failed());
         answer
     }
 
-    /// Asks the runner, if there is one; else the program is taken to have stopped.
+    /// Asks the runner, if there is one, as a launch does; else the program is taken to have stopped.
     fn halt<R: Threads + Wait + Sync>(
         &mut self,
         _rt: &R,
@@ -157,12 +181,11 @@ impl<F: Folder + Net + Drop> Gates for FolderGates<F> {
         ensures later { self.old.faults ≤ self.new.faults }
         ensures fault { result ≡ Halted.Failed → Rose self.old.faults self.new.faults }
         ensures bound { self.new.faults < 2 ^ 64 }
-        ensures recorded { self.old.runs ≡ false → result ≡ Halted.Stopped }
+        ensures recorded { self.old.runner ≡ None → result ≡ Halted.Stopped }
+        ensures asks { IfSome self.old.runner (λ place. result ≢ Halted.Failed → AsksHalt
+            F.connected F.Connection.wrote F.Connection.gave self.old.files place job.now result) }
     {
-        let answer = match &self.runner {
-            Some(runner) => runner.halt(&self.files, job),
-            None => Halted::Stopped,
-        };
+        let answer = halt_by(&self.runner, &self.files, job);
         self.faults.count(answer.is_failed());
         answer
     }

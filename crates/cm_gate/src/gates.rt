@@ -4,7 +4,7 @@ ghost use Rattle.std.specs.Prelude.{◌≡◌, ◌≢◌, ◌<◌, ◌≤◌, �
 ghost use Rattle.cm_io.specs.Outside.{Rose};
 ghost use Rattle.cm_gate.specs.Logs.{Grew};
 
-use crate::{Asked, Fetch, Fetched, Halted, Job, Launched};
+use crate::{Fetch, Fetched, GateCall, Halted, Job, Launched};
 use cm_turn::Pass;
 use cm_world::{Entry, Frame};
 use std::alloc::Global;
@@ -21,10 +21,10 @@ use std::thread::Threads;
 /// and one that takes long holds no other caller up.
 pub trait Gates: Drop {
     ghost use Rattle.std.specs.Prelude.{ℕ, List, Option};
-    ghost use Rattle.cm_gate.specs.declared.asked.Asked.{Asked};
+    ghost use Rattle.cm_gate.specs.declared.asked.GateCall.{GateCall};
 
     /// The log, where it is told.
-    ghost log: { Self → Option (List Asked) };
+    ghost log: { Self → Option (List GateCall) };
 
     /// How often they failed.
     ghost faults: { Self → ℕ };
@@ -47,7 +47,7 @@ pub trait Gates: Drop {
         idle: &Pass<Entry, Frame>,
         what: &Fetch,
     ) -> Fetched
-        ensures log { Grew (log self.old) (log self.new) (Asked.Fetch what.now result ∷ []) }
+        ensures log { Grew (log self.old) (log self.new) (GateCall.Fetch what.now result ∷ []) }
         ensures later { faults self.old ≤ faults self.new }
         ensures fault { result ≡ Fetched.Failed → Rose (faults self.old) (faults self.new) }
         ensures bound { faults self.new < 2 ^ 64 }
@@ -67,7 +67,7 @@ pub trait Gates: Drop {
         idle: &Pass<Entry, Frame>,
         job: &Job,
     ) -> Launched
-        ensures log { Grew (log self.old) (log self.new) (Asked.Launch job.now result ∷ []) }
+        ensures log { Grew (log self.old) (log self.new) (GateCall.Launch job.now result ∷ []) }
         ensures later { faults self.old ≤ faults self.new }
         ensures fault { result ≡ Launched.Failed → Rose (faults self.old) (faults self.new) }
         ensures bound { faults self.new < 2 ^ 64 }
@@ -87,7 +87,7 @@ pub trait Gates: Drop {
         idle: &Pass<Entry, Frame>,
         job: &Job,
     ) -> Halted
-        ensures log { Grew (log self.old) (log self.new) (Asked.Halt job.now result ∷ []) }
+        ensures log { Grew (log self.old) (log self.new) (GateCall.Halt job.now result ∷ []) }
         ensures later { faults self.old ≤ faults self.new }
         ensures fault { result ≡ Halted.Failed → Rose (faults self.old) (faults self.new) }
         ensures bound { faults self.new < 2 ^ 64 }

@@ -1,7 +1,7 @@
 //! Gates of two callers that have to meet.
 
 ghost use Rattle.std.specs.Prelude.{◌≡◌, ◌⊎◌, ◌<◌, ◌≤◌, ◌^◌, IfOk};
-ghost use Rattle.cm_io.specs.Counts.{count_after};
+ghost use Rattle.cm_io.specs.CountsInside.{count_after};
 ghost use Rattle.cm_io.specs.Outside.{Rose};
 ghost use Rattle.cm_gate.specs.Failures.{is_failed_fetch};
 ghost use Rattle.cm_gate.specs.Manifests.{manifest_at};

@@ -3,7 +3,7 @@
 ghost use Rattle.std.specs.Prelude.{◌≡◌, ◌⊎◌, ◌≤◌, IfErr, IfOk, length};
 ghost use Rattle.std.specs.IoError.{error_kind};
 ghost use Rattle.cm_gate.specs.Places.{HasAtMost};
-ghost use Rattle.cm_gate.specs.Reads.{FindsAt, FindsIn, IsFront, IsMissing};
+ghost use Rattle.cm_gate.specs.Reads.{FindsAt, FindsIn, IsPrefix, IsMissing};
 
 use crate::Fetched;
 use cm_names::List;
@@ -54,8 +54,8 @@ impl<F: Files> Folder for F {
 
 /// The bytes that a file has left, or the first 1,048,577 of them. The bound doesn't rest on how many
 /// bytes the file says that it gave.
-fn read_front<T: Read + Drop>(file: T, alloc: Global) -> io::Result<Vec<u8>>
-    ensures front { IfOk result (λ bytes. IsFront 1048577 (T.remaining file) bytes.items) }
+fn read_prefix<T: Read + Drop>(file: T, alloc: Global) -> io::Result<Vec<u8>>
+    ensures prefix { IfOk result (λ bytes. IsPrefix 1048577 (T.remaining file) bytes.items) }
     ensures length { IfOk result (λ bytes. length bytes.items ≤ 1048577) }
 {
     let mut bytes = Vec::new(alloc);
@@ -96,7 +96,7 @@ fn find_in<T: Read + Drop>(file: T, alloc: Global) -> Fetched
     ensures finds { FindsIn T.remaining file result }
     ensures length { HasAtMost 1048577 result }
 {
-    match read_front(file, alloc) {
+    match read_prefix(file, alloc) {
         Ok(bytes) => Fetched::Found(List::from_vec(bytes)),
         Err(error) => unread(&error),
     }

@@ -2,7 +2,7 @@
 
 ghost use Rattle.std.specs.Prelude.{◌≡◌, IfOk};
 ghost use Rattle.cm_gate.specs.Places.{are_plain, is_plain, place_in, place_of};
-ghost use Rattle.cm_names.specs.Moniker.{behind_slash};
+ghost use Rattle.cm_names.specs.MonikerInside.{behind_slash};
 
 use cm_names::{Memory, Text};
 use std::alloc::Global;

@@ -1,10 +1,10 @@
 //! Gates whose answers and failures are planned, and which note what they were asked.
 
 ghost use Rattle.cm_gate.specs.Logs.{Grew};
-ghost use Rattle.cm_gate.specs.Planned.{Causes, Leaves, Notes, StaysTold, counted, is_full, told_log};
+ghost use Rattle.cm_gate.specs.Planned.{Causes, LeavesGates, Notes, StaysTold, counted, is_full, told_log};
 ghost use Rattle.cm_gate.specs.Planned.{fails_next, is_among, not_yet_asked};
 ghost use Rattle.cm_gate.specs.Planned.{planned_fetch, planned_halt, planned_launch};
-ghost use Rattle.cm_io.specs.Counts.{count_after};
+ghost use Rattle.cm_io.specs.CountsInside.{count_after};
 ghost use Rattle.cm_io.specs.Outside.{Rose};
 ghost use Rattle.std.specs.Option.{option_map};
 ghost use Rattle.std.specs.Prelude.{◌≡◌, ◌⊎◌, ◌<◌, ◌≤◌, ◌++◌, ◌^◌, [], ◌∷◌, true, false};
@@ -12,7 +12,7 @@ ghost use Rattle.std.specs.Prelude.{IfErr, IfOk, OnErr, OnOk};
 
 use crate::count::FaultCount;
 use crate::manifests::find_manifest;
-use crate::{Asked, Fetch, Fetched, Gates, Halted, Job, Launched, Manifest};
+use crate::{Fetch, Fetched, GateCall, Gates, Halted, Job, Launched, Manifest};
 use cm_names::{List, Memory, Text};
 use cm_turn::Pass;
 use cm_world::{Entry, Frame};
@@ -77,7 +77,7 @@ impl From<Memory> for Unnoted {
 #[derive(Drop)]
 pub struct PlannedGates {
     plan: GatePlan,
-    noted: List<Asked>,
+    noted: List<GateCall>,
     told: bool,
     calls: u64,
     faults: FaultCount,
@@ -85,9 +85,9 @@ pub struct PlannedGates {
 }
 
 impl Model for PlannedGates {
-    ghost use Rattle.cm_gate.specs.Planned.{PlanAtWork};
+    ghost use Rattle.cm_gate.specs.Planned.{GatePlanAtWork};
 
-    ghost Value = { PlanAtWork };
+    ghost Value = { GatePlanAtWork };
 
     ghost view = { λ g. record {
       plan = g.plan;
@@ -115,7 +115,7 @@ impl PlannedGates {
     }
 
     /// The questions that were asked, with their answers. `None` where one could not be noted.
-    pub fn log(&self) -> Option<&[Asked]>
+    pub fn log(&self) -> Option<&[GateCall]>
         ensures { option_map (λ log. log.now) result ≡ told_log self.now }
     {
         if self.told {
@@ -201,13 +201,13 @@ impl PlannedGates {
     fn note_fetch(&mut self, what: &Fetch) -> Result<Fetched, Unnoted>
         ensures answer { IfOk result (λ answer. answer ≡ planned_fetch self.old what.now.url) }
         ensures noted { IfOk result (λ answer.
-            Notes self.old self.new (Asked.Fetch what.now answer)) }
+            Notes self.old self.new (GateCall.Fetch what.now answer)) }
         ensures cause { IfErr result (λ why. Causes (is_full self.old) why) }
         ensures err { OnErr result (self.new ≡ self.old) }
     {
         self.check_room()?;
         let answer = self.planned_fetch(what.url.as_str())?;
-        let asked = Asked::Fetch(what.clone()?, answer.clone()?);
+        let asked = GateCall::Fetch(what.clone()?, answer.clone()?);
         self.noted.push(asked)?;
         Ok(answer)
     }
@@ -216,13 +216,13 @@ impl PlannedGates {
     fn note_launch(&mut self, job: &Job) -> Result<Launched, Unnoted>
         ensures answer { IfOk result (λ answer. answer ≡ planned_launch self.old job.now.url) }
         ensures noted { IfOk result (λ answer.
-            Notes self.old self.new (Asked.Launch job.now answer)) }
+            Notes self.old self.new (GateCall.Launch job.now answer)) }
         ensures cause { IfErr result (λ why. Causes (is_full self.old) why) }
         ensures err { OnErr result (self.new ≡ self.old) }
     {
         self.check_room()?;
         let answer = self.planned_launch(job.url.as_str());
-        self.noted.push(Asked::Launch(job.clone()?, answer))?;
+        self.noted.push(GateCall::Launch(job.clone()?, answer))?;
         Ok(answer)
     }
 
@@ -230,13 +230,13 @@ impl PlannedGates {
     fn note_halt(&mut self, job: &Job) -> Result<Halted, Unnoted>
         ensures answer { IfOk result (λ answer. answer ≡ planned_halt self.old) }
         ensures noted { IfOk result (λ answer.
-            Notes self.old self.new (Asked.Halt job.now answer)) }
+            Notes self.old self.new (GateCall.Halt job.now answer)) }
         ensures cause { IfErr result (λ why. Causes (is_full self.old) why) }
         ensures err { OnErr result (self.new ≡ self.old) }
     {
         self.check_room()?;
         let answer = self.planned_halt();
-        self.noted.push(Asked::Halt(job.clone()?, answer))?;
+        self.noted.push(GateCall::Halt(job.clone()?, answer))?;
         Ok(answer)
     }
 
@@ -283,7 +283,7 @@ impl Gates for PlannedGates {
         what: &Fetch,
     ) -> Fetched
         ensures log { Grew (told_log self.old) (told_log self.new)
-            (Asked.Fetch what.now result ∷ []) }
+            (GateCall.Fetch what.now result ∷ []) }
         ensures later { self.old.faults ≤ self.new.faults }
         ensures fault { result ≡ Fetched.Failed → Rose self.old.faults self.new.faults }
         ensures bound { self.new.faults < 2 ^ 64 }
@@ -292,7 +292,7 @@ impl Gates for PlannedGates {
             (result ≡ planned_fetch self.old what.now.url) ⊎ (result ≡ Fetched.Memory) }
         ensures told { self.new.told ≡ true → result ≡ planned_fetch self.old what.now.url }
         ensures noted { StaysTold self.old self.new }
-        ensures call { Leaves self.old self.new (Asked.Fetch what.now result) }
+        ensures call { LeavesGates self.old self.new (GateCall.Fetch what.now result) }
     {
         match self.note_fetch(what) {
             Ok(answer) => {
@@ -317,7 +317,7 @@ impl Gates for PlannedGates {
         job: &Job,
     ) -> Launched
         ensures log { Grew (told_log self.old) (told_log self.new)
-            (Asked.Launch job.now result ∷ []) }
+            (GateCall.Launch job.now result ∷ []) }
         ensures later { self.old.faults ≤ self.new.faults }
         ensures fault { result ≡ Launched.Failed → Rose self.old.faults self.new.faults }
         ensures bound { self.new.faults < 2 ^ 64 }
@@ -326,7 +326,7 @@ impl Gates for PlannedGates {
             (result ≡ planned_launch self.old job.now.url) ⊎ (result ≡ Launched.Failed) }
         ensures told { self.new.told ≡ true → result ≡ planned_launch self.old job.now.url }
         ensures noted { StaysTold self.old self.new }
-        ensures call { Leaves self.old self.new (Asked.Launch job.now result) }
+        ensures call { LeavesGates self.old self.new (GateCall.Launch job.now result) }
     {
         match self.note_launch(job) {
             Ok(answer) => {
@@ -351,7 +351,7 @@ impl Gates for PlannedGates {
         job: &Job,
     ) -> Halted
         ensures log { Grew (told_log self.old) (told_log self.new)
-            (Asked.Halt job.now result ∷ []) }
+            (GateCall.Halt job.now result ∷ []) }
         ensures later { self.old.faults ≤ self.new.faults }
         ensures fault { result ≡ Halted.Failed → Rose self.old.faults self.new.faults }
         ensures bound { self.new.faults < 2 ^ 64 }
@@ -360,7 +360,7 @@ impl Gates for PlannedGates {
             (result ≡ planned_halt self.old) ⊎ (result ≡ Halted.Failed) }
         ensures told { self.new.told ≡ true → result ≡ planned_halt self.old }
         ensures noted { StaysTold self.old self.new }
-        ensures call { Leaves self.old self.new (Asked.Halt job.now result) }
+        ensures call { LeavesGates self.old self.new (GateCall.Halt job.now result) }
     {
         match self.note_halt(job) {
             Ok(answer) => {

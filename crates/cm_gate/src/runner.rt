@@ -12,90 +12,103 @@
 //! no `taken` knows so that its answer doesn't count: then the program must not run. The lines and the
 //! times are this project's own choice.
 
-ghost use Rattle.std.specs.Prelude.{◌≡◌, ◌≤◌, length, IfOk};
+ghost use Rattle.std.specs.Prelude.{◌≡◌, ◌≢◌, IfOk};
+ghost use Rattle.cm_gate.specs.Asks.{AsksHalt, AsksLaunch, Gives, IsAnswered};
 ghost use Rattle.cm_gate.specs.Runner.{halted_by, launched_by, question_line};
 
-use crate::{Halted, Job, Launched};
+use crate::{Connection, Halted, Job, Launched, Network};
 use cm_names::{Memory, Text};
 use std::alloc::Global;
 use std::io;
-use std::io::{ErrorKind, Read, Write};
-use std::net::Net;
-use std::os::unix::net::UnixStream;
-use std::time::Duration;
+use std::io::ErrorKind;
+use std::marker::Model;
 
 /// How many bytes an answer may have, with its line feed.
 const LONGEST_ANSWER: usize = 16;
 
-/// How many seconds each read and each write may wait. A runner that stops a program gives it less.
-const PATIENCE: u64 = 30;
-
-/// A runner that listens at a path of the file system.
+/// A runner that listens at a path of the file system. Contracts see that path.
 #[derive(Drop)]
 pub struct Runner {
     alloc: Global,
     at: Text,
 }
 
+impl Model for Runner {
+    ghost use Rattle.std.specs.Prelude.{ℕ, List};
+
+    ghost Value = { List ℕ };
+
+    ghost view = { λ r. r.at };
+}
+
 impl Runner {
     /// The runner that listens there. Nobody is asked yet.
-    pub fn new(alloc: Global, at: Text) -> Runner {
+    pub fn new(alloc: Global, at: Text) -> Runner
+        ensures { result ≡ at }
+    {
         Runner { alloc, at }
     }
 
     /// Has a program started. `Failed` comes where the runner gave no answer, or none that was asked
-    /// for, or wasn't told that its answer was taken.
-    pub(crate) fn launch<N: Net>(&self, net: &N, job: &Job) -> Launched {
-        let mut answer = [0_u8; LONGEST_ANSWER];
-        let Ok((stream, count)) = self.ask(net, "launch", job, &mut answer) else {
+    /// for, or wasn't told that its answer was taken. Any other answer is the runner's own to this
+    /// very question, and was taken.
+    #[tactic(auto, using(crate::proofs::Asking::asks_launch))]
+    pub(crate) fn launch<N: Network>(&self, net: &N, job: &Job) -> Launched
+        ensures asks { result ≢ Launched.Failed → AsksLaunch
+            N.connected N.Connection.wrote N.Connection.gave net.now self.now job.now result }
+    {
+        let Ok((mut connection, answer)) = self.ask(net, "launch", job) else {
             return Launched::Failed;
         };
-        let launched = launched(&answer[..count]);
-        if launched.is_failed() || !take(stream) {
+        let launched = launched(answer.as_slice());
+        if launched.is_failed() {
             return Launched::Failed;
         }
-        launched
+        match connection.send(b"taken\n") {
+            Ok(()) => launched,
+            Err(_) => Launched::Failed,
+        }
     }
 
     /// Has a program stopped. `Failed` comes as in `launch`.
-    pub(crate) fn halt<N: Net>(&self, net: &N, job: &Job) -> Halted {
-        let mut answer = [0_u8; LONGEST_ANSWER];
-        let Ok((stream, count)) = self.ask(net, "halt", job, &mut answer) else {
+    #[tactic(auto, using(crate::proofs::Asking::asks_halt))]
+    pub(crate) fn halt<N: Network>(&self, net: &N, job: &Job) -> Halted
+        ensures asks { result ≢ Halted.Failed → AsksHalt
+            N.connected N.Connection.wrote N.Connection.gave net.now self.now job.now result }
+    {
+        let Ok((mut connection, answer)) = self.ask(net, "halt", job) else {
             return Halted::Failed;
         };
-        let halted = halted(&answer[..count]);
-        if halted.is_failed() || !take(stream) {
+        let halted = halted(answer.as_slice());
+        if halted.is_failed() {
             return Halted::Failed;
         }
-        halted
+        match connection.send(b"taken\n") {
+            Ok(()) => halted,
+            Err(_) => Halted::Failed,
+        }
     }
 
-    /// Asks, and reads the answer, which comes to stand at the front of `answer`.
-    fn ask<N: Net>(
+    /// Asks over a connection of its own, and reads the answer.
+    #[tactic(auto, using(crate::proofs::Asking::is_answered))]
+    fn ask<N: Network>(
         &self,
         net: &N,
         word: &str,
         job: &Job,
-        answer: &mut [u8],
-    ) -> io::Result<(UnixStream, usize)>
-        ensures { IfOk result (λ read. read.1 ≤ length answer.new) }
+    ) -> io::Result<(N::Connection, Vec<u8>)>
+        ensures { IfOk result (λ read. IsAnswered N.connected N.Connection.wrote N.Connection.gave
+            net.now self.now (question_line word.now job.now) read.1.items read.0) }
     {
         let line = match question(self.alloc, word, job) {
             Ok(line) => line,
             Err(Memory) => return Err(io::Error::from(ErrorKind::OutOfMemory)),
         };
-        let mut stream = UnixStream::connect(net, self.at.as_str())?;
-        stream.set_read_timeout(Some(Duration::from_secs(PATIENCE)))?;
-        stream.set_write_timeout(Some(Duration::from_secs(PATIENCE)))?;
-        stream.write_all(line.as_str().as_bytes())?;
-        let count = read_answer(&mut stream, answer)?;
-        Ok((stream, count))
+        let mut connection = net.connect_to(self.at.as_str())?;
+        connection.send(line.as_str().as_bytes())?;
+        let answer = read_answer(&mut connection, self.alloc)?;
+        Ok((connection, answer))
     }
-}
-
-/// Tells the runner that its answer is taken. Whether it could be told.
-fn take(mut stream: UnixStream) -> bool {
-    stream.write_all(b"taken\n").is_ok()
 }
 
 /// The line that asks.
@@ -112,28 +125,24 @@ fn question(alloc: Global, word: &str, job: &Job) -> Result<Text, Memory>
     Ok(line)
 }
 
-/// Reads up to a line feed, or until `into` is full.
-fn read_answer<T: Read + Drop>(from: &mut T, into: &mut [u8]) -> io::Result<usize>
-    ensures { IfOk result (λ count. count ≤ length into.new) }
+/// Reads up to a line feed, or until there are as many bytes as an answer may have.
+#[tactic(auto, using(crate::proofs::Asking::gives_none, crate::proofs::Asking::gives_more))]
+fn read_answer<C: Connection>(from: &mut C, alloc: Global) -> io::Result<Vec<u8>>
+    ensures { IfOk result (λ bytes. Gives C.gave from.old bytes.items from.new) }
 {
-    let mut count = 0;
+    let mut bytes = Vec::new(alloc);
+    let mut piece = [0_u8; LONGEST_ANSWER];
     for _ in 0..LONGEST_ANSWER {
-        let Some(room) = into.get_mut(count..) else {
-            return Ok(count);
-        };
-        match from.read(room) {
-            Ok(0) => return Err(io::Error::from(ErrorKind::UnexpectedEof)),
-            Ok(more) => count += more,
-            Err(error) if error.kind() == ErrorKind::Interrupted => {}
-            Err(error) => return Err(error),
+        let count = from.receive(&mut piece)?;
+        if count == 0 {
+            return Err(io::Error::from(ErrorKind::UnexpectedEof));
         }
-        if let Some(read) = into.get(..count) {
-            if read.ends_with(b"\n") {
-                return Ok(count);
-            }
+        bytes.extend_from_slice(&piece[..count])?;
+        if bytes.ends_with(b"\n") || bytes.len() >= LONGEST_ANSWER {
+            return Ok(bytes);
         }
     }
-    Ok(count)
+    Ok(bytes)
 }
 
 /// What an answer to a launch means.

@@ -1,8 +1,9 @@
 -- Lemmas on answering before reading on: what a session has in hand between two lines.
 use Rattle.std.proofs.Common.{◌≡◌, ◌≢◌, ◌+◌, ℕ, suc, cond, nat_eq, Bool, true, false, List, [], ◌∷◌, ◌++◌, length, map, refl, ap, sym, ◌∙◌, subst, append_assoc, append-nil, length-append, arith}
 use Rattle.std.proofs.lemmas.Bool.Decides.{nat_tests}
-use Rattle.cm_io.specs.Lines.{IsUnbroken}
-use Rattle.cm_io.specs.Orders.{Answered, InStep, Move, ReadsUnbroken, ends_in, gave, given_in, hung_up, joined, wrote, written_in}
+use Rattle.cm_io.specs.LinesInside.{IsUnbroken}
+use Rattle.cm_io.specs.Orders.{InStep, Move, ends_in, gave, given_in, hung_up, joined, wrote, written_in}
+use Rattle.cm_io.specs.OrdersInside.{AnsweredInOrder, ReadsUnbroken}
 use Rattle.cm_io.proofs.Ordering.{joined-more}
 
 -- ---- how many lines end
@@ -56,7 +57,7 @@ written-wrote (p ∷ pieces) = ap (λ (l : List ℕ). p ++ l) (written-wrote pie
 -- ---- a session's steps
 
 -- nothing was read or written
-pub answered-none : Answered [] [] []
+pub answered-none : AnsweredInOrder [] [] []
 answered-none = record { in_step = InStep.begun; written = refl; lines = refl }
 
 -- pieces that are read while no line ends in what is there
@@ -81,9 +82,9 @@ writes-in_step replies moves (p ∷ pieces) s =
     subst (InStep replies) (append_assoc moves (wrote p ∷ []) (map wrote pieces)) (writes-in_step replies (moves ++ wrote p ∷ []) pieces (InStep.wrote_on p s))
 
 -- a line was taken, and its reply written whole
-pub answered-line : (replies : List (List ℕ)) (moves : List Move) (held : List ℕ) (pieces : List (List ℕ)) (line kept reply : List ℕ) (written : List (List ℕ)) → Answered replies moves held
+pub answered-line : (replies : List (List ℕ)) (moves : List Move) (held : List ℕ) (pieces : List (List ℕ)) (line kept reply : List ℕ) (written : List (List ℕ)) → AnsweredInOrder replies moves held
     → ReadsUnbroken held pieces → held ++ joined pieces ≡ line ++ 10 ∷ kept → IsUnbroken line → joined written ≡ reply
-    → Answered (replies ++ reply ∷ []) ((moves ++ map gave pieces) ++ map wrote written) kept
+    → AnsweredInOrder (replies ++ reply ∷ []) ((moves ++ map gave pieces) ++ map wrote written) kept
 answered-line replies moves held pieces line kept reply written a reads taken unbroken all =
     let read = moves ++ map gave pieces in
     let step = reads-in_step replies moves held pieces a.in_step a.written a.lines reads in

@@ -14,8 +14,10 @@ use Rattle.cm_io.specs.declared.lines.Next.{Next}
 use Rattle.cm_io.specs.declared.lines.Next.TheVariants as next
 use Rattle.cm_io.specs.Outside.{AsSource}
 use Rattle.cm_io.proofs.Ordering.{came-trans, joined-more}
-use Rattle.cm_io.specs.Orders.{Came, Move, Pulled, ReadsUnbroken, joined, gave as gave_move}
-use Rattle.cm_io.specs.Lines.{EndsOnce, IsUnbroken, IsFirstLine, Grows, Moves, Reader, TakesPart, TakesLine, Tells, lines, in_front}
+use Rattle.cm_io.specs.Orders.{MovesCame, Move, joined, gave as gave_move}
+use Rattle.cm_io.specs.OrdersInside.{Pulled, ReadsUnbroken}
+use Rattle.cm_io.specs.Lines.{Moves, lines, in_prefix}
+use Rattle.cm_io.specs.LinesInside.{EndsOnce, IsUnbroken, IsFirstLine, LineGrows, Reader, TakesPart, TakesLine, TellsLine}
 
 abbrev ends_line : ℕ → Bool
 ends_line byte = byte == 10
@@ -35,7 +37,7 @@ unbroken-None bytes e =
     let whole = past (position_or_len ends_line bytes) (length bytes) e in
     All-from_get_or (λ b. b ≢ 10) bytes 0 (λ i lt. is_no_end _ (fails_before_first ends_line bytes i 0 (omega (arith, whole, lt))))
 
--- what stands in front of the first line end is unbroken
+-- what stands before the first line end is unbroken
 pub unbroken-Some : (bytes : List ℕ) (n : ℕ) → Some n ≡ position ends_line bytes → IsUnbroken (take n bytes)
 unbroken-Some bytes n e =
     let at = position-Some ends_line bytes n 0 (sym e) in
@@ -66,7 +68,7 @@ abbrev pub held_of : List ℕ → ℕ → ℕ → List ℕ
 held_of xs start end = take (end - start) (drop start xs)
 
 pub takes-Some : (xs : List ℕ) (start end n : ℕ) (old new : List ℕ) → start ≤ end → end ≤ length xs → Some n ≡ position ends_line (held_of xs start end)
-    → Grows old new (take n (held_of xs start end)) → TakesPart (held_of xs start end) (held_of xs (start + (n + 1)) end) old new true
+    → LineGrows old new (take n (held_of xs start end)) → TakesPart (held_of xs start end) (held_of xs (start + (n + 1)) end) old new true
 takes-Some xs start end n old new h k e grows =
     let held = held_of xs start end in
     let parted = parted-Some held n e in
@@ -74,7 +76,7 @@ takes-Some xs start end n old new h k e grows =
     (take n held, unbroken-Some held n e, parted.1 ∙ ap (λ (l : List ℕ). take n held ++ 10 ∷ l) (drop-held xs start end (n + 1) fits), grows)
 
 pub takes-None : (xs : List ℕ) (start end : ℕ) (old new : List ℕ) → None ≡ position ends_line (held_of xs start end)
-    → Grows old new (held_of xs start end) → TakesPart (held_of xs start end) (held_of xs end end) old new false
+    → LineGrows old new (held_of xs start end) → TakesPart (held_of xs start end) (held_of xs end end) old new false
 takes-None xs start end old new e grows =
     let none : end - end ≡ 0 = omega arith in
     (unbroken-None (held_of xs start end) e, ap (λ (n : ℕ). take n (drop end xs)) none, grows)
@@ -85,10 +87,10 @@ unheld held unbroken (k, lt, e) = unbroken k 10 lt e
 
 -- ---- the lines of all bytes
 
--- a byte that ends no line goes in front of the first line
-lines-in_front : (byte : ℕ) (bytes : List ℕ) → byte ≢ 10 → lines (byte ∷ bytes) ≡ in_front byte (lines bytes)
+-- a byte that ends no line goes before the first line
+lines-in_prefix : (byte : ℕ) (bytes : List ℕ) → byte ≢ 10 → lines (byte ∷ bytes) ≡ in_prefix byte (lines bytes)
 unfolding lines
-lines-in_front byte bytes h = grind (arith, nat_tests)
+lines-in_prefix byte bytes h = grind (arith, nat_tests)
 
 lines-ended : (bytes : List ℕ) → lines (10 ∷ bytes) ≡ [] ∷ lines bytes
 unfolding lines
@@ -108,15 +110,15 @@ unbroken-head byte bytes h = h 0 0 (omega arith)
 pub lines-first : (line rest : List ℕ) → IsUnbroken line → lines (line ++ 10 ∷ rest) ≡ line ∷ lines rest
 lines-first [] rest h = lines-ended rest
 lines-first (byte ∷ line) rest h =
-    lines-in_front byte (line ++ 10 ∷ rest) (unbroken-head byte line h) ∙ ap (in_front byte) (lines-first line rest (unbroken-tail byte line h))
+    lines-in_prefix byte (line ++ 10 ∷ rest) (unbroken-head byte line h) ∙ ap (in_prefix byte) (lines-first line rest (unbroken-tail byte line h))
 
 -- bytes with no line end are one line, where there are some
 pub lines-last : (line : List ℕ) → IsUnbroken line → 0 < length line → lines line ≡ line ∷ []
 lines-last [] h lt = absurd (omega arith)
-lines-last (byte ∷ []) h lt = lines-in_front byte [] (unbroken-head byte [] h) ∙ ap (in_front byte) lines-nil
+lines-last (byte ∷ []) h lt = lines-in_prefix byte [] (unbroken-head byte [] h) ∙ ap (in_prefix byte) lines-nil
 lines-last (byte ∷ next ∷ line) h lt =
-    lines-in_front byte (next ∷ line) (unbroken-head byte (next ∷ line) h)
-    ∙ ap (in_front byte) (lines-last (next ∷ line) (unbroken-tail byte (next ∷ line) h) (omega arith))
+    lines-in_prefix byte (next ∷ line) (unbroken-head byte (next ∷ line) h)
+    ∙ ap (in_prefix byte) (lines-last (next ∷ line) (unbroken-tail byte (next ∷ line) h) (omega arith))
 
 -- ---- one call
 
@@ -143,16 +145,16 @@ reads-more taken piece (p ∷ pieces) reads unbroken =
     (reads.0, reads-more (taken ++ p) piece pieces reads.1 (subst IsUnbroken (sym (append_assoc taken p (joined pieces))) unbroken))
 
 -- nothing was read yet
-pub pulled-none : (o : Option (List Move)) (held : List ℕ) → Came o o [] → Pulled o o held []
+pub pulled-none : (o : Option (List Move)) (held : List ℕ) → MovesCame o o [] → Pulled o o held []
 pulled-none o held came = record { pieces = []; all = refl; came = came; no_further = tt }
 
 -- one read more, while no line ends in what is there
 pulled-more : (first o then : Option (List Move)) (held given piece : List ℕ) → Pulled first o held given → IsUnbroken (held ++ given)
-    → Came o then (gave_move piece ∷ []) → Pulled first then held (given ++ piece)
+    → MovesCame o then (gave_move piece ∷ []) → Pulled first then held (given ++ piece)
 pulled-more first o then held given piece p unbroken came = record {
   pieces = p.pieces ++ piece ∷ [];
   all = ap (λ (l : List ℕ). l ++ piece) p.all ∙ sym (joined-more p.pieces piece);
-  came = subst (Came first then) (sym (moves-more p.pieces piece)) (came-trans first o then (map gave_move p.pieces) (gave_move piece ∷ []) p.came came);
+  came = subst (MovesCame first then) (sym (moves-more p.pieces piece)) (came-trans first o then (map gave_move p.pieces) (gave_move piece ∷ []) p.came came);
   no_further = reads-more held piece p.pieces p.no_further (subst (λ (l : List ℕ). IsUnbroken (held ++ l)) p.all unbroken);
 }
 
@@ -167,7 +169,7 @@ pub record Passed (old now : AsSource) (first o : Option (List Move)) (over : Bo
   pub carried : Carries line gone
   pub pulled : Pulled first o held given
 
-Carries-grown : (line next gone part : List ℕ) → Grows line next part → Carries line gone → Carries next (gone ++ part)
+Carries-grown : (line next gone part : List ℕ) → LineGrows line next part → Carries line gone → Carries next (gone ++ part)
 Carries-grown line next gone part grows (inl e) =
     elim (leb_tells (length line) 65536) [
       | inl h ↦ inl (grows.0 h.1 ∙ ap (λ (l : List ℕ). l ++ part) e)
@@ -178,8 +180,8 @@ Carries-grown line next gone part grows (inr h) =
 
 -- no line end stands in what was held, and then the source gave `more`
 pub passed-filled : (old now then : AsSource) (first o after : Option (List Move)) (over : Bool) (held kept line next more : List ℕ) → over ≡ false
-    → Passed old now first o over held kept line → IsUnbroken kept → Grows line next kept
-    → Moves now then more → Came o after (gave_move more ∷ []) → Passed old then first after over held more next
+    → Passed old now first o over held kept line → IsUnbroken kept → LineGrows line next kept
+    → Moves now then more → MovesCame o after (gave_move more ∷ []) → Passed old then first after over held more next
 passed-filled old now then first o after over held kept line next more not p unbroken grows gave came = record {
   given = p.given ++ more;
   gone = p.gone ++ kept;
@@ -194,16 +196,16 @@ passed-filled old now then first o after over held kept line next more not p unb
 -- what a call may tell, with the bytes that the source gave in it
 abbrev pub Told : AsSource → AsSource → Option (List Move) → Option (List Move) → Reader → Reader → Next → Type 0
 Told old now first o before after answer =
-    (given : List ℕ) × Moves old now given × EndsOnce before after old now given × Tells (before.held ++ given) after answer × Pulled first o before.held given
+    (given : List ℕ) × Moves old now given × EndsOnce before after old now given × TellsLine (before.held ++ given) after answer × Pulled first o before.held given
 
 tells-line : (taken : List ℕ) (after : Reader) (line gone : List ℕ) (answer : Next) → Carries line gone → IsFirstLine taken after gone
-    → (length line ≤ 65536 → answer ≡ next.Line line) → (65536 < length line → answer ≡ next.TooLong) → Tells taken after answer
+    → (length line ≤ 65536 → answer ≡ next.Line line) → (65536 < length line → answer ≡ next.TooLong) → TellsLine taken after answer
 tells-line taken after line gone answer (inl e) first short long =
     elim (leb_tells (length line) 65536) [
-      | inl h ↦ subst (Tells taken after) (sym (short h.1)) (h.1, subst (IsFirstLine taken after) (sym e) first)
-      | inr h ↦ subst (Tells taken after) (sym (long h.1)) (gone, omega (arith, h.1, ap length e), first)
+      | inl h ↦ subst (TellsLine taken after) (sym (short h.1)) (h.1, subst (IsFirstLine taken after) (sym e) first)
+      | inr h ↦ subst (TellsLine taken after) (sym (long h.1)) (gone, omega (arith, h.1, ap length e), first)
     ]
-tells-line taken after line gone answer (inr h) first short long = subst (Tells taken after) (sym (long h.0)) (gone, h.1, first)
+tells-line taken after line gone answer (inr h) first short long = subst (TellsLine taken after) (sym (long h.0)) (gone, h.1, first)
 
 -- a call that leaves the reader as far as it was
 same-end : (before after : Reader) (old now : AsSource) (given : List ℕ) → after.over ≡ before.over → (before.over ≡ true → (given ≡ []) × (now ≡ old)) → EndsOnce before after old now given
@@ -250,7 +252,7 @@ told-last old then first o before after kept line grown answer held over end p (
       p.gave,
       record { still = λ was. ((p.still was).0, over, (p.still was).1); comes = λ not there. end not },
       elim (leb_tells (length grown) 0) [
-        | inl h ↦ subst (Tells (before.held ++ p.given) after) (sym (empty (omega (arith, h.1)))) (p.moved ∙ nothing grown gone carried h.1, held, over)
+        | inl h ↦ subst (TellsLine (before.held ++ p.given) after) (sym (empty (omega (arith, h.1)))) (p.moved ∙ nothing grown gone carried h.1, held, over)
         | inr h ↦ tells-line (before.held ++ p.given) after grown gone answer carried (all, inr (p.moved, some grown gone carried h.1, held, over)) (short h.1) long
       ],
       p.pulled,
@@ -259,7 +261,7 @@ told-last old then first o before after kept line grown answer held over end p (
 -- a read that kept the source's bytes gave none
 pub passed-kept : (old now then : AsSource) (first o after : Option (List Move)) (over : Bool) (held kept line : List ℕ) → over ≡ false
     → Passed old now first o over held kept line → IsUnbroken kept
-    → Keeps now.left then.left → Keeps now.given then.given → Came o after (gave_move [] ∷ []) → Passed old then first after over held kept line
+    → Keeps now.left then.left → Keeps now.given then.given → MovesCame o after (gave_move [] ∷ []) → Passed old then first after over held kept line
 passed-kept old now then first o after over held kept line not p unbroken left given came = record {
   given = p.given;
   gone = p.gone;
@@ -291,7 +293,7 @@ first-lines taken left after line end (unbroken, inr (e, some, none, over)) =
     let rest : after.held ++ left ≡ [] = ap (λ (l : List ℕ). l ++ left) none ∙ end over in
     ap lines whole ∙ lines-last line unbroken some ∙ ap (λ (ls : List (List ℕ)). line ∷ ls) (sym (ap lines rest ∙ lines-nil))
 
-takes-known : (held o given n : List ℕ) (after : Reader) (answer : Next) → (after.over ≡ true → n ≡ []) → held ++ o ≡ (held ++ given) ++ n → Tells (held ++ given) after answer
+takes-known : (held o given n : List ℕ) (after : Reader) (answer : Next) → (after.over ≡ true → n ≡ []) → held ++ o ≡ (held ++ given) ++ n → TellsLine (held ++ given) after answer
     → TakesLine (Some (held ++ o)) (Some (after.held ++ n)) answer
 takes-known held o given n after (next.Line line) end e tells = (ap lines e ∙ first-lines (held ++ given) n after line end tells.1, tells.0)
 takes-known held o given n after next.TooLong end e tells = (tells.0, ap lines e ∙ first-lines (held ++ given) n after tells.0 end tells.2, tells.1)
@@ -301,7 +303,7 @@ takes-known held o given n after next.ReadFault end e tells = tt
 takes-known held o given n after next.Memory end e tells = tt
 
 takes-of : (old now : Option (List ℕ)) (before after : Reader) (answer : Next) (given : List ℕ) → Consumes old now given
-    → (after.over ≡ true → IsAtEnd now) → Tells (before.held ++ given) after answer → TakesLine (prepend_known before.held old) (prepend_known after.held now) answer
+    → (after.over ≡ true → IsAtEnd now) → TellsLine (before.held ++ given) after answer → TakesLine (prepend_known before.held old) (prepend_known after.held now) answer
 takes-of None now before after answer given gave ends tells = tt
 takes-of (Some o) None before after answer given gave ends tells = absurd gave
 takes-of (Some o) (Some n) before after answer given gave ends tells =

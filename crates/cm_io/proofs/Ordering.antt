@@ -1,10 +1,11 @@
 -- Lemmas on the order of reads and writes.
 use Rattle.std.proofs.Common.{◌≡◌, ◌≤◌, ◌+◌, ℕ, List, [], ◌∷◌, ◌++◌, length, map, take, drop, Option, None, Some, refl, ap, sym, ◌∙◌, subst, append_assoc, append-nil, take-add}
 use Rattle.std.proofs.lemmas.List.{take_all}
-use Rattle.cm_io.specs.Orders.{Came, Move, PutsInOrder, joined, wrote}
+use Rattle.cm_io.specs.Orders.{MovesCame, Move, joined, wrote}
+use Rattle.cm_io.specs.OrdersInside.{PutsInOrder}
 use Rattle.cm_io.specs.declared.output.Put.TheVariants as put
 
-pub came-trans : (a b c : Option (List Move)) (xs ys : List Move) → Came a b xs → Came b c ys → Came a c (xs ++ ys)
+pub came-trans : (a b c : Option (List Move)) (xs ys : List Move) → MovesCame a b xs → MovesCame b c ys → MovesCame a c (xs ++ ys)
 came-trans None None None xs ys first then = tt
 came-trans None (Some y) None xs ys first then = tt
 came-trans (Some x) None None xs ys first then = tt
@@ -18,7 +19,7 @@ pub joined-more : (pieces : List (List ℕ)) (piece : List ℕ) → joined (piec
 joined-more [] piece = append-nil piece
 joined-more (p ∷ pieces) piece = ap (λ (l : List ℕ). p ++ l) (joined-more pieces piece) ∙ sym (append_assoc p (joined pieces) piece)
 
-pub came-none : (o : Option (List Move)) → Came o o []
+pub came-none : (o : Option (List Move)) → MovesCame o o []
 came-none None = tt
 came-none (Some x) = sym (append-nil x)
 
@@ -26,7 +27,7 @@ came-none (Some x) = sym (append-nil x)
 
 pub record Wrote (old new : Option (List Move)) (done : List ℕ) : Type 0 where
   pub pieces : List (List ℕ)
-  pub came : Came old new (map wrote pieces)
+  pub came : MovesCame old new (map wrote pieces)
   pub all : joined pieces ≡ done
 
 writes-more : (pieces : List (List ℕ)) (piece : List ℕ) → map wrote (pieces ++ piece ∷ []) ≡ map wrote pieces ++ wrote piece ∷ []
@@ -36,20 +37,20 @@ writes-more (p ∷ pieces) piece = ap (λ (l : List Move). wrote p ∷ l) (write
 pub wrote-none : (o : Option (List Move)) → Wrote o o []
 wrote-none o = record { pieces = []; came = came-none o; all = refl }
 
-pub wrote-piece : (first o then : Option (List Move)) (done piece : List ℕ) → Wrote first o done → Came o then (wrote piece ∷ []) → Wrote first then (done ++ piece)
+pub wrote-piece : (first o then : Option (List Move)) (done piece : List ℕ) → Wrote first o done → MovesCame o then (wrote piece ∷ []) → Wrote first then (done ++ piece)
 wrote-piece first o then done piece w came = record {
   pieces = w.pieces ++ piece ∷ [];
-  came = subst (Came first then) (sym (writes-more w.pieces piece)) (came-trans first o then (map wrote w.pieces) (wrote piece ∷ []) w.came came);
+  came = subst (MovesCame first then) (sym (writes-more w.pieces piece)) (came-trans first o then (map wrote w.pieces) (wrote piece ∷ []) w.came came);
   all = joined-more w.pieces piece ∙ ap (λ (l : List ℕ). l ++ piece) w.all;
 }
 
-pub wrote-more : (first o then : Option (List Move)) (bytes : List ℕ) (i n : ℕ) → Wrote first o (take i bytes) → Came o then (wrote (take n (drop i bytes)) ∷ []) → Wrote first then (take (i + n) bytes)
+pub wrote-more : (first o then : Option (List Move)) (bytes : List ℕ) (i n : ℕ) → Wrote first o (take i bytes) → MovesCame o then (wrote (take n (drop i bytes)) ∷ []) → Wrote first then (take (i + n) bytes)
 wrote-more first o then bytes i n w came = rw (take-add i n bytes) (wrote-piece first o then (take i bytes) (take n (drop i bytes)) w came)
 
 pub put-done : (first o : Option (List Move)) (bytes : List ℕ) (i : ℕ) → Wrote first o (take i bytes) → length bytes ≤ i → PutsInOrder first o bytes put.Done
 put-done first o bytes i w all = record { pieces = w.pieces; came = w.came; are = w.all ∙ take_all i bytes all }
 
-pub put-fault : (first o then : Option (List Move)) (bytes : List ℕ) (i : ℕ) → Wrote first o (take i bytes) → Came o then (wrote [] ∷ []) → PutsInOrder first then bytes (put.WriteFault i)
+pub put-fault : (first o then : Option (List Move)) (bytes : List ℕ) (i : ℕ) → Wrote first o (take i bytes) → MovesCame o then (wrote [] ∷ []) → PutsInOrder first then bytes (put.WriteFault i)
 put-fault first o then bytes i w came =
     let last = wrote-piece first o then (take i bytes) [] w came in
     record { pieces = last.pieces; came = last.came; are = last.all ∙ append-nil (take i bytes) }

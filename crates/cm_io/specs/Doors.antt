@@ -1,7 +1,9 @@
+-- Promised.
 -- What the calls on a door say: what is counted, and that a link is new.
-use Rattle.std.specs.Prelude.{◌≡◌, ℕ, List, ◌+◌, ◌≤◌, ⊤, Option, Some, None}
+use Rattle.std.specs.Prelude.{◌≡◌, ℕ, List, [], ◌+◌, ◌≤◌, ⊤, Option, Some, None}
 use Rattle.std.specs.Io.KnownBytes.{IsAtEnd}
 use Rattle.cm_io.specs.Counts.{one_more}
+use Rattle.cm_io.specs.Orders.{Move}
 use Rattle.cm_io.specs.Outside.{AsSink, AsSource}
 use Rattle.cm_io.specs.declared.door.Accept.{Accept}
 use Rattle.cm_io.specs.declared.door.Accept.TheVariants as accept
@@ -20,41 +22,36 @@ Listens before now listen.Ready = now ≡ before
 Listens before now listen.Failed = CountsFault before now
 
 -- where peers may come: the door doesn't tell, nowhere yet, somewhere that it doesn't tell, or at this place
-pub data Place : Type 0 where
-  untold : Place
-  nowhere : Place
-  somewhere : Place
-  at : List ℕ → Place
+pub data DoorPlace : Type 0 where
+  untold : DoorPlace
+  nowhere : DoorPlace
+  somewhere : DoorPlace
+  at : List ℕ → DoorPlace
 
 -- peers may not come yet
-abbrev pub IsShut : Place → Type 0
+abbrev pub IsShut : DoorPlace → Type 0
 IsShut untold = ⊤
 IsShut nowhere = ⊤
 IsShut somewhere = ⊥
 IsShut (at place) = ⊥
 
 -- peers may come somewhere
-abbrev pub IsOpen : Place → Type 0
+abbrev pub IsOpen : DoorPlace → Type 0
 IsOpen untold = ⊤
 IsOpen nowhere = ⊥
 IsOpen somewhere = ⊤
 IsOpen (at place) = ⊤
 
 -- peers may come there
-abbrev pub IsAt : List ℕ → Place → Type 0
-IsAt wanted untold = ⊤
-IsAt wanted nowhere = ⊥
-IsAt wanted somewhere = ⊤
-IsAt wanted (at place) = place ≡ wanted
-
--- somewhere, where there is a listener
-abbrev pub place_by : {A : Type 0} → Option A → Place
-place_by None = nowhere
-place_by (Some listener) = somewhere
+abbrev pub IsOpenAt : List ℕ → DoorPlace → Type 0
+IsOpenAt wanted untold = ⊤
+IsOpenAt wanted nowhere = ⊥
+IsOpenAt wanted somewhere = ⊤
+IsOpenAt wanted (at place) = place ≡ wanted
 
 -- a listen lets peers come at the place that it names, and nowhere where it fails
-abbrev pub Opens : List ℕ → Place → Place → Listen → Type 0
-Opens wanted before now listen.Ready = IsAt wanted now
+abbrev pub Opens : List ℕ → DoorPlace → DoorPlace → Listen → Type 0
+Opens wanted before now listen.Ready = IsOpenAt wanted now
 Opens wanted before now listen.Failed = now ≡ before
 
 -- a link, a closing or a fault is counted, and nothing else
@@ -70,9 +67,16 @@ OnLink (accept.Link l) P = P l
 OnLink accept.Closed P = ⊤
 OnLink accept.Failed P = ⊤
 
--- a link that was just given: it failed never, and what it tells is that no bytes were given or written
-pub record IsNew (source : AsSource) (sink : AsSink) : Type 0 where
+-- nothing was read, nothing was written and nobody was hung up on, where the order is told
+abbrev pub IsUnmoved : Option (List Move) → Type 0
+IsUnmoved None = ⊤
+IsUnmoved (Some moves) = moves ≡ []
+
+-- a link that was just given: it failed never, and what it tells is that no bytes were given or written, and
+-- that no move came before
+pub record IsFreshLink (source : AsSource) (sink : AsSink) (order : Option (List Move)) : Type 0 where
   pub none_given : IsAtEnd source.given
   pub none_written : IsAtEnd sink.written
   pub no_read_fault : source.faults ≡ 0
   pub no_write_fault : sink.faults ≡ 0
+  pub no_moves : IsUnmoved order

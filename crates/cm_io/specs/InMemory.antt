@@ -1,9 +1,11 @@
+-- Inside.
 -- Sources and sinks in memory, as contracts see them.
 use Rattle.std.specs.Prelude.{ℕ, ◌-◌, max, Bool, List, [], ◌∷◌, length}
-use Rattle.cm_io.specs.Counts.{one_more, count_after}
+use Rattle.cm_io.specs.Counts.{one_more}
+use Rattle.cm_io.specs.CountsInside.{count_after}
 
 -- a plan at work: the number of calls that were made, and of those that failed
-pub record PlanAtWork : Type 0 where
+pub record FaultPlanAtWork : Type 0 where
   -- the most bytes that one call moves; 0 counts as 1
   pub piece : ℕ
   -- the numbers of the calls that fail
@@ -12,28 +14,28 @@ pub record PlanAtWork : Type 0 where
   pub faults : ℕ
 
 -- the most bytes that one call moves
-abbrev pub most_of : PlanAtWork → ℕ
+abbrev pub most_of : FaultPlanAtWork → ℕ
 most_of plan = max plan.piece 1
 
 -- a plan by which no call was made yet
-abbrev pub unused : ℕ → List ℕ → PlanAtWork
+abbrev pub unused : ℕ → List ℕ → FaultPlanAtWork
 unused piece failing = record { piece = piece; failing = failing; calls = 0; faults = 0 }
 
 -- the plan after one more call, which failed or not
-abbrev pub after_call : Bool → PlanAtWork → PlanAtWork
+abbrev pub after_call : Bool → FaultPlanAtWork → FaultPlanAtWork
 after_call failed plan = record plan { calls = one_more plan.calls; faults = count_after failed plan.faults }
 
 -- a source: the bytes that it gave, and those that are left
 pub record SourceInMemory : Type 0 where
   pub given : List ℕ
   pub left : List ℕ
-  pub plan : PlanAtWork
+  pub plan : FaultPlanAtWork
 
 -- a sink: the bytes that were written, and for how many bytes in all it holds memory
 pub record SinkInMemory : Type 0 where
   pub written : List ℕ
   pub capacity : ℕ
-  pub plan : PlanAtWork
+  pub plan : FaultPlanAtWork
 
 abbrev pub if_quiet : List ℕ → ℕ → ℕ
 if_quiet [] room = room

@@ -1,8 +1,13 @@
 pub mod Counts
+pub mod CountsInside
 pub mod Doors
+pub mod DoorsInside
 pub mod InMemory
 pub mod Lines
+pub mod LinesInside
 pub mod MemoryDoors
 pub mod Orders
+pub mod OrdersInside
 pub mod Steps
 pub mod Outside
+pub mod OutsideInside

@@ -1,90 +1,21 @@
+-- Promised.
 -- The lines of bytes, and what a call of a line reader does.
-use Rattle.std.specs.Prelude.{◌≡◌, ◌≢◌, ◌⊎◌, ℕ, ◌<◌, ◌≤◌, cond, nat_eq, Bool, true, false, List, [], ◌∷◌}
-use Rattle.std.specs.Prelude.{◌++◌, length, All, Option, Some, None}
-use Rattle.std.specs.Io.KnownBytes.{Appends, Consumes, IsAtEnd, Keeps}
+use Rattle.std.specs.Prelude.{ℕ, cond, nat_eq, List, [], ◌∷◌}
+use Rattle.std.specs.Io.KnownBytes.{Appends, Consumes}
 use Rattle.cm_io.specs.Outside.{AsSource}
-use Rattle.cm_io.specs.declared.lines.Next.{Next}
-use Rattle.cm_io.specs.declared.lines.Next.TheVariants as next
-use Rattle.cm_io.specs.declared.source.Got.{Got}
-use Rattle.cm_io.specs.declared.source.Got.TheVariants as got
 
--- a byte in front of the first line, which it begins where there is none
-abbrev pub in_front : ℕ → List (List ℕ) → List (List ℕ)
-in_front byte [] = (byte ∷ []) ∷ []
-in_front byte (line ∷ lines) = (byte ∷ line) ∷ lines
+-- a byte before the first line, which it begins where there is none
+abbrev pub in_prefix : ℕ → List (List ℕ) → List (List ℕ)
+in_prefix byte [] = (byte ∷ []) ∷ []
+in_prefix byte (line ∷ lines) = (byte ∷ line) ∷ lines
 
 -- the lines of bytes: each 0x0A ends a line, and what is left behind the last counts as a line
 -- where it isn't empty
 unfoldable pub lines : List ℕ → List (List ℕ)
 lines [] = []
-lines (byte ∷ bytes) = cond (nat_eq byte 10) ([] ∷ lines bytes) (in_front byte (lines bytes))
-
--- no byte ends a line
-abbrev pub IsUnbroken : List ℕ → Type 0
-IsUnbroken bytes = All (λ byte. byte ≢ 10) bytes
-
--- a line reader: what it holds of the bytes that its source gave, and whether the source came to
--- its end, behind which it isn't read
-pub record Reader : Type 0 where
-  pub held : List ℕ
-  pub over : Bool
-
--- `line` is the first line of `taken`: 0x0A ends it, and then comes what the reader holds; or it is
--- all up to the end, and isn't empty
-abbrev pub IsFirstLine : List ℕ → Reader → List ℕ → Type 0
-IsFirstLine taken reader line =
-    IsUnbroken line ×
-    ((taken ≡ line ++ 10 ∷ reader.held) ⊎
-    ((taken ≡ line) × (0 < length line) × (reader.held ≡ []) × (reader.over ≡ true)))
-
--- what a call tells of `taken`, the bytes that the reader held before it and those that the source
--- gave in it, by what the reader is after it
-abbrev pub Tells : List ℕ → Reader → Next → Type 0
-Tells taken reader (next.Line line) = (length line ≤ 65536) × IsFirstLine taken reader line
-Tells taken reader next.TooLong = (line : List ℕ) × (65536 < length line) × IsFirstLine taken reader line
-Tells taken reader next.End = (taken ≡ []) × (reader.held ≡ []) × (reader.over ≡ true)
-Tells taken reader next.ReadFault = IsUnbroken taken × (reader.held ≡ [])
-Tells taken reader next.Memory = Unit {0}
+lines (byte ∷ bytes) = cond (nat_eq byte 10) ([] ∷ lines bytes) (in_prefix byte (lines bytes))
 
 -- the bytes that the source gave in a call: it lost them, where it tells what is left, and gave
 -- them, where it tells what it gave
 abbrev pub Moves : AsSource → AsSource → List ℕ → Type 0
 Moves old new given = Consumes old.left new.left given × Appends old.given new.given given
-
--- a reader that came to the end leaves its source alone, and one that comes there finds the source at its end
-pub record EndsOnce (old new : Reader) (source₀ source₁ : AsSource) (given : List ℕ) : Type 0 where
-  pub still : old.over ≡ true → (given ≡ []) × (new.over ≡ true) × (source₁ ≡ source₀)
-  pub comes : old.over ≡ false → new.over ≡ true → IsAtEnd source₁.left
-
--- what a call takes of the lines of all bytes that were to come, where those are known
-abbrev pub TakesLine : Option (List ℕ) → Option (List ℕ) → Next → Type 0
-TakesLine None new answer = Unit {0}
-TakesLine (Some old) None answer = ⊥
-TakesLine (Some old) (Some new) (next.Line line) = (lines old ≡ line ∷ lines new) × (length line ≤ 65536)
-TakesLine (Some old) (Some new) next.TooLong =
-    (line : List ℕ) × (lines old ≡ line ∷ lines new) × (65536 < length line)
-TakesLine (Some old) (Some new) next.End = (old ≡ []) × (new ≡ [])
-TakesLine (Some old) (Some new) next.ReadFault = Unit {0}
-TakesLine (Some old) (Some new) next.Memory = Unit {0}
-
--- `line` grew by `part`, unless it was too long already
-abbrev pub Grows : List ℕ → List ℕ → List ℕ → Type 0
-Grows old new part = (length old ≤ 65536 → new ≡ old ++ part) × (65536 < length old → new ≡ old)
-
--- the line grew by what was held up to the next line end, or by all of it where there is none
-abbrev pub TakesPart : List ℕ → List ℕ → List ℕ → List ℕ → Bool → Type 0
-TakesPart held kept old new true =
-    (part : List ℕ) × IsUnbroken part × (held ≡ part ++ 10 ∷ kept) × Grows old new part
-TakesPart held kept old new false = IsUnbroken held × (kept ≡ []) × Grows old new held
-
--- what a read into an empty reader does to the bytes that the source has left; the reader then holds `held`
-abbrev pub Fills : Option (List ℕ) → Option (List ℕ) → List ℕ → Got → Type 0
-Fills old new held (got.Bytes n) = Consumes old new held
-Fills old new held got.End = (held ≡ []) × Keeps old new × IsAtEnd new
-Fills old new held got.Failed = (held ≡ []) × Keeps old new
-
--- what such a read does to the bytes that the source gave so far
-abbrev pub Gains : Option (List ℕ) → Option (List ℕ) → List ℕ → Got → Type 0
-Gains old new held (got.Bytes n) = Appends old new held
-Gains old new held got.End = Keeps old new
-Gains old new held got.Failed = Keeps old new

@@ -1,8 +1,9 @@
+-- Inside.
 -- Links and doors in memory, as contracts see them.
 use Rattle.std.specs.Prelude.{cond, ◌≡◌, ◌⊎◌, ◌-◌, ◌^◌, ℕ, Bool, true, false}
 use Rattle.std.specs.Prelude.{Contains, List, [], ◌∷◌, Option, Some}
-use Rattle.cm_io.specs.InMemory.{PlanAtWork, unused}
-use Rattle.cm_io.specs.Doors.{Place, nowhere, somewhere}
+use Rattle.cm_io.specs.InMemory.{FaultPlanAtWork, unused}
+use Rattle.cm_io.specs.Doors.{DoorPlace, nowhere, somewhere}
 use Rattle.cm_io.specs.Orders.{Move}
 use Rattle.cm_io.specs.Outside.{AsSink, AsSource}
 use Rattle.cm_io.specs.Steps.{order_of}
@@ -41,14 +42,14 @@ made_by plan = record {
 -- a door: the links that wait, the plan by which its calls fail, and how many links and closings it counted
 pub record DoorInMemory : Type 0 where
   pub waiting : List LinkPlan
-  pub plan : PlanAtWork
+  pub plan : FaultPlanAtWork
   pub links : ℕ
   pub closings : ℕ
   -- whether a listen succeeded
   pub listening : Bool
 
 -- somewhere, behind a listen that succeeded
-abbrev pub place_in_memory : DoorInMemory → Place
+abbrev pub place_in_memory : DoorInMemory → DoorPlace
 place_in_memory door = cond door.listening somewhere nowhere
 
 -- whether peers may come behind a listen
@@ -65,10 +66,10 @@ abbrev pub IsToFail : DoorInMemory → Type 0
 IsToFail door = Contains door.plan.failing door.plan.calls ⊎ (door.links ≡ 2 ^ 64 - 1)
 
 -- what an accept does to the links that wait: the first is given, as it was planned, or none waits
-abbrev pub Gives : List LinkPlan → List LinkPlan → Accept MemoryLink → Type 0
-Gives old new (accept.Link link) = (plan : LinkPlan) × (old ≡ plan ∷ new) × (link ≡ made_by plan)
-Gives old new accept.Closed = (old ≡ []) × (new ≡ [])
-Gives old new accept.Failed = new ≡ old
+abbrev pub GivesLink : List LinkPlan → List LinkPlan → Accept MemoryLink → Type 0
+GivesLink old new (accept.Link link) = (plan : LinkPlan) × (old ≡ plan ∷ new) × (link ≡ made_by plan)
+GivesLink old new accept.Closed = (old ≡ []) × (new ≡ [])
+GivesLink old new accept.Failed = new ≡ old
 
 -- whether a listen failed
 abbrev pub is_failed_listen : Listen → Bool

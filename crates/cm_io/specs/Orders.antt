@@ -1,13 +1,11 @@
+-- Promised.
 -- In which order bytes go in and out.
 use Rattle.std.specs.Prelude.{◌≡◌, ℕ, suc, ◌+◌, cond, nat_eq, Option, Some, None}
-use Rattle.std.specs.Prelude.{List, [], ◌∷◌, ◌++◌, length, take, flat_map, map}
-use Rattle.cm_io.specs.Lines.{IsUnbroken}
+use Rattle.std.specs.Prelude.{List, [], ◌∷◌, ◌++◌, length, take, flat_map}
 use Rattle.cm_io.specs.declared.source.Got.{Got}
 use Rattle.cm_io.specs.declared.source.Got.TheVariants as got
 use Rattle.cm_io.specs.declared.sink.Took.{Took}
 use Rattle.cm_io.specs.declared.sink.Took.TheVariants as took
-use Rattle.cm_io.specs.declared.output.Put.{Put}
-use Rattle.cm_io.specs.declared.output.Put.TheVariants as put
 
 -- one move: a read, with the bytes that it gave, of which there are none where it came to the end or failed;
 -- a write, with those that it took, of which there are none where it failed; or that the peer was hung up on
@@ -28,39 +26,14 @@ took_bytes bytes (took.Bytes n) = take n bytes
 took_bytes bytes took.Failed = []
 
 -- an order that is told afterwards was told before, and these moves came
-abbrev pub Came : Option (List Move) → Option (List Move) → List Move → Type 0
-Came old None moves = Unit {0}
-Came None (Some new) moves = ⊥
-Came (Some old) (Some new) moves = new ≡ old ++ moves
-
--- at each read of these pieces, no line ended in what was there before
-abbrev pub ReadsUnbroken : List ℕ → List (List ℕ) → Type 0
-ReadsUnbroken taken [] = Unit {0}
-ReadsUnbroken taken (piece ∷ pieces) = IsUnbroken taken × ReadsUnbroken (taken ++ piece) pieces
+abbrev pub MovesCame : Option (List Move) → Option (List Move) → List Move → Type 0
+MovesCame old None moves = Unit {0}
+MovesCame None (Some new) moves = ⊥
+MovesCame (Some old) (Some new) moves = new ≡ old ++ moves
 
 -- all these pieces
 abbrev pub joined : List (List ℕ) → List ℕ
 joined pieces = flat_map (λ piece. piece) pieces
-
--- the bytes were read in pieces, of which each was read while no line ended in what was held and read before
-pub record Pulled (old new : Option (List Move)) (held given : List ℕ) : Type 0 where
-  pub pieces : List (List ℕ)
-  pub all : given ≡ joined pieces
-  pub came : Came old new (map gave pieces)
-  pub no_further : ReadsUnbroken held pieces
-
--- the pieces of a text that were written, all of them or those in front of a fault
-abbrev pub WritesPieces : List ℕ → List (List ℕ) → Put → Type 0
-WritesPieces bytes pieces put.Done = joined pieces ≡ bytes
-WritesPieces bytes pieces (put.WriteFault n) = joined pieces ≡ take n bytes
-
--- a text was written in pieces, and nothing else came
-pub record PutsInOrder (old new : Option (List Move)) (bytes : List ℕ) (answer : Put) : Type 0 where
-  pub pieces : List (List ℕ)
-  pub came : Came old new (map wrote pieces)
-  pub are : WritesPieces bytes pieces answer
-
--- ---- answering before reading on
 
 -- the bytes that were given by reads
 abbrev pub given_in : List Move → List ℕ
@@ -92,9 +65,3 @@ pub data InStep : List (List ℕ) → List Move → Type 0 where
   read_on : {replies : List (List ℕ)} {moves : List Move} (piece : List ℕ)
       → InStep replies moves → written_in moves ≡ joined replies
       → ends_in (given_in moves) ≡ length replies → InStep replies (moves ++ gave piece ∷ [])
-
--- all replies that were made are written, and no line but those in what is held waits for one
-pub record Answered (replies : List (List ℕ)) (moves : List Move) (held : List ℕ) : Type 0 where
-  pub in_step : InStep replies moves
-  pub written : written_in moves ≡ joined replies
-  pub lines : ends_in (given_in moves) ≡ length replies + ends_in held

@@ -1,23 +1,22 @@
+-- Promised.
 -- What the calls on the outside say: how the bytes moved, and that a failure is counted.
-use Rattle.std.specs.Prelude.{◌≡◌, ℕ, ◌<◌, ◌≤◌, Bool, true, false, List, length, take, Option, None}
+use Rattle.std.specs.Prelude.{◌≡◌, ℕ, ◌<◌, ◌≤◌, List, length, take, Option}
 use Rattle.std.specs.Io.KnownBytes.{Appends, Consumes, IsAtEnd, Keeps}
 use Rattle.cm_io.specs.Counts.{one_more}
 use Rattle.cm_io.specs.declared.source.Got.{Got}
 use Rattle.cm_io.specs.declared.source.Got.TheVariants as got
 use Rattle.cm_io.specs.declared.sink.Took.{Took}
 use Rattle.cm_io.specs.declared.sink.Took.TheVariants as took
-use Rattle.cm_io.specs.declared.output.Put.{Put}
-use Rattle.cm_io.specs.declared.output.Put.TheVariants as put
 
 -- a count of faults rose; one that stands at its end, 2^64 - 1, stays there, and this counts as rising
 abbrev pub Rose : ℕ → ℕ → Type 0
 Rose before now = one_more before ≤ now
 
 -- what a read does to the bytes that are left, where those are known
-abbrev pub Reads : Option (List ℕ) → Option (List ℕ) → List ℕ → Got → Type 0
-Reads old new into (got.Bytes n) = (0 < n) × (n ≤ length into) × Consumes old new (take n into)
-Reads old new into got.End = Keeps old new × IsAtEnd new
-Reads old new into got.Failed = Keeps old new
+abbrev pub ReadsBytes : Option (List ℕ) → Option (List ℕ) → List ℕ → Got → Type 0
+ReadsBytes old new into (got.Bytes n) = (0 < n) × (n ≤ length into) × Consumes old new (take n into)
+ReadsBytes old new into got.End = Keeps old new × IsAtEnd new
+ReadsBytes old new into got.Failed = Keeps old new
 
 -- what a write does to the bytes that were written, where those are known
 abbrev pub Writes : Option (List ℕ) → Option (List ℕ) → List ℕ → Took → Type 0
@@ -42,25 +41,6 @@ pub record AsSink : Type 0 where
   pub written : Option (List ℕ)
   pub faults : ℕ
 
--- what an object tells as a source that is none
-abbrev pub no_source : AsSource
-no_source = record { left = None; given = None; faults = 0 }
-
--- what an object tells as a sink that is none
-abbrev pub no_sink : AsSink
-no_sink = record { written = None; faults = 0 }
-
--- whether a read failed
-abbrev pub is_failed_read : Got → Bool
-is_failed_read got.Failed = true
-is_failed_read got.End = false
-is_failed_read (got.Bytes n) = false
-
--- whether a write failed
-abbrev pub is_failed_write : Took → Bool
-is_failed_write took.Failed = true
-is_failed_write (took.Bytes n) = false
-
 -- a fact about the number of bytes that a write took; a write that failed meets none
 abbrev pub TookAnd : Took → (ℕ → Type 0) → Type 0
 TookAnd (took.Bytes n) P = P n
@@ -76,17 +56,3 @@ ReadCause before now got.End = now ≡ before
 abbrev pub WriteCause : ℕ → ℕ → Took → Type 0
 WriteCause before now took.Failed = (before ≤ now) × (now ≡ one_more before)
 WriteCause before now (took.Bytes n) = now ≡ before
-
--- all of the bytes were written, or as many as the fault tells, which aren't all
-abbrev pub PutsAll : Option (List ℕ) → Option (List ℕ) → List ℕ → Put → Type 0
-PutsAll old new bytes put.Done = Appends old new bytes
-PutsAll old new bytes (put.WriteFault n) = (n < length bytes) × Appends old new (take n bytes)
-
--- the count rose by one at a fault, and else stayed
-abbrev pub PutCause : ℕ → ℕ → Put → Type 0
-PutCause before now put.Done = now ≡ before
-PutCause before now (put.WriteFault n) = (before ≤ now) × (now ≡ one_more before)
-
--- known bytes lost some bytes at their front
-abbrev pub LosesFront : Option (List ℕ) → Option (List ℕ) → Type 0
-LosesFront old new = (bytes : List ℕ) × Consumes old new bytes

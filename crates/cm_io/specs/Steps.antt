@@ -1,10 +1,11 @@
+-- Inside.
 -- The moves of a link in memory.
 use Rattle.std.specs.Prelude.{ℕ, List, map, Option, option_map}
 use Rattle.cm_io.specs.Orders.{Move, gave, wrote, hung_up}
-use Rattle.cm_io.specs.declared.steps.Step.{Step}
-use Rattle.cm_io.specs.declared.steps.Step.TheVariants as step
+use Rattle.cm_io.specs.declared.steps.LoggedMove.{LoggedMove}
+use Rattle.cm_io.specs.declared.steps.LoggedMove.TheVariants as step
 
-abbrev pub move_of : Step → Move
+abbrev pub move_of : LoggedMove → Move
 move_of (step.Gave bytes) = gave bytes
 move_of (step.Wrote bytes) = wrote bytes
 move_of step.HungUp = hung_up
@@ -16,5 +17,5 @@ abbrev pub wrote_of : List ℕ → Move
 wrote_of bytes = wrote bytes
 
 -- the order, where it is told
-abbrev pub order_of : Option (List Step) → Option (List Move)
+abbrev pub order_of : Option (List LoggedMove) → Option (List Move)
 order_of steps = option_map (λ s. map move_of s) steps

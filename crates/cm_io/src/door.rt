@@ -1,6 +1,6 @@
 //! Where links come from.
 
-ghost use Rattle.cm_io.specs.Doors.{Accepts, IsNew, IsOpen, IsShut, Listens, OnLink, Opens};
+ghost use Rattle.cm_io.specs.Doors.{Accepts, IsFreshLink, IsOpen, IsShut, Listens, OnLink, Opens};
 ghost use Rattle.std.specs.Prelude.{◌≡◌, ◌-◌, ◌^◌};
 
 use crate::Link;
@@ -39,7 +39,7 @@ pub struct DoorCounts {
 
 /// Where links come from.
 pub trait Door: Drop {
-    ghost use Rattle.cm_io.specs.Doors.{Place, untold};
+    ghost use Rattle.cm_io.specs.Doors.{DoorPlace, untold};
     ghost use Rattle.cm_io.specs.declared.door.DoorCounts.{DoorCounts};
 
     /// What it gives.
@@ -49,7 +49,7 @@ pub trait Door: Drop {
     ghost counts: { Self → DoorCounts };
 
     /// Where peers may come, where it tells that.
-    ghost place: { Self → Place } = { λ _. untold };
+    ghost place: { Self → DoorPlace } = { λ _. untold };
 
     /// Lets peers come at this place. They may come nowhere before.
     fn listen<R: Threads + Wait + Sync>(&mut self, rt: &R, at: &str) -> Listen
@@ -57,18 +57,20 @@ pub trait Door: Drop {
         ensures place { Opens at.now (place self.old) (place self.new) result }
         ensures counts { Listens (counts self.old) (counts self.new) result };
 
-    /// Waits for the next peer, where it was let come. A link that is given is new: it failed never, and
-    /// what it tells of its bytes is that there were none.
+    /// Waits for the next peer, where it was let come. A link that is given is new: it failed never, what
+    /// it tells of its bytes is that there were none, and what it tells of its order is that it was
+    /// neither read nor written nor hung up.
     fn accept<R: Threads + Wait + Sync>(&mut self, rt: &R) -> Accept<Self::Link>
         requires { IsOpen (place self.old) }
         ensures place { place self.new ≡ place self.old }
         ensures counts { Accepts (counts self.old) (counts self.new) result }
         ensures full { (counts self.old).links ≡ 2 ^ 64 - 1 → result ≡ Accept.Failed }
-        ensures new { OnLink result (λ l. IsNew
+        ensures new { OnLink result (λ l. IsFreshLink
             (record {
               left = Self.Link.left l;
               given = Self.Link.given l;
               faults = Self.Link.Source.faults l;
             })
-            (record { written = Self.Link.written l; faults = Self.Link.Sink.faults l })) };
+            (record { written = Self.Link.written l; faults = Self.Link.Sink.faults l })
+            (Self.Link.Source.order l)) };
 }

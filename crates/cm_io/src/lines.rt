@@ -1,7 +1,10 @@
 //! Lines out of a source.
 
-ghost use Rattle.cm_io.specs.Lines.{EndsOnce, Fills, Gains, Grows, Moves, TakesLine, TakesPart, Tells};
-ghost use Rattle.cm_io.specs.Orders.{Came, Pulled, gave as gave_move};
+ghost use Rattle.cm_io.specs.Lines.{Moves};
+ghost use Rattle.cm_io.specs.LinesInside.{EndsOnce, Fills, GaveBytes, LineGrows, TakesLine};
+ghost use Rattle.cm_io.specs.LinesInside.{TakesPart, TellsLine};
+ghost use Rattle.cm_io.specs.Orders.{MovesCame, gave as gave_move};
+ghost use Rattle.cm_io.specs.OrdersInside.{Pulled};
 ghost use Rattle.cm_io.specs.Outside.{AsSource, ReadCause, Rose};
 ghost use Rattle.std.specs.Io.KnownBytes.{prepend_known};
 ghost use Rattle.std.specs.List.{position};
@@ -54,7 +57,7 @@ pub struct LineReader {
 
 impl Model for LineReader {
     ghost use Rattle.std.specs.Prelude.{◌≡◌, ◌-◌, ◌≤◌, take, drop, length};
-    ghost use Rattle.cm_io.specs.Lines.{Reader};
+    ghost use Rattle.cm_io.specs.LinesInside.{Reader};
 
     ghost Value = { Reader };
 
@@ -104,7 +107,7 @@ impl LineReader {
               faults = S.faults source.new;
             } in
             (given : Seq ℕ) × Moves old new given × EndsOnce self.old self.new old new given
-            × Tells (self.old.held ++ given) self.new result
+            × TellsLine (self.old.held ++ given) self.new result
             × Pulled (S.order source.old) (S.order source.new) self.old.held given }
         ensures lines { self.old.over ≡ false → TakesLine (prepend_known self.old.held (S.left source.old))
             (prepend_known self.new.held (S.left source.new)) result }
@@ -141,8 +144,8 @@ impl LineReader {
     fn fill<R: Threads + Wait + Sync, S: Source>(&mut self, rt: &R, source: &mut S) -> Got
         requires { self.old.held ≡ [] }
         ensures bytes { Fills (S.left source.old) (S.left source.new) self.new.held result }
-        ensures gave { Gains (S.given source.old) (S.given source.new) self.new.held result }
-        ensures order { Came (S.order source.old) (S.order source.new) (gave_move self.new.held ∷ []) }
+        ensures gave { GaveBytes (S.given source.old) (S.given source.new) self.new.held result }
+        ensures order { MovesCame (S.order source.old) (S.order source.new) (gave_move self.new.held ∷ []) }
         ensures over { result ≢ Got.End → self.new.over ≡ self.old.over }
         ensures ended { result ≡ Got.End → self.new.over ≡ true }
         ensures beside { S.beside source.new ≡ S.beside source.old }
@@ -191,7 +194,7 @@ fn first_line_end(bytes: &[u8]) -> Option<usize>
 
 /// Puts `part` behind `line`, unless that is too long already.
 fn grow(line: &mut Vec<u8>, part: &[u8]) -> Result<(), AllocError>
-    ensures { OnOk result (Grows line.old.items line.new.items part.now) }
+    ensures { OnOk result (LineGrows line.old.items line.new.items part.now) }
 {
     if line.len() <= LONGEST {
         line.extend_from_slice(part)?;
@@ -199,7 +202,7 @@ fn grow(line: &mut Vec<u8>, part: &[u8]) -> Result<(), AllocError>
     Ok(())
 }
 
-/// The answer where the line `line` was taken, or the front of one that is too long.
+/// The answer where the line `line` was taken, or the prefix of one that is too long.
 fn whole_line(line: Vec<u8>) -> Next
     ensures short { length line.items ≤ LONGEST → result ≡ Next.Line line.items }
     ensures long { LONGEST < length line.items → result ≡ Next.TooLong }

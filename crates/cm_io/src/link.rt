@@ -1,7 +1,7 @@
 //! Connections.
 
 ghost use Rattle.std.specs.Prelude.{◌≡◌, ◌∷◌, []};
-ghost use Rattle.cm_io.specs.Orders.{Came, hung_up};
+ghost use Rattle.cm_io.specs.Orders.{MovesCame, hung_up};
 
 use crate::{Sink, Source};
 use std::sync::Wait;
@@ -20,7 +20,7 @@ pub trait Link: Source + Sink {
     fn hang_up<R: Threads + Wait + Sync>(&mut self, rt: &R)
         ensures source { Self.Sink.beside self.new ≡ Self.Sink.beside self.old }
         ensures sink { Self.Source.beside self.new ≡ Self.Source.beside self.old }
-        ensures order { Came (Self.Source.order self.old) (Self.Source.order self.new) (hung_up ∷ []) };
+        ensures order { MovesCame (Self.Source.order self.old) (Self.Source.order self.new) (hung_up ∷ []) };
 
     /// What no read changes is what it tells as a sink.
     ghost sink_apart: { (l : Self) →

@@ -1,9 +1,11 @@
 //! Sources and sinks in memory, which move bytes in pieces and fail where it is planned.
 
-ghost use Rattle.cm_io.specs.Counts.{count_after, one_more};
+ghost use Rattle.cm_io.specs.Counts.{one_more};
+ghost use Rattle.cm_io.specs.CountsInside.{count_after};
 ghost use Rattle.cm_io.specs.InMemory.{after_call, most_of, sure_room, unused};
-ghost use Rattle.cm_io.specs.Outside.{Gave, ReadCause, Reads, TookAnd, WriteCause, Writes, is_failed_read};
-ghost use Rattle.cm_io.specs.Outside.{is_failed_write};
+ghost use Rattle.cm_io.specs.Outside.{Gave, ReadCause, ReadsBytes, TookAnd, WriteCause, Writes};
+ghost use Rattle.cm_io.specs.OutsideInside.{is_failed_read};
+ghost use Rattle.cm_io.specs.OutsideInside.{is_failed_write};
 ghost use Rattle.std.specs.Prelude.{IsTrue, ◌≡◌, ◌≢◌, ◌↔◌, ◌⊎◌, ◌<◌, ℕ, Some, [], ◌≤◌, ◌+◌, ◌-◌, ◌^◌};
 ghost use Rattle.std.specs.Prelude.{length, min, max, Contains, IfOk};
 
@@ -16,19 +18,19 @@ use std::thread::Threads;
 
 /// How an object in memory behaves: how many bytes one call moves at most, and which of its calls fail.
 #[derive(Debug, Drop, Clone)]
-pub struct Plan {
+pub struct FaultPlan {
     /// The most bytes that one call moves; 0 counts as 1.
     pub piece: usize,
     /// The numbers of the calls that fail; the first call has the number 0.
     pub failing: List<u64>,
 }
 
-impl Plan {
+impl FaultPlan {
     /// No call fails, and each moves all that it can.
-    pub fn quiet(alloc: Global) -> Plan
+    pub fn quiet(alloc: Global) -> FaultPlan
         ensures { result ≡ record { piece = 2 ^ 64 - 1; failing = [] } }
     {
-        Plan {
+        FaultPlan {
             piece: usize::MAX,
             failing: List::new(alloc),
         }
@@ -51,10 +53,10 @@ pub(crate) struct Planned {
 }
 
 impl Planned {
-    pub(crate) fn new(plan: Plan) -> Planned
+    pub(crate) fn new(plan: FaultPlan) -> Planned
         ensures { result ≡ record { piece = plan.piece; failing = plan.failing; calls = 0; faults = 0 } }
     {
-        let Plan { piece, failing } = plan;
+        let FaultPlan { piece, failing } = plan;
         Planned {
             piece,
             failing,
@@ -127,7 +129,7 @@ impl Model for MemorySource {
 
 impl MemorySource {
     /// A source of these bytes, which has not been read yet.
-    pub fn new(bytes: Bytes, plan: Plan) -> MemorySource
+    pub fn new(bytes: Bytes, plan: FaultPlan) -> MemorySource
         ensures { result ≡ record { given = []; left = bytes; plan = unused plan.piece plan.failing } }
     {
         MemorySource {
@@ -147,7 +149,7 @@ impl MemorySource {
 
 impl Source for MemorySource {
     ghost use Rattle.std.specs.Prelude.{◌≡◌, Some, []};
-    ghost use Rattle.cm_io.specs.Outside.{no_sink};
+    ghost use Rattle.cm_io.specs.OutsideInside.{no_sink};
 
     ghost left = { λ s. Some s.left };
 
@@ -161,7 +163,7 @@ impl Source for MemorySource {
 
     fn read<R: Threads + Wait + Sync>(&mut self, _rt: &R, into: &mut [u8]) -> Got
         requires { 0 < length into.old }
-        ensures bytes { Reads (Some self.old.left) (Some self.new.left) into.new result }
+        ensures bytes { ReadsBytes (Some self.old.left) (Some self.new.left) into.new result }
         ensures gave { Gave (Some self.old.given) (Some self.new.given) into.new result }
         ensures beside { no_sink ≡ no_sink }
         ensures cause { ReadCause self.old.plan.faults self.new.plan.faults result }
@@ -215,7 +217,7 @@ impl Model for MemorySink {
 
 impl MemorySink {
     /// A sink that holds nothing yet. It takes memory as bytes are written.
-    pub fn new(alloc: Global, plan: Plan) -> MemorySink
+    pub fn new(alloc: Global, plan: FaultPlan) -> MemorySink
         ensures { result ≡ record { written = []; capacity = 0; plan = unused plan.piece plan.failing } }
     {
         MemorySink {
@@ -226,7 +228,11 @@ impl MemorySink {
 
     /// A sink that holds nothing yet, with memory for `capacity` bytes: a write that fits into it
     /// fails only where that is planned. `Memory` where memory ran out.
-    pub fn with_capacity(alloc: Global, capacity: usize, plan: Plan) -> Result<MemorySink, Memory>
+    pub fn with_capacity(
+        alloc: Global,
+        capacity: usize,
+        plan: FaultPlan,
+    ) -> Result<MemorySink, Memory>
         ensures { IfOk result (λ sink. sink ≡
             record { written = []; capacity = capacity; plan = unused plan.piece plan.failing }) }
     {
@@ -255,7 +261,7 @@ impl MemorySink {
 impl Sink for MemorySink {
     ghost use Rattle.std.specs.Prelude.{Some};
     ghost use Rattle.cm_io.specs.InMemory.{sure_room};
-    ghost use Rattle.cm_io.specs.Outside.{no_source};
+    ghost use Rattle.cm_io.specs.OutsideInside.{no_source};
 
     ghost written = { λ s. Some s.written };
 

@@ -1,13 +1,14 @@
 //! Doors in memory.
 
-ghost use Rattle.cm_io.specs.Doors.{Accepts, IsNew, Listens, OnLink};
+ghost use Rattle.cm_io.specs.Doors.{Accepts, IsFreshLink, Listens, OnLink};
 ghost use Rattle.cm_io.specs.InMemory.{after_call, unused};
-ghost use Rattle.cm_io.specs.MemoryDoors.{Gives, IsToFail, is_failed_accept, as_sink, as_source, counts_of};
-ghost use Rattle.cm_io.specs.MemoryDoors.{is_failed_listen, listens_now};
+ghost use Rattle.cm_io.specs.MemoryDoors.{GivesLink, IsToFail, is_failed_accept, as_sink};
+ghost use Rattle.cm_io.specs.MemoryDoors.{as_source, counts_of};
+ghost use Rattle.cm_io.specs.MemoryDoors.{is_failed_listen, link_order, listens_now};
 ghost use Rattle.std.specs.Prelude.{◌≡◌, ◌↔◌, ◌-◌, ◌^◌, Contains, false};
 
 use crate::memory::Planned;
-use crate::{Accept, Door, LinkPlan, Listen, MemoryLink, Plan};
+use crate::{Accept, Door, FaultPlan, LinkPlan, Listen, MemoryLink};
 use cm_names::List;
 use std::alloc::Global;
 use std::collections::VecDeque;
@@ -62,7 +63,7 @@ impl MemoryDoor {
         MemoryDoor {
             alloc,
             waiting,
-            planned: Planned::new(Plan { piece: 1, failing }),
+            planned: Planned::new(FaultPlan { piece: 1, failing }),
             links: 0,
             closings: 0,
             listening: false,
@@ -107,10 +108,10 @@ impl Door for MemoryDoor {
     fn accept<R: Threads + Wait + Sync>(&mut self, _rt: &R) -> Accept<MemoryLink>
         ensures counts { Accepts (counts_of self.old) (counts_of self.new) result }
         ensures full { self.old.links ≡ 2 ^ 64 - 1 → result ≡ Accept.Failed }
-        ensures new { OnLink result (λ link. IsNew (as_source link) (as_sink link)) }
+        ensures new { OnLink result (λ link. IsFreshLink (as_source link) (as_sink link) (link_order link)) }
         ensures failed { (result ≡ Accept.Failed) ↔ IsToFail self.old }
         ensures listening { self.new.listening ≡ self.old.listening }
-        ensures gives { Gives self.old.waiting self.new.waiting result }
+        ensures gives { GivesLink self.old.waiting self.new.waiting result }
         ensures call { self.new.plan ≡ after_call (is_failed_accept result) self.old.plan }
     {
         if self.planned.fails() {

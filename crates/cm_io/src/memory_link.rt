@@ -2,15 +2,16 @@
 
 ghost use Rattle.cm_io.specs.InMemory.{after_call, most_of, sure_room};
 ghost use Rattle.cm_io.specs.MemoryDoors.{as_sink, as_source, link_order, made_by};
-ghost use Rattle.cm_io.specs.Orders.{Came, gave as gave_move, got_bytes, hung_up, took_bytes};
+ghost use Rattle.cm_io.specs.Orders.{MovesCame, gave as gave_move, got_bytes, hung_up, took_bytes};
 ghost use Rattle.cm_io.specs.Orders.{wrote as wrote_move};
-ghost use Rattle.cm_io.specs.Outside.{Gave, ReadCause, Reads, TookAnd, WriteCause, Writes, is_failed_read};
-ghost use Rattle.cm_io.specs.Outside.{is_failed_write};
+ghost use Rattle.cm_io.specs.Outside.{Gave, ReadCause, ReadsBytes, TookAnd, WriteCause, Writes};
+ghost use Rattle.cm_io.specs.OutsideInside.{is_failed_read};
+ghost use Rattle.cm_io.specs.OutsideInside.{is_failed_write};
 ghost use Rattle.std.specs.Prelude.{◌≡◌, ◌≢◌, ◌↔◌, ◌⊎◌, ◌<◌, ◌≤◌, ◌+◌, ◌∷◌, ℕ, Some, []};
 ghost use Rattle.std.specs.Prelude.{length, min, Contains};
 
 use crate::steps::StepLog;
-use crate::{Got, Link, MemorySink, MemorySource, Plan, Sink, Source, Took};
+use crate::{FaultPlan, Got, Link, MemorySink, MemorySource, Sink, Source, Took};
 use cm_names::Bytes;
 use std::alloc::Global;
 use std::sync::Wait;
@@ -48,10 +49,10 @@ impl Source for MemoryLink {
 
     fn read<R: Threads + Wait + Sync>(&mut self, rt: &R, into: &mut [u8]) -> Got
         requires { 0 < length into.old }
-        ensures bytes { Reads (Some self.old.source.left) (Some self.new.source.left) into.new result }
+        ensures bytes { ReadsBytes (Some self.old.source.left) (Some self.new.source.left) into.new result }
         ensures gave { Gave (Some self.old.source.given) (Some self.new.source.given) into.new result }
         ensures beside { as_sink self.new ≡ as_sink self.old }
-        ensures order { Came (link_order self.old) (link_order self.new)
+        ensures order { MovesCame (link_order self.old) (link_order self.new)
             (gave_move (got_bytes into.new result) ∷ []) }
         ensures cause { ReadCause self.old.source.plan.faults self.new.source.plan.faults result }
         ensures quiet { self.old.source.plan.failing ≡ [] →
@@ -91,7 +92,7 @@ impl Sink for MemoryLink {
         requires { 0 < length bytes.now }
         ensures bytes { Writes (Some self.old.sink.written) (Some self.new.sink.written) bytes.now result }
         ensures beside { as_source self.new ≡ as_source self.old }
-        ensures order { Came (link_order self.old) (link_order self.new)
+        ensures order { MovesCame (link_order self.old) (link_order self.new)
             (wrote_move (took_bytes bytes.now result) ∷ []) }
         ensures cause { WriteCause self.old.sink.plan.faults self.new.sink.plan.faults result }
         ensures room { length bytes.now ≤ sure_room self.old.sink →
@@ -129,7 +130,7 @@ impl Link for MemoryLink {
     fn hang_up<R: Threads + Wait + Sync>(&mut self, _rt: &R)
         ensures source { as_source self.new ≡ as_source self.old }
         ensures sink { as_sink self.new ≡ as_sink self.old }
-        ensures order { Came (link_order self.old) (link_order self.new) (hung_up ∷ []) }
+        ensures order { MovesCame (link_order self.old) (link_order self.new) (hung_up ∷ []) }
         ensures kept { (self.new.source ≡ self.old.source) × (self.new.sink ≡ self.old.sink) }
     {
         self.log.note_hung_up();
@@ -140,8 +141,8 @@ impl Link for MemoryLink {
 #[derive(Drop)]
 pub struct LinkPlan {
     pub bytes: Bytes,
-    pub source: Plan,
-    pub sink: Plan,
+    pub source: FaultPlan,
+    pub sink: FaultPlan,
 }
 
 impl LinkPlan {

@@ -1,8 +1,8 @@
 //! Writing the whole of a text.
 
 ghost use Rattle.std.specs.Prelude.{◌≡◌, ◌≤◌, ◌+◌, length};
-ghost use Rattle.cm_io.specs.Orders.{PutsInOrder};
-ghost use Rattle.cm_io.specs.Outside.{PutCause, PutsAll};
+ghost use Rattle.cm_io.specs.OrdersInside.{PutsInOrder};
+ghost use Rattle.cm_io.specs.OutsideInside.{PutCause, PutsAll};
 
 use crate::{Sink, Took};
 use std::sync::Wait;

@@ -1,7 +1,7 @@
 //! Where bytes go.
 
 ghost use Rattle.std.specs.Prelude.{◌≡◌, ◌<◌, ◌≤◌, ◌+◌, ◌∷◌, [], length};
-ghost use Rattle.cm_io.specs.Orders.{Came, wrote, took_bytes};
+ghost use Rattle.cm_io.specs.Orders.{MovesCame, wrote, took_bytes};
 ghost use Rattle.cm_io.specs.Outside.{TookAnd, WriteCause, Writes};
 
 use std::sync::Wait;
@@ -37,7 +37,7 @@ pub trait Sink: Drop {
     /// In which order it was written, and read and hung up where it is a link, where it tells that.
     ghost order: { Self → Option (List Move) } = { λ _. None };
 
-    /// Writes bytes from the front of the piece, as many as are taken at once.
+    /// Writes bytes from the start of the piece, as many as are taken at once.
     ///
     /// `Failed` comes only where the sink failed: then its count of faults rises by one, and
     /// nothing was written. A piece for which there is sure to be room doesn't fail, and takes no
@@ -46,7 +46,8 @@ pub trait Sink: Drop {
         requires { 0 < length bytes.now }
         ensures bytes { Writes (written self.old) (written self.new) bytes.now result }
         ensures beside { beside self.new ≡ beside self.old }
-        ensures order { Came (order self.old) (order self.new) (wrote (took_bytes bytes.now result) ∷ []) }
+        ensures order { MovesCame (order self.old) (order self.new)
+            (wrote (took_bytes bytes.now result) ∷ []) }
         ensures cause { WriteCause (faults self.old) (faults self.new) result }
         ensures room { length bytes.now ≤ room self.old →
             TookAnd result (λ n. room self.old ≤ n + room self.new) };

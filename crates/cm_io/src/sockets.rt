@@ -250,7 +250,7 @@ fn is_passing(error: &io::Error) -> bool {
 }
 
 impl<N: Files<File = File> + Net + Drop> Door for SocketDoor<N> {
-    ghost use Rattle.cm_io.specs.Doors.{place_by};
+    ghost use Rattle.cm_io.specs.DoorsInside.{place_by};
 
     type Link = SocketLink;
 

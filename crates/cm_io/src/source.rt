@@ -1,8 +1,8 @@
 //! Where bytes come from.
 
 ghost use Rattle.std.specs.Prelude.{◌≡◌, ◌≢◌, ◌<◌, ◌∷◌, [], length};
-ghost use Rattle.cm_io.specs.Orders.{Came, gave as gave_move, got_bytes};
-ghost use Rattle.cm_io.specs.Outside.{Gave, ReadCause, Reads};
+ghost use Rattle.cm_io.specs.Orders.{MovesCame, gave as gave_move, got_bytes};
+ghost use Rattle.cm_io.specs.Outside.{Gave, ReadCause, ReadsBytes};
 
 use std::sync::Wait;
 use std::thread::Threads;
@@ -10,7 +10,7 @@ use std::thread::Threads;
 /// What one read came to.
 #[derive(Debug, Clone, Copy, PartialEq, Eq)]
 pub enum Got {
-    /// So many bytes, at least one, stand at the front of the buffer.
+    /// So many bytes, at least one, stand at the start of the buffer.
     Bytes(usize),
     /// Nothing is left.
     End,
@@ -49,10 +49,11 @@ pub trait Source: Drop {
     /// and stays quiet.
     fn read<R: Threads + Wait + Sync>(&mut self, rt: &R, into: &mut [u8]) -> Got
         requires { 0 < length into.old }
-        ensures bytes { Reads (left self.old) (left self.new) into.new result }
+        ensures bytes { ReadsBytes (left self.old) (left self.new) into.new result }
         ensures gave { Gave (given self.old) (given self.new) into.new result }
         ensures beside { beside self.new ≡ beside self.old }
-        ensures order { Came (order self.old) (order self.new) (gave_move (got_bytes into.new result) ∷ []) }
+        ensures order { MovesCame (order self.old) (order self.new)
+            (gave_move (got_bytes into.new result) ∷ []) }
         ensures cause { ReadCause (faults self.old) (faults self.new) result }
         ensures quiet { quiet self.old → quiet self.new × (result ≢ Got.Failed) };
 }

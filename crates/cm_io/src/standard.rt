@@ -10,7 +10,7 @@ use std::sync::Wait;
 use std::thread::Threads;
 
 /// Reads once, and again where a signal cut the call short.
-pub(crate) fn read_through<T: Read + Drop>(inner: &mut T, into: &mut [u8]) -> Result<usize>
+pub fn read_through<T: Read + Drop>(inner: &mut T, into: &mut [u8]) -> Result<usize>
     ensures bound { ReadsAtMost result into.new }
     ensures bytes { ReadConsumes (T.remaining inner.old) (T.remaining inner.new) result into.new }
 {
@@ -56,7 +56,7 @@ impl<T: Read + Drop> Reading<T> {
 
 impl<T: Read + Drop> Source for Reading<T> {
     ghost use Rattle.std.specs.Prelude.{None};
-    ghost use Rattle.cm_io.specs.Outside.{no_sink};
+    ghost use Rattle.cm_io.specs.OutsideInside.{no_sink};
 
     ghost left = { λ s. T.remaining s.inner };
 
@@ -99,7 +99,7 @@ impl<T: Write + Drop> Writing<T> {
 }
 
 impl<T: Write + Drop> Sink for Writing<T> {
-    ghost use Rattle.cm_io.specs.Outside.{no_source};
+    ghost use Rattle.cm_io.specs.OutsideInside.{no_source};
 
     ghost written = { λ s. T.contents s.inner };
 

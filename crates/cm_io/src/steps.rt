@@ -1,6 +1,6 @@
 //! The order in which a link in memory was read, written and hung up.
 
-ghost use Rattle.cm_io.specs.Orders.{Came};
+ghost use Rattle.cm_io.specs.Orders.{MovesCame};
 ghost use Rattle.cm_io.specs.Steps.{move_of, order_of, wrote_of, gave_of};
 ghost use Rattle.std.specs.Prelude.{◌≡◌, ◌∷◌, [], Some, IfOk};
 
@@ -10,7 +10,7 @@ use std::marker::Model;
 
 /// One move.
 #[derive(Debug, Drop)]
-pub enum Step {
+pub enum LoggedMove {
     /// A read gave these bytes.
     Gave(Bytes),
     /// A write took these bytes.
@@ -23,15 +23,15 @@ pub enum Step {
 #[derive(Drop)]
 pub struct StepLog {
     alloc: Global,
-    steps: List<Step>,
+    steps: List<LoggedMove>,
     told: bool,
 }
 
 impl Model for StepLog {
     ghost use Rattle.std.specs.Prelude.{cond, Option, Some, None, List as Seq};
-    ghost use Rattle.cm_io.specs.declared.steps.Step.{Step};
+    ghost use Rattle.cm_io.specs.declared.steps.LoggedMove.{LoggedMove};
 
-    ghost Value = { Option (Seq Step) };
+    ghost Value = { Option (Seq LoggedMove) };
 
     ghost view = { λ l. cond l.told (Some l.steps) None };
 }
@@ -49,8 +49,8 @@ impl StepLog {
     }
 
     /// One move more.
-    fn note(&mut self, step: Step)
-        ensures { Came (order_of self.old) (order_of self.new) (move_of step ∷ []) }
+    fn note(&mut self, step: LoggedMove)
+        ensures { MovesCame (order_of self.old) (order_of self.new) (move_of step ∷ []) }
     {
         if self.steps.push(step).is_err() {
             self.told = false;
@@ -65,28 +65,28 @@ impl StepLog {
 
     /// A read that gave these bytes.
     pub fn note_gave(&mut self, bytes: &[u8])
-        ensures { Came (order_of self.old) (order_of self.new) (gave_of bytes.now ∷ []) }
+        ensures { MovesCame (order_of self.old) (order_of self.new) (gave_of bytes.now ∷ []) }
     {
         match self.copied(bytes) {
-            Ok(copy) => self.note(Step::Gave(copy)),
+            Ok(copy) => self.note(LoggedMove::Gave(copy)),
             Err(Memory) => self.told = false,
         }
     }
 
     /// A write that took these bytes.
     pub fn note_wrote(&mut self, bytes: &[u8])
-        ensures { Came (order_of self.old) (order_of self.new) (wrote_of bytes.now ∷ []) }
+        ensures { MovesCame (order_of self.old) (order_of self.new) (wrote_of bytes.now ∷ []) }
     {
         match self.copied(bytes) {
-            Ok(copy) => self.note(Step::Wrote(copy)),
+            Ok(copy) => self.note(LoggedMove::Wrote(copy)),
             Err(Memory) => self.told = false,
         }
     }
 
     /// The link was hung up.
     pub fn note_hung_up(&mut self)
-        ensures { Came (order_of self.old) (order_of self.new) (move_of Step.HungUp ∷ []) }
+        ensures { MovesCame (order_of self.old) (order_of self.new) (move_of LoggedMove.HungUp ∷ []) }
     {
-        self.note(Step::HungUp);
+        self.note(LoggedMove::HungUp);
     }
 }

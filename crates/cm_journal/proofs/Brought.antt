@@ -23,13 +23,13 @@ use Rattle.cm_world.specs.declared.event.Event.{Event}
 use Rattle.cm_world.specs.declared.event.Event.TheVariants as event
 use Rattle.cm_world.specs.declared.reply.Entry.{Entry}
 use Rattle.cm_command.specs.Words.{IsUrlText}
-use Rattle.cm_gate.specs.declared.asked.Asked.{Asked}
+use Rattle.cm_gate.specs.declared.asked.GateCall.{GateCall}
 use Rattle.cm_gate.specs.declared.asked.Fetched.{Fetched}
 use Rattle.cm_gate.specs.declared.asked.Launched.{Launched}
 use Rattle.cm_gate.specs.declared.asked.Launched.TheVariants as launched
 use Rattle.cm_gate.specs.declared.asked.Halted.{Halted}
 use Rattle.cm_gate.specs.declared.asked.Halted.TheVariants as halted
-use Rattle.cm_manager.specs.Work.{Judges, resolved_by, Shelf, FetchEnds, launch_ends, halt_ends, Does, begins, is_end, Works, nothing, passes, ends}
+use Rattle.cm_manager.specs.Work.{Judges, resolved_by, Manifests, FetchEnds, launch_ends, halt_ends, DoesWork, begins, is_end, Works, nothing, passes, ends}
 use Rattle.cm_journal.specs.Made.{IsBrought, WorksBring}
 
 -- ---- URLs
@@ -37,8 +37,8 @@ use Rattle.cm_journal.specs.Made.{IsBrought, WorksBring}
 text_is_url : (t : List ℕ) → is_url_text t ≡ true → IsUrlText t
 text_is_url t h =
     let both = and_parts (not (length t == 0) && nat_le (length t) 4096) (list_all is_url_byte t) h in
-    let front = and_parts (not (length t == 0)) (nat_le (length t) 4096) both.0 in
-    record { some = some (length t) front.0; short = few (length t) front.1; bytes = each t both.1 }
+    let prefix = and_parts (not (length t == 0)) (nat_le (length t) 4096) both.0 in
+    record { some = some (length t) prefix.0; short = few (length t) prefix.1; bytes = each t both.1 }
   where
     some : (n : ℕ) → not (n == 0) ≡ true → 1 ≤ n
     some n e = grind (arith, rules)
@@ -118,15 +118,15 @@ halt_brings : (l : Halted) → Brings (halt_ends l)
 halt_brings halted.Stopped = tt
 halt_brings halted.Failed = tt
 
-does_bring : (shelf : Shelf) (w : Work) (k : ActKind) (end : Finish) (asked : List Asked) → Does shelf w k end asked → Brings end
-does_bring shelf w k end asked (Does.no_url e) = tt
-does_bring shelf w k end asked (Does.kept {url = url} {bytes = bytes} {judged = r} e at j) = resolved url bytes r (absolute_is_url w.base w.url url e) j
-does_bring shelf w k end asked (Does.fetches {url = url} {answer = a} e at f) = fetched_brings url a end (absolute_is_url w.base w.url url e) f
-does_bring shelf w k end asked Does.wanting = tt
-does_bring shelf w k end asked (Does.starts e) = tt
-does_bring shelf w k end asked (Does.launches {answer = a} e) = launch_brings a
-does_bring shelf w k end asked (Does.stops e) = tt
-does_bring shelf w k end asked (Does.halts {answer = a} e) = halt_brings a
+does_bring : (manifests : Manifests) (w : Work) (k : ActKind) (end : Finish) (asked : List GateCall) → DoesWork manifests w k end asked → Brings end
+does_bring manifests w k end asked (DoesWork.no_url e) = tt
+does_bring manifests w k end asked (DoesWork.kept {url = url} {bytes = bytes} {judged = r} e at j) = resolved url bytes r (absolute_is_url w.base w.url url e) j
+does_bring manifests w k end asked (DoesWork.fetches {url = url} {answer = a} e at f) = fetched_brings url a end (absolute_is_url w.base w.url url e) f
+does_bring manifests w k end asked DoesWork.wanting = tt
+does_bring manifests w k end asked (DoesWork.starts e) = tt
+does_bring manifests w k end asked (DoesWork.launches {answer = a} e) = launch_brings a
+does_bring manifests w k end asked (DoesWork.stops e) = tt
+does_bring manifests w k end asked (DoesWork.halts {answer = a} e) = halt_brings a
 
 abbrev OfBrought : Entry → Type 0
 OfBrought e = IsBrought e.event
@@ -143,12 +143,12 @@ begun_brings : (e : Event) (r : Rattle.cm_world.specs.declared.reply.Reply.Reply
 begun_brings (event.End a f) r b h = absurd (cc h)
 begun_brings _ r b h = tt
 
-works_bring : (shelf : Shelf) {part : List Entry} {asked : List Asked} {n m : ℕ} → Works shelf part asked n m → All OfBrought part
-works_bring shelf nothing = All-nil OfBrought
-works_bring shelf (passes {e = e} {es = es} is apart rest) = All-cons OfBrought e es (plain_brings e.event apart) (works_bring shelf rest)
-works_bring shelf (ends {e = e} {e' = e'} {es = es} {b = b} {now = now} is end rest) =
+works_bring : (manifests : Manifests) {part : List Entry} {asked : List GateCall} {n m : ℕ} → Works manifests part asked n m → All OfBrought part
+works_bring manifests nothing = All-nil OfBrought
+works_bring manifests (passes {e = e} {es = es} is apart rest) = All-cons OfBrought e es (plain_brings e.event apart) (works_bring manifests rest)
+works_bring manifests (ends {e = e} {e' = e'} {es = es} {b = b} {now = now} is end rest) =
     All-cons OfBrought e (e' ∷ es) (begun_brings e.event e.reply b is)
-    (All-cons OfBrought e' es (ended_brings e'.event b.1.action end.0 end.1 (does_bring shelf b.1 b.0 end.0 now end.2)) (works_bring shelf rest))
+    (All-cons OfBrought e' es (ended_brings e'.event b.1.action end.0 end.1 (does_bring manifests b.1 b.0 end.0 now end.2)) (works_bring manifests rest))
 
 pub works_bring_all : WorksBring
-works_bring_all shelf part log₀ log₁ n m h = works_bring shelf h.works
+works_bring_all manifests part log₀ log₁ n m h = works_bring manifests h.works

@@ -26,19 +26,19 @@ use Rattle.cm_world.specs.declared.route.Route.{Route}
 use Rattle.cm_world.specs.Rows.{moniker_of}
 use Rattle.cm_command.specs.declared.command.Command.{Command}
 use Rattle.cm_command.specs.declared.command.Command.TheVariants as command
-use Rattle.cm_answers.specs.declared.acted.Acted.{Acted}
-use Rattle.cm_answers.specs.declared.acted.Acted.TheVariants as acted
+use Rattle.cm_answers.specs.declared.acted.ActionResult.{ActionResult}
+use Rattle.cm_answers.specs.declared.acted.ActionResult.TheVariants as acted
 use Rattle.cm_answers.specs.Answers.{failure, ends_call, ends_eager, refusal_of, decision, decided_by, answer_unless, unless_ended, found_by, acted_answer, resolved_answer, started_answer, stopped_answer, unmarked}
-use Rattle.cm_answers.specs.Lines.{route_by, line_of, unresolved_line, in_front, surveyed_by, doctored_by}
-use Rattle.cm_reply.specs.Legible.{IsOfNames, IsLegibleReply, IsLegibleSurvey}
-use Rattle.cm_manager.specs.Turns.{Makes, IsCut, world_after}
-use Rattle.cm_manager.specs.Runs.{Acts, ended, started, started_cut, stopped, stopped_cut, joined, quiet, resolved_first, not_resolved, cut, Eagers, all_done, next_one, cut_at, Tries, decided, needs, failed, cut_try, Onces, is_quiet}
+use Rattle.cm_answers.specs.Lines.{route_by, line_of, unresolved_line, in_prefix, surveyed_by, doctored_by}
+use Rattle.cm_reply.specs.LegibleInside.{IsOfNames, IsLegibleReply, IsLegibleSurvey}
+use Rattle.cm_manager.specs.Turns.{AddsOneEntry, EndsWithoutEntry, world_after}
+use Rattle.cm_manager.specs.Runs.{RunsAction, ended, started, started_cut, stopped, stopped_cut, joined, quiet, resolved_first, not_resolved, cut, StartsEager, all_done, next_one, cut_at, RetriesEvent, decided, needs, failed, cut_try, StartsSingleRun, is_quiet}
 use Rattle.cm_manager.specs.Sweeps.{Stops, Removes, Clears, Sweeps}
 use Rattle.cm_manager.specs.Shutdowns.{Shuts, Destroys}
-use Rattle.cm_manager.specs.Doctor.{Checks, Each, OfPath, OfRow, Doctors}
+use Rattle.cm_manager.specs.Doctor.{Checks, GathersEach, OfPath, OfRow, Doctors}
 use Rattle.cm_manager.specs.Streams.{Streams, streamed_by}
-use Rattle.cm_manager.specs.Calls.{Way, Finding, Behind, OnRow, Tried, Nothing, Then, TriedThen, OnceCreated, SweptLeft, ActedOn, Calls}
-use Rattle.cm_lanes.specs.Script.{Answered, answers_of, Follows, rests, performs, ArePhases, none_left, one_first}
+use Rattle.cm_manager.specs.Calls.{CallWay, Finding, GoesOnWithRow, OnRow, CallsEvent, Nothing, Then, CallsEventThen, OnceCreated, SweptLeft, CallsAction, Calls}
+use Rattle.cm_lanes.specs.Script.{AnsweredLine, answers_of, PerformsLines, rests, performs, ArePhases, none_left, one_first}
 use Rattle.cm_journal.specs.Said.{IsLegibleRefusal, IsLegibleFound, IsLegibleChecked, IsLegibleAnswer, IsLegibleResult, OfReplies, AreOfLanes, AreLegibleAnswers, ResultsAreLegible}
 use Rattle.cm_journal.proofs.Growing.{Growing, Following, behind_grows, then_grows, calls_grow, acted_grows, tried_grows, tried_then_grows, created_grows, left_grows, doctors_grow, streams_grow, each_grows, row_grows, tries_grow}
 use Rattle.cm_manager.proofs.shutdowns.ShuttingDown.{shuts_close, destroys_close}
@@ -51,13 +51,13 @@ use Rattle.cm_journal.proofs.Streamed.{stream_is}
 abbrev OfReply : Entry → Type 0
 OfReply e = IsNamedReply e.reply
 
-front_of : (a more : List Entry) → OfReplies (a ++ more) → OfReplies a
-front_of [] more h = All-nil OfReply
-front_of (e ∷ es) more h = All-cons OfReply e es (All-head OfReply e (es ++ more) h) (front_of es more (All-tail OfReply e (es ++ more) h))
+prefix_of : (a more : List Entry) → OfReplies (a ++ more) → OfReplies a
+prefix_of [] more h = All-nil OfReply
+prefix_of (e ∷ es) more h = All-cons OfReply e es (All-head OfReply e (es ++ more) h) (prefix_of es more (All-tail OfReply e (es ++ more) h))
 
 -- what is within a history of legible replies
 pub within : (a b : List Entry) → StartsWith b a → OfReplies b → OfReplies a
-within a b s h = front_of a s.0 (subst OfReplies s.1 h)
+within a b s h = prefix_of a s.0 (subst OfReplies s.1 h)
 
 last_of : (found : List Entry) (x : Entry) → OfReplies (found ++ x ∷ []) → OfReply x
 last_of [] x h = All-head OfReply x [] h
@@ -98,17 +98,17 @@ failure_is kind.Stop a outcome.GateFailed = tt
 failure_is kind.Stop a outcome.Full = tt
 
 -- what an action came to says nothing but numbers
-abbrev OfActed : Result Acted Refusal → Type 0
+abbrev OfActed : Result ActionResult Refusal → Type 0
 OfActed (Ok (acted.Ended k a o)) = Unit {0}
 OfActed (Ok (acted.Quiet r)) = IsTrue (is_quiet r)
 OfActed (Err x) = IsLegibleRefusal x
 
-ends_is : (went : Result Acted Refusal) → OfActed went → OfSome (ends_call went)
+ends_is : (went : Result ActionResult Refusal) → OfActed went → OfSome (ends_call went)
 ends_is (Ok (acted.Ended k a o)) h = failure_is k a o
 ends_is (Ok (acted.Quiet r)) h = tt
 ends_is (Err x) h = h
 
-eager_is : (went : Result Acted Refusal) → OfActed went → OfSome (ends_eager went)
+eager_is : (went : Result ActionResult Refusal) → OfActed went → OfSome (ends_eager went)
 eager_is (Ok (acted.Ended k a outcome.NoMemory)) h = tt
 eager_is (Ok (acted.Ended k a outcome.Resolved)) h = tt
 eager_is (Ok (acted.Ended k a outcome.Started)) h = tt
@@ -137,10 +137,10 @@ quiet_refusal (reply.Shut i) h = tt
 quiet_refusal _ h = absurd (cc h)
 
 module _ (f : Frame) (c : ℕ) where
-  made_is : (a b : List Entry) (e : Event) (r : Reply) → Makes c a e r b → OfReplies b → IsLegibleReply r
+  made_is : (a b : List Entry) (e : Event) (r : Reply) → AddsOneEntry c a e r b → OfReplies b → IsLegibleReply r
   made_is a b e r m h = legible_reply r (last_of m.found (record { caller = c; event = e; reply = r }) (subst OfReplies m.entries h))
 
-  cut_is : (a b : List Entry) (e : Event) (x : Refusal) → IsCut f c a e b x → IsLegibleRefusal x
+  cut_is : (a b : List Entry) (e : Event) (x : Refusal) → EndsWithoutEntry f c a e b x → IsLegibleRefusal x
   cut_is a b e refusal.Memory is = tt
   cut_is a b e refusal.HistoryFull is = tt
   cut_is a b e _ is = absurd is
@@ -166,7 +166,7 @@ module _ (f : Frame) (c : ℕ) where
   sweeps i (Sweeps.cut_reap {x = x} is) = cut_is _ _ (event.Reap i) x is
 
   mutual
-    acts : {k : ActKind} {i : ℕ} {a b : List Entry} {went : Result Acted Refusal} → Acts f c k i a b went → OfActed went
+    acts : {k : ActKind} {i : ℕ} {a b : List Entry} {went : Result ActionResult Refusal} → RunsAction f c k i a b went → OfActed went
     acts (ended asks end other) = tt
     acts (started asks end rest) = tt
     acts (started_cut asks end rest) = eagers rest
@@ -178,7 +178,7 @@ module _ (f : Frame) (c : ℕ) where
     acts (not_resolved asks one fails) = acts one
     acts (cut {k = k} {i = i} {x = x} is) = cut_is _ _ (event.Begin k i) x is
 
-    eagers : {es : List ℕ} {a b : List Entry} {end : Option Refusal} → Eagers f c es a b end → OfSome end
+    eagers : {es : List ℕ} {a b : List Entry} {end : Option Refusal} → StartsEager f c es a b end → OfSome end
     eagers all_done = tt
     eagers (next_one act fine rest) = eagers rest
     eagers (cut_at {went = went} act is) = some (ends_eager went) _ is (eager_is went (acts act))
@@ -188,7 +188,7 @@ module _ (f : Frame) (c : ℕ) where
   OfTried (Ok r) = IsLegibleReply r
   OfTried (Err x) = IsLegibleRefusal x
 
-  tries : (e : Event) {a b : List Entry} {end : Result Reply Refusal} → Tries f c e a b end → OfReplies b → OfTried end
+  tries : (e : Event) {a b : List Entry} {end : Result Reply Refusal} → RetriesEvent f c e a b end → OfReplies b → OfTried end
   tries e (decided asks is) h = made_is _ _ _ _ asks.made h
   tries e (needs asks is act fine again) h = tries e again h
   tries e (failed {went = went} asks is act fails) h = some (ends_call went) _ fails (ends_is went (acts act))
@@ -213,9 +213,9 @@ module _ (f : Frame) (c : ℕ) where
   destroys i (Destroys.cut_purge {x = x} s is) h = cut_is _ _ (event.Purge i) x is
   destroys i (Destroys.unshut s) h = shuts true i s h
 
-  onces : (i : ℕ) {a b : List Entry} {end : Option Refusal} → Onces f c i a b end → OfSome end
-  onces i (Onces.not_once l is) = tt
-  onces i (Onces.once {went = went} l is act) = eager_is went (acts act)
+  onces : (i : ℕ) {a b : List Entry} {end : Option Refusal} → StartsSingleRun f c i a b end → OfSome end
+  onces i (StartsSingleRun.not_once l is) = tt
+  onces i (StartsSingleRun.once {went = went} l is act) = eager_is went (acts act)
 
 -- ---- answers
 
@@ -232,7 +232,7 @@ decision_is (reply.Void hop) h = h
 decision_is _ h = tt
 
 -- what an action comes to
-acted_is : (made : Option ℕ → Outcome → Answer) → ((a : Option ℕ) (o : Outcome) → IsLegibleAnswer (made a o)) → (went : Result Acted Refusal) → OfActed went → IsLegibleResult (acted_answer made went)
+acted_is : (made : Option ℕ → Outcome → Answer) → ((a : Option ℕ) (o : Outcome) → IsLegibleAnswer (made a o)) → (went : Result ActionResult Refusal) → OfActed went → IsLegibleResult (acted_answer made went)
 acted_is made each (Ok (acted.Ended k a o)) h = by (failure k a o) (failure_is k a o)
   where
     by : (x : Option Refusal) → OfSome x → IsLegibleResult (elim x as (λ _. Result Answer Refusal) [ None ↦ Ok (made (Some a) o) | Some x ↦ Err x ])
@@ -258,9 +258,9 @@ abbrev OfChecks : Result (List Checked) Refusal → Type 0
 OfChecks (Ok lines) = All IsLegibleChecked lines
 OfChecks (Err x) = IsLegibleRefusal x
 
-in_front_is : (lines : List Checked) (end : Result (List Checked) Refusal) → All IsLegibleChecked lines → OfChecks end → OfChecks (in_front lines end)
-in_front_is lines (Ok others) h k = All-append IsLegibleChecked lines others h k
-in_front_is lines (Err x) h k = k
+in_prefix_is : (lines : List Checked) (end : Result (List Checked) Refusal) → All IsLegibleChecked lines → OfChecks end → OfChecks (in_prefix lines end)
+in_prefix_is lines (Ok others) h k = All-append IsLegibleChecked lines others h k
+in_prefix_is lines (Err x) h k = k
 
 doctored_is : (end : Result (List Checked) Refusal) → OfChecks end → IsLegibleResult (doctored_by end)
 doctored_is (Ok lines) h = h
@@ -279,14 +279,14 @@ line_is m p (Err x) h k j = one_line m p (Err x) h k j
 each_is : {A : Type 0} (P : A → Type 0) (Item : A → Checks)
     → ((x : A) (a b : List Entry) (end : Result (List Checked) Refusal) → Item x a b end → StartsWith b a)
     → ((x : A) (a b : List Entry) (end : Result (List Checked) Refusal) → P x → Item x a b end → OfReplies b → OfChecks end)
-    → {xs : List A} {a b : List Entry} {end : Result (List Checked) Refusal} → Each Item xs a b end → All P xs → OfReplies b → OfChecks end
-each_is P Item grows is Each.no_item ps h = All-nil IsLegibleChecked
-each_is P Item grows is (Each.next_item {x = x} {xs = xs} {h₁ = m} {h₂ = b} {lines = lines} {end = end} item rest) ps h =
-    in_front_is lines end
+    → {xs : List A} {a b : List Entry} {end : Result (List Checked) Refusal} → GathersEach Item xs a b end → All P xs → OfReplies b → OfChecks end
+each_is P Item grows is GathersEach.no_item ps h = All-nil IsLegibleChecked
+each_is P Item grows is (GathersEach.next_item {x = x} {xs = xs} {h₁ = m} {h₂ = b} {lines = lines} {end = end} item rest) ps h =
+    in_prefix_is lines end
     (is x _ m (Ok lines) (All-head P x xs ps) item (within m b (each_grows Item grows rest) h))
     (each_is P Item grows is rest (All-tail P x xs ps) h)
-each_is P Item grows is (Each.cut_item {x = x} {xs = xs} item) ps h = is x _ _ _ (All-head P x xs ps) item h
-each_is P Item grows is (Each.lost_item item) ps h = tt
+each_is P Item grows is (GathersEach.cut_item {x = x} {xs = xs} item) ps h = is x _ _ _ (All-head P x xs ps) item h
+each_is P Item grows is (GathersEach.lost_item item) ps h = tt
 
 -- ---- calls
 
@@ -333,26 +333,26 @@ module _ (f : Frame) (c : ℕ) where
   survey_is (Ok r) h = tt
   survey_is (Err x) h = h
 
-  abbrev Saying : (ℕ → Way (Result Answer Refusal)) → Type 0
+  abbrev Saying : (ℕ → CallWay (Result Answer Refusal)) → Type 0
   Saying call = (i : ℕ) (a b : List Entry) (r : Result Answer Refusal) → call i a b r → OfReplies b → IsLegibleResult r
 
   finding : (t : Target) (a b : List Entry) (row : Result ℕ Refusal) → Finding f c t a b row → OfReplies b → OfFound row
   finding (target.Inc n) a b row is h = subst OfFound (sym is.1) tt
   finding (target.Named m) a b row is h = subst OfFound (sym is.2) (found_is is.0 (tries f c _ is.1 h))
 
-  behind : (row : Result ℕ Refusal) (call : ℕ → Way (Result Answer Refusal)) (a b : List Entry) (r : Result Answer Refusal) → Saying call → Behind row call a b r → OfFound row → OfReplies b → IsLegibleResult r
+  behind : (row : Result ℕ Refusal) (call : ℕ → CallWay (Result Answer Refusal)) (a b : List Entry) (r : Result Answer Refusal) → Saying call → GoesOnWithRow row call a b r → OfFound row → OfReplies b → IsLegibleResult r
   behind (Ok i) call a b r says is k h = says i a b r is h
   behind (Err x) call a b r says is k h = subst IsLegibleResult (sym is.1) k
 
-  on_row : (t : Target) (call : ℕ → Way (Result Answer Refusal)) (a b : List Entry) (r : Result Answer Refusal) → Growing call → Saying call → OnRow f c t call a b r → OfReplies b → IsLegibleResult r
+  on_row : (t : Target) (call : ℕ → CallWay (Result Answer Refusal)) (a b : List Entry) (r : Result Answer Refusal) → Growing call → Saying call → OnRow f c t call a b r → OfReplies b → IsLegibleResult r
   on_row t call a b r grows says is h =
       behind is.row call is.h₁ b r says is.behind
       (finding t a is.h₁ is.row is.finding (within is.h₁ b (behind_grows is.row call is.h₁ b r grows is.behind) h)) h
 
-  tried : (e : ℕ → Event) → Saying (Tried f c e)
+  tried : (e : ℕ → Event) → Saying (CallsEvent f c e)
   tried e i a b r is h = subst IsLegibleResult (sym is.2) (decided_is is.0 (tries f c (e i) is.1 h))
 
-  abbrev Ending : (ℕ → Reply → Way (Option Refusal)) → Type 0
+  abbrev Ending : (ℕ → Reply → CallWay (Option Refusal)) → Type 0
   Ending follow = (i : ℕ) (r : Reply) (a b : List Entry) (end : Option Refusal) → follow i r a b end → OfSome end
 
   nothing : (a b : List Entry) (end : Option Refusal) → Nothing a b end → OfSome end
@@ -366,17 +366,17 @@ module _ (f : Frame) (c : ℕ) where
   left i (reply.Left m) a b end is = sweeps f c i is
   left i _ a b end is = nothing a b end is
 
-  after : (follow : ℕ → Reply → Way (Option Refusal)) (i : ℕ) (went : Result Reply Refusal) (a b : List Entry) (end : Option Refusal) → Ending follow → Then (follow i) went a b end → OfSome end
+  after : (follow : ℕ → Reply → CallWay (Option Refusal)) (i : ℕ) (went : Result Reply Refusal) (a b : List Entry) (end : Option Refusal) → Ending follow → Then (follow i) went a b end → OfSome end
   after follow i (Ok r) a b end ends is = ends i r a b end is
   after follow i (Err x) a b end ends is = nothing a b end is
 
-  tried_then : (e : ℕ → Event) (follow : ℕ → Reply → Way (Option Refusal)) → Following follow → Ending follow → Saying (TriedThen f c e follow)
+  tried_then : (e : ℕ → Event) (follow : ℕ → Reply → CallWay (Option Refusal)) → Following follow → Ending follow → Saying (CallsEventThen f c e follow)
   tried_then e follow grows ends i a b r is h =
       subst IsLegibleResult (sym is.answer)
       (ended_is is.end (decided_by is.went) (after follow i is.went is.h₁ b is.end ends is.follows)
       (decided_is is.went (tries f c (e i) is.tries (within is.h₁ b (then_grows follow i is.went is.h₁ b is.end grows is.follows) h))))
 
-  acting : (k : ActKind) (value : Result Acted Refusal → Result Answer Refusal) → ((went : Result Acted Refusal) → OfActed went → IsLegibleResult (value went)) → Saying (ActedOn f c k value)
+  acting : (k : ActKind) (value : Result ActionResult Refusal → Result Answer Refusal) → ((went : Result ActionResult Refusal) → OfActed went → IsLegibleResult (value went)) → Saying (CallsAction f c k value)
   acting k value says i a b r is h = subst IsLegibleResult (sym is.2) (says is.0 (acts f c is.1))
 
   of_row : (row : SurveyRow) (a b : List Entry) (end : Result (List Checked) Refusal) → IsLegibleSurvey row → OfRow f c row a b end → OfReplies b → OfChecks end
@@ -400,7 +400,7 @@ module _ (f : Frame) (c : ℕ) where
   streams : (from : ℕ) → Saying (Streams f c from)
   streams from i a b r (Streams.told {r = said} asks) h =
       streamed asks.made.found from i said (made_is f c _ _ _ _ asks.made h)
-      (front_of asks.made.found _ (subst OfReplies asks.made.entries h))
+      (prefix_of asks.made.found _ (subst OfReplies asks.made.entries h))
   streams from i a b r (Streams.cut {x = x} is) h = cut_is f c a b (event.Tail i from) x is
 
   calls : (cmd : Command) (a b : List Entry) (r : Result Answer Refusal) → Calls f c cmd a b r → OfReplies b → IsLegibleResult r
@@ -422,14 +422,14 @@ module _ (f : Frame) (c : ℕ) where
   calls (command.Exited t) a b r is h = on_row t _ a b r (tried_then_grows f c _ _ (left_grows f c)) (tried_then _ _ (left_grows f c) left) is h
   calls (command.Events t from) a b r is h = on_row t _ a b r (streams_grow f c from) (streams from) is h
 
-  abbrev OfAnswer : Answered → Type 0
+  abbrev OfAnswer : AnsweredLine → Type 0
   OfAnswer a = IsLegibleResult a.result
 
-  follows_grow : {xs : List Answered} {a b : List Entry} → Follows f c xs a b → StartsWith b a
+  follows_grow : {xs : List AnsweredLine} {a b : List Entry} → PerformsLines f c xs a b → StartsWith b a
   follows_grow (rests l) = l.grows
   follows_grow (performs {a = x} call rest) = starts-trans _ _ _ (calls_grow f c x.line.command _ _ _ call) (follows_grow rest)
 
-  follows : {xs : List Answered} {a b : List Entry} → Follows f c xs a b → OfReplies b → All OfAnswer xs
+  follows : {xs : List AnsweredLine} {a b : List Entry} → PerformsLines f c xs a b → OfReplies b → All OfAnswer xs
   follows (rests l) h = All-nil OfAnswer
   follows (performs {a = x} {others = xs} {h₁ = m} {h₂ = b} call rest) h =
       All-cons OfAnswer x xs (calls x.line.command _ m x.result call (within m b (follows_grow rest) h)) (follows rest h)
@@ -439,34 +439,34 @@ module _ (f : Frame) (c : ℕ) where
 here : (n c : ℕ) → n ≡ c → (n == c) ≡ true
 here n c same = grind (arith, same)
 
-module _ (P : Answered → Type 0) where
-  kept_of : (a : Answered) (xs : List Answered) → answers_of a.line.lane (a ∷ xs) ≡ a ∷ answers_of a.line.lane xs
+module _ (P : AnsweredLine → Type 0) where
+  kept_of : (a : AnsweredLine) (xs : List AnsweredLine) → answers_of a.line.lane (a ∷ xs) ≡ a ∷ answers_of a.line.lane xs
   kept_of a xs = ap (λ (b : Bool). cond b (a ∷ answers_of a.line.lane xs) (answers_of a.line.lane xs)) (here a.line.lane a.line.lane refl)
 
-  other_of : (b : Bool) (c : ℕ) (a : Answered) (xs : List Answered) → (a.line.lane == c) ≡ b → All P (answers_of c (a ∷ xs)) → All P (answers_of c xs)
+  other_of : (b : Bool) (c : ℕ) (a : AnsweredLine) (xs : List AnsweredLine) → (a.line.lane == c) ≡ b → All P (answers_of c (a ∷ xs)) → All P (answers_of c xs)
   other_of true c a xs is h = All-tail P a (answers_of c xs) (subst (All P) (ap (λ (b : Bool). cond b (a ∷ answers_of c xs) (answers_of c xs)) is) h)
   other_of false c a xs is h = subst (All P) (ap (λ (b : Bool). cond b (a ∷ answers_of c xs) (answers_of c xs)) is) h
 
-  by_lanes : (xs : List Answered) → All (λ (a : Answered). a.line.lane < 16) xs → ((c : ℕ) → c < 16 → All P (answers_of c xs)) → All P xs
+  by_lanes : (xs : List AnsweredLine) → All (λ (a : AnsweredLine). a.line.lane < 16) xs → ((c : ℕ) → c < 16 → All P (answers_of c xs)) → All P xs
   by_lanes [] few each = All-nil P
   by_lanes (a ∷ xs) few each =
-      All-cons P a xs (All-head P a (answers_of a.line.lane xs) (subst (All P) (kept_of a xs) (each a.line.lane (All-head (λ (a : Answered). a.line.lane < 16) a xs few))))
-      (by_lanes xs (All-tail (λ (a : Answered). a.line.lane < 16) a xs few) (λ c lt. other_of (a.line.lane == c) c a xs refl (each c lt)))
+      All-cons P a xs (All-head P a (answers_of a.line.lane xs) (subst (All P) (kept_of a xs) (each a.line.lane (All-head (λ (a : AnsweredLine). a.line.lane < 16) a xs few))))
+      (by_lanes xs (All-tail (λ (a : AnsweredLine). a.line.lane < 16) a xs few) (λ c lt. other_of (a.line.lane == c) c a xs refl (each c lt)))
 
-phases_grow : (f : Frame) {answered : List (List Answered)} {a b : List Entry} → ArePhases (λ c. f) answered a b → StartsWith b a
+phases_grow : (f : Frame) {answered : List (List AnsweredLine)} {a b : List Entry} → ArePhases (λ c. f) answered a b → StartsWith b a
 phases_grow f none_left = starts_same _
 phases_grow f (one_first phase rest) = starts-trans _ _ _ phase.grows (phases_grow f rest)
 
-abbrev AllOf : List Answered → Type 0
-AllOf xs = All (λ (a : Answered). IsLegibleResult a.result) xs
+abbrev AllOf : List AnsweredLine → Type 0
+AllOf xs = All (λ (a : AnsweredLine). IsLegibleResult a.result) xs
 
-pub results_of_phases : (f : Frame) {answered : List (List Answered)} {a b : List Entry} → AreOfLanes answered → ArePhases (λ c. f) answered a b → OfReplies b → AreLegibleAnswers answered
+pub results_of_phases : (f : Frame) {answered : List (List AnsweredLine)} {a b : List Entry} → AreOfLanes answered → ArePhases (λ c. f) answered a b → OfReplies b → AreLegibleAnswers answered
 results_of_phases f few none_left h = All-nil AllOf
 results_of_phases f few (one_first {answered = xs} {others = others} {h₁ = m} {h₂ = b} phase rest) h =
     All-cons AllOf xs others
-    (by_lanes (λ (a : Answered). IsLegibleResult a.result) xs (All-head (All (λ (a : Answered). a.line.lane < 16)) xs others few)
+    (by_lanes (λ (a : AnsweredLine). IsLegibleResult a.result) xs (All-head (All (λ (a : AnsweredLine). a.line.lane < 16)) xs others few)
     (λ c small. follows f c (phase.lanes c small) (within m b (phases_grow f rest) h)))
-    (results_of_phases f (All-tail (All (λ (a : Answered). a.line.lane < 16)) xs others few) rest h)
+    (results_of_phases f (All-tail (All (λ (a : AnsweredLine). a.line.lane < 16)) xs others few) rest h)
 
 pub results_are_legible : ResultsAreLegible
 results_are_legible f answered history replies few phases = results_of_phases f few phases replies

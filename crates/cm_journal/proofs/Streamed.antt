@@ -16,7 +16,7 @@ use Rattle.cm_world.specs.declared.reply.Reply.{Reply}
 use Rattle.cm_world.specs.declared.reply.Reply.TheVariants as reply
 use Rattle.cm_world.specs.declared.report.Lost.{Lost}
 use Rattle.cm_events.specs.Stream.{begun_by, work_of, kind_of, happening, destroyed, told_of, told_by, told_behind, is_within, stream}
-use Rattle.cm_reply.specs.Legible.{IsOfNames}
+use Rattle.cm_reply.specs.LegibleInside.{IsOfNames}
 use Rattle.cm_legible.specs.Tellable.{IsNamedReply}
 use Rattle.cm_legible.proofs.Lists.{find-All, map-All, made-All}
 use Rattle.cm_journal.specs.Said.{OfReplies}

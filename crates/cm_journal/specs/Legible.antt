@@ -1,3 +1,4 @@
+-- Inside.
 -- The events of a run can be told of.
 use Rattle.std.specs.Prelude.{◌≡◌, ℕ, ◌<◌, ◌≤◌, List, [], ◌++◌, All, length, map}
 use Rattle.cm_world.specs.declared.event.Event.{Event}
@@ -7,21 +8,23 @@ use Rattle.cm_world.specs.World.{start}
 use Rattle.cm_world.specs.Legal.{Legal}
 use Rattle.cm_manager.specs.Turns.{own_entries}
 use Rattle.cm_command.specs.declared.script.Line.{Line}
-use Rattle.cm_lanes.specs.Script.{Answered, ArePhases, IsFit, answered_lines}
+use Rattle.cm_lanes.specs.Script.{AnsweredLine, ArePhases, answered_lines}
+use Rattle.cm_lanes.specs.ScriptInside.{IsFit}
 use Rattle.cm_reply.specs.Journal.{journal_text}
-use Rattle.cm_reply.specs.Legible.{IsLegible, IsLegibleFrame}
+use Rattle.cm_reply.specs.Legible.{IsLegible}
+use Rattle.cm_reply.specs.LegibleInside.{IsLegibleFrame}
 use Rattle.cm_audit.specs.Verdict.{IsLegalJournal, journal_limit}
 use Rattle.cm_typed.specs.Typed.{IsTyped, IsTypedEntry}
 use Rattle.cm_journal.specs.Asked.{AreWritableLines}
-use Rattle.cm_journal.specs.Front.{said_text}
-use Rattle.cm_journal.specs.Made.{IsAsked, IsBrought}
+use Rattle.cm_journal.specs.Prefix.{said_text}
+use Rattle.cm_journal.specs.Made.{IsSayable, IsBrought}
 
 -- what types, commands and works say is all that has to be said
 abbrev pub SaidIsLegible : Type 0
-SaidIsLegible = (e : Event) → IsTyped e → IsAsked e → IsBrought e → IsLegible e
+SaidIsLegible = (e : Event) → IsTyped e → IsSayable e → IsBrought e → IsLegible e
 
 -- what lanes made of lines that can be written, with their works
-pub record IsRun (f : Frame) (phases : List (List Line)) (answered : List (List Answered))
+pub record IsWritableRun (f : Frame) (phases : List (List Line)) (answered : List (List AnsweredLine))
     (history : List Entry) : Type 0 where
   pub lines : map answered_lines answered ≡ phases
   pub writable : All AreWritableLines phases
@@ -35,7 +38,7 @@ pub record IsRun (f : Frame) (phases : List (List Line)) (answered : List (List 
 -- what is written of a run, with its journal, is a legal journal where it isn't too large
 abbrev pub RunsWriteLegalJournals : Type 0
 RunsWriteLegalJournals =
-    (f : Frame) (phases : List (List Line)) (answered : List (List Answered)) (history : List Entry)
-    → IsRun f phases answered history → IsLegibleFrame f
+    (f : Frame) (phases : List (List Line)) (answered : List (List AnsweredLine)) (history : List Entry)
+    → IsWritableRun f phases answered history → IsLegibleFrame f
     → length (said_text answered ++ journal_text f history) ≤ journal_limit
     → IsLegalJournal (said_text answered ++ journal_text f history) (length history)

@@ -1,4 +1,5 @@
--- Answers that can be told of, and what a run writes in front of its journal.
+-- Inside.
+-- Answers that can be told of, and what a run writes before its journal.
 use Rattle.std.specs.Prelude.{◌<◌, List, [], All, IfSome, IsTrue, Result, Ok, Err}
 use Rattle.cm_names.specs.Name.{IsName}
 use Rattle.cm_names.specs.Path.{is_path}
@@ -11,9 +12,9 @@ use Rattle.cm_world.specs.declared.answer.Refusal.TheVariants as refusal
 use Rattle.cm_world.specs.declared.frame.Frame.{Frame}
 use Rattle.cm_world.specs.declared.reply.Entry.{Entry}
 use Rattle.cm_world.specs.declared.route.Route.{Route}
-use Rattle.cm_reply.specs.Legible.{IsOfNames, IsOfName, IsLegibleRoute, IsLegibleSurvey}
+use Rattle.cm_reply.specs.LegibleInside.{IsOfNames, IsOfName, IsLegibleRoute, IsLegibleSurvey}
 use Rattle.cm_legible.specs.Tellable.{IsNamedReply}
-use Rattle.cm_lanes.specs.Script.{Answered, ArePhases}
+use Rattle.cm_lanes.specs.Script.{AnsweredLine, ArePhases}
 
 abbrev pub IsLegibleRefusal : Refusal → Type 0
 IsLegibleRefusal (refusal.NotFound m) = IsOfNames m
@@ -49,15 +50,15 @@ abbrev pub OfReplies : List Entry → Type 0
 OfReplies es = All (λ (e : Entry). IsNamedReply e.reply) es
 
 -- the lanes of all lines are of the sixteen
-abbrev pub AreOfLanes : List (List Answered) → Type 0
-AreOfLanes answered = All (All (λ (a : Answered). a.line.lane < 16)) answered
+abbrev pub AreOfLanes : List (List AnsweredLine) → Type 0
+AreOfLanes answered = All (All (λ (a : AnsweredLine). a.line.lane < 16)) answered
 
-abbrev pub AreLegibleAnswers : List (List Answered) → Type 0
-AreLegibleAnswers answered = All (All (λ (a : Answered). IsLegibleResult a.result)) answered
+abbrev pub AreLegibleAnswers : List (List AnsweredLine) → Type 0
+AreLegibleAnswers answered = All (All (λ (a : AnsweredLine). IsLegibleResult a.result)) answered
 
 -- what lanes answer is made of replies
 abbrev pub ResultsAreLegible : Type 0
 ResultsAreLegible =
-    (f : Frame) (answered : List (List Answered)) (history : List Entry) → OfReplies history
+    (f : Frame) (answered : List (List AnsweredLine)) (history : List Entry) → OfReplies history
     → AreOfLanes answered
     → ArePhases (λ c. f) answered [] history → AreLegibleAnswers answered

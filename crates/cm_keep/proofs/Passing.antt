@@ -3,28 +3,28 @@ use Rattle.std.proofs.Common.{◌≡◌, ◌<◌, ℕ, ◌+◌, suc, List, [], �
 use Rattle.std.proofs.Common.{sym, ap, ◌∙◌, subst, append_assoc, append-nil, drop-cons, add-one}
 use Rattle.std.proofs.KnownBytes.{Appends-trans}
 use Rattle.std.specs.Io.KnownBytes.{Appends}
-use Rattle.cm_reply.specs.Lists.{Text}
+use Rattle.cm_reply.specs.Lists.{TextBytes}
 use Rattle.cm_world.specs.declared.reply.Entry.{Entry}
 use Rattle.cm_reply.specs.Journal.{line, entry_text, entries_text}
 use Rattle.cm_keep.specs.Keeping.{Passes}
 
 -- a text comes, and with it what is held back is handed over
-pub leaves : (a b : Option Text) (held more new text : Text)
+pub leaves : (a b : Option TextBytes) (held more new text : TextBytes)
     → more ≡ held ++ text → Appends a b more → new ≡ [] → Passes a b held new text
 leaves a b held more new text grown handed empty = record {
   given = more;
   handed = handed;
-  all = ap (λ (l : Text). more ++ l) empty ∙ append-nil more ∙ grown;
+  all = ap (λ (l : TextBytes). more ++ l) empty ∙ append-nil more ∙ grown;
 }
 
 -- what is held back in the end is handed over
-pub all_handed : (a b c : Option Text) (held back text : Text)
+pub all_handed : (a b c : Option TextBytes) (held back text : TextBytes)
     → Passes a b held back text → Appends b c back → Appends a c (held ++ text)
 all_handed a b c held back text passed handed =
-    subst (λ (l : Text). Appends a c l) passed.all (Appends-trans a b c passed.given back passed.handed handed)
+    subst (λ (l : TextBytes). Appends a c l) passed.all (Appends-trans a b c passed.given back passed.handed handed)
 
 -- of what is held back and what is still to come a first part passes
-pub goes_on : (a b c : Option Text) (held back new line rest text : Text)
+pub goes_on : (a b c : Option TextBytes) (held back new line rest text : TextBytes)
     → Passes a b held (back ++ (line ++ rest)) text
     → Passes b c back new line
     → Passes a c held (new ++ rest) text
@@ -36,8 +36,8 @@ goes_on a b c held back new line rest text before passed =
       handed = Appends-trans a b c g k before.handed passed.handed;
       all =
           append_assoc g k (new ++ rest)
-          ∙ ap (λ (l : Text). g ++ l) (sym (append_assoc k new rest)
-          ∙ ap (λ (l : Text). l ++ rest) passed.all
+          ∙ ap (λ (l : TextBytes). g ++ l) (sym (append_assoc k new rest)
+          ∙ ap (λ (l : TextBytes). l ++ rest) passed.all
           ∙ append_assoc back line rest)
           ∙ before.all;
     }

@@ -1,13 +1,14 @@
+-- Inside.
 -- Of which service a journal is kept.
 use Rattle.std.specs.Prelude.{◌≡◌, ◌⊎◌, List, Option, Some, None, Ok}
-use Rattle.cm_reply.specs.Lists.{Text}
+use Rattle.cm_reply.specs.Lists.{TextBytes}
 use Rattle.cm_call.specs.Calls.{words_of}
 use Rattle.cm_call.specs.declared.call.Call.TheVariants as call
 use Rattle.cm_call.specs.declared.call.ServeOptions.{ServeOptions}
 use Rattle.cm_keep.specs.declared.service.Keeping.{Keeping}
 
 -- a journal is kept where a place is told and the words ask for a service, and it is of that service's root
-abbrev pub Plans : List Text → Option Text → Option Keeping → Type 0
+abbrev pub Plans : List TextBytes → Option TextBytes → Option Keeping → Type 0
 Plans words at (Some k) =
     (at ≡ Some k.at) × (o : ServeOptions) × (words_of words ≡ Ok (call.Serve o)) × (k.root ≡ o.root)
 Plans words at None = (at ≡ None) ⊎ ((o : ServeOptions) → words_of words ≡ Ok (call.Serve o) → ⊥)

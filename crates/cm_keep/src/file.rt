@@ -3,7 +3,7 @@
 ghost use Rattle.std.specs.Prelude.{◌≡◌, IfOk, Some};
 ghost use Rattle.cm_io.specs.Counts.{one_more};
 
-use crate::Keeper;
+use crate::TextKeeper;
 use cm_names::{Memory, Text};
 use std::alloc::Global;
 use std::fs::{OpenFile, OpenOptions};
@@ -34,7 +34,7 @@ impl<F: Files + Drop> FileKeeper<F> {
     /// `Err` where the path is empty or names a folder or a thing that is no regular file, and where no
     /// file can be made beside it.
     pub fn new(alloc: Global, files: F, number: u32, place: &Text) -> io::Result<FileKeeper<F>>
-        ensures { IfOk result (λ keeper. ⟦<FileKeeper<F> as Keeper>⟧.pending keeper) }
+        ensures { IfOk result (λ keeper. ⟦<FileKeeper<F> as TextKeeper>⟧.pending keeper) }
     {
         check_place(&files, place.as_str())?;
         let (place, beside) = match names(alloc, number, place) {
@@ -128,7 +128,7 @@ fn take_away<F: Files>(files: &F, path: &str) {
     }
 }
 
-impl<F: Files + Drop> Keeper for FileKeeper<F> {
+impl<F: Files + Drop> TextKeeper for FileKeeper<F> {
     ghost use Rattle.std.specs.Prelude.{◌≡◌, None, true};
 
     ghost draft = { λ k. F.File.Write.contents k.file };

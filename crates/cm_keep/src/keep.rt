@@ -3,10 +3,10 @@
 ghost use Rattle.std.specs.Prelude.{◌≡◌, [], IfOk, OnErr, OnOk, string_bytes};
 ghost use Rattle.std.specs.Io.KnownBytes.{Appends};
 ghost use Rattle.cm_reply.specs.Journal as journal;
-ghost use Rattle.cm_reply.specs.Lists.{Gains};
+ghost use Rattle.cm_reply.specs.ListsInside.{GainsText};
 ghost use Rattle.cm_keep.specs.Keeping.{Caused, IsKept, Passes, kept_text, rooted};
 
-use crate::Keeper;
+use crate::TextKeeper;
 use cm_names::{List, Memory, Text};
 use cm_reply::{header_text, push_entry};
 use cm_world::{Entry, Frame, Limits};
@@ -45,7 +45,7 @@ fn head_of(alloc: Global, root: &Text) -> Result<Text, Memory>
 /// Puts the line of an entry behind the text.
 fn push_line(text: &mut String, number: u64, entry: &Entry) -> Result<(), Memory>
     ensures { let line = journal.line (journal.entry_text number entry.now) in
-        OnOk result (Gains text.old text.new line) }
+        OnOk result (GainsText text.old text.new line) }
 {
     push_entry(text, number, entry)?;
     text.push_str("\n")?;
@@ -53,7 +53,7 @@ fn push_line(text: &mut String, number: u64, entry: &Entry) -> Result<(), Memory
 }
 
 /// Hands over what is held back.
-fn hand_over<P: Keeper>(keeper: &mut P, held: &mut String) -> Result<(), KeepFault>
+fn hand_over<P: TextKeeper>(keeper: &mut P, held: &mut String) -> Result<(), KeepFault>
     requires pending { P.pending keeper.old }
     ensures pending { P.pending keeper.new }
     ensures handed { OnOk result
@@ -71,7 +71,7 @@ fn hand_over<P: Keeper>(keeper: &mut P, held: &mut String) -> Result<(), KeepFau
 
 #[tactic(auto, using(crate::proofs::Passing::leaves))]
 /// Puts the line of an entry behind what is held back, and hands that over where it is long enough.
-fn keep_entry<P: Keeper>(
+fn keep_entry<P: TextKeeper>(
     keeper: &mut P,
     held: &mut String,
     number: u64,
@@ -95,7 +95,7 @@ fn keep_entry<P: Keeper>(
 }
 
 /// Hands over the lines of all entries, behind what is held back, but for what is still held back then.
-fn keep_entries<P: Keeper>(
+fn keep_entries<P: TextKeeper>(
     keeper: &mut P,
     held: &mut String,
     entries: &[Entry],
@@ -116,7 +116,7 @@ fn keep_entries<P: Keeper>(
 }
 
 /// Hands over the whole journal. Nothing of it stands in its place yet.
-fn hand_journal<P: Keeper>(
+fn hand_journal<P: TextKeeper>(
     alloc: Global,
     keeper: &mut P,
     root: &Text,
@@ -149,7 +149,7 @@ fn hand_journal<P: Keeper>(
 ///
 /// At `Ok` all of it stands there. At an `Err` what stood there before still does, and what was handed
 /// over is let go. It takes memory for one piece and one line.
-pub fn keep_journal<P: Keeper>(
+pub fn keep_journal<P: TextKeeper>(
     alloc: Global,
     keeper: &mut P,
     root: &Text,

@@ -6,7 +6,7 @@ ghost use Rattle.cm_keep.specs.Keeping.{Counted, PutsUp};
 
 /// A place for one text, which is handed over piece by piece and put there when it is whole. Nobody sees
 /// a piece of it before. A keeper counts its faults, from 0 to 2^64 - 1, where the count stays.
-pub trait Keeper: Drop {
+pub trait TextKeeper: Drop {
     ghost use Rattle.std.specs.Prelude.{ℕ, List, Option};
 
     /// The bytes that were handed over, where they are known.

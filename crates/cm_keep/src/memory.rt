@@ -1,9 +1,10 @@
 //! A keeper in memory, which fails where it is planned.
 
 ghost use Rattle.std.specs.Prelude.{◌≡◌, Some, []};
-ghost use Rattle.cm_io.specs.Counts.{count_after, one_more};
+ghost use Rattle.cm_io.specs.Counts.{one_more};
+ghost use Rattle.cm_io.specs.CountsInside.{count_after};
 
-use crate::Keeper;
+use crate::TextKeeper;
 use cm_names::{Bytes, List};
 use std::alloc::Global;
 use std::mem;
@@ -23,9 +24,9 @@ pub struct MemoryKeeper {
 impl MemoryKeeper {
     /// A keeper with nothing in its place, whose call of this number fails; the first has the number 0.
     pub fn new(alloc: Global, failing: u64) -> MemoryKeeper
-        ensures draft { ⟦<MemoryKeeper as Keeper>⟧.draft result ≡ Some [] }
-        ensures shown { ⟦<MemoryKeeper as Keeper>⟧.shown result ≡ Some [] }
-        ensures pending { ⟦<MemoryKeeper as Keeper>⟧.pending result }
+        ensures draft { ⟦<MemoryKeeper as TextKeeper>⟧.draft result ≡ Some [] }
+        ensures shown { ⟦<MemoryKeeper as TextKeeper>⟧.shown result ≡ Some [] }
+        ensures pending { ⟦<MemoryKeeper as TextKeeper>⟧.pending result }
     {
         MemoryKeeper {
             alloc,
@@ -40,7 +41,7 @@ impl MemoryKeeper {
 
     /// The texts that were put into the place.
     pub fn shown(&self) -> &[Bytes]
-        ensures { ⟦<MemoryKeeper as Keeper>⟧.shown self.now ≡ Some result.now }
+        ensures { ⟦<MemoryKeeper as TextKeeper>⟧.shown self.now ≡ Some result.now }
     {
         self.shown.as_slice()
     }
@@ -71,7 +72,7 @@ impl MemoryKeeper {
     }
 }
 
-impl Keeper for MemoryKeeper {
+impl TextKeeper for MemoryKeeper {
     ghost use Rattle.std.specs.Prelude.{◌≡◌, Some, true};
 
     ghost draft = { λ k. Some k.draft.items };

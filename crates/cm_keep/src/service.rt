@@ -4,7 +4,7 @@ ghost use Rattle.std.specs.Prelude.{◌≡◌, IfOk, OnErr, OnOk};
 ghost use Rattle.cm_keep.specs.Keeping.{Caused, IsKept, kept_text};
 ghost use Rattle.cm_keep.specs.Service.{Plans};
 
-use crate::{FileKeeper, KeepFault, Keeper, fault_line, keep_journal};
+use crate::{FileKeeper, KeepFault, TextKeeper, fault_line, keep_journal};
 use cm_book::Book;
 use cm_call::{Call, WordsFault, read_words};
 use cm_names::{Memory, Text};
@@ -66,7 +66,7 @@ fn keeper_of<F: Files + Drop>(
     number: u32,
     keeping: &Keeping,
 ) -> Result<FileKeeper<F>, Unkept>
-    ensures { IfOk result (λ keeper. ⟦<FileKeeper<F> as Keeper>⟧.pending keeper) }
+    ensures { IfOk result (λ keeper. ⟦<FileKeeper<F> as TextKeeper>⟧.pending keeper) }
 {
     match FileKeeper::new(alloc, files, number, &keeping.at) {
         Ok(keeper) => Ok(keeper),
@@ -89,7 +89,7 @@ pub fn try_keeping<F: Files + Drop>(
 }
 
 /// Keeps the journal of this history, of a realm of that root.
-pub fn keep_book<P: Keeper>(
+pub fn keep_book<P: TextKeeper>(
     alloc: Global,
     keeper: &mut P,
     keeping: &Keeping,

@@ -1,6 +1,6 @@
 //! Journals are kept whole, or not at all.
 
-use crate::{KeepFault, Keeper, MemoryKeeper, keep_journal};
+use crate::{KeepFault, MemoryKeeper, TextKeeper, keep_journal};
 use cm_names::Text;
 use cm_world::{Entry, Event, Reply};
 use std::alloc::Global;
@@ -39,7 +39,7 @@ fn keep(
     keeper: &mut MemoryKeeper,
     count: usize,
 ) -> Result<Result<(), KeepFault>, Fail>
-    requires { ⟦<MemoryKeeper as Keeper>⟧.pending keeper.old }
+    requires { ⟦<MemoryKeeper as TextKeeper>⟧.pending keeper.old }
 {
     let entries = history(alloc, count)?;
     let root = Text::from_str(alloc, ROOT)?;

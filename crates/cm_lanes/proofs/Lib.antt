@@ -1,4 +1,4 @@
 pub mod lines
 pub mod phases
-pub mod woven
+pub mod merged
 pub mod ends

@@ -1,3 +1,4 @@
+-- Inside.
 -- What one lane has in hand, from step to step.
 use Rattle.std.specs.Prelude.{◌≡◌, ◌⊎◌, ℕ, ◌<◌, List, [], ◌∷◌, ◌++◌, map, Bool, false, Option, Some, length}
 use Rattle.std.specs.Prelude.{slice_index_or, Any}
@@ -5,14 +6,15 @@ use Rattle.cm_turn.specs.History.{StartsWith}
 use Rattle.cm_turn.specs.Passes.{LockView, seen_up_to}
 use Rattle.cm_world.specs.declared.reply.Entry.{Entry}
 use Rattle.cm_command.specs.declared.script.Line.{Line}
-use Rattle.cm_gate.specs.declared.asked.Asked.{Asked}
+use Rattle.cm_gate.specs.declared.asked.GateCall.{GateCall}
 use Rattle.cm_manager.specs.Asking.{frame_of}
-use Rattle.cm_manager.specs.Work.{Shelf}
+use Rattle.cm_manager.specs.Work.{Manifests}
 use Rattle.cm_manager.specs.Contract.{RealmPass}
 use Rattle.cm_lanes.specs.declared.said.Said.{Said}
 use Rattle.cm_lanes.specs.declared.lane.Lane.{Lane}
-use Rattle.cm_lanes.specs.Script.{Answered, said_of, answered_lines, lines_of, Follows}
-use Rattle.cm_manager.specs.Kept.{IsOwnPass, Keeps, gates_view}
+use Rattle.cm_lanes.specs.Script.{AnsweredLine, answered_lines, PerformsLines}
+use Rattle.cm_lanes.specs.ScriptInside.{said_of, lines_of}
+use Rattle.cm_manager.specs.Kept.{IsOwnPass, KeepsPass, gates_view}
 
 -- a list grew by this, unless something was lost
 abbrev pub GrewUnless : Bool → List Said → List Said → List Said → Type 0
@@ -22,14 +24,14 @@ GrewUnless lost old new more = lost ≡ false → new ≡ old ++ more
 abbrev pub PutsUnless : Bool → Bool → List Said → List Said → Said → Type 0
 PutsUnless before now old new s = now ≡ false → (before ≡ false) × (new ≡ old ++ s ∷ [])
 
-module _ {G : Type 0} (log_of : G → Option (List Asked)) (faults_of : G → ℕ) where
+module _ {G : Type 0} (log_of : G → Option (List GateCall)) (faults_of : G → ℕ) where
   -- a caller has performed its own lines among these
-  pub record Performed (shelf : Shelf) (lines : List Line) (p q : RealmPass) (g h : G)
+  pub record HasPerformed (manifests : Manifests) (lines : List Line) (p q : RealmPass) (g h : G)
       (said₀ said₁ : List Said) (lost : Bool) : Type 0 where
-    pub keeps : Keeps shelf p q (gates_view log_of faults_of g) (gates_view log_of faults_of h)
-    pub answers : List Answered
+    pub keeps : KeepsPass manifests p q (gates_view log_of faults_of g) (gates_view log_of faults_of h)
+    pub answers : List AnsweredLine
     pub own_lines : answered_lines answers ≡ lines_of p.caller lines
-    pub follows : Follows (frame_of p) p.caller answers p.seen q.seen
+    pub follows : PerformsLines (frame_of p) p.caller answers p.seen q.seen
     pub said : GrewUnless lost said₀ said₁ (map said_of answers)
 
 module _ {G : Type 0} where
@@ -40,7 +42,7 @@ module _ {G : Type 0} where
     pub of_lock : pass.lock ≡ turn.lock
 
   -- a lane with a pass of this lock that has its own entries
-  pub record IsReady (turn : LockView) (lane : Lane G) : Type 0 where
+  pub record IsReadyLane (turn : LockView) (lane : Lane G) : Type 0 where
     pub pass : RealmPass
     pub there : lane.pass ≡ Some pass
     pub of_lock : pass.lock ≡ turn.lock
@@ -78,13 +80,13 @@ module _ {G : Type 0} where
         → Met seen (slice_index_or old k d) (slice_index_or new k d)
     pub among : Any (HasSeen seen) old
 
-module _ {G : Type 0} (log_of : G → Option (List Asked)) (faults_of : G → ℕ) where
+module _ {G : Type 0} (log_of : G → Option (List GateCall)) (faults_of : G → ℕ) where
   -- a lane has performed its own lines among these
-  pub record Worked (shelf : Shelf) (lines : List Line) (old new : Lane G) : Type 0 where
+  pub record LaneWorked (manifests : Manifests) (lines : List Line) (old new : Lane G) : Type 0 where
     pub p : RealmPass
     pub q : RealmPass
     pub was : old.pass ≡ Some p
     pub now : new.pass ≡ Some q
-    pub performed : Performed log_of faults_of shelf lines p q old.gates new.gates old.said.items
+    pub performed : HasPerformed log_of faults_of manifests lines p q old.gates new.gates old.said.items
         new.said.items new.lost
     pub lost : new.lost ≡ false → old.lost ≡ false

@@ -1,3 +1,4 @@
+-- Inside.
 -- Laws of lanes.
 use Rattle.std.specs.Prelude.{◌≡◌, ℕ, List, ◌++◌, map, flat_map, Err}
 use Rattle.std.specs.List.{AllZip}
@@ -8,13 +9,13 @@ use Rattle.cm_world.specs.declared.reply.Entry.{Entry}
 use Rattle.cm_world.specs.World.{start}
 use Rattle.cm_world.specs.Legal.{Legal}
 use Rattle.cm_manager.specs.Turns.{own_entries}
-use Rattle.cm_manager.specs.Calls.{Runs}
+use Rattle.cm_manager.specs.CallsInside.{Runs}
 use Rattle.cm_command.specs.declared.script.Line.{Line}
-use Rattle.cm_lanes.specs.Script.{Answered, Follows, ArePhases}
+use Rattle.cm_lanes.specs.Script.{AnsweredLine, PerformsLines, ArePhases}
 
 -- what a caller did between two places of a history falls into parts, one for each line, in order and with
 -- nothing left over, each of them the run of its line with that answer
-pub record FallsIntoRuns (f : Frame) (history : List Entry) (c : ℕ) (answered : List Answered)
+pub record FallsIntoRuns (f : Frame) (history : List Entry) (c : ℕ) (answered : List AnsweredLine)
     (before after : List Entry) : Type 0 where
   pub parts : List (List Entry)
   pub whole : own_entries c after ≡ own_entries c before ++ flat_map (λ part. part) parts
@@ -23,12 +24,12 @@ pub record FallsIntoRuns (f : Frame) (history : List Entry) (c : ℕ) (answered 
 -- lines that are performed are runs, in every legal history that goes on from there
 abbrev pub LinesAreRuns : Type 0
 LinesAreRuns =
-    (f : Frame) (c : ℕ) (answered : List Answered) (before after history : List Entry)
-    → Follows f c answered before after → Legal (start f) history → StartsWith history after
+    (f : Frame) (c : ℕ) (answered : List AnsweredLine) (before after history : List Entry)
+    → PerformsLines f c answered before after → Legal (start f) history → StartsWith history after
     → FallsIntoRuns f history c answered before after
 
--- want of memory in the place of every answer
-abbrev pub no_answer : Line → Answered
+-- lack of memory in the place of every answer
+abbrev pub no_answer : Line → AnsweredLine
 no_answer l = record { line = l; result = Err refusal.Memory }
 
 -- lines may all be answered so at any place of a history, without an entry

@@ -1,8 +1,9 @@
 pub mod Script
+pub mod ScriptInside
 pub mod Lanes
 pub mod Lane
 pub mod Meeting
 pub mod Phases
-pub mod Parts
-pub mod Weave
+pub mod LaneParts
+pub mod Merge
 pub mod Laws

@@ -1,3 +1,4 @@
+-- Inside.
 -- One lane meets others, one after another.
 use Rattle.std.specs.Prelude.{◌≡◌, ◌⊎◌, ℕ, ◌<◌, ◌≤◌, List, Some, length, slice_index_or}
 use Rattle.cm_turn.specs.History.{StartsWith}
@@ -9,13 +10,13 @@ use Rattle.cm_manager.specs.Kept.{IsOwnPass}
 use Rattle.cm_lanes.specs.Lane.{Met, HasSeen}
 
 module _ {G : Type 0} where
-  -- a lane has met others, and what it has seen then is the front of this
+  -- a lane has met others, and what it has seen then is the prefix of this
   pub record MetWithin (seen : List Entry) (old new : Lane G) : Type 0 where
     pub then_seen : List Entry
     pub met : Met then_seen old new
     pub within : StartsWith seen then_seen
 
-  -- what a lane's pass has seen is the front of this
+  -- what a lane's pass has seen is the prefix of this
   pub record HasSeenWithin (seen : List Entry) (lane : Lane G) : Type 0 where
     pub pass : RealmPass
     pub there : lane.pass ≡ Some pass

@@ -1,3 +1,4 @@
+-- Inside.
 -- What the lanes have done, phase by phase.
 use Rattle.std.specs.Prelude.{◌≡◌, ℕ, ◌<◌, List, map, flat_map, Option, Some, None, length, slice_index_or}
 use Rattle.std.specs.Prelude.{slice_get}
@@ -5,18 +6,19 @@ use Rattle.cm_turn.specs.Passes.{LockView}
 use Rattle.cm_world.specs.declared.frame.Frame.{Frame}
 use Rattle.cm_world.specs.declared.reply.Entry.{Entry}
 use Rattle.cm_command.specs.declared.script.Line.{Line}
-use Rattle.cm_gate.specs.declared.asked.Asked.{Asked}
+use Rattle.cm_gate.specs.declared.asked.GateCall.{GateCall}
 use Rattle.cm_manager.specs.Asking.{no_frame, frame_of}
-use Rattle.cm_manager.specs.Work.{Shelf}
+use Rattle.cm_manager.specs.Work.{Manifests}
 use Rattle.cm_manager.specs.Contract.{RealmPass}
 use Rattle.cm_lanes.specs.declared.lane.Lane.{Lane}
 use Rattle.cm_lanes.specs.declared.said.Said.{Said}
-use Rattle.cm_lanes.specs.Script.{Answered, said_of, answered_lines, answers_of, ArePhases}
-use Rattle.cm_manager.specs.Kept.{GoesOn, IsOwnPass, Keeps, gates_view}
-use Rattle.cm_lanes.specs.Lane.{GrewUnless, Worked}
+use Rattle.cm_lanes.specs.Script.{AnsweredLine, answered_lines, answers_of, ArePhases}
+use Rattle.cm_lanes.specs.ScriptInside.{said_of}
+use Rattle.cm_manager.specs.Kept.{ExtendsPass, IsOwnPass, KeepsPass, gates_view}
+use Rattle.cm_lanes.specs.Lane.{GrewUnless, LaneWorked}
 
 -- what one lane is told of all phases
-abbrev pub told_to : ℕ → List (List Answered) → List Said
+abbrev pub told_to : ℕ → List (List AnsweredLine) → List Said
 told_to k answered = flat_map (λ a. map said_of (answers_of k a)) answered
 
 module _ {G : Type 0} where
@@ -45,24 +47,25 @@ module _ {G : Type 0} where
   pub record LaneBegins (history : List Entry) (lane : Lane G) : Type 0 where
     pub pass : RealmPass
     pub there : lane.pass ≡ Some pass
-    pub goes_on : GoesOn history pass
+    pub goes_on : ExtendsPass history pass
 
-module _ {G : Type 0} (log_of : G → Option (List Asked)) (faults_of : G → ℕ) where
+module _ {G : Type 0} (log_of : G → Option (List GateCall)) (faults_of : G → ℕ) where
   -- a lane has performed its own lines among these, and has met the others
-  pub record Passed (shelf : Shelf) (lines : List Line) (last : List Entry) (old new : Lane G) : Type 0 where
-    pub worked : Worked log_of faults_of shelf lines old new
+  pub record Passed (manifests : Manifests) (lines : List Line) (last : List Entry)
+      (old new : Lane G) : Type 0 where
+    pub worked : LaneWorked log_of faults_of manifests lines old new
     pub seen : worked.q.seen ≡ last
     pub own : IsOwnPass worked.q
 
   -- all lanes have performed their own lines among these, and have met
-  pub record PassedAll (shelf : Shelf) (lines : List Line) (old new : List (Lane G)) : Type 0 where
+  pub record PassedAll (manifests : Manifests) (lines : List Line) (old new : List (Lane G)) : Type 0 where
     pub last : List Entry
     pub long : length new ≡ length old
     pub each : (k : ℕ) (d : Lane G) → k < length old
-        → Passed shelf lines last (slice_index_or old k d) (slice_index_or new k d)
+        → Passed manifests lines last (slice_index_or old k d) (slice_index_or new k d)
 
   -- what has become of a lane behind these phases
-  pub record LaneRan (shelf : Shelf) (answered : List (List Answered)) (last : List Entry) (k : ℕ)
+  pub record LaneRan (manifests : Manifests) (answered : List (List AnsweredLine)) (last : List Entry) (k : ℕ)
       (old new : Lane G) : Type 0 where
     pub p : RealmPass
     pub q : RealmPass
@@ -71,18 +74,19 @@ module _ {G : Type 0} (log_of : G → Option (List Asked)) (faults_of : G → �
     pub caller : p.caller ≡ k
     pub seen : q.seen ≡ last
     pub own : IsOwnPass q
-    pub keeps : Keeps shelf p q (gates_view log_of faults_of old.gates)
+    pub keeps : KeepsPass manifests p q (gates_view log_of faults_of old.gates)
         (gates_view log_of faults_of new.gates)
     pub said : GrewUnless new.lost old.said.items new.said.items (told_to k answered)
 
   -- the lanes have performed these phases
-  pub record LanesRan (shelf : Shelf) (phases : List (List Line)) (old new : List (Lane G)) : Type 0 where
+  pub record LanesRan (manifests : Manifests) (phases : List (List Line)) (old new : List
+      (Lane G)) : Type 0 where
     pub first : List Entry
     pub last : List Entry
     pub long : length new ≡ length old
     pub begins : (k : ℕ) (d : Lane G) → k < 16 → LaneBegins first (slice_index_or old k d)
-    pub answered : List (List Answered)
+    pub answered : List (List AnsweredLine)
     pub lines : map answered_lines answered ≡ phases
     pub performed : ArePhases (lane_frames old) answered first last
     pub each : (k : ℕ) (d : Lane G) → k < 16
-        → LaneRan shelf answered last k (slice_index_or old k d) (slice_index_or new k d)
+        → LaneRan manifests answered last k (slice_index_or old k d) (slice_index_or new k d)

@@ -1,9 +1,9 @@
 //! One lane.
 
 ghost use Rattle.std.specs.Prelude.{◌≡◌, All, Some};
-ghost use Rattle.cm_lanes.specs.Script.{IsFit};
+ghost use Rattle.cm_lanes.specs.ScriptInside.{IsFit};
 ghost use Rattle.cm_manager.specs.Kept.{IsOwnPass};
-ghost use Rattle.cm_lanes.specs.Lane.{IsReady, Performed, PutsUnless, Worked};
+ghost use Rattle.cm_lanes.specs.Lane.{IsReadyLane, HasPerformed, PutsUnless, LaneWorked};
 
 use crate::Said;
 use cm_command::Line;
@@ -57,7 +57,7 @@ fn perform_lines<R: Threads + Wait + Sync, G: Gates>(
     requires lock { pass.lock ≡ manager.now.turn.lock }
     requires own { IsOwnPass pass }
     requires fit { All IsFit lines.now }
-    ensures performed { Performed G.log G.faults manager.now.shelf lines.now pass result.0
+    ensures performed { HasPerformed G.log G.faults manager.now.manifests lines.now pass result.0
         gates.old gates.new said.old.items said.new.items result.1 }
 {
     let caller = pass.caller();
@@ -94,9 +94,9 @@ pub(crate) fn work<R: Threads + Wait + Sync, G: Gates>(
     lane: &mut Lane<G>,
     lines: &[Line],
 )
-    requires ready { IsReady manager.now.turn lane.old }
+    requires ready { IsReadyLane manager.now.turn lane.old }
     requires fit { All IsFit lines.now }
-    ensures worked { Worked G.log G.faults manager.now.shelf lines.now lane.old lane.new }
+    ensures worked { LaneWorked G.log G.faults manager.now.manifests lines.now lane.old lane.new }
 {
     let Some(pass) = lane.pass.take() else {
         unreachable!()

@@ -5,13 +5,13 @@ ghost use Rattle.std.specs.Prelude.{None as NoneOf};
 ghost use Rattle.cm_manager.specs.Closed.{HasEnds};
 ghost use Rattle.cm_manager.specs.Kept.{AreSixteen};
 ghost use Rattle.cm_lanes.specs.Lanes.{RanOrNot};
-ghost use Rattle.cm_lanes.specs.Script.{IsFit, said_of};
-ghost use Rattle.cm_lanes.specs.Weave.{HasAll};
+ghost use Rattle.cm_lanes.specs.ScriptInside.{IsFit, said_of};
+ghost use Rattle.cm_lanes.specs.Merge.{QueuesHaveAll};
 
 use crate::Lanes;
-use crate::parts::{Parts, Room, make_lanes, room_for, take_apart};
+use crate::merge::merge;
+use crate::parts::{LaneParts, LaneRoom, make_lanes, room_for, take_apart};
 use crate::phase::run_all;
-use crate::weave::weave;
 use cm_command::Line;
 use cm_gate::Gates;
 use cm_manager::Manager;
@@ -43,7 +43,7 @@ pub fn run_lanes<R: Threads + Wait + Sync, G: Gates + Send + Drop>(
     requires passes { AreSixteen manager.now.turn passes }
     requires gates { length gates ≡ 16 }
     requires fit { All (λ lines. All IsFit lines) phases.now }
-    ensures ran { RanOrNot G.log G.faults manager.now.shelf phases.now passes gates result }
+    ensures ran { RanOrNot G.log G.faults manager.now.manifests phases.now passes gates result }
     ensures passes { AreSixteen manager.now.turn result.passes }
     ensures gates { length result.gates ≡ 16 }
     ensures ended { All (λ p. HasEnds p.mine) passes → All (λ p. HasEnds p.mine) result.passes }
@@ -55,7 +55,7 @@ pub fn run_lanes<R: Threads + Wait + Sync, G: Gates + Send + Drop>(
             said: None,
         };
     };
-    let Room { lanes, parts } = room;
+    let LaneRoom { lanes, parts } = room;
     let lanes = make_lanes(alloc, lanes, passes, gates);
     let lanes = run_all(rt, alloc, manager, lanes, phases);
     let parts = take_apart(lanes, parts);
@@ -64,17 +64,17 @@ pub fn run_lanes<R: Threads + Wait + Sync, G: Gates + Send + Drop>(
 
 /// Hands back what lanes were taken apart into, with what was said to them in the order of the
 /// script, unless an answer was lost or memory runs out.
-fn hand_back<G: Drop>(alloc: Global, phases: &[List<Line>], parts: Parts<G>) -> Lanes<G>
+fn hand_back<G: Drop>(alloc: Global, phases: &[List<Line>], parts: LaneParts<G>) -> Lanes<G>
     requires count { length parts.said.items ≡ 16 }
     requires fit { All (All IsFit) phases.now }
-    requires has { parts.lost ≡ false → HasAll phases.now parts.said.items }
+    requires has { parts.lost ≡ false → QueuesHaveAll phases.now parts.said.items }
     ensures passes { result.passes ≡ parts.passes.items }
     ensures gates { result.gates ≡ parts.gates.items }
     ensures lost { parts.lost ≡ true → result.said ≡ NoneOf }
-    ensures said { (is : HasAll phases.now parts.said.items) →
+    ensures said { (is : QueuesHaveAll phases.now parts.said.items) →
         IfSome result.said (λ said. said ≡ flat_map (λ p. map said_of p) is.answered) }
 {
-    let Parts {
+    let LaneParts {
         passes,
         gates,
         said,
@@ -82,7 +82,7 @@ fn hand_back<G: Drop>(alloc: Global, phases: &[List<Line>], parts: Parts<G>) -> 
     } = parts;
     let said = match lost {
         true => None,
-        false => weave(alloc, phases, said).ok(),
+        false => merge(alloc, phases, said).ok(),
     };
     Lanes {
         passes: List::from_vec(passes),

@@ -10,17 +10,17 @@
 //! | `Lanes` | what comes back of a whole script |
 //! | `Laws` | what follows of it: entries fall into runs, and all answers may be lost |
 //! | `Lane`, `Meeting`, `Phases` | what the lanes have in hand, from step to step |
-//! | `Parts`, `Weave` | how lanes are made and taken apart, and answers put in order |
+//! | `LaneParts`, `Merge` | how lanes are made and taken apart, and answers put in order |
 #![tactic(auto)]
 
 mod lane;
 pub mod lanes;
 pub mod laws;
 mod meeting;
+mod merge;
 mod parts;
 mod phase;
 pub mod said;
-mod weave;
 
 pub use lanes::run_lanes;
 pub use said::{Lanes, Said};

@@ -1,7 +1,9 @@
 //! Lanes made of passes and gates, and taken apart again.
 
 ghost use Rattle.std.specs.Prelude.{◌≡◌, ◌≤◌, [], All, IfOk, Some, length, map, vec_capacity};
-ghost use Rattle.cm_lanes.specs.Parts.{AreParts, HasPassIn, HasRoom, HasRoomIn, IsEmpty, IsNew, PutsParts};
+ghost use Rattle.cm_lanes.specs.LaneParts.{AreLaneParts, HasPassIn, LanesHaveRoom};
+ghost use Rattle.cm_lanes.specs.LaneParts.{LanePartsHaveRoom, NoLaneParts, IsFreshLane};
+ghost use Rattle.cm_lanes.specs.LaneParts.{PutsLaneParts};
 
 use crate::Said;
 use crate::lane::Lane;
@@ -16,16 +18,16 @@ pub(crate) const LANES: usize = 16;
 
 /// Room for the lanes, and for what they are taken apart into.
 #[derive(Drop)]
-pub(crate) struct Room<G> {
+pub(crate) struct LaneRoom<G> {
     /// No lanes yet.
     pub(crate) lanes: Vec<Lane<G>>,
     /// No parts yet.
-    pub(crate) parts: Parts<G>,
+    pub(crate) parts: LaneParts<G>,
 }
 
 /// What lanes are taken apart into.
 #[derive(Drop)]
-pub(crate) struct Parts<G> {
+pub(crate) struct LaneParts<G> {
     /// The passes, lane by lane.
     pub(crate) passes: Vec<Pass<Entry, Frame>>,
     /// The gates, lane by lane.
@@ -37,12 +39,12 @@ pub(crate) struct Parts<G> {
 }
 
 /// Takes room for all lanes and their parts. `Err` means that memory ran out.
-pub(crate) fn room_for<G: Drop>(alloc: Global) -> Result<Room<G>, AllocError>
-    ensures { IfOk result (HasRoom 16) }
+pub(crate) fn room_for<G: Drop>(alloc: Global) -> Result<LaneRoom<G>, AllocError>
+    ensures { IfOk result (LanesHaveRoom 16) }
 {
-    Ok(Room {
+    Ok(LaneRoom {
         lanes: Vec::with_capacity(alloc, LANES)?,
-        parts: Parts {
+        parts: LaneParts {
             passes: Vec::with_capacity(alloc, LANES)?,
             gates: Vec::with_capacity(alloc, LANES)?,
             said: Vec::with_capacity(alloc, LANES)?,
@@ -62,7 +64,7 @@ pub(crate) fn make_lanes<G: Drop>(
     requires gates { length gates ≡ length passes }
     ensures passes { map (λ l. l.pass) result.items ≡ map Some passes }
     ensures gates { map (λ l. l.gates) result.items ≡ gates }
-    ensures new { All IsNew result.items }
+    ensures new { All IsFreshLane result.items }
 {
     let mut lanes = lanes;
     let mut gates = gates.into_vec().into_iter();
@@ -81,11 +83,11 @@ pub(crate) fn make_lanes<G: Drop>(
 }
 
 /// Takes lanes apart.
-pub(crate) fn take_apart<G: Drop>(lanes: Vec<Lane<G>>, parts: Parts<G>) -> Parts<G>
+pub(crate) fn take_apart<G: Drop>(lanes: Vec<Lane<G>>, parts: LaneParts<G>) -> LaneParts<G>
     requires passes { All HasPassIn lanes.items }
-    requires empty { IsEmpty parts }
-    requires room { HasRoomIn (length lanes.items) parts }
-    ensures { AreParts lanes.items result }
+    requires empty { NoLaneParts parts }
+    requires room { LanePartsHaveRoom (length lanes.items) parts }
+    ensures { AreLaneParts lanes.items result }
 {
     let mut parts = parts;
     for lane in lanes {
@@ -95,10 +97,10 @@ pub(crate) fn take_apart<G: Drop>(lanes: Vec<Lane<G>>, parts: Parts<G>) -> Parts
 }
 
 /// Puts the parts of a lane behind those of others.
-fn put_parts<G: Drop>(lane: Lane<G>, parts: &mut Parts<G>)
+fn put_parts<G: Drop>(lane: Lane<G>, parts: &mut LaneParts<G>)
     requires pass { HasPassIn lane }
-    requires room { HasRoomIn 1 parts.old }
-    ensures { PutsParts lane parts.old parts.new }
+    requires room { LanePartsHaveRoom 1 parts.old }
+    ensures { PutsLaneParts lane parts.old parts.new }
 {
     let Lane {
         pass,

@@ -2,8 +2,8 @@
 
 ghost use Rattle.std.specs.Prelude.{◌≡◌, ◌<◌, ℕ, All, length, slice_index_or};
 ghost use Rattle.cm_lanes.specs.declared.lane.Lane.{Lane as LaneOf};
-ghost use Rattle.cm_lanes.specs.Script.{IsFit};
-ghost use Rattle.cm_lanes.specs.Lane.{IsReady, Worked};
+ghost use Rattle.cm_lanes.specs.ScriptInside.{IsFit};
+ghost use Rattle.cm_lanes.specs.Lane.{IsReadyLane, LaneWorked};
 ghost use Rattle.cm_lanes.specs.Phases.{AreLanes, LanesRan, PassedAll};
 
 use crate::lane::{Lane, work};
@@ -26,10 +26,10 @@ fn work_all<R: Threads + Wait + Sync, G: Gates + Send>(
     lanes: &mut [Lane<G>],
     lines: &[Line],
 )
-    requires ready { All (IsReady manager.now.turn) lanes.old }
+    requires ready { All (IsReadyLane manager.now.turn) lanes.old }
     requires fit { All IsFit lines.now }
     ensures worked { (k : ℕ) (d : LaneOf G) → k < length lanes.old
-        → Worked G.log G.faults manager.now.shelf lines.now
+        → LaneWorked G.log G.faults manager.now.manifests lines.now
         (slice_index_or lanes.old k d) (slice_index_or lanes.new k d) }
 {
     thread::for_each_mut(
@@ -37,7 +37,7 @@ fn work_all<R: Threads + Wait + Sync, G: Gates + Send>(
         lanes,
         LANES,
         &|_, lane: &mut Lane<G>|
-            requires { IsReady manager.now.turn lane.now × All IsFit lines.now }
+            requires { IsReadyLane manager.now.turn lane.now × All IsFit lines.now }
         { work(rt, alloc, manager, lane, lines) },
     );
 }
@@ -51,9 +51,9 @@ fn run_phase<R: Threads + Wait + Sync, G: Gates + Send>(
     lines: &[Line],
 )
     requires count { 1 < length lanes.old }
-    requires ready { All (IsReady manager.now.turn) lanes.old }
+    requires ready { All (IsReadyLane manager.now.turn) lanes.old }
     requires fit { All IsFit lines.now }
-    ensures passed { PassedAll G.log G.faults manager.now.shelf lines.now lanes.old lanes.new }
+    ensures passed { PassedAll G.log G.faults manager.now.manifests lines.now lanes.old lanes.new }
 {
     work_all(rt, alloc, manager, lanes, lines);
     meet_all(manager, lanes);
@@ -69,7 +69,7 @@ fn perform_phases<R: Threads + Wait + Sync, G: Gates + Send>(
 )
     requires lanes { AreLanes manager.now.turn lanes.old }
     requires fit { All (All IsFit) phases.now }
-    ensures ran { LanesRan G.log G.faults manager.now.shelf phases.now lanes.old lanes.new }
+    ensures ran { LanesRan G.log G.faults manager.now.manifests phases.now lanes.old lanes.new }
 {
     meet_all(manager, lanes);
     for phase in phases {
@@ -87,7 +87,7 @@ pub(crate) fn run_all<R: Threads + Wait + Sync, G: Gates + Send>(
 ) -> Vec<Lane<G>>
     requires lanes { AreLanes manager.now.turn lanes.items }
     requires fit { All (All IsFit) phases.now }
-    ensures ran { LanesRan G.log G.faults manager.now.shelf phases.now lanes.items result.items }
+    ensures ran { LanesRan G.log G.faults manager.now.manifests phases.now lanes.items result.items }
 {
     let mut lanes = lanes;
     perform_phases(rt, alloc, manager, lanes.as_mut_slice(), phases);

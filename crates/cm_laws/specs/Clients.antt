@@ -1,3 +1,4 @@
+-- Promised.
 -- Clients stop before what they depend on.
 use Rattle.std.specs.Prelude.{◌≡◌, ℕ, List, Option, Some, None, IsTrue}
 use Rattle.cm_world.specs.declared.frame.Frame.{Frame}
@@ -10,7 +11,7 @@ use Rattle.cm_world.specs.Rows.{is_below, is_shut}
 use Rattle.cm_world.specs.Stopping.{outermost}
 use Rattle.cm_world.specs.Clients.{IsClient}
 use Rattle.cm_world.specs.World.{World, start}
-use Rattle.cm_world.specs.Legal.{Legal, replay}
+use Rattle.cm_world.specs.Legal.{replay}
 use Rattle.cm_laws.specs.Lasting.{OfEachEntry}
 
 -- the instance that a pick picks: one to be stopped, or one that was off and is shut
@@ -31,8 +32,4 @@ pub record HasClientsShut (w : World) (y : ℕ) : Type 0 where
 abbrev pub PicksClientsFirst : Frame → List Entry → Type 0
 PicksClientsFirst f es =
     OfEachEntry
-    (λ front e. (y : ℕ) → picked_by e.event e.reply ≡ Some y → HasClientsShut (replay (start f) front) y) es
-
--- in every legal history clients stop before what they depend on
-abbrev pub ClientsStopFirst : Type 0
-ClientsStopFirst = (f : Frame) (es : List Entry) → Legal (start f) es → PicksClientsFirst f es
+    (λ prefix e. (y : ℕ) → picked_by e.event e.reply ≡ Some y → HasClientsShut (replay (start f) prefix) y) es

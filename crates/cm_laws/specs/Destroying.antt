@@ -1,4 +1,6 @@
+-- Promised.
 -- What holds of the instances that are destroyed: from then on they are named as gone.
+-- ---- what entries name
 use Rattle.std.specs.Prelude.{◌≡◌, ◌⊎◌, ℕ, ◌<◌, Bool, true, false, IsTrue, Option, Some, None}
 use Rattle.std.specs.Prelude.{List, [], ◌∷◌, ◌++◌, map, Contains}
 use Rattle.cm_names.specs.declared.moniker.Moniker.{Moniker}
@@ -18,10 +20,7 @@ use Rattle.cm_world.specs.Rows.{is_live, is_gone, is_below}
 use Rattle.cm_world.specs.Find.{found_from}
 use Rattle.cm_world.specs.World.{World, start}
 use Rattle.cm_world.specs.After.{dooms}
-use Rattle.cm_world.specs.Legal.{Legal, replay}
-use Rattle.cm_laws.specs.Lasting.{OfEachEntry}
-
--- ---- what entries name
+use Rattle.cm_world.specs.Legal.{replay}
 
 -- the instance that provides, if it is one
 abbrev pub incs_of_provider : Provider → List ℕ
@@ -100,11 +99,11 @@ is_removing _ = false
 -- one of these entries doomed the row: it was marked to be destroyed, or it went with an instance that
 -- stopped
 pub record IsDoomed (f : Frame) (es : List Entry) (i : ℕ) : Type 0 where
-  pub front : List Entry
+  pub prefix : List Entry
   pub entry : Entry
   pub rest : List Entry
-  pub whole : es ≡ front ++ entry ∷ rest
-  pub dooms : IsTrue (dooms (replay (start f) front) entry i)
+  pub whole : es ≡ prefix ++ entry ∷ rest
+  pub dooms : IsTrue (dooms (replay (start f) prefix) entry i)
 
 -- at some time the row was at or below one that had been doomed
 pub record IsDestroyed (f : Frame) (es : List Entry) (i : ℕ) : Type 0 where
@@ -149,9 +148,9 @@ pub record IsForgotten (w : World) (e : Entry) (i : ℕ) : Type 0 where
   pub named : Contains (named_in e.reply) i → e.reply ≡ reply.Gone i
 
 -- what was destroyed before an entry is gone for it, and what was removed is forgotten
-pub record KeepsGone (f : Frame) (front : List Entry) (e : Entry) : Type 0 where
-  pub destroyed : (i : ℕ) → IsDestroyed f front i → IsShunned (replay (start f) front) e i
-  pub purged : (i : ℕ) → IsPurged front i → IsForgotten (replay (start f) front) e i
+pub record KeepsGone (f : Frame) (prefix : List Entry) (e : Entry) : Type 0 where
+  pub destroyed : (i : ℕ) → IsDestroyed f prefix i → IsShunned (replay (start f) prefix) e i
+  pub purged : (i : ℕ) → IsPurged prefix i → IsForgotten (replay (start f) prefix) e i
 
 -- in the tree that is left, what was destroyed is gone, what was removed is no more, and no moniker finds
 -- either
@@ -164,12 +163,3 @@ pub record LeavesGone (f : Frame) (es : List Entry) : Type 0 where
       → found_from (replay (start f) es).rows 0 [] m.parts ≡ reply.Found i → ⊥
 
 -- ---- the laws
-
--- a row that is doomed is destroyed from then on
-abbrev pub DoomedAreDestroyed : Type 0
-DoomedAreDestroyed =
-    (f : Frame) (es : List Entry) (i : ℕ) → Legal (start f) es → IsDoomed f es i → IsDestroyed f es i
-
--- and what is destroyed stays gone
-abbrev pub DestroyedStayGone : Type 0
-DestroyedStayGone = (f : Frame) (es : List Entry) → Legal (start f) es → OfEachEntry (KeepsGone f) es

@@ -1,13 +1,14 @@
+-- Promised.
 -- All that holds of every legal history, in one.
 use Rattle.std.specs.Prelude.{ℕ, List}
 use Rattle.cm_world.specs.declared.frame.Frame.{Frame}
 use Rattle.cm_world.specs.declared.reply.Entry.{Entry}
 use Rattle.cm_world.specs.World.{start}
-use Rattle.cm_world.specs.Legal.{Legal, replay}
+use Rattle.cm_world.specs.Legal.{replay}
 use Rattle.cm_world.specs.Sound.{IsSound}
 use Rattle.cm_laws.specs.Lasting.{OfEachEntry, HasStableRoutes, HasOneOutcome}
 use Rattle.cm_laws.specs.Clients.{PicksClientsFirst}
-use Rattle.cm_laws.specs.Shutdowns.{MarksHold, DoneStaysShut, GoesOn}
+use Rattle.cm_laws.specs.Shutdowns.{MarksHold, DoneStaysShut, ShutdownGoesOn}
 use Rattle.cm_laws.specs.Destroying.{IsDoomed, IsDestroyed, KeepsGone, LeavesGone}
 
 -- a legal history keeps these laws
@@ -23,7 +24,7 @@ pub record KeepsLaws (f : Frame) (es : List Entry) : Type 0 where
   -- what a pick found done stays shut
   pub done : DoneStaysShut f es
   -- a shutdown never comes to a dead end
-  pub goes_on : GoesOn f es
+  pub goes_on : ShutdownGoesOn f es
   -- what an entry dooms is destroyed, and what is destroyed stays gone
   pub doomed : (i : ℕ) → IsDoomed f es i → IsDestroyed f es i
   pub destroyed : OfEachEntry (KeepsGone f) es
@@ -31,7 +32,3 @@ pub record KeepsLaws (f : Frame) (es : List Entry) : Type 0 where
   pub left : LeavesGone f es
   -- the tree that is left is sound
   pub sound : IsSound (replay (start f) es).rows (replay (start f) es).next_inc
-
--- every legal history does
-abbrev pub HistoriesKeepLaws : Type 0
-HistoriesKeepLaws = (f : Frame) (es : List Entry) → Legal (start f) es → KeepsLaws f es

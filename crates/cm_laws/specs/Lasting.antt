@@ -1,3 +1,4 @@
+-- Promised.
 -- What holds of every legal history: of the routes that were opened in it, and of its actions' outcomes.
 use Rattle.std.specs.Prelude.{◌≡◌, ℕ, List, ◌∷◌, ◌++◌, map, All, Contains, Option, Some, None, IsTrue}
 use Rattle.cm_names.specs.Rights.{RightSet, contains}
@@ -18,11 +19,11 @@ use Rattle.cm_world.specs.Rows.{is_on}
 use Rattle.cm_world.specs.World.{World, start}
 use Rattle.cm_world.specs.Stations.{Station}
 use Rattle.cm_world.specs.Route.{IsRoute, last_of, provider_of}
-use Rattle.cm_world.specs.Legal.{Legal, replay}
+use Rattle.cm_world.specs.Legal.{replay}
 
 -- it holds of each entry, with the entries before it
 abbrev pub OfEachEntry : (List Entry → Entry → Type 0) → List Entry → Type 0
-OfEachEntry P es = (front rest : List Entry) (e : Entry) → es ≡ front ++ e ∷ rest → P front e
+OfEachEntry P es = (prefix rest : List Entry) (e : Entry) → es ≡ prefix ++ e ∷ rest → P prefix e
 
 -- ---- routes
 
@@ -59,7 +60,7 @@ pub record IsStable (w : World) (event : Event) (r : Route) : Type 0 where
 abbrev pub HasStableRoutes : Frame → List Entry → Type 0
 HasStableRoutes f es =
     OfEachEntry
-    (λ front e. (r : Route) → e.reply ≡ reply.Opened r → IsStable (replay (start f) front) e.event r) es
+    (λ prefix e. (r : Route) → e.reply ≡ reply.Opened r → IsStable (replay (start f) prefix) e.event r) es
 
 -- ---- actions
 
@@ -105,28 +106,20 @@ pub record IsAwaited (es : List Entry) (a : ℕ) (r : Reply) : Type 0 where
   pub replied : r ≡ reply.Ended outcome
 
 -- what an entry says of actions fits the entries before it
-pub record KeepsOutcomes (front : List Entry) (e : Entry) : Type 0 where
+pub record KeepsOutcomes (prefix : List Entry) (e : Entry) : Type 0 where
   -- no action begins twice, and none ends twice
   pub begins_once :
-      (a : ℕ) (x : Entry) → begun_by e.reply ≡ Some a → Contains front x → begun_by x.reply ≡ Some a → ⊥
+      (a : ℕ) (x : Entry) → begun_by e.reply ≡ Some a → Contains prefix x → begun_by x.reply ≡ Some a → ⊥
   pub ends_once :
-      (a : ℕ) (x : Entry) → ended_by e.event ≡ Some a → Contains front x → ended_by x.event ≡ Some a → ⊥
+      (a : ℕ) (x : Entry) → ended_by e.event ≡ Some a → Contains prefix x → ended_by x.event ≡ Some a → ⊥
   -- what ends began, and for the same caller; what is joined began
-  pub ends_own : (a : ℕ) → ended_by e.event ≡ Some a → IsBegun front a e.caller
-  pub joins_begun : (a : ℕ) → joined_by e.reply ≡ Some a → (caller : ℕ) × IsBegun front a caller
+  pub ends_own : (a : ℕ) → ended_by e.event ≡ Some a → IsBegun prefix a e.caller
+  pub joins_begun : (a : ℕ) → joined_by e.reply ≡ Some a → (caller : ℕ) × IsBegun prefix a caller
   -- an await gets the outcome of the end
-  pub awaits_end : (a : ℕ) → awaited_by e.event ≡ Some a → IsAwaited front a e.reply
+  pub awaits_end : (a : ℕ) → awaited_by e.event ≡ Some a → IsAwaited prefix a e.reply
 
 -- each action begins once and ends at most once, and everyone gets the one outcome
 abbrev pub HasOneOutcome : List Entry → Type 0
 HasOneOutcome es = OfEachEntry KeepsOutcomes es
 
 -- ---- the laws
-
--- the opened routes of every legal history are stable
-abbrev pub RoutesAreStable : Type 0
-RoutesAreStable = (f : Frame) (es : List Entry) → Legal (start f) es → HasStableRoutes f es
-
--- and each of its actions has one outcome
-abbrev pub OutcomesAreOne : Type 0
-OutcomesAreOne = (f : Frame) (es : List Entry) → Legal (start f) es → HasOneOutcome es

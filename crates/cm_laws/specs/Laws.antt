@@ -1,3 +1,4 @@
+-- Inside.
 -- Laws of begins: who may end what was begun, and who may await it.
 use Rattle.std.specs.Prelude.{◌≡◌, ℕ, List, [], filter, ◌==◌, IsTrue}
 use Rattle.std.specs.List.{list_any}
@@ -11,7 +12,7 @@ use Rattle.cm_world.specs.World.{World}
 use Rattle.cm_world.specs.End.{fits_kind, HasValid}
 use Rattle.cm_world.specs.Step.{MayEnd, is_join}
 use Rattle.cm_world.specs.Legal.{Legal, replay}
-use Rattle.cm_laws.specs.Story.{Story, world_of, Tells}
+use Rattle.cm_laws.specs.Story.{Story, world_of, AddsEntry}
 
 -- none of these entries is the caller's
 abbrev pub AreOthers : ℕ → List Entry → Type 0
@@ -25,13 +26,14 @@ IsJoined w caller a = IsTrue (list_any (is_join caller a) w.joins)
 abbrev pub BeginnersMayEnd : Type 0
 BeginnersMayEnd =
     (old new : Story) (caller i : ℕ) (kind : ActKind) (work : Work) (finish : Finish)
-    → Tells old new caller (Begin kind i) (reply.Begun work) → IsTrue (fits_kind kind finish)
+    → AddsEntry old new caller (Begin kind i) (reply.Begun work) → IsTrue (fits_kind kind finish)
     → HasValid finish → MayEnd (world_of new).acts caller work.action finish
 
 -- who joined an action is joined then
 abbrev pub JoinersAreJoined : Type 0
 JoinersAreJoined =
-    (old new : Story) (caller i a : ℕ) (kind : ActKind) → Tells old new caller (Begin kind i) (reply.Joined a)
+    (old new : Story) (caller i a : ℕ) (kind : ActKind)
+    → AddsEntry old new caller (Begin kind i) (reply.Joined a)
     → IsJoined (world_of new) caller a
 
 -- and neither is changed by what others do

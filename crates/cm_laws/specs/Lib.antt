@@ -2,7 +2,12 @@ pub mod Story
 pub mod Tasks
 pub mod Laws
 pub mod Lasting
+pub mod LastingInside
 pub mod Shutdowns
+pub mod ShutdownsInside
 pub mod Clients
+pub mod ClientsInside
 pub mod Destroying
+pub mod DestroyingInside
 pub mod Histories
+pub mod HistoriesInside

@@ -1,31 +1,16 @@
+-- Promised.
 -- What holds of trees in which instances are shut down and destroyed.
-use Rattle.std.specs.Prelude.{◌≡◌, ℕ, ◌<◌, List, ◌∷◌, ◌++◌, Contains, Bool, true, false, not, ◌||◌, Some}
+use Rattle.std.specs.Prelude.{◌≡◌, ℕ, ◌<◌, List, ◌∷◌, ◌++◌, Bool, true, false, not, ◌||◌, Some}
 use Rattle.std.specs.Prelude.{IsTrue, ◌⊎◌}
 use Rattle.cm_world.specs.declared.frame.Frame.{Frame}
 use Rattle.cm_world.specs.declared.row.Row.{Row}
-use Rattle.cm_world.specs.declared.action.ActKind.TheVariants.{Stop}
-use Rattle.cm_world.specs.declared.action.Finish.{Finish}
-use Rattle.cm_world.specs.declared.action.Work.{Work}
-use Rattle.cm_world.specs.declared.event.Event.TheVariants.{Mark, Pick, Reap}
-use Rattle.cm_world.specs.declared.reply.Reply.{Reply}
+use Rattle.cm_world.specs.declared.event.Event.TheVariants.{Mark, Pick}
 use Rattle.cm_world.specs.declared.reply.Reply.TheVariants as reply
 use Rattle.cm_world.specs.declared.reply.Entry.{Entry}
 use Rattle.cm_world.specs.Rows.{row_of, is_live, has_closing, has_doomed, is_closing, is_subtree_shut}
 use Rattle.cm_world.specs.World.{World, start}
-use Rattle.cm_world.specs.Sound.{IsSound}
-use Rattle.cm_world.specs.Legal.{Legal, replay}
-use Rattle.cm_world.specs.End.{fits_kind, HasValid}
-use Rattle.cm_world.specs.Step.{MayEnd, may_close, may_purge}
+use Rattle.cm_world.specs.Legal.{replay}
 use Rattle.cm_order.specs.Laws.{CanStop}
-use Rattle.cm_laws.specs.Story.{Story, world_of, IsLegal, Tells}
-
--- the tree that a legal history leaves is sound
-abbrev pub TreesStaySound : Type 0
-TreesStaySound =
-    (f : Frame) (es : List Entry) → Legal (start f) es
-    → IsSound (replay (start f) es).rows (replay (start f) es).next_inc
-
--- ---- marks
 
 -- a row that was once there, and is marked to be shut down or has left the tree
 pub record IsLeaving (w : World) (i : ℕ) : Type 0 where
@@ -41,90 +26,29 @@ pub record IsDying (w : World) (i : ℕ) : Type 0 where
 abbrev pub IsMarked : Bool → World → ℕ → Type 0
 IsMarked doom w i = IsLeaving w i × (doom ≡ true → IsDying w i)
 
--- behind a mark, new or old, the row is marked
-abbrev pub MarksMark : Type 0
-MarksMark =
-    (old new : Story) (caller i : ℕ) (doom : Bool) (r : Reply) → IsLegal old
-    → Tells old new caller (Mark doom i) r
-    → (r ≡ reply.Marked) ⊎ (r ≡ reply.Already) → IsMarked doom (world_of new) i
-
--- and it stays so
-abbrev pub MarksStay : Type 0
-MarksStay =
-    (w : World) (es : List Entry) (i : ℕ) (doom : Bool) → Legal w es → IsMarked doom w i
-    → IsMarked doom (replay w es) i
-
 -- behind an entry that marks a row, or finds it marked, it is marked, then and in each later tree
 abbrev pub MarksHold : Frame → List Entry → Type 0
 MarksHold f es =
-    (front mid rest : List Entry) (e : Entry) (i : ℕ) (doom : Bool) → es ≡ front ++ e ∷ (mid ++ rest)
+    (prefix mid rest : List Entry) (e : Entry) (i : ℕ) (doom : Bool) → es ≡ prefix ++ e ∷ (mid ++ rest)
     → e.event ≡ Mark doom i → (e.reply ≡ reply.Marked) ⊎ (e.reply ≡ reply.Already)
-    → IsMarked doom (replay (start f) (front ++ e ∷ mid)) i
-
--- what a reap names is marked to be destroyed
-abbrev pub ReapsMarked : Type 0
-ReapsMarked =
-    (old new : Story) (caller i c : ℕ) (incs : List ℕ) → IsLegal old
-    → Tells old new caller (Reap i) (reply.Reaping incs) → Contains incs c → IsMarked true (world_of new) c
-
--- a pick may be made for it
-abbrev pub MarkedMayClose : Type 0
-MarkedMayClose = (w : World) (i : ℕ) (doom : Bool) → IsMarked doom w i → IsTrue (may_close w.rows i)
-
--- ---- what is shut
-
--- all rows at and below one that is leaving are shut
-pub record IsOver (w : World) (i : ℕ) : Type 0 where
-  pub leaving : IsLeaving w i
-  pub shut : IsTrue (is_subtree_shut w.rows i)
-
--- where a pick replies that all is done, it is
-abbrev pub DoneIsOver : Type 0
-DoneIsOver =
-    (old new : Story) (caller i : ℕ) → IsLeaving (world_of old) i → Tells old new caller (Pick i) reply.Done
-    → IsOver (world_of new) i
-
--- and it stays so
-abbrev pub OverStays : Type 0
-OverStays =
-    (f : Frame) (es fs : List Entry) (i : ℕ) → Legal (start f) (es ++ fs)
-    → IsOver (replay (start f) es) i → IsOver (replay (start f) (es ++ fs)) i
-
--- what is to be destroyed may be removed then
-abbrev pub OverMayPurge : Type 0
-OverMayPurge = (w : World) (i : ℕ) → IsMarked true w i → IsOver w i → IsTrue (may_purge w.rows i)
+    → IsMarked doom (replay (start f) (prefix ++ e ∷ mid)) i
 
 -- behind a pick that replied that all is done, all rows at and below its target are shut, then and in each
 -- later tree, whether the target itself is marked or one above it; an incarnation that no row had had yet
 -- isn't spoken of
 abbrev pub DoneStaysShut : Frame → List Entry → Type 0
 DoneStaysShut f es =
-    (front mid rest : List Entry) (e : Entry) (t : ℕ) → es ≡ front ++ e ∷ (mid ++ rest)
-    → e.event ≡ Pick t → e.reply ≡ reply.Done → t < (replay (start f) front).next_inc
-    → IsTrue (is_subtree_shut (replay (start f) (front ++ e ∷ mid)).rows t)
+    (prefix mid rest : List Entry) (e : Entry) (t : ℕ) → es ≡ prefix ++ e ∷ (mid ++ rest)
+    → e.event ≡ Pick t → e.reply ≡ reply.Done → t < (replay (start f) prefix).next_inc
+    → IsTrue (is_subtree_shut (replay (start f) (prefix ++ e ∷ mid)).rows t)
 
 -- ---- no dead end
 
--- in the tree that a legal history leaves, where a row at or below a closing one isn't shut, some such row
--- may stop
-abbrev pub ShutdownsGoOn : Type 0
-ShutdownsGoOn =
-    (f : Frame) (es : List Entry) (i : ℕ) (r : Row) → Legal (start f) es
-    → row_of (replay (start f) es).rows i ≡ Some r → IsTrue (is_closing (replay (start f) es).rows i)
-    → r.shut ≡ false → CanStop (replay (start f) es).rows i
-
 -- in each tree on the way, where a row at or below a closing one isn't shut, some such row may stop
-abbrev pub GoesOn : Frame → List Entry → Type 0
-GoesOn f es =
-    (front rest : List Entry) (i : ℕ) (r : Row) → es ≡ front ++ rest
-    → row_of (replay (start f) front).rows i ≡ Some r → IsTrue (is_closing (replay (start f) front).rows i)
-    → r.shut ≡ false → CanStop (replay (start f) front).rows i
+abbrev pub ShutdownGoesOn : Frame → List Entry → Type 0
+ShutdownGoesOn f es =
+    (prefix rest : List Entry) (i : ℕ) (r : Row) → es ≡ prefix ++ rest
+    → row_of (replay (start f) prefix).rows i ≡ Some r → IsTrue (is_closing (replay (start f) prefix).rows i)
+    → r.shut ≡ false → CanStop (replay (start f) prefix).rows i
 
 -- ---- stops
-
--- who picked an instance to be stopped may end its stop then
-abbrev pub PickersMayEnd : Type 0
-PickersMayEnd =
-    (old new : Story) (caller target : ℕ) (work : Work) (finish : Finish)
-    → Tells old new caller (Pick target) (reply.Stopping work) → IsTrue (fits_kind Stop finish)
-    → HasValid finish → MayEnd (world_of new).acts caller work.action finish

@@ -1,3 +1,4 @@
+-- Inside.
 -- A history, and what an entry more does to it.
 use Rattle.std.specs.Prelude.{◌≡◌, ℕ, List, [], ◌∷◌, ◌++◌}
 use Rattle.cm_world.specs.declared.event.Event.{Event}
@@ -25,7 +26,7 @@ abbrev pub entry_of : ℕ → Event → Reply → Entry
 entry_of caller event reply = record { caller = caller; event = event; reply = reply }
 
 -- one entry more, which the tree allows
-pub record Tells (old new : Story) (caller : ℕ) (event : Event) (reply : Reply) : Type 0 where
+pub record AddsEntry (old new : Story) (caller : ℕ) (event : Event) (reply : Reply) : Type 0 where
   pub entries : new.entries ≡ old.entries ++ entry_of caller event reply ∷ []
   pub frame : new.frame ≡ old.frame
   pub step : IsStep (world_of old) (entry_of caller event reply)

@@ -1,3 +1,4 @@
+-- Inside.
 -- Which action is pending where.
 use Rattle.std.specs.Prelude.{◌≡◌, ℕ, ◌+◌, List, [], ◌∷◌, Some, None}
 use Rattle.cm_world.specs.declared.row.Row.{Row}

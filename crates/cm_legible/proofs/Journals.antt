@@ -1,4 +1,4 @@
--- The journal of a legal history is legal, whatever lines stand in front of it.
+-- The journal of a legal history is legal, whatever lines stand before it.
 use Rattle.std.proofs.Common.{◌≡◌, ℕ, ◌+◌, ◌-◌, ◌<◌, ◌≤◌, ◌^◌, List, [], ◌∷◌, ◌++◌, map, flat_map, length, true, false, not, ◌&&◌, ◌==◌, nat_le, Option, Some, None, All, IsTrue, decimal, refl, sym, ap, subst, ◌∙◌, arith, rules, codes, append_assoc, append-nil, length-append}
 use Rattle.std.specs.Prelude.{IfSome}
 use Rattle.std.specs.List.{list_all}
@@ -25,13 +25,14 @@ use Rattle.cm_world.specs.Legal.{IsStep, Legal, replay}
 use Rattle.cm_world.proofs.trees.Histories.{Legal-split}
 use Rattle.cm_command.specs.Scripts.{lines_of}
 use Rattle.cm_command.specs.Words.{IsUrlText}
-use Rattle.cm_command.specs.Written.{IsGive, HasParts}
+use Rattle.cm_command.specs.Written.{IsWritableGive, HasParts}
 use Rattle.cm_command.proofs.bytes.Pieces.{Lacks, lines_at}
-use Rattle.cm_reply.specs.Lists.{Text}
+use Rattle.cm_reply.specs.Lists.{TextBytes}
 use Rattle.cm_reply.specs.Events.{event_text}
 use Rattle.cm_reply.specs.Replies.{replied_text}
 use Rattle.cm_reply.specs.Journal.{entry_text, builtin_text, builtin_line, line, entries_text, journal_text}
-use Rattle.cm_reply.specs.Legible.{IsLongPath, IsLegible, IsLegibleFinish, IsLegibleEntry, IsLegibleBuiltin, IsLegibleAs, IsLegibleFrame}
+use Rattle.cm_reply.specs.Legible.{IsLegible, IsLegibleFinish, IsLegibleBuiltin, IsLegibleAs}
+use Rattle.cm_reply.specs.LegibleInside.{IsLongPath, IsLegibleEntry, IsLegibleFrame}
 use Rattle.cm_audit.specs.Journal.{frame_of, Stage, before, head as heads, told, Reads, ReadsAll}
 use Rattle.cm_audit.specs.Laws.{IsLegibleHistory, JournalsAreLegal}
 use Rattle.cm_legible.specs.Frames.{with_room}
@@ -47,7 +48,7 @@ use Rattle.cm_legible.proofs.Back.{entries_are_read_back}
 
 -- ---- what is legible can be told of
 
-url_is : (t : Text) → IsUrlText t → IsTrue (is_url_text t)
+url_is : (t : TextBytes) → IsUrlText t → IsTrue (is_url_text t)
 url_is t h =
     and_both (not (length t == 0) && nat_le (length t) 4096) (list_all is_url_byte t)
     (and_both (not (length t == 0)) (nat_le (length t) 4096) (some (length t) h.some) (few (length t) h.short)) (url_bytes t h.bytes)
@@ -62,25 +63,25 @@ path_at : (k : Kind) (b : Builtin) → IsName b.name → IsLegibleAs k b → IsL
 path_at kind.Protocol b n h = subst IsLongPath (sym h.0) (service_is_long b.name n)
 path_at kind.Directory b n h = path_is_long b.path h.0
 
-may_subdir : (k : Kind) (o : Option Text) → MayHave k o IsSubDir → IfSome o (λ t. IsTrue (Rattle.cm_names.specs.Path.is_subdir t))
+may_subdir : (k : Kind) (o : Option TextBytes) → MayHave k o IsSubDir → IfSome o (λ t. IsTrue (Rattle.cm_names.specs.Path.is_subdir t))
 may_subdir kind.Protocol o h = subst (λ x. IfSome x (λ t. IsTrue (Rattle.cm_names.specs.Path.is_subdir t))) (sym h) tt
 may_subdir kind.Directory None h = tt
 may_subdir kind.Directory (Some t) h = h
 
 decl_is : (d : Decl) → IsReadable d → IsTellableDecl d
 decl_is d h = record {
-  children = λ k x lt. (let c : readable.IsChild _ = h.children.each k x lt in record { name = c.name; url = c.url });
+  children = λ k x lt. (let c : readable.IsChildRow _ = h.children.each k x lt in record { name = c.name; url = c.url });
   capabilities = λ k x lt. (let c : readable.IsCapability _ = h.capabilities.each k x lt in c.path);
   uses = λ k x lt. (let u : readable.IsUsage _ = h.uses.each k x lt in record { name = u.name; path = u.path; subdir = may_subdir _ _ u.subdir });
   offers = λ k x lt. (let o : readable.IsOffer _ = h.offers.each k x lt in record { name = o.give.source_name; subdir = may_subdir _ _ o.give.subdir });
   exposes = λ k x lt. (let o : readable.IsExpose _ = h.exposes.each k x lt in record { name = o.give.source_name; subdir = may_subdir _ _ o.give.subdir });
 }
 
-parts_subdir : (k : Kind) (r : Option _) (s : Option Text) → HasParts k r s → IfSome s (λ t. IsTrue (Rattle.cm_names.specs.Path.is_subdir t))
+parts_subdir : (k : Kind) (r : Option _) (s : Option TextBytes) → HasParts k r s → IfSome s (λ t. IsTrue (Rattle.cm_names.specs.Path.is_subdir t))
 parts_subdir kind.Protocol r s h = subst (λ o. IfSome o (λ t. IsTrue (Rattle.cm_names.specs.Path.is_subdir t))) (sym h.1) tt
 parts_subdir kind.Directory r s h = h.1
 
-give_is : (g : Give) → IsGive g → IsTellableGive g
+give_is : (g : Give) → IsWritableGive g → IsTellableGive g
 give_is g h = record { name = h.source_name; subdir = parts_subdir g.kind g.rights g.subdir h.parts }
 
 finish_is : (f : Finish) → IsLegibleFinish f → IsTellableFinish f
@@ -98,7 +99,7 @@ frame_is f h = record { root = url_is f.root h.root; builtins = λ k x lt. (let 
 
 -- ---- lines
 
-pub lacks : (t : Text) → OneLine t → Lacks 10 t
+pub lacks : (t : TextBytes) → OneLine t → Lacks 10 t
 lacks [] h = none (λ b. (b == 10) ≡ false)
 lacks (b ∷ bs) h =
     let both = and_parts (is_inner b) (list_all is_inner bs) h in All-cons (λ b. (b == 10) ≡ false) b bs (byte b both.0) (lacks bs both.1)
@@ -106,17 +107,17 @@ lacks (b ∷ bs) h =
     byte : (b : ℕ) → is_inner b ≡ true → (b == 10) ≡ false
     byte b h = grind (arith, rules)
 
-lines_back : (ts : List Text) → All (Lacks 10) ts → lines_of (flat_map line ts) ≡ ts
+lines_back : (ts : List TextBytes) → All (Lacks 10) ts → lines_of (flat_map line ts) ≡ ts
 lines_back [] h = refl
 lines_back (t ∷ ts) h =
     ap lines_of (append_assoc t (10 ∷ []) (flat_map line ts)) ∙ lines_at t (flat_map line ts) (head (Lacks 10) t ts h) ∙ ap (λ xs. t ∷ xs) (lines_back ts (tail (Lacks 10) t ts h))
 
-entry_lines : ℕ → List Entry → List Text
+entry_lines : ℕ → List Entry → List TextBytes
 entry_lines n [] = []
 entry_lines n (e ∷ es) = entry_text n e ∷ entry_lines (n + 1) es
 
 -- the lines of a journal
-journal_lines : Frame → List Entry → List Text
+journal_lines : Frame → List Entry → List TextBytes
 journal_lines f es = codes "journal" ∷ (map builtin_text f.builtins ++ (codes "root " ++ f.root) ∷ entry_lines 1 es)
 
 entries_by_lines : (n : ℕ) (es : List Entry) → entries_text n es ≡ flat_map line (entry_lines n es)
@@ -124,7 +125,7 @@ unfolding entry_lines
 entries_by_lines n [] = refl
 entries_by_lines n (e ∷ es) = ap (λ t. line (entry_text n e) ++ t) (entries_by_lines (n + 1) es)
 
-flat_map-append : (xs ys : List Text) → flat_map line (xs ++ ys) ≡ flat_map line xs ++ flat_map line ys
+flat_map-append : (xs ys : List TextBytes) → flat_map line (xs ++ ys) ≡ flat_map line xs ++ flat_map line ys
 flat_map-append [] ys = refl
 flat_map-append (x ∷ xs) ys = ap (λ t. line x ++ t) (flat_map-append xs ys) ∙ sym (append_assoc (line x) (flat_map line xs) (flat_map line ys))
 
@@ -135,7 +136,7 @@ builtins_by_lines (b ∷ bs) = ap (λ t. builtin_line b ++ t) (builtins_by_lines
 journal_by_lines : (f : Frame) (es : List Entry) → journal_text f es ≡ flat_map line (journal_lines f es)
 unfolding journal_lines
 journal_by_lines f es =
-    let root : Text = codes "root " ++ f.root in
+    let root : TextBytes = codes "root " ++ f.root in
     let rest : flat_map line (map builtin_text f.builtins ++ root ∷ entry_lines 1 es) ≡ flat_map builtin_line f.builtins ++ (line root ++ entries_text 1 es) =
     flat_map-append (map builtin_text f.builtins) (root ∷ entry_lines 1 es) ∙ ap (λ t. t ++ flat_map line (root ∷ entry_lines 1 es)) (sym (builtins_by_lines f.builtins)) ∙ ap (λ t. flat_map builtin_line f.builtins ++ (line root ++ t)) (sym (entries_by_lines 1 es)) in
     append_assoc (line (codes "journal")) (flat_map builtin_line f.builtins ++ line root) (entries_text 1 es)
@@ -143,13 +144,13 @@ journal_by_lines f es =
 
 -- ---- reading
 
-reads-append : (s m u : Stage) (xs ys : List Text) → ReadsAll s xs m → ReadsAll m ys u → ReadsAll s (xs ++ ys) u
+reads-append : (s m u : Stage) (xs ys : List TextBytes) → ReadsAll s xs m → ReadsAll m ys u → ReadsAll s (xs ++ ys) u
 reads-append s m u [] ys h k = subst (λ z. ReadsAll z ys u) (sym h) k
 reads-append s m u (x ∷ xs) ys h k = (h.0, h.1, reads-append h.0 m u xs ys h.2 k)
 
-skipped : (ts : List Text) → All (λ (t : Text). t ≡ codes "journal" → ⊥) ts → ReadsAll before ts before
+skipped : (ts : List TextBytes) → All (λ (t : TextBytes). t ≡ codes "journal" → ⊥) ts → ReadsAll before ts before
 skipped [] h = refl
-skipped (t ∷ ts) h = (before, Reads.skips (head (λ (t : Text). t ≡ codes "journal" → ⊥) t ts h), skipped ts (tail (λ (t : Text). t ≡ codes "journal" → ⊥) t ts h))
+skipped (t ∷ ts) h = (before, Reads.skips (head (λ (t : TextBytes). t ≡ codes "journal" → ⊥) t ts h), skipped ts (tail (λ (t : TextBytes). t ≡ codes "journal" → ⊥) t ts h))
 
 builtins_read : (done bs : List Builtin) → All IsLegibleBuiltin bs → ReadsAll (heads done) (map builtin_text bs) (heads (done ++ bs))
 builtins_read done [] h = ap heads (sym (append-nil done))
@@ -221,18 +222,18 @@ same_frame : (f : Frame) → IsLegibleFrame f → with_room (2 ^ 64 - 1) f ≡ f
 same_frame f h = ap (λ (n : ℕ). let g : Frame = record { root = f.root; builtins = f.builtins; limits = record { rows = n; entries = 2 ^ 64 - 1 } } in g) h.rows
 
 pub journals_are_legal : JournalsAreLegal
-journals_are_legal front f es infront h legal k short =
+journals_are_legal prefix f es head_lines h legal k short =
     let g : Frame = frame_of f.builtins f.root in
     let entries : All IsLegibleEntry es = all_legible f es h legal k in
     let again : Legal (start g) es = subst (λ x. Legal (start x) es) (same_frame f h) (legal_whatever_room (2 ^ 64 - 1) f es legal).0 in
-    let whole : front ++ journal_text f es ≡ flat_map line (infront.lines ++ journal_lines f es) =
-    ap (λ t. t ++ journal_text f es) infront.whole ∙ ap (λ t. flat_map line infront.lines ++ t) (journal_by_lines f es) ∙ sym (flat_map-append infront.lines (journal_lines f es)) in
-    let parted : lines_of (front ++ journal_text f es) ≡ infront.lines ++ journal_lines f es =
-    ap lines_of whole ∙ lines_back (infront.lines ++ journal_lines f es) (All-append (Lacks 10) infront.lines (journal_lines f es) infront.clean (journal_lacks f es h entries)) in
+    let whole : prefix ++ journal_text f es ≡ flat_map line (head_lines.lines ++ journal_lines f es) =
+    ap (λ t. t ++ journal_text f es) head_lines.whole ∙ ap (λ t. flat_map line head_lines.lines ++ t) (journal_by_lines f es) ∙ sym (flat_map-append head_lines.lines (journal_lines f es)) in
+    let parted : lines_of (prefix ++ journal_text f es) ≡ head_lines.lines ++ journal_lines f es =
+    ap lines_of whole ∙ lines_back (head_lines.lines ++ journal_lines f es) (All-append (Lacks 10) head_lines.lines (journal_lines f es) head_lines.clean (journal_lacks f es h entries)) in
     record {
       frame = g;
       entries = es;
-      reads = subst (λ ts. ReadsAll before ts (told g es)) (sym parted) (reads-append before before (told g es) infront.lines (journal_lines f es) (skipped infront.lines infront.others) (reads_journal f es h again entries k.few));
+      reads = subst (λ ts. ReadsAll before ts (told g es)) (sym parted) (reads-append before before (told g es) head_lines.lines (journal_lines f es) (skipped head_lines.lines head_lines.others) (reads_journal f es h again entries k.few));
       short = short;
       counts = refl;
     }

@@ -7,7 +7,7 @@ use Rattle.std.proofs.lemmas.List.Splits.{join_with_byte-slice_split}
 use Rattle.cm_names.specs.Name.{IsName, begins_name, continues_name}
 use Rattle.cm_names.specs.Path.{is_path, is_subdir, is_relative, is_part, is_part_byte, is_slash, is_dots, service_path, joined_text, slash_and_text}
 use Rattle.cm_names.specs.Urls.{is_url_byte}
-use Rattle.cm_reply.specs.Legible.{IsLongPath}
+use Rattle.cm_reply.specs.LegibleInside.{IsLongPath}
 use Rattle.cm_legible.proofs.Lists.{head, tail}
 
 part_byte : (b : ℕ) → is_part_byte b ≡ true → is_url_byte b ≡ true
@@ -46,8 +46,8 @@ relative_prints t h =
 pub path_is_long : (t : List ℕ) → IsTrue (is_path t) → IsLongPath t
 path_is_long (b ∷ bs) h =
     let both = and_parts (nat_le (length (b ∷ bs)) 4096 && is_slash b) (is_relative bs) h in
-    let front = and_parts (nat_le (length (b ∷ bs)) 4096) (is_slash b) both.0 in
-    (bs, ap (λ c. c ∷ bs) (eqb-true b 47 front.1), relative_prints bs both.1)
+    let prefix = and_parts (nat_le (length (b ∷ bs)) 4096) (is_slash b) both.0 in
+    (bs, ap (λ c. c ∷ bs) (eqb-true b 47 prefix.1), relative_prints bs both.1)
 path_is_long [] h = absurd (Rattle.std.proofs.Common.true≢false (sym h))
 
 pub subdir_prints : (t : List ℕ) → IsTrue (is_subdir t) → list_all is_url_byte t ≡ true

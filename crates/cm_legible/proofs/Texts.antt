@@ -33,11 +33,11 @@ use Rattle.cm_world.specs.declared.route.Why.{Why}
 use Rattle.cm_world.specs.declared.route.Why.TheVariants as why
 use Rattle.cm_world.specs.declared.reply.Reply.{Reply}
 use Rattle.cm_world.specs.declared.reply.Reply.TheVariants as reply
-use Rattle.cm_reply.specs.Lists.{Text, each_behind, joined_by, bracketed, when, when_some}
+use Rattle.cm_reply.specs.Lists.{TextBytes, each_behind, joined_by, bracketed, when, when_some}
 use Rattle.cm_reply.specs.Routes.{step_word, hop_text, why_word, source_text, rights_words, route_text, failure_text, void_text}
 use Rattle.cm_reply.specs.States.{act_word, note_text, outcome_text, incarnation_text, resolved_word, on_word, pending_words, look_text, survey_text, kid_text}
 use Rattle.cm_reply.specs.Replies.{replied_text}
-use Rattle.cm_reply.specs.Legible.{IsOfNames, IsOfName, IsLongPath, IsLegibleProvider, IsLegibleRoute, IsLegibleSurvey, IsLegibleReply}
+use Rattle.cm_reply.specs.LegibleInside.{IsOfNames, IsOfName, IsLongPath, IsLegibleProvider, IsLegibleRoute, IsLegibleSurvey, IsLegibleReply}
 use Rattle.cm_legible.proofs.Lists.{head, tail}
 use Rattle.cm_legible.proofs.Paths.{and_both}
 use Rattle.cm_legible.proofs.Json.{OneLine, is_inner, one_line-append}
@@ -81,16 +81,16 @@ path_prints t h = subst Prints (sym h.1) (and_both (is_print 47) (list_all is_pr
 
 -- ---- a text that is told
 
-pub record IsTold (t : Text) : Type 0 where
+pub record IsTold (t : TextBytes) : Type 0 where
   pub line : OneLine t
   pub arrowless : Arrowless t
   pub utf8 : IsUtf8 t
 
-pub told_raw : (t : Text) → Clean t → IsTold t
+pub told_raw : (t : TextBytes) → Clean t → IsTold t
 told_raw t h = record { line = clean_line t h; arrowless = clean_arrowless t h; utf8 = IsUtf8-from_ascii t (ascii t (clean_prints t h)) }
 
 -- a path between spaces
-told_path : (a p b : Text) → Clean a → IsLongPath p → Clean b → IsTold (a ++ 32 ∷ (p ++ 32 ∷ b))
+told_path : (a p b : TextBytes) → Clean a → IsLongPath p → Clean b → IsTold (a ++ 32 ∷ (p ++ 32 ∷ b))
 unfolding is_print
 told_path a p b h k j = record {
   line = one_line-append a (32 ∷ (p ++ 32 ∷ b)) (clean_line a h) (and_both true (list_all is_inner (p ++ 32 ∷ b)) refl (one_line-append p (32 ∷ b) (path_line p k) (and_both true (list_all is_inner b) refl (clean_line b j))));
@@ -100,19 +100,19 @@ told_path a p b h k j = record {
 }
 
 -- a clean text, by its parts
-pub record Clear (t : Text) : Type 0 where
+pub record Clear (t : TextBytes) : Type 0 where
   pub bytes : Clean t
 
-pub lit : (t : Text) → Clean t → Clear t
+pub lit : (t : TextBytes) → Clean t → Clear t
 lit t h = record { bytes = h }
 
-pub join : {s t : Text} → Clear s → Clear t → Clear (s ++ t)
+pub join : {s t : TextBytes} → Clear s → Clear t → Clear (s ++ t)
 join {s} {t} h k = record { bytes = clean-append s t h.bytes k.bytes }
 
 pub num : (n : ℕ) → Clear (decimal n)
 num n = lit (decimal n) (decimal_clean n)
 
-pub told_clean : {t : Text} → Clear t → IsTold t
+pub told_clean : {t : TextBytes} → Clear t → IsTold t
 told_clean {t} h = told_raw t h.bytes
 
 -- ---- parts of replies
@@ -182,15 +182,15 @@ pub node_clear : (n : Node) → IsOfName n → Clear (node_text n)
 node_clear node.Own h = lit (codes "self") refl
 node_clear (node.Child c) h = lit (child_text c) (child_clean c h)
 
-pub behind_clear : {A : Type 0} (P : A → Type 0) (mark : Text) (text : A → Text) → Clear mark → ((x : A) → P x → Clear (text x)) → (xs : List A) → All P xs → Clear (each_behind mark text xs)
+pub behind_clear : {A : Type 0} (P : A → Type 0) (mark : TextBytes) (text : A → TextBytes) → Clear mark → ((x : A) → P x → Clear (text x)) → (xs : List A) → All P xs → Clear (each_behind mark text xs)
 behind_clear P mark text m each [] h = lit [] refl
 behind_clear P mark text m each (x ∷ xs) h = join (join m (each x (head P x xs h))) (behind_clear P mark text m each xs (tail P x xs h))
 
-pub joined_clear : {A : Type 0} (P : A → Type 0) (mark : Text) (text : A → Text) → Clear mark → ((x : A) → P x → Clear (text x)) → (xs : List A) → All P xs → Clear (joined_by mark text xs)
+pub joined_clear : {A : Type 0} (P : A → Type 0) (mark : TextBytes) (text : A → TextBytes) → Clear mark → ((x : A) → P x → Clear (text x)) → (xs : List A) → All P xs → Clear (joined_by mark text xs)
 joined_clear P mark text m each [] h = lit [] refl
 joined_clear P mark text m each (x ∷ xs) h = join (each x (head P x xs h)) (behind_clear P mark text m each xs (tail P x xs h))
 
-bracketed_clear : {A : Type 0} (P : A → Type 0) (text : A → Text) → ((x : A) → P x → Clear (text x)) → (xs : List A) → All P xs → Clear (bracketed text xs)
+bracketed_clear : {A : Type 0} (P : A → Type 0) (text : A → TextBytes) → ((x : A) → P x → Clear (text x)) → (xs : List A) → All P xs → Clear (bracketed text xs)
 bracketed_clear P text each [] h = lit [] refl
 bracketed_clear P text each (x ∷ xs) h = join (join (lit (codes " [") refl) (join (each x (head P x xs h)) (lit (codes "]") refl))) (bracketed_clear P text each xs (tail P x xs h))
 
@@ -202,7 +202,7 @@ on_raw : (b : Bool) → Clean (on_word b)
 on_raw true = refl
 on_raw false = refl
 
-when_clear : (b : Bool) {t : Text} → Clear t → Clear (when b t)
+when_clear : (b : Bool) {t : TextBytes} → Clear t → Clear (when b t)
 when_clear true h = h
 when_clear false h = lit [] refl
 
@@ -215,7 +215,7 @@ pending_clear : (o : Option ActKind) → Clear (when_some pending_words o)
 pending_clear None = lit [] refl
 pending_clear (Some k) = join (lit (codes " pending ") refl) (lit (act_word k) (act_raw k))
 
-state : (resolved on : Bool) {t : Text} → Clear t → Clear (resolved_word resolved ++ (on_word on ++ t))
+state : (resolved on : Bool) {t : TextBytes} → Clear t → Clear (resolved_word resolved ++ (on_word on ++ t))
 state resolved on h = join (lit (resolved_word resolved) (resolved_raw resolved)) (join (lit (on_word on) (on_raw on)) h)
 
 pub look_clear : (l : Look) → Clear (look_text l)
@@ -239,10 +239,10 @@ void_clear h k = join (lit (codes "void at ") refl) (hop_clear h k)
 -- ---- routes
 
 -- what stands behind a route's path
-behind_path : Route → Text
+behind_path : Route → TextBytes
 behind_path r = codes "at " ++ ((source_text r.provider ++ when_some rights_words r.rights) ++ (codes " through " ++ joined_by (codes ", ") hop_text r.hops))
 
-route_is : (a : Text) (r : Route) → a ++ (codes " " ++ route_text r) ≡ a ++ 32 ∷ (r.path ++ 32 ∷ behind_path r)
+route_is : (a : TextBytes) (r : Route) → a ++ (codes " " ++ route_text r) ≡ a ++ 32 ∷ (r.path ++ 32 ∷ behind_path r)
 unfolding behind_path
 route_is a r =
     ap (λ t. a ++ 32 ∷ t) (append_assoc r.path (codes " at " ++ (source_text r.provider ++ when_some rights_words r.rights)) (codes " through " ++ joined_by (codes ", ") hop_text r.hops))
@@ -252,11 +252,11 @@ unfolding behind_path
 behind_path_clear r h =
     join (lit (codes "at ") refl) (join (join (source_clear r.provider h.provider) (rights_if r.rights)) (join (lit (codes " through ") refl) (joined_clear (λ (x : Hop). IsOfNames x.moniker) (codes ", ") hop_text (lit (codes ", ") refl) hop_clear r.hops h.hops)))
 
-route_told : (a : Text) (r : Route) → Clean a → IsLegibleRoute r → IsTold (a ++ (codes " " ++ route_text r))
+route_told : (a : TextBytes) (r : Route) → Clean a → IsLegibleRoute r → IsTold (a ++ (codes " " ++ route_text r))
 route_told a r h k = subst IsTold (sym (route_is a r)) (told_path a r.path (behind_path r) h k.path (behind_path_clear r k).bytes)
 
 -- a word and a number
-numbered : (w : Text) (n : ℕ) → Clean w → IsTold (w ++ decimal n)
+numbered : (w : TextBytes) (n : ℕ) → Clean w → IsTold (w ++ decimal n)
 numbered w n h = told_clean (join (lit w h) (num n))
 
 -- ---- replies

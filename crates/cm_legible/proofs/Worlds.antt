@@ -2,7 +2,7 @@
 use Rattle.std.proofs.Common.{◌≡◌, ℕ, ◌+◌, List, [], ◌∷◌, Bool, true, false, cond, not, ◌&&◌, ◌==◌, Option, Some, None, All, IsTrue, sym, subst}
 use Rattle.std.specs.Prelude.{IfSome}
 use Rattle.std.proofs.lemmas.List.Elements.{All-cons, All-append, All-filter}
-use Rattle.cm_names.specs.Moniker.{IsChild}
+use Rattle.cm_names.specs.Moniker.{IsChildName}
 use Rattle.cm_names.specs.Urls.{is_url_text}
 use Rattle.cm_decl.specs.declared.decl.Decl.{Decl}
 use Rattle.cm_decl.specs.declared.rows.Child.{Child}
@@ -39,7 +39,7 @@ Leaves change = (r : Row) → IsTellableRow r → IsTellableRow (change r)
 -- a row with the same name, URL, declaration and gives
 same_row : (r s : Row) → s.name ≡ r.name → s.url ≡ r.url → s.decl ≡ r.decl → s.gives ≡ r.gives → IsTellableRow r → IsTellableRow s
 same_row r s name url decl gives h = record {
-  name = subst (λ o. IfSome o IsChild) (sym name) h.name;
+  name = subst (λ o. IfSome o IsChildName) (sym name) h.name;
   url = subst (λ t. IsTrue (is_url_text t)) (sym url) h.url;
   decl = subst (λ o. IfSome o IsTellableDecl) (sym decl) h.decl;
   gives = subst (All IsTellableGive) (sym gives) h.gives;

@@ -1,3 +1,4 @@
+-- Inside.
 -- What the begin of an action, and a pick, came to, in the turns of one caller.
 use Rattle.std.specs.Prelude.{◌≡◌, ◌≢◌, ℕ, List, Option, Some, None, Result, Ok, Err}
 use Rattle.std.specs.Prelude.{IsTrue, IsFalse}
@@ -14,28 +15,28 @@ use Rattle.cm_world.specs.declared.reply.Reply.{Reply}
 use Rattle.cm_world.specs.declared.reply.Reply.TheVariants as reply
 use Rattle.cm_world.specs.declared.answer.Refusal.{Refusal}
 use Rattle.cm_world.specs.Expiring.{is_stopped}
-use Rattle.cm_manager.specs.Turns.{Makes, Asks, IsCut}
-use Rattle.cm_manager.specs.Runs.{Acts, Eagers, is_quiet, is_started, needed}
+use Rattle.cm_manager.specs.Turns.{AddsOneEntry, AddsWithinRoom, EndsWithoutEntry}
+use Rattle.cm_manager.specs.Runs.{RunsAction, StartsEager, is_quiet, is_started, needed}
 use Rattle.cm_manager.specs.Sweeps.{Stops}
-use Rattle.cm_answers.specs.declared.acted.Acted.{Acted}
-use Rattle.cm_answers.specs.declared.acted.Acted.TheVariants as acted
+use Rattle.cm_answers.specs.declared.acted.ActionResult.{ActionResult}
+use Rattle.cm_answers.specs.declared.acted.ActionResult.TheVariants as acted
 use Rattle.cm_manager.specs.declared.began.Began.{Began}
 use Rattle.cm_manager.specs.declared.began.Began.TheVariants as began
 use Rattle.cm_manager.specs.declared.began.Launch.{Launch}
 use Rattle.cm_manager.specs.declared.began.Launch.TheVariants as launch
-use Rattle.cm_manager.specs.declared.began.Picked.{Picked}
-use Rattle.cm_manager.specs.declared.began.Picked.TheVariants as picked
+use Rattle.cm_manager.specs.declared.began.PickTurn.{PickTurn}
+use Rattle.cm_manager.specs.declared.began.PickTurn.TheVariants as picked
 use Rattle.cm_manager.specs.declared.began.Demand.{Demand}
 use Rattle.cm_manager.specs.declared.began.Demand.TheVariants as demand
 
 -- it was begun and ended; only a start ends in Started, and only a stop has stopped the row
-pub record Ends (f : Frame) (c : ℕ) (k : ActKind) (i a : ℕ) (o : Outcome) (eager : List ℕ)
+pub record EndsBegun (f : Frame) (c : ℕ) (k : ActKind) (i a : ℕ) (o : Outcome) (eager : List ℕ)
     (h₀ h₂ : List Entry) : Type 0 where
   pub work : Work
   pub finish : Finish
   pub h₁ : List Entry
-  pub asks : Asks f c h₀ (event.Begin k i) (reply.Begun work) h₁
-  pub makes : Makes c h₁ (event.End work.action finish) (reply.Ended o) h₂
+  pub asks : AddsWithinRoom f c h₀ (event.Begin k i) (reply.Begun work) h₁
+  pub makes : AddsOneEntry c h₁ (event.End work.action finish) (reply.Ended o) h₂
   pub action : a ≡ work.action
   pub children : k ≡ kind.Start → eager ≡ work.eager
   pub apart : k ≢ kind.Start → IsFalse (is_started o)
@@ -45,42 +46,43 @@ pub record Ends (f : Frame) (c : ℕ) (k : ActKind) (i a : ℕ) (o : Outcome) (e
 -- it was joined and awaited
 pub record Joins (f : Frame) (c : ℕ) (k : ActKind) (i a : ℕ) (o : Outcome) (h₀ h₂ : List Entry) : Type 0 where
   pub h₁ : List Entry
-  pub asks : Asks f c h₀ (event.Begin k i) (reply.Joined a) h₁
-  pub makes : Makes c h₁ (event.Await a) (reply.Ended o) h₂
+  pub asks : AddsWithinRoom f c h₀ (event.Begin k i) (reply.Joined a) h₁
+  pub makes : AddsOneEntry c h₁ (event.Await a) (reply.Ended o) h₂
 
 -- what a begin came to
-abbrev pub BeginsBy : Frame → ℕ → ActKind → ℕ → Result Began Refusal → List Entry → List Entry → Type 0
-BeginsBy f c k i (Ok (began.Ended a o eager)) h₀ h₁ = Ends f c k i a o eager h₀ h₁
-BeginsBy f c k i (Ok (began.Joined a o)) h₀ h₁ = Joins f c k i a o h₀ h₁
-BeginsBy f c k i (Ok (began.Quiet r)) h₀ h₁ = Asks f c h₀ (event.Begin k i) r h₁ × IsTrue (is_quiet r)
-BeginsBy f c k i (Ok (began.Needs j)) h₀ h₁ =
-    Asks f c h₀ (event.Begin k i) (reply.Need j) h₁ × (k ≡ kind.Start)
-BeginsBy f c k i (Err x) h₀ h₁ = IsCut f c h₀ (event.Begin k i) h₁ x
+abbrev pub BeginRun : Frame → ℕ → ActKind → ℕ → Result Began Refusal → List Entry → List Entry → Type 0
+BeginRun f c k i (Ok (began.Ended a o eager)) h₀ h₁ = EndsBegun f c k i a o eager h₀ h₁
+BeginRun f c k i (Ok (began.Joined a o)) h₀ h₁ = Joins f c k i a o h₀ h₁
+BeginRun f c k i (Ok (began.Quiet r)) h₀ h₁ = AddsWithinRoom f c h₀ (event.Begin k i) r h₁
+    × IsTrue (is_quiet r)
+BeginRun f c k i (Ok (began.Needs j)) h₀ h₁ =
+    AddsWithinRoom f c h₀ (event.Begin k i) (reply.Need j) h₁ × (k ≡ kind.Start)
+BeginRun f c k i (Err x) h₀ h₁ = EndsWithoutEntry f c h₀ (event.Begin k i) h₁ x
 
 -- how a start ends behind its eager children, which this may have ended
-abbrev pub behind_eager : ℕ → Option Refusal → Result Acted Refusal
+abbrev pub behind_eager : ℕ → Option Refusal → Result ActionResult Refusal
 behind_eager a None = Ok (acted.Ended kind.Start a outcome.Started)
 behind_eager a (Some x) = Err x
 
 -- what a start came to, which is over, or is made whole by whatever its eager children come to
 abbrev pub StartsBy : Frame → ℕ → ℕ → Launch → List Entry → List Entry → Type 0
-StartsBy f c i (launch.Settled went) h₀ h₁ = Acts f c kind.Start i h₀ h₁ went
+StartsBy f c i (launch.Settled went) h₀ h₁ = RunsAction f c kind.Start i h₀ h₁ went
 StartsBy f c i (launch.Children a eager) h₀ h₁ =
-    (h₂ : List Entry) (end : Option Refusal) → Eagers f c eager h₁ h₂ end
-    → Acts f c kind.Start i h₀ h₂ (behind_eager a end)
+    (h₂ : List Entry) (end : Option Refusal) → StartsEager f c eager h₁ h₂ end
+    → RunsAction f c kind.Start i h₀ h₂ (behind_eager a end)
 
 -- the same of its begin alone, which may need that a row is resolved first
 abbrev pub LaunchesBy : Frame → ℕ → ℕ → Result Launch ℕ → List Entry → List Entry → Type 0
 LaunchesBy f c i (Ok started) h₀ h₁ = StartsBy f c i started h₀ h₁
-LaunchesBy f c i (Err j) h₀ h₁ = Asks f c h₀ (event.Begin kind.Start i) (reply.Need j) h₁
+LaunchesBy f c i (Err j) h₀ h₁ = AddsWithinRoom f c h₀ (event.Begin kind.Start i) (reply.Need j) h₁
 
 -- what one pick came to: all is done, or the call is cut, or the stops are made whole by whatever the later
 -- picks come to
-abbrev pub PicksBy : Frame → ℕ → ℕ → Picked → List Entry → List Entry → Type 0
-PicksBy f c t picked.Done h₀ h₁ = Asks f c h₀ (event.Pick t) reply.Done h₁
-PicksBy f c t picked.Further h₀ h₁ =
+abbrev pub PickRun : Frame → ℕ → ℕ → PickTurn → List Entry → List Entry → Type 0
+PickRun f c t picked.Done h₀ h₁ = AddsWithinRoom f c h₀ (event.Pick t) reply.Done h₁
+PickRun f c t picked.Further h₀ h₁ =
     (h₂ : List Entry) (end : Option Refusal) → Stops f c t h₁ h₂ end → Stops f c t h₀ h₂ end
-PicksBy f c t (picked.Cut x) h₀ h₁ = IsCut f c h₀ (event.Pick t) h₁ x
+PickRun f c t (picked.Cut x) h₀ h₁ = EndsWithoutEntry f c h₀ (event.Pick t) h₁ x
 
 -- how a reply is read: as the action that it asks for, or as what decides its event
 abbrev pub ReadsBy : Reply → Demand → Type 0

@@ -1,3 +1,4 @@
+-- Inside.
 -- What a turn gives, whose event may get any reply.
 use Rattle.std.specs.Prelude.{◌≡◌, ℕ, List, [], ◌∷◌, ◌++◌, Bool, true, false, Option, Some, None, Result, Ok}
 use Rattle.std.specs.Prelude.{Err, IsTrue}
@@ -14,12 +15,14 @@ use Rattle.cm_world.specs.declared.answer.Refusal.TheVariants as refusal
 use Rattle.cm_world.specs.World.{World, start}
 use Rattle.cm_world.specs.Step.{may_close, may_purge}
 use Rattle.cm_world.specs.Legal.{Legal}
-use Rattle.cm_laws.specs.Story.{Story, Tells, entry_of}
-use Rattle.cm_laws.specs.Shutdowns.{IsLeaving, IsMarked, IsOver}
-use Rattle.cm_steps.specs.Steps.{HasRoom, LacksRoom, WaitsToBegin, WaitsToExit, WaitsToPick}
+use Rattle.cm_laws.specs.Story.{Story, AddsEntry, entry_of}
+use Rattle.cm_laws.specs.Shutdowns.{IsLeaving, IsMarked}
+use Rattle.cm_laws.specs.ShutdownsInside.{IsShutBelow}
+use Rattle.cm_steps.specs.Steps.{RealmHasRoom, LacksRoom, WaitsToBegin, WaitsToExit, WaitsToPick}
 use Rattle.cm_steps.specs.declared.nostep.NoStep.{NoStep}
 use Rattle.cm_steps.specs.declared.nostep.NoStep.TheVariants as nostep
-use Rattle.cm_manager.specs.Turns.{Later, Makes, Asks, IsCut, need, world_after}
+use Rattle.cm_manager.specs.Turns.{IsLaterHistory, AddsOneEntry, AddsWithinRoom, EndsWithoutEntry}
+use Rattle.cm_manager.specs.Turns.{need, world_after}
 use Rattle.cm_manager.specs.Contract.{RealmPass}
 
 -- ---- passes
@@ -67,14 +70,14 @@ is_plain _ = true
 -- what it purges is to be destroyed, and shut with all below it
 abbrev pub IsDue : World → Event → Type 0
 IsDue w (event.Pick t) = IsLeaving w t
-IsDue w (event.Purge i) = IsMarked true w i × IsOver w i
+IsDue w (event.Purge i) = IsMarked true w i × IsShutBelow w i
 IsDue w _ = Unit {0}
 
 -- what the tree has to allow of it then
-abbrev pub IsOpen : World → Event → Type 0
-IsOpen w (event.Pick t) = IsTrue (may_close w.rows t)
-IsOpen w (event.Purge i) = IsTrue (may_purge w.rows i)
-IsOpen w _ = Unit {0}
+abbrev pub TreeAllows : World → Event → Type 0
+TreeAllows w (event.Pick t) = IsTrue (may_close w.rows t)
+TreeAllows w (event.Purge i) = IsTrue (may_purge w.rows i)
+TreeAllows w _ = Unit {0}
 
 -- what is due stays due, whatever callers do
 abbrev pub DueStays : Type 0
@@ -84,7 +87,7 @@ DueStays =
 
 -- and the tree allows it
 abbrev pub DueIsOpen : Type 0
-DueIsOpen = (w : World) (e : Event) → IsDue w e → IsOpen w e
+DueIsOpen = (w : World) (e : Event) → IsDue w e → TreeAllows w e
 
 -- an event is only refused for want of room where the room is too small
 abbrev pub RefusesRoom : Story → ℕ → NoStep → Type 0
@@ -92,60 +95,62 @@ RefusesRoom s more nostep.HistoryFull = LacksRoom s more
 RefusesRoom s more _ = Unit {0}
 
 -- an event has to wait for this action, which stands in its own way; but for these three, none ever waits
-abbrev pub WaitsFor : World → Event → ℕ → Type 0
-WaitsFor w (event.Begin kind i) a = WaitsToBegin w kind i a
-WaitsFor w (event.Pick t) a = WaitsToPick w t a
-WaitsFor w (event.Exited i) a = WaitsToExit w i a
-WaitsFor w _ a = ⊥
+abbrev pub EventWaitsFor : World → Event → ℕ → Type 0
+EventWaitsFor w (event.Begin kind i) a = WaitsToBegin w kind i a
+EventWaitsFor w (event.Pick t) a = WaitsToPick w t a
+EventWaitsFor w (event.Exited i) a = WaitsToExit w i a
+EventWaitsFor w _ a = ⊥
 
 -- an event is only held up by an action that it has to wait for
 abbrev pub IsBusy : World → Event → NoStep → Type 0
-IsBusy w e (nostep.Busy a) = WaitsFor w e a
+IsBusy w e (nostep.Busy a) = EventWaitsFor w e a
 IsBusy w e _ = Unit {0}
 
 -- the event is told, for which there was room; or the realm is as before, and the refusal is a true one
 abbrev pub StepsBy : Story → Story → ℕ → Event → Result Reply NoStep → Type 0
-StepsBy old new c e (Ok r) = Tells old new c e r × HasRoom old (need e)
+StepsBy old new c e (Ok r) = AddsEntry old new c e r × RealmHasRoom old (need e)
 StepsBy old new c e (Err x) = (new ≡ old) × RefusesRoom old (need e) x
 
 -- the outcome of an action is told to a caller that joined it; or it has none, and the realm is as before
 abbrev pub AwaitsBy : Story → Story → ℕ → ℕ → Option Outcome → Type 0
-AwaitsBy old new c a (Some o) = Tells old new c (event.Await a) (reply.Ended o)
+AwaitsBy old new c a (Some o) = AddsEntry old new c (event.Await a) (reply.Ended o)
 AwaitsBy old new c a None = new ≡ old
 
 -- ---- one turn
 
 -- the refusal of a call that a step was refused so; a call that meets another action goes on
-abbrev pub IsTurned : Frame → ℕ → List Entry → Event → List Entry → NoStep → Type 0
-IsTurned f c old e new (nostep.Busy a) = Later c old new
-IsTurned f c old e new nostep.HistoryFull = IsCut f c old e new refusal.HistoryFull
-IsTurned f c old e new nostep.Memory = IsCut f c old e new refusal.Memory
+abbrev pub IsCallRefusal : Frame → ℕ → List Entry → Event → List Entry → NoStep → Type 0
+IsCallRefusal f c old e new (nostep.Busy a) = IsLaterHistory c old new
+IsCallRefusal f c old e new nostep.HistoryFull = EndsWithoutEntry f c old e new refusal.HistoryFull
+IsCallRefusal f c old e new nostep.Memory = EndsWithoutEntry f c old e new refusal.Memory
 
 -- one turn with this event: its entry is the caller's newest, or there is none
 abbrev pub Turned : Event → RealmPass → RealmPass → Result Reply NoStep → Type 0
 Turned e old new (Ok r) =
-    Asks (frame_of old) old.caller old.seen e r new.seen
+    AddsWithinRoom (frame_of old) old.caller old.seen e r new.seen
     × (new.mine ≡ old.mine ++ entry_of old.caller e r ∷ [])
-Turned e old new (Err x) = IsTurned (frame_of old) old.caller old.seen e new.seen x × (new.mine ≡ old.mine)
+Turned e old new (Err x) = IsCallRefusal (frame_of old) old.caller old.seen e new.seen x
+    × (new.mine ≡ old.mine)
 
 -- turns until the event has an entry, or the call is cut
-abbrev pub Asked : Event → RealmPass → RealmPass → Result Reply Refusal → Type 0
-Asked e old new (Ok r) =
-    Asks (frame_of old) old.caller old.seen e r new.seen
+abbrev pub RecordsEvent : Event → RealmPass → RealmPass → Result Reply Refusal → Type 0
+RecordsEvent e old new (Ok r) =
+    AddsWithinRoom (frame_of old) old.caller old.seen e r new.seen
     × (new.mine ≡ old.mine ++ entry_of old.caller e r ∷ [])
-Asked e old new (Err x) = IsCut (frame_of old) old.caller old.seen e new.seen x × (new.mine ≡ old.mine)
+RecordsEvent e old new (Err x) = EndsWithoutEntry (frame_of old) old.caller old.seen e new.seen x
+    × (new.mine ≡ old.mine)
 
 -- turns until a row is purged, now or before as the reply says, or the call is cut
 abbrev pub Purged : ℕ → RealmPass → RealmPass → Option Refusal → Type 0
-Purged i old new None = (r : Reply) × Asked (event.Purge i) old new (Ok r)
-Purged i old new (Some x) = Asked (event.Purge i) old new (Err x)
+Purged i old new None = (r : Reply) × RecordsEvent (event.Purge i) old new (Ok r)
+Purged i old new (Some x) = RecordsEvent (event.Purge i) old new (Err x)
 
 -- one turn with an entry of this event and its outcome, which needs no room
-pub record Told (old new : RealmPass) (e : Event) (o : Outcome) : Type 0 where
-  pub makes : Makes old.caller old.seen e (reply.Ended o) new.seen
+pub record RecordsOutcome (old new : RealmPass) (e : Event) (o : Outcome) : Type 0 where
+  pub makes : AddsOneEntry old.caller old.seen e (reply.Ended o) new.seen
   pub mine : new.mine ≡ old.mine ++ entry_of old.caller e (reply.Ended o) ∷ []
 
 -- one turn that awaits an action
 abbrev pub Awaited : ℕ → RealmPass → RealmPass → Option Outcome → Type 0
-Awaited a old new (Some o) = Told old new (event.Await a) o
-Awaited a old new None = Later old.caller old.seen new.seen × (new.mine ≡ old.mine)
+Awaited a old new (Some o) = RecordsOutcome old new (event.Await a) o
+Awaited a old new None = IsLaterHistory old.caller old.seen new.seen × (new.mine ≡ old.mine)

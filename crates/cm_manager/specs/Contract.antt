@@ -1,3 +1,4 @@
+-- Inside.
 -- What a call of the manager says of the pass and the gates that it was given.
 use Rattle.std.specs.Prelude.{◌≡◌, ℕ, List, ◌++◌, Option, Result}
 use Rattle.cm_turn.specs.History.{StartsWith}
@@ -9,11 +10,11 @@ use Rattle.cm_world.specs.declared.answer.Refusal.{Refusal}
 use Rattle.cm_world.specs.World.{start}
 use Rattle.cm_world.specs.Legal.{Legal}
 use Rattle.cm_command.specs.declared.command.Command.{Command}
-use Rattle.cm_gate.specs.declared.asked.Asked.{Asked}
+use Rattle.cm_gate.specs.declared.asked.GateCall.{GateCall}
 use Rattle.cm_manager.specs.Turns.{own_entries}
 use Rattle.cm_manager.specs.Calls.{Calls}
-use Rattle.cm_manager.specs.Work.{Shelf, WorksWith}
-use Rattle.cm_manager.specs.Closed.{IsClosed}
+use Rattle.cm_manager.specs.Work.{Manifests, WorksWith}
+use Rattle.cm_manager.specs.ClosedInside.{IsClosed}
 
 -- a pass of a realm
 abbrev pub RealmPass : Type 0
@@ -21,7 +22,7 @@ RealmPass = PassView Entry Frame
 
 -- gates as contracts see them: the log that they tell, and their count of faults
 pub record GatesView : Type 0 where
-  pub log : Option (List Asked)
+  pub log : Option (List GateCall)
   pub faults : ℕ
 
 -- the pass is the same one, and has seen a later, legal history
@@ -34,18 +35,19 @@ pub record IsSamePass (f : Frame) (old new : RealmPass) : Type 0 where
   pub legal : Legal (start f) new.seen
 
 -- a way of its own from what the pass had seen to what it has seen then, with the work of its part
-pub record Helps (shelf : Shelf) (f : Frame) (Way : List Entry → List Entry → Type 0) (old new : RealmPass)
+pub record IsSubcall (manifests : Manifests) (f : Frame) (CallWay : List Entry → List Entry
+    → Type 0) (old new : RealmPass)
     (gates₀ gates₁ : GatesView) : Type 0 where
   pub same : IsSamePass f old new
-  pub way : Way old.seen new.seen
+  pub way : CallWay old.seen new.seen
   pub part : List Entry
   pub mine : new.mine ≡ old.mine ++ part
   pub closed : IsClosed part
-  pub work : WorksWith shelf part gates₀.log gates₁.log gates₀.faults gates₁.faults
+  pub work : WorksWith manifests part gates₀.log gates₁.log gates₀.faults gates₁.faults
 
--- one call of the manager, with its answer; one that has made all its entries isn't answered with want of
+-- one call of the manager, with its answer; one that has made all its entries isn't answered with lack of
 -- memory, but for a doctor, which may want for it behind its last line
-abbrev pub Performs : Shelf → Frame → Command → RealmPass → RealmPass → GatesView → GatesView
+abbrev pub IsWholeCall : Manifests → Frame → Command → RealmPass → RealmPass → GatesView → GatesView
     → Result Answer Refusal → Type 0
-Performs shelf f command old new gates₀ gates₁ a =
-    Helps shelf f (λ h₀ h₁. Calls f old.caller command h₀ h₁ a) old new gates₀ gates₁
+IsWholeCall manifests f command old new gates₀ gates₁ a =
+    IsSubcall manifests f (λ h₀ h₁. Calls f old.caller command h₀ h₁ a) old new gates₀ gates₁

@@ -1,5 +1,7 @@
+-- Promised.
 -- The run of a check of all routes: a survey of a row, and the routes of all paths that the rows of the
 -- survey use.
+-- ---- from history to history
 use Rattle.std.specs.Prelude.{◌≡◌, ℕ, List, [], ◌∷◌, Result, Ok, Err, IsTrue}
 use Rattle.std.specs.Prelude.{IsFalse}
 use Rattle.cm_world.specs.declared.frame.Frame.{Frame}
@@ -11,40 +13,38 @@ use Rattle.cm_world.specs.declared.answer.Answer.{Answer}
 use Rattle.cm_world.specs.declared.answer.Checked.{Checked}
 use Rattle.cm_world.specs.declared.answer.Refusal.{Refusal}
 use Rattle.cm_world.specs.declared.answer.Refusal.TheVariants as refusal
-use Rattle.cm_manager.specs.Runs.{Tries}
-use Rattle.cm_answers.specs.Lines.{Adds, doctored_by, in_front, line_of, route_by}
+use Rattle.cm_manager.specs.Runs.{RetriesEvent}
+use Rattle.cm_answers.specs.Lines.{doctored_by, in_prefix, line_of, route_by}
 use Rattle.cm_answers.specs.Lines.{surveyed_by, unresolved_line}
-
--- ---- from history to history
 
 -- a way from one history to a later one, with the lines that it makes or what ended the call in it
 abbrev pub Checks : Type 1
 Checks = List Entry → List Entry → Result (List Checked) Refusal → Type 0
 
 -- items in order, each by its rule, with the lines of all of them
-pub data Each {A : Type 0} (Item : A → Checks)
+pub data GathersEach {A : Type 0} (Item : A → Checks)
     : List A → List Entry → List Entry → Result (List Checked) Refusal → Type 0 where
   -- no item, no line
-  no_item : {h : List Entry} → Each Item [] h h (Ok [])
+  no_item : {h : List Entry} → GathersEach Item [] h h (Ok [])
   -- the lines of the first item, and then those of the others
   next_item : {x : A} {xs : List A} {h₀ h₁ h₂ : List Entry} {lines : List Checked}
       {end : Result (List Checked) Refusal}
       → Item x h₀ h₁ (Ok lines)
-      → Each Item xs h₁ h₂ end
-      → Each Item (x ∷ xs) h₀ h₂ (in_front lines end)
+      → GathersEach Item xs h₁ h₂ end
+      → GathersEach Item (x ∷ xs) h₀ h₂ (in_prefix lines end)
   -- the call ends at the first item
   cut_item : {x : A} {xs : List A} {h₀ h₁ : List Entry} {e : Refusal}
       → Item x h₀ h₁ (Err e)
-      → Each Item (x ∷ xs) h₀ h₁ (Err e)
+      → GathersEach Item (x ∷ xs) h₀ h₁ (Err e)
   -- memory is wanting behind it
   lost_item : {x : A} {xs : List A} {h₀ h₁ : List Entry} {lines : List Checked}
       → Item x h₀ h₁ (Ok lines)
-      → Each Item (x ∷ xs) h₀ h₁ (Err refusal.Memory)
+      → GathersEach Item (x ∷ xs) h₀ h₁ (Err refusal.Memory)
 
 -- a path of a row: its route is asked for at the row's incarnation, and its line has the row's moniker
 abbrev pub OfPath : Frame → ℕ → SurveyRow → List ℕ → Checks
 OfPath f c row p h₀ h₁ end =
-    (went : Result Reply Refusal) × Tries f c (event.Route row.inc p) h₀ h₁ went
+    (went : Result Reply Refusal) × RetriesEvent f c (event.Route row.inc p) h₀ h₁ went
     × (end ≡ line_of row.moniker p (route_by went))
 
 -- a row of a survey
@@ -57,7 +57,7 @@ pub data OfRow (f : Frame) (c : ℕ) (row : SurveyRow)
   -- where it is, it has the lines of its paths
   resolved : {h₀ h₁ : List Entry} {end : Result (List Checked) Refusal}
       → IsTrue row.resolved
-      → Each (OfPath f c row) row.paths h₀ h₁ end
+      → GathersEach (OfPath f c row) row.paths h₀ h₁ end
       → OfRow f c row h₀ h₁ end
 
 -- the check of the row of this incarnation
@@ -65,28 +65,14 @@ pub data Doctors (f : Frame) (c i : ℕ) : List Entry → List Entry → Result 
   -- it is surveyed, and then each row of the survey has its lines
   surveyed : {h₀ h₁ h₂ : List Entry} {went : Result Reply Refusal} {rows : List SurveyRow}
       {end : Result (List Checked) Refusal}
-      → Tries f c (event.Survey i) h₀ h₁ went
+      → RetriesEvent f c (event.Survey i) h₀ h₁ went
       → surveyed_by went ≡ Ok rows
-      → Each (OfRow f c) rows h₁ h₂ end
+      → GathersEach (OfRow f c) rows h₁ h₂ end
       → Doctors f c i h₀ h₂ (doctored_by end)
   -- its survey is refused, and so is the call
   not_surveyed : {h₀ h₁ : List Entry} {went : Result Reply Refusal} {x : Refusal}
-      → Tries f c (event.Survey i) h₀ h₁ went
+      → RetriesEvent f c (event.Survey i) h₀ h₁ went
       → surveyed_by went ≡ Err x
       → Doctors f c i h₀ h₁ (Err x)
 
 -- ---- what the functions promise that gather the lines
-
--- by this rule, with the lines from before in front, unless memory runs out behind it
-abbrev pub Adding : Checks → List Checked → Checks
-Adding Rule lines h₀ h₁ end = (more : Result (List Checked) Refusal) × Rule h₀ h₁ more × Adds lines more end
-
--- by this rule, with the lines from before in front
-abbrev pub Gathering : Checks → List Checked → Checks
-Gathering Rule lines h₀ h₁ end =
-    (more : Result (List Checked) Refusal) × Rule h₀ h₁ more × (end ≡ in_front lines more)
-
--- the rows of a survey that was tried
-abbrev pub Surveying : Frame → ℕ → ℕ → List Entry → List Entry → Result (List SurveyRow) Refusal → Type 0
-Surveying f c i h₀ h₁ rows =
-    (went : Result Reply Refusal) × Tries f c (event.Survey i) h₀ h₁ went × (rows ≡ surveyed_by went)

@@ -1,3 +1,4 @@
+-- Inside.
 -- What the functions promise that do the work of an action.
 use Rattle.std.specs.Prelude.{◌≡◌, ◌⊎◌, ℕ, List, Option, Some, None, Result, Ok, Err, IsTrue}
 use Rattle.cm_decl.specs.declared.decl.Decl.{Decl}
@@ -13,14 +14,14 @@ use Rattle.cm_read.specs.declared.fault.ReadFault.{ReadFault}
 use Rattle.cm_read.specs.declared.fault.ReadFault.TheVariants as read
 use Rattle.cm_valid.specs.declared.fault.ValidFault.{ValidFault}
 use Rattle.cm_valid.specs.declared.fault.ValidFault.TheVariants as valid
-use Rattle.cm_gate.specs.declared.asked.Asked.{Asked}
+use Rattle.cm_gate.specs.declared.asked.GateCall.{GateCall}
 use Rattle.cm_gate.specs.declared.asked.Launched.{Launched}
 use Rattle.cm_gate.specs.declared.asked.Launched.TheVariants as launched
 use Rattle.cm_gate.specs.declared.asked.Halted.{Halted}
 use Rattle.cm_gate.specs.declared.asked.Halted.TheVariants as halted
 use Rattle.cm_gate.specs.declared.asked.Job.{Job}
 use Rattle.cm_gate.specs.Logs.{Grew}
-use Rattle.cm_manager.specs.Work.{Judges, resolved_by, Shelf, Does, Counts, job_of}
+use Rattle.cm_manager.specs.Work.{Judges, resolved_by, Manifests, DoesWork, Counts, job_of}
 use Rattle.cm_manager.specs.Contract.{GatesView}
 
 -- ---- manifests
@@ -43,7 +44,7 @@ JudgesBy bytes (Ok d) = Judges bytes (Ok d)
 JudgesBy bytes (Err o) =
     (o ≡ outcome.NoMemory) ⊎ ((note : FaultNote) × (o ≡ outcome.Invalid note) × Judges bytes (Err note))
 
--- the end of a resolve by the manifest of this URL, or by want of memory
+-- the end of a resolve by the manifest of this URL, or by lack of memory
 abbrev pub EndsBy : List ℕ → List ℕ → Finish → Type 0
 EndsBy url bytes end =
     ((judged : Result Decl FaultNote) × Judges bytes judged × (end ≡ resolved_by url judged))
@@ -68,14 +69,15 @@ halted_outcome halted.Failed = outcome.Killed
 -- ---- the whole work
 
 -- an end that fits the action, with a valid declaration if it brings one
-pub record Fits (kind : ActKind) (end : Finish) : Type 0 where
+pub record FitsAction (kind : ActKind) (end : Finish) : Type 0 where
   pub fitting : IsTrue (fits_kind kind end)
   pub valid : HasValid end
 
 -- the work was done: what the gates were asked for it is in their log, if that is told, and a failure in
 -- their count
-pub record Did (shelf : Shelf) (w : Work) (kind : ActKind) (end : Finish) (old new : GatesView) : Type 0 where
-  pub asked : List Asked
-  pub does : Does shelf w kind end asked
+pub record Did (manifests : Manifests) (w : Work) (kind : ActKind) (end : Finish)
+    (old new : GatesView) : Type 0 where
+  pub asked : List GateCall
+  pub does : DoesWork manifests w kind end asked
   pub log : Grew old.log new.log asked
   pub counts : Counts end asked old.faults new.faults

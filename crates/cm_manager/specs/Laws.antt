@@ -1,3 +1,4 @@
+-- Inside.
 -- What a call that was answered well leaves of the row that its target names.
 use Rattle.std.specs.Prelude.{◌≡◌, ℕ, ◌<◌, List, Ok, IsFalse}
 use Rattle.cm_turn.specs.History.{StartsWith}
@@ -10,9 +11,9 @@ use Rattle.cm_world.specs.World.{World, start}
 use Rattle.cm_world.specs.Legal.{Legal}
 use Rattle.cm_command.specs.declared.command.Command.{Command}
 use Rattle.cm_command.specs.declared.command.Command.TheVariants as command
-use Rattle.cm_laws.specs.Shutdowns.{IsOver}
+use Rattle.cm_laws.specs.ShutdownsInside.{IsShutBelow}
 use Rattle.cm_manager.specs.Turns.{world_after}
-use Rattle.cm_manager.specs.Calls.{Finding, Goes}
+use Rattle.cm_manager.specs.Calls.{Finding, RunsOrLoses}
 
 -- a row that was once there, and isn't any more
 pub record IsRemoved (w : World) (i : ℕ) : Type 0 where
@@ -20,7 +21,7 @@ pub record IsRemoved (w : World) (i : ℕ) : Type 0 where
   pub gone : IsFalse (is_live w.rows i)
 
 -- the row that a call found for its target on its way, and what holds of it in the tree behind the call
-pub record Leaves (f : Frame) (c : ℕ) (t : Target) (Holds : World → ℕ → Type 0) (h₀ h₁ : List Entry)
+pub record LeavesRow (f : Frame) (c : ℕ) (t : Target) (Holds : World → ℕ → Type 0) (h₀ h₁ : List Entry)
     : Type 0 where
   pub row : ℕ
   pub found_at : List Entry
@@ -32,11 +33,11 @@ pub record Leaves (f : Frame) (c : ℕ) (t : Target) (Holds : World → ℕ → 
 abbrev pub LeavesSo : (Target → Command) → (World → ℕ → Type 0) → Type 0
 LeavesSo command_on Holds =
     (f : Frame) (c : ℕ) (t : Target) (h₀ h₁ : List Entry) (a : Answer) → Legal (start f) h₁
-    → Goes f c (command_on t) h₀ h₁ (Ok a) → Leaves f c t Holds h₀ h₁
+    → RunsOrLoses f c (command_on t) h₀ h₁ (Ok a) → LeavesRow f c t Holds h₀ h₁
 
 -- behind a shutdown all rows at and below its row are shut
 abbrev pub ShutdownsLeaveShut : Type 0
-ShutdownsLeaveShut = LeavesSo command.Shutdown IsOver
+ShutdownsLeaveShut = LeavesSo command.Shutdown IsShutBelow
 
 -- behind a destruction its row is removed
 abbrev pub DestructionsRemove : Type 0

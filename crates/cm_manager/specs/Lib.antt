@@ -4,7 +4,9 @@ pub mod Runs
 pub mod Shutdowns
 pub mod Streams
 pub mod Calls
+pub mod CallsInside
 pub mod Closed
+pub mod ClosedInside
 pub mod Work
 pub mod Contract
 pub mod Managers
@@ -14,6 +16,7 @@ pub mod Doing
 pub mod Acting
 pub mod Parts
 pub mod Doctor
+pub mod DoctorInside
 pub mod Gated
 pub mod Done
 pub mod Kept

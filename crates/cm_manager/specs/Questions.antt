@@ -1,3 +1,4 @@
+-- Inside.
 -- What that comes to which a call asks of the instance that its target names.
 use Rattle.std.specs.Prelude.{ℕ, false, Option, Result}
 use Rattle.cm_world.specs.declared.answer.Answer.{Answer}
@@ -9,28 +10,29 @@ use Rattle.cm_answers.specs.declared.question.Question.{Question}
 use Rattle.cm_answers.specs.declared.question.Question.TheVariants as question
 use Rattle.cm_answers.specs.declared.question.Request.{Request}
 use Rattle.cm_answers.specs.declared.question.Request.TheVariants as request
-use Rattle.cm_manager.specs.Calls.{Way, Nothing, TriedThen, OnceCreated, SweptLeft, ActedOn, Reaches}
+use Rattle.cm_manager.specs.Calls.{CallWay, Nothing, CallsEventThen, OnceCreated, SweptLeft}
+use Rattle.cm_manager.specs.Calls.{CallsAction, ComesToAnswer}
 use Rattle.cm_manager.specs.Doctor.{Doctors}
 use Rattle.cm_manager.specs.Streams.{Streams}
 use Rattle.cm_manager.specs.Shutdowns.{Shuts, Destroys}
-use Rattle.cm_answers.specs.Answers.{answer_by}
+use Rattle.cm_answers.specs.AnswersInside.{answer_by}
 use Rattle.cm_answers.specs.Questions.{event_for}
 
 -- what comes behind the reply to a request
-abbrev pub FollowsBy : Frame → ℕ → Request → ℕ → Reply → Way (Option Refusal)
+abbrev pub FollowsBy : Frame → ℕ → Request → ℕ → Reply → CallWay (Option Refusal)
 FollowsBy f c (request.Create coll name url gives) = OnceCreated f c
 FollowsBy f c request.Exited = SweptLeft f c
 FollowsBy f c _ = λ i r. Nothing
 
 -- a request of a row, and what follows it
-abbrev pub Requested : Frame → ℕ → Request → ℕ → Way (Result Answer Refusal)
-Requested f c r = TriedThen f c (event_for r) (FollowsBy f c r)
+abbrev pub Requested : Frame → ℕ → Request → ℕ → CallWay (Result Answer Refusal)
+Requested f c r = CallsEventThen f c (event_for r) (FollowsBy f c r)
 
 -- what a question of a row comes to
-abbrev pub AnswersTo : Frame → ℕ → Question → ℕ → Way (Result Answer Refusal)
-AnswersTo f c (question.Act k) = ActedOn f c k (answer_by k)
-AnswersTo f c question.Shutdown = λ i. Reaches answer.Shut (Shuts f c false i)
-AnswersTo f c question.Destroy = λ i. Reaches answer.Destroyed (Destroys f c i)
+abbrev pub AnswersTo : Frame → ℕ → Question → ℕ → CallWay (Result Answer Refusal)
+AnswersTo f c (question.Act k) = CallsAction f c k (answer_by k)
+AnswersTo f c question.Shutdown = λ i. ComesToAnswer answer.Shut (Shuts f c false i)
+AnswersTo f c question.Destroy = λ i. ComesToAnswer answer.Destroyed (Destroys f c i)
 AnswersTo f c question.Doctor = Doctors f c
 AnswersTo f c (question.Events from) = Streams f c from
 AnswersTo f c (question.Event r) = Requested f c r

@@ -1,3 +1,4 @@
+-- Inside.
 -- How a turn is done that reads the history and tells its length.
 use Rattle.std.specs.Prelude.{◌≡◌, ◌⊎◌, ℕ, ◌++◌, [], ◌∷◌, Result, Ok, Err}
 use Rattle.cm_world.specs.declared.answer.Answer.{Answer}
@@ -5,8 +6,8 @@ use Rattle.cm_world.specs.declared.answer.Refusal.{Refusal}
 use Rattle.cm_world.specs.declared.answer.Refusal.TheVariants as refusal
 use Rattle.cm_world.specs.declared.event.Event.TheVariants as event
 use Rattle.cm_world.specs.declared.reply.Reply.{Reply}
-use Rattle.cm_laws.specs.Story.{Story, Tells, entry_of}
-use Rattle.cm_steps.specs.Steps.{HasRoom}
+use Rattle.cm_laws.specs.Story.{Story, AddsEntry, entry_of}
+use Rattle.cm_steps.specs.Steps.{RealmHasRoom}
 use Rattle.cm_steps.specs.declared.nostep.NoStep.{NoStep}
 use Rattle.cm_steps.specs.declared.nostep.NoStep.TheVariants as nostep
 use Rattle.cm_manager.specs.Turns.{need}
@@ -18,7 +19,7 @@ use Rattle.cm_manager.specs.Streams.{Streams, streamed_by}
 -- or the realm is as before, and the refusal is a true one
 abbrev pub StreamsBy : Story → Story → ℕ → ℕ → ℕ → Result (Result Answer Refusal) NoStep → Type 0
 StreamsBy old new c i from (Ok a) =
-    (r : Reply) × Tells old new c (event.Tail i from) r × HasRoom old (need (event.Tail i from))
+    (r : Reply) × AddsEntry old new c (event.Tail i from) r × RealmHasRoom old (need (event.Tail i from))
     × (a ≡ streamed_by old.frame old.entries from i r)
 StreamsBy old new c i from (Err x) = (new ≡ old) × RefusesRoom old (need (event.Tail i from)) x
 

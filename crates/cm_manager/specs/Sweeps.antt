@@ -1,3 +1,4 @@
+-- Promised.
 -- How rows are stopped with all below them, and how those that went with a stopped instance are removed, as
 -- rules. Each tells from which history to which later one it goes, and what ended the call there, if anything
 -- did.
@@ -11,27 +12,28 @@ use Rattle.cm_world.specs.declared.reply.Entry.{Entry}
 use Rattle.cm_world.specs.declared.reply.Reply.{Reply}
 use Rattle.cm_world.specs.declared.reply.Reply.TheVariants as reply
 use Rattle.cm_world.specs.declared.answer.Refusal.{Refusal}
-use Rattle.cm_manager.specs.Turns.{Makes, Asks, IsCut}
+use Rattle.cm_manager.specs.Turns.{AddsOneEntry, AddsWithinRoom, EndsWithoutEntry}
 
 -- a target and all below it are stopped one by one, until a pick replies that all is done; an instance that a
 -- pick stops has that stop ended, whatever the end says, before the next pick
 pub data Stops (f : Frame) (c t : ℕ) : List Entry → List Entry → Option Refusal → Type 0 where
   -- all is shut
-  all_shut : {h₀ h₁ : List Entry} → Asks f c h₀ (event.Pick t) reply.Done h₁ → Stops f c t h₀ h₁ None
+  all_shut : {h₀ h₁ : List Entry} → AddsWithinRoom f c h₀ (event.Pick t) reply.Done h₁
+      → Stops f c t h₀ h₁ None
   -- one that was off is shut
   was_off : {i : ℕ} {h₀ h₁ h₂ : List Entry} {end : Option Refusal}
-      → Asks f c h₀ (event.Pick t) (reply.ShutDown i) h₁
+      → AddsWithinRoom f c h₀ (event.Pick t) (reply.ShutDown i) h₁
       → Stops f c t h₁ h₂ end
       → Stops f c t h₀ h₂ end
   -- one that was on is stopped
   was_on : {h₀ h₁ h₂ h₃ : List Entry} {w : Work} {finish : Finish} {o : Outcome} {end : Option Refusal}
-      → Asks f c h₀ (event.Pick t) (reply.Stopping w) h₁
-      → Makes c h₁ (event.End w.action finish) (reply.Ended o) h₂
+      → AddsWithinRoom f c h₀ (event.Pick t) (reply.Stopping w) h₁
+      → AddsOneEntry c h₁ (event.End w.action finish) (reply.Ended o) h₂
       → Stops f c t h₂ h₃ end
       → Stops f c t h₀ h₃ end
   -- the call ends before a pick
   cut_pick : {h₀ h₁ : List Entry} {x : Refusal}
-      → IsCut f c h₀ (event.Pick t) h₁ x
+      → EndsWithoutEntry f c h₀ (event.Pick t) h₁ x
       → Stops f c t h₀ h₁ (Some x)
 
 -- a row that is doomed is stopped with all below it, and then removed
@@ -39,12 +41,12 @@ pub data Removes (f : Frame) (c i : ℕ) : List Entry → List Entry → Option 
   -- it is removed now, or was before, as the reply says
   removed : {h₀ h₁ h₂ : List Entry} {r : Reply}
       → Stops f c i h₀ h₁ None
-      → Asks f c h₁ (event.Purge i) r h₂
+      → AddsWithinRoom f c h₁ (event.Purge i) r h₂
       → Removes f c i h₀ h₂ None
   -- the call ends before it is removed
   cut_remove : {h₀ h₁ h₂ : List Entry} {x : Refusal}
       → Stops f c i h₀ h₁ None
-      → IsCut f c h₁ (event.Purge i) h₂ x
+      → EndsWithoutEntry f c h₁ (event.Purge i) h₂ x
       → Removes f c i h₀ h₂ (Some x)
   -- or before all is shut
   not_stopped : {h₀ h₁ : List Entry} {x : Refusal}
@@ -65,10 +67,10 @@ pub data Clears (f : Frame) (c : ℕ) : List ℕ → List Entry → List Entry �
 -- what went with a row that stopped is removed: all that a reap of the row names
 pub data Sweeps (f : Frame) (c i : ℕ) : List Entry → List Entry → Option Refusal → Type 0 where
   swept : {incs : List ℕ} {h₀ h₁ h₂ : List Entry} {end : Option Refusal}
-      → Asks f c h₀ (event.Reap i) (reply.Reaping incs) h₁
+      → AddsWithinRoom f c h₀ (event.Reap i) (reply.Reaping incs) h₁
       → Clears f c incs h₁ h₂ end
       → Sweeps f c i h₀ h₂ end
   -- the call ends before the reap
   cut_reap : {h₀ h₁ : List Entry} {x : Refusal}
-      → IsCut f c h₀ (event.Reap i) h₁ x
+      → EndsWithoutEntry f c h₀ (event.Reap i) h₁ x
       → Sweeps f c i h₀ h₁ (Some x)

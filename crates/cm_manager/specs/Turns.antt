@@ -1,3 +1,4 @@
+-- Promised.
 -- What one turn of a caller adds to the history.
 use Rattle.std.specs.Prelude.{◌≡◌, ℕ, ◌+◌, ◌<◌, ◌≤◌, List, [], ◌∷◌, ◌++◌, length}
 use Rattle.cm_turn.specs.History.{StartsWith, entries_by}
@@ -20,14 +21,15 @@ abbrev pub own_entries : ℕ → List Entry → List Entry
 own_entries c es = entries_by (λ e. e.caller) c es
 
 -- a later history that has no further entry of this caller
-pub record Later (c : ℕ) (seen found : List Entry) : Type 0 where
+pub record IsLaterHistory (c : ℕ) (seen found : List Entry) : Type 0 where
   pub grows : StartsWith found seen
   pub own : own_entries c found ≡ own_entries c seen
 
 -- one turn finds a later history and adds one entry to it
-pub record Makes (c : ℕ) (old : List Entry) (event : Event) (reply : Reply) (new : List Entry) : Type 0 where
+pub record AddsOneEntry (c : ℕ) (old : List Entry) (event : Event) (reply : Reply)
+    (new : List Entry) : Type 0 where
   pub found : List Entry
-  pub later : Later c old found
+  pub later : IsLaterHistory c old found
   pub entries : new ≡ found ++ record { caller = c; event = event; reply = reply } ∷ []
 
 -- how many entries there must be room for, so that an event can come: one that begins an action needs room
@@ -42,13 +44,15 @@ abbrev pub wanted : Frame → List Entry → Event → ℕ
 wanted f found event = length found + owed_by (world_after f found) + need event
 
 -- a turn that makes an entry, for which there was room
-pub record Asks (f : Frame) (c : ℕ) (old : List Entry) (event : Event) (reply : Reply) (new : List Entry)
+pub record AddsWithinRoom (f : Frame) (c : ℕ) (old : List Entry) (event : Event) (reply : Reply)
+    (new : List Entry)
     : Type 0 where
-  pub made : Makes c old event reply new
+  pub made : AddsOneEntry c old event reply new
   pub room : wanted f made.found event ≤ f.limits.entries
 
 -- a turn that makes no entry and ends the call: memory was wanting, or the room was too small
-abbrev pub IsCut : Frame → ℕ → List Entry → Event → List Entry → Refusal → Type 0
-IsCut f c old event new refusal.Memory = Later c old new
-IsCut f c old event new refusal.HistoryFull = Later c old new × (f.limits.entries < wanted f new event)
-IsCut f c old event new _ = ⊥
+abbrev pub EndsWithoutEntry : Frame → ℕ → List Entry → Event → List Entry → Refusal → Type 0
+EndsWithoutEntry f c old event new refusal.Memory = IsLaterHistory c old new
+EndsWithoutEntry f c old event new refusal.HistoryFull = IsLaterHistory c old new
+    × (f.limits.entries < wanted f new event)
+EndsWithoutEntry f c old event new _ = ⊥

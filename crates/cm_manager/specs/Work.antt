@@ -1,3 +1,4 @@
+-- Promised.
 -- What the ends of a caller's own actions owe to the repository and to its gates.
 use Rattle.std.specs.Prelude.{◌≡◌, ℕ, ◌≤◌, List, [], ◌∷◌, ◌++◌, length, filter, Bool, true, false, IsTrue}
 use Rattle.std.specs.Prelude.{IsFalse, Option, Some, None, Result, Ok, Err}
@@ -5,8 +6,8 @@ use Rattle.cm_io.specs.Outside.{Rose}
 use Rattle.cm_names.specs.Rights.{index_of}
 use Rattle.cm_decl.specs.declared.decl.Decl.{Decl}
 use Rattle.cm_decl.specs.declared.section.Section.{Section}
-use Rattle.cm_decl.specs.Faults.{Fault}
-use Rattle.cm_decl.specs.Valid.{IsValid, IsFaultOf}
+use Rattle.cm_decl.specs.Faults.{DeclFault}
+use Rattle.cm_decl.specs.Valid.{IsValid, IsDeclFault}
 use Rattle.cm_read.specs.Manifest.{decl_of_bytes}
 use Rattle.cm_read.specs.declared.fault.ReadFault.TheVariants as read
 use Rattle.cm_repo.specs.Blocks.{Blocks, block_at}
@@ -24,8 +25,8 @@ use Rattle.cm_world.specs.declared.event.Event.TheVariants as event
 use Rattle.cm_world.specs.declared.reply.Entry.{Entry}
 use Rattle.cm_world.specs.declared.reply.Reply.{Reply}
 use Rattle.cm_world.specs.declared.reply.Reply.TheVariants as reply
-use Rattle.cm_gate.specs.declared.asked.Asked.{Asked}
-use Rattle.cm_gate.specs.declared.asked.Asked.TheVariants.{Fetch, Launch, Halt}
+use Rattle.cm_gate.specs.declared.asked.GateCall.{GateCall}
+use Rattle.cm_gate.specs.declared.asked.GateCall.TheVariants.{Fetch, Launch, Halt}
 use Rattle.cm_gate.specs.declared.asked.Fetched.{Fetched}
 use Rattle.cm_gate.specs.declared.asked.Fetched.TheVariants as fetched
 use Rattle.cm_gate.specs.declared.asked.Launched.{Launched}
@@ -48,9 +49,9 @@ pub data Judges (bytes : List ℕ) : Result Decl FaultNote → Type 0 where
   unread : {number index : ℕ} {section : Section} {field : List ℕ}
       → decl_of_bytes bytes ≡ Err (read.Bad number section index field)
       → Judges bytes (Err (record { number = number; section = section; index = index }))
-  invalid : {d : Decl} {f : Fault}
+  invalid : {d : Decl} {f : DeclFault}
       → decl_of_bytes bytes ≡ Ok d
-      → IsFaultOf d f
+      → IsDeclFault d f
       → Judges bytes (Err (note_of f.number f.section f.index))
 
 -- the end of a resolve by the manifest of this URL
@@ -62,7 +63,7 @@ resolved_by url (Err note) = finish.Other (outcome.Invalid note)
 
 -- where manifests are looked for: blocks by their URLs, and the name of the repository of which the gates are
 -- asked for others
-pub record Shelf : Type 0 where
+pub record Manifests : Type 0 where
   pub repo : Option (List ℕ)
   pub blocks : Blocks
 
@@ -92,31 +93,35 @@ halt_ends halted.Stopped = finish.Other outcome.Stopped
 halt_ends halted.Failed = finish.Other outcome.Killed
 
 -- the work of an action: its end, and what the gates were asked for it, with their answers
-pub data Does (shelf : Shelf) (w : Work) : ActKind → Finish → List Asked → Type 0 where
+pub data DoesWork (manifests : Manifests) (w : Work) : ActKind → Finish → List GateCall → Type 0 where
   no_url : {fault : UrlFault}
       → absolute_of w.base w.url ≡ Err fault
-      → Does shelf w kind.Resolve (finish.Other outcome.BadUrl) []
+      → DoesWork manifests w kind.Resolve (finish.Other outcome.BadUrl) []
   kept : {url bytes : List ℕ} {judged : Result Decl FaultNote}
       → absolute_of w.base w.url ≡ Ok url
-      → block_at shelf.blocks url ≡ Some bytes
+      → block_at manifests.blocks url ≡ Some bytes
       → Judges bytes judged
-      → Does shelf w kind.Resolve (resolved_by url judged) []
+      → DoesWork manifests w kind.Resolve (resolved_by url judged) []
   fetches : {url : List ℕ} {answer : Fetched} {end : Finish}
       → absolute_of w.base w.url ≡ Ok url
-      → block_at shelf.blocks url ≡ None
+      → block_at manifests.blocks url ≡ None
       → FetchEnds url answer end
-      → Does shelf w kind.Resolve end (Fetch (record { repo = shelf.repo; url = url }) answer ∷ [])
+      → DoesWork manifests w kind.Resolve end (Fetch (record {
+        repo = manifests.repo;
+        url =
+            url;
+      }) answer ∷ [])
   -- memory is wanting before a question
-  wanting : Does shelf w kind.Resolve (finish.Other outcome.NoMemory) []
+  wanting : DoesWork manifests w kind.Resolve (finish.Other outcome.NoMemory) []
   -- an instance without a program starts and stops without a question
-  starts : w.runner ≡ None → Does shelf w kind.Start (finish.Other outcome.Started) []
+  starts : w.runner ≡ None → DoesWork manifests w kind.Start (finish.Other outcome.Started) []
   launches : {runner : List ℕ} {answer : Launched}
       → w.runner ≡ Some runner
-      → Does shelf w kind.Start (launch_ends answer) (Launch (job_of w runner) answer ∷ [])
-  stops : w.runner ≡ None → Does shelf w kind.Stop (finish.Other outcome.Stopped) []
+      → DoesWork manifests w kind.Start (launch_ends answer) (Launch (job_of w runner) answer ∷ [])
+  stops : w.runner ≡ None → DoesWork manifests w kind.Stop (finish.Other outcome.Stopped) []
   halts : {runner : List ℕ} {answer : Halted}
       → w.runner ≡ Some runner
-      → Does shelf w kind.Stop (halt_ends answer) (Halt (job_of w runner) answer ∷ [])
+      → DoesWork manifests w kind.Stop (halt_ends answer) (Halt (job_of w runner) answer ∷ [])
 
 -- ---- the entries of a caller
 
@@ -139,32 +144,32 @@ is_gate_failure _ = false
 
 -- the count of faults before a work and behind it: it doesn't fall, and without a question it stays; an end
 -- says that a gate failed only where it rose in this very work
-pub record Counts (end : Finish) (asked : List Asked) (before behind : ℕ) : Type 0 where
+pub record Counts (end : Finish) (asked : List GateCall) (before behind : ℕ) : Type 0 where
   pub later : before ≤ behind
   pub still : asked ≡ [] → behind ≡ before
   pub rose : IsTrue (is_gate_failure end) → Rose before behind
 
 -- an entry is the end of that work, for which this was asked, with the count of faults before and behind it
-abbrev pub IsEndOf : Shelf → ActKind × Work → Entry → List Asked → ℕ → ℕ → Type 0
-IsEndOf shelf b e asked before behind =
-    (end : Finish) × (e.event ≡ event.End b.1.action end) × Does shelf b.1 b.0 end asked
+abbrev pub IsEndOf : Manifests → ActKind × Work → Entry → List GateCall → ℕ → ℕ → Type 0
+IsEndOf manifests b e asked before behind =
+    (end : Finish) × (e.event ≡ event.End b.1.action end) × DoesWork manifests b.1 b.0 end asked
     × Counts end asked before behind
 
 -- the part of a caller, in which each work is ended by the next entry and no other entry is an end, and all
 -- that its gates were asked for it, in order, with their count of faults from work to work
-pub data Works (shelf : Shelf) : List Entry → List Asked → ℕ → ℕ → Type 0 where
-  nothing : {faults : ℕ} → Works shelf [] [] faults faults
-  passes : {e : Entry} {es : List Entry} {asked : List Asked} {before behind : ℕ}
+pub data Works (manifests : Manifests) : List Entry → List GateCall → ℕ → ℕ → Type 0 where
+  nothing : {faults : ℕ} → Works manifests [] [] faults faults
+  passes : {e : Entry} {es : List Entry} {asked : List GateCall} {before behind : ℕ}
       → begins e.event e.reply ≡ None
       → IsFalse (is_end e.event)
-      → Works shelf es asked before behind
-      → Works shelf (e ∷ es) asked before behind
-  ends : {e e' : Entry} {es : List Entry} {b : ActKind × Work} {now later : List Asked}
+      → Works manifests es asked before behind
+      → Works manifests (e ∷ es) asked before behind
+  ends : {e e' : Entry} {es : List Entry} {b : ActKind × Work} {now later : List GateCall}
       {before between behind : ℕ}
       → begins e.event e.reply ≡ Some b
-      → IsEndOf shelf b e' now before between
-      → Works shelf es later between behind
-      → Works shelf (e ∷ e' ∷ es) (now ++ later) before behind
+      → IsEndOf manifests b e' now before between
+      → Works manifests es later between behind
+      → Works manifests (e ∷ e' ∷ es) (now ++ later) before behind
 
 -- whether an entry is an end that says that a gate failed
 abbrev pub tells_failure : Entry → Bool
@@ -175,10 +180,10 @@ abbrev pub failures : List Entry → ℕ
 failures part = length (filter tells_failure part)
 
 -- a caller's part with its gates: their log before and after, and their count of faults
-pub record WorksWith (shelf : Shelf) (part : List Entry) (log₀ log₁ : Option (List Asked))
+pub record WorksWith (manifests : Manifests) (part : List Entry) (log₀ log₁ : Option (List GateCall))
     (faults₀ faults₁ : ℕ) : Type 0 where
-  pub asked : List Asked
-  pub works : Works shelf part asked faults₀ faults₁
+  pub asked : List GateCall
+  pub works : Works manifests part asked faults₀ faults₁
   pub log : Grew log₀ log₁ asked
   -- so the count rose at least as often as ends say
   pub faults : RoseBy (failures part) faults₀ faults₁

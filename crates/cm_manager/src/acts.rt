@@ -1,13 +1,13 @@
 //! Actions: their begin, their work and their end.
 
 ghost use Rattle.std.specs.Prelude.{◌≡◌};
-ghost use Rattle.cm_manager.specs.Acting.{BeginsBy};
-ghost use Rattle.cm_manager.specs.Runs.{Acts};
+ghost use Rattle.cm_manager.specs.Acting.{BeginRun};
+ghost use Rattle.cm_manager.specs.Runs.{RunsAction};
 ghost use Rattle.cm_manager.specs.Gated.{HelpsWith};
 
 use crate::Manager;
 use crate::began::Began;
-use cm_answers::{Acted, Wish};
+use cm_answers::{ActionResult, EventRef};
 use cm_gate::Gates;
 use cm_turn::Pass;
 use cm_world::{ActKind, Entry, Frame, Refusal, Reply};
@@ -27,11 +27,11 @@ impl Manager {
         inc: u64,
     ) -> (Pass<Entry, Frame>, Result<Began, Refusal>)
         requires lock { pass.lock ≡ self.now.turn.lock }
-        ensures helps { HelpsWith G.log G.faults self.now.shelf
-            (λ f c a b. BeginsBy f c kind inc result.1 a b)
+        ensures helps { HelpsWith G.log G.faults self.now.manifests
+            (λ f c a b. BeginRun f c kind inc result.1 a b)
             pass result.0 gates.old gates.new }
     {
-        let (pass, asked) = self.ask(rt, alloc, pass, Wish::Begin(kind, inc));
+        let (pass, asked) = self.ask(rt, alloc, pass, EventRef::Begin(kind, inc));
         let reply = match asked {
             Ok(reply) => reply,
             Err(refusal) => return (pass, Err(refusal)),
@@ -62,20 +62,23 @@ impl Manager {
         gates: &mut G,
         kind: ActKind,
         inc: u64,
-    ) -> (Pass<Entry, Frame>, Result<Acted, Refusal>)
+    ) -> (Pass<Entry, Frame>, Result<ActionResult, Refusal>)
         requires lock { pass.lock ≡ self.now.turn.lock }
         requires kind { kind ≡ ActKind.Resolve }
-        ensures helps { HelpsWith G.log G.faults self.now.shelf
-            (λ f c a b. Acts f c kind inc a b result.1)
+        ensures helps { HelpsWith G.log G.faults self.now.manifests
+            (λ f c a b. RunsAction f c kind inc a b result.1)
             pass result.0 gates.old gates.new }
     {
         let (pass, began) = self.begin(rt, alloc, pass, gates, kind, inc);
         match began {
             Ok(Began::Ended(action, outcome, _eager)) => {
-                (pass, Ok(Acted::Ended(kind, action, outcome)))
+                (pass, Ok(ActionResult::Ended(kind, action, outcome)))
             }
-            Ok(Began::Joined(action, outcome)) => (pass, Ok(Acted::Ended(kind, action, outcome))),
-            Ok(Began::Quiet(reply)) => (pass, Ok(Acted::Quiet(reply))),
+            Ok(Began::Joined(action, outcome)) => (
+                pass,
+                Ok(ActionResult::Ended(kind, action, outcome)),
+            ),
+            Ok(Began::Quiet(reply)) => (pass, Ok(ActionResult::Quiet(reply))),
             Ok(Began::Needs(_row)) => unreachable!(),
             Err(refusal) => (pass, Err(refusal)),
         }
@@ -95,10 +98,10 @@ impl Manager {
         gates: &mut G,
         kind: ActKind,
         inc: u64,
-    ) -> (Pass<Entry, Frame>, Result<Acted, Refusal>)
+    ) -> (Pass<Entry, Frame>, Result<ActionResult, Refusal>)
         requires lock { pass.lock ≡ self.now.turn.lock }
-        ensures helps { HelpsWith G.log G.faults self.now.shelf
-            (λ f c a b. Acts f c kind inc a b result.1)
+        ensures helps { HelpsWith G.log G.faults self.now.manifests
+            (λ f c a b. RunsAction f c kind inc a b result.1)
             pass result.0 gates.old gates.new }
     {
         match kind {

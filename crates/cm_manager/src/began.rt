@@ -1,6 +1,6 @@
 //! What became of a begin, of a start, of a pick and of an event, before what follows from it.
 
-use cm_answers::Acted;
+use cm_answers::ActionResult;
 use cm_names::List;
 use cm_world::{ActKind, Outcome, Refusal, Reply};
 
@@ -22,7 +22,7 @@ pub(crate) enum Began {
 #[derive(Drop)]
 pub(crate) enum Launch {
     /// It is over, and has no eager children to start.
-    Settled(Result<Acted, Refusal>),
+    Settled(Result<ActionResult, Refusal>),
     /// The caller itself started the instance by the action of this number, and these are its
     /// eager children.
     Children(u64, List<u64>),
@@ -30,7 +30,7 @@ pub(crate) enum Launch {
 
 /// What one pick of a shutdown came to.
 #[derive(Drop)]
-pub(crate) enum Picked {
+pub(crate) enum PickTurn {
     /// All at and below the target is shut.
     Done,
     /// One instance was shut, or stopped; there may be more of them.

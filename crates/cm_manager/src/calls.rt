@@ -3,7 +3,7 @@
 //! Each call takes the caller's pass and its gates. It finds the instance that its target names,
 //! does what has to be done first, and answers; the pass comes back in every case. The entries
 //! that it made are the caller's newest, and together with its answer they are a whole call, as
-//! `Performs` has it: an instance is found by one event, an action that was begun is ended,
+//! `IsWholeCall` has it: an instance is found by one event, an action that was begun is ended,
 //! one that was joined is awaited, and what another event needed first was done.
 //!
 //! Each call is refused
@@ -21,10 +21,10 @@
 
 ghost use Rattle.std.specs.Prelude.{◌≡◌, IfOk};
 ghost use Rattle.cm_command.specs.declared.command.Command.TheVariants as command;
-ghost use Rattle.cm_laws.specs.Shutdowns.{IsOver};
+ghost use Rattle.cm_laws.specs.ShutdownsInside.{IsShutBelow};
 ghost use Rattle.cm_manager.specs.Asking.{frame_of};
 ghost use Rattle.cm_manager.specs.Gated.{HelpsWith, PerformsWith};
-ghost use Rattle.cm_manager.specs.Laws.{IsRemoved, Leaves};
+ghost use Rattle.cm_manager.specs.Laws.{IsRemoved, LeavesRow};
 ghost use Rattle.cm_answers.specs.Questions.{asked_by};
 ghost use Rattle.cm_manager.specs.Questions.{AnswersTo};
 
@@ -54,7 +54,7 @@ impl Manager {
         question: Question<'_>,
     ) -> (Pass<Entry, Frame>, Result<Answer, Refusal>)
         requires lock { pass.lock ≡ self.now.turn.lock }
-        ensures helps { HelpsWith G.log G.faults self.now.shelf
+        ensures helps { HelpsWith G.log G.faults self.now.manifests
             (λ f c a b. AnswersTo f c question.entry inc a b result.1)
             pass result.0 gates.old gates.new }
     {
@@ -88,7 +88,7 @@ impl Manager {
         question: Question<'_>,
     ) -> (Pass<Entry, Frame>, Result<Answer, Refusal>)
         requires lock { pass.lock ≡ self.now.turn.lock }
-        ensures performs { PerformsWith G.log G.faults self.now.shelf
+        ensures performs { PerformsWith G.log G.faults self.now.manifests
             (asked_by target.now question.entry)
             pass result.0 gates.old gates.new result.1 }
     {
@@ -110,7 +110,7 @@ impl Manager {
         target: &Target,
     ) -> (Pass<Entry, Frame>, Result<Answer, Refusal>)
         requires lock { pass.lock ≡ self.now.turn.lock }
-        ensures performs { PerformsWith G.log G.faults self.now.shelf (command.Resolve target.now)
+        ensures performs { PerformsWith G.log G.faults self.now.manifests (command.Resolve target.now)
             pass result.0 gates.old gates.new result.1 }
     {
         let question = Question::Act(ActKind::Resolve);
@@ -130,7 +130,7 @@ impl Manager {
         target: &Target,
     ) -> (Pass<Entry, Frame>, Result<Answer, Refusal>)
         requires lock { pass.lock ≡ self.now.turn.lock }
-        ensures performs { PerformsWith G.log G.faults self.now.shelf (command.Start target.now)
+        ensures performs { PerformsWith G.log G.faults self.now.manifests (command.Start target.now)
             pass result.0 gates.old gates.new result.1 }
     {
         let question = Question::Act(ActKind::Start);
@@ -150,7 +150,7 @@ impl Manager {
         target: &Target,
     ) -> (Pass<Entry, Frame>, Result<Answer, Refusal>)
         requires lock { pass.lock ≡ self.now.turn.lock }
-        ensures performs { PerformsWith G.log G.faults self.now.shelf (command.Stop target.now)
+        ensures performs { PerformsWith G.log G.faults self.now.manifests (command.Stop target.now)
             pass result.0 gates.old gates.new result.1 }
     {
         self.call(rt, alloc, pass, gates, target, Question::Act(ActKind::Stop))
@@ -173,10 +173,10 @@ impl Manager {
         target: &Target,
     ) -> (Pass<Entry, Frame>, Result<Answer, Refusal>)
         requires lock { pass.lock ≡ self.now.turn.lock }
-        ensures performs { PerformsWith G.log G.faults self.now.shelf (command.Shutdown target.now)
+        ensures performs { PerformsWith G.log G.faults self.now.manifests (command.Shutdown target.now)
             pass result.0 gates.old gates.new result.1 }
         ensures shut { let f = frame_of pass in
-            IfOk result.1 (λ _. Leaves f pass.caller target.now IsOver pass.seen result.0.seen) }
+            IfOk result.1 (λ _. LeavesRow f pass.caller target.now IsShutBelow pass.seen result.0.seen) }
     {
         answers_hold();
         self.call(rt, alloc, pass, gates, target, Question::Shutdown)
@@ -207,7 +207,7 @@ impl Manager {
         gives: &List<Give>,
     ) -> (Pass<Entry, Frame>, Result<Answer, Refusal>)
         requires lock { pass.lock ≡ self.now.turn.lock }
-        ensures performs { PerformsWith G.log G.faults self.now.shelf
+        ensures performs { PerformsWith G.log G.faults self.now.manifests
             (command.Create parent.now coll.now name.now url.now gives.now)
             pass result.0 gates.old gates.new result.1 }
     {
@@ -233,10 +233,10 @@ impl Manager {
         target: &Target,
     ) -> (Pass<Entry, Frame>, Result<Answer, Refusal>)
         requires lock { pass.lock ≡ self.now.turn.lock }
-        ensures performs { PerformsWith G.log G.faults self.now.shelf (command.Destroy target.now)
+        ensures performs { PerformsWith G.log G.faults self.now.manifests (command.Destroy target.now)
             pass result.0 gates.old gates.new result.1 }
         ensures removed { let f = frame_of pass in
-            IfOk result.1 (λ _. Leaves f pass.caller target.now IsRemoved pass.seen result.0.seen) }
+            IfOk result.1 (λ _. LeavesRow f pass.caller target.now IsRemoved pass.seen result.0.seen) }
     {
         answers_hold();
         self.call(rt, alloc, pass, gates, target, Question::Destroy)
@@ -256,7 +256,7 @@ impl Manager {
         coll: &Name,
     ) -> (Pass<Entry, Frame>, Result<Answer, Refusal>)
         requires lock { pass.lock ≡ self.now.turn.lock }
-        ensures performs { PerformsWith G.log G.faults self.now.shelf
+        ensures performs { PerformsWith G.log G.faults self.now.manifests
             (command.ListChildren target.now coll.now) pass result.0 gates.old gates.new result.1 }
     {
         let question = Question::Event(Request::List(coll));
@@ -280,8 +280,8 @@ impl Manager {
         path: &CapPath,
     ) -> (Pass<Entry, Frame>, Result<Answer, Refusal>)
         requires lock { pass.lock ≡ self.now.turn.lock }
-        ensures performs { PerformsWith G.log G.faults self.now.shelf (command.OpenUse target.now path.now)
-            pass result.0 gates.old gates.new result.1 }
+        ensures performs { PerformsWith G.log G.faults self.now.manifests
+            (command.OpenUse target.now path.now) pass result.0 gates.old gates.new result.1 }
     {
         let question = Question::Event(Request::OpenUse(path));
         self.call(rt, alloc, pass, gates, target, question)
@@ -303,7 +303,7 @@ impl Manager {
         name: &Name,
     ) -> (Pass<Entry, Frame>, Result<Answer, Refusal>)
         requires lock { pass.lock ≡ self.now.turn.lock }
-        ensures performs { PerformsWith G.log G.faults self.now.shelf
+        ensures performs { PerformsWith G.log G.faults self.now.manifests
             (command.OpenExposed target.now name.now) pass result.0 gates.old gates.new result.1 }
     {
         let question = Question::Event(Request::OpenExposed(name));
@@ -325,8 +325,8 @@ impl Manager {
         path: &CapPath,
     ) -> (Pass<Entry, Frame>, Result<Answer, Refusal>)
         requires lock { pass.lock ≡ self.now.turn.lock }
-        ensures performs { PerformsWith G.log G.faults self.now.shelf (command.RouteOf target.now path.now)
-            pass result.0 gates.old gates.new result.1 }
+        ensures performs { PerformsWith G.log G.faults self.now.manifests
+            (command.RouteOf target.now path.now) pass result.0 gates.old gates.new result.1 }
     {
         let question = Question::Event(Request::Route(path));
         self.call(rt, alloc, pass, gates, target, question)
@@ -342,7 +342,7 @@ impl Manager {
         target: &Target,
     ) -> (Pass<Entry, Frame>, Result<Answer, Refusal>)
         requires lock { pass.lock ≡ self.now.turn.lock }
-        ensures performs { PerformsWith G.log G.faults self.now.shelf (command.Show target.now)
+        ensures performs { PerformsWith G.log G.faults self.now.manifests (command.Show target.now)
             pass result.0 gates.old gates.new result.1 }
     {
         let question = Question::Event(Request::Show);
@@ -360,7 +360,7 @@ impl Manager {
         target: &Target,
     ) -> (Pass<Entry, Frame>, Result<Answer, Refusal>)
         requires lock { pass.lock ≡ self.now.turn.lock }
-        ensures performs { PerformsWith G.log G.faults self.now.shelf (command.Survey target.now)
+        ensures performs { PerformsWith G.log G.faults self.now.manifests (command.Survey target.now)
             pass result.0 gates.old gates.new result.1 }
     {
         let question = Question::Event(Request::Survey);
@@ -379,7 +379,7 @@ impl Manager {
         target: &Target,
     ) -> (Pass<Entry, Frame>, Result<Answer, Refusal>)
         requires lock { pass.lock ≡ self.now.turn.lock }
-        ensures performs { PerformsWith G.log G.faults self.now.shelf (command.Exited target.now)
+        ensures performs { PerformsWith G.log G.faults self.now.manifests (command.Exited target.now)
             pass result.0 gates.old gates.new result.1 }
     {
         let question = Question::Event(Request::Exited);
@@ -399,7 +399,7 @@ impl Manager {
         from: u64,
     ) -> (Pass<Entry, Frame>, Result<Answer, Refusal>)
         requires lock { pass.lock ≡ self.now.turn.lock }
-        ensures performs { PerformsWith G.log G.faults self.now.shelf (command.Events target.now from)
+        ensures performs { PerformsWith G.log G.faults self.now.manifests (command.Events target.now from)
             pass result.0 gates.old gates.new result.1 }
     {
         self.call(rt, alloc, pass, gates, target, Question::Events(from))
@@ -415,7 +415,7 @@ impl Manager {
         command: &Command,
     ) -> (Pass<Entry, Frame>, Result<Answer, Refusal>)
         requires lock { pass.lock ≡ self.now.turn.lock }
-        ensures performs { PerformsWith G.log G.faults self.now.shelf command.now
+        ensures performs { PerformsWith G.log G.faults self.now.manifests command.now
             pass result.0 gates.old gates.new result.1 }
     {
         let (target, question) = question_of(command);

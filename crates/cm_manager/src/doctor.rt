@@ -4,7 +4,8 @@ ghost use Rattle.std.specs.Prelude.{◌≡◌, []};
 ghost use Rattle.cm_command.specs.declared.command.Command.TheVariants as command;
 ghost use Rattle.cm_manager.specs.Asking.{frame_of};
 ghost use Rattle.cm_manager.specs.Contract.{IsSamePass};
-ghost use Rattle.cm_manager.specs.Doctor.{Each, OfPath, OfRow, Doctors, Adding, Gathering, Surveying};
+ghost use Rattle.cm_manager.specs.Doctor.{GathersEach, OfPath, OfRow, Doctors};
+ghost use Rattle.cm_manager.specs.DoctorInside.{Adding, Gathering, Surveying};
 ghost use Rattle.cm_manager.specs.Gated.{HelpsWith, PerformsWith};
 
 use crate::Manager;
@@ -30,7 +31,7 @@ impl Manager {
         inc: u64,
     ) -> (Pass<Entry, Frame>, Result<List<SurveyRow>, Refusal>)
         requires lock { pass.lock ≡ self.now.turn.lock }
-        ensures helps { HelpsWith G.log G.faults self.now.shelf
+        ensures helps { HelpsWith G.log G.faults self.now.manifests
             (λ f c a b. Surveying f c inc a b result.1)
             pass result.0 gates.old gates.new }
     {
@@ -50,7 +51,7 @@ impl Manager {
         lines: List<Checked>,
     ) -> (Pass<Entry, Frame>, Result<List<Checked>, Refusal>)
         requires lock { pass.lock ≡ self.now.turn.lock }
-        ensures helps { HelpsWith G.log G.faults self.now.shelf
+        ensures helps { HelpsWith G.log G.faults self.now.manifests
             (λ f c a b. Adding (OfPath f c row.now path.now) lines a b result.1)
             pass result.0 gates.old gates.new }
     {
@@ -60,7 +61,7 @@ impl Manager {
     }
 
     /// Puts the lines of all paths that the instance uses behind the others. `Err` tells what
-    /// ended the call among them: want of memory, or of room in the history.
+    /// ended the call among them: lack of memory, or of room in the history.
     fn check_paths<R: Threads + Wait + Sync, G: Gates>(
         &self,
         rt: &R,
@@ -72,8 +73,8 @@ impl Manager {
     ) -> (Pass<Entry, Frame>, Result<List<Checked>, Refusal>)
         requires lock { pass.lock ≡ self.now.turn.lock }
         requires known { IsSamePass (frame_of pass) pass pass }
-        ensures helps { HelpsWith G.log G.faults self.now.shelf
-            (λ f c a b. Gathering (Each (OfPath f c row.now) row.now.paths) lines a b result.1)
+        ensures helps { HelpsWith G.log G.faults self.now.manifests
+            (λ f c a b. Gathering (GathersEach (OfPath f c row.now) row.now.paths) lines a b result.1)
             pass result.0 gates.old gates.new }
     {
         let mut idle = pass;
@@ -104,7 +105,7 @@ impl Manager {
     ) -> (Pass<Entry, Frame>, Result<List<Checked>, Refusal>)
         requires lock { pass.lock ≡ self.now.turn.lock }
         requires known { IsSamePass (frame_of pass) pass pass }
-        ensures helps { HelpsWith G.log G.faults self.now.shelf
+        ensures helps { HelpsWith G.log G.faults self.now.manifests
             (λ f c a b. Adding (OfRow f c row.now) lines a b result.1)
             pass result.0 gates.old gates.new }
     {
@@ -115,7 +116,7 @@ impl Manager {
     }
 
     /// Gathers the lines of these instances in order. `Err` tells what ended the call among them:
-    /// want of memory, or of room in the history.
+    /// lack of memory, or of room in the history.
     fn check_rows<R: Threads + Wait + Sync, G: Gates>(
         &self,
         rt: &R,
@@ -126,8 +127,8 @@ impl Manager {
     ) -> (Pass<Entry, Frame>, Result<List<Checked>, Refusal>)
         requires lock { pass.lock ≡ self.now.turn.lock }
         requires known { IsSamePass (frame_of pass) pass pass }
-        ensures helps { HelpsWith G.log G.faults self.now.shelf
-            (λ f c a b. Gathering (Each (OfRow f c) rows) [] a b result.1)
+        ensures helps { HelpsWith G.log G.faults self.now.manifests
+            (λ f c a b. Gathering (GathersEach (OfRow f c) rows) [] a b result.1)
             pass result.0 gates.old gates.new }
     {
         let mut idle = pass;
@@ -155,7 +156,7 @@ impl Manager {
         inc: u64,
     ) -> (Pass<Entry, Frame>, Result<Answer, Refusal>)
         requires lock { pass.lock ≡ self.now.turn.lock }
-        ensures helps { HelpsWith G.log G.faults self.now.shelf
+        ensures helps { HelpsWith G.log G.faults self.now.manifests
             (λ f c a b. Doctors f c inc a b result.1)
             pass result.0 gates.old gates.new }
     {
@@ -192,7 +193,7 @@ impl Manager {
         target: &Target,
     ) -> (Pass<Entry, Frame>, Result<Answer, Refusal>)
         requires lock { pass.lock ≡ self.now.turn.lock }
-        ensures performs { PerformsWith G.log G.faults self.now.shelf (command.Doctor target.now)
+        ensures performs { PerformsWith G.log G.faults self.now.manifests (command.Doctor target.now)
             pass result.0 gates.old gates.new result.1 }
     {
         self.call(rt, alloc, pass, gates, target, Question::Doctor)

@@ -4,7 +4,7 @@ ghost use Rattle.std.specs.Prelude.{◌≡◌, ◌<◌, ◌≤◌, ◌⊎◌, []
 ghost use Rattle.cm_turn.specs.Passes.{new_passes, seen_up_to, AreAll, IsOwn};
 ghost use Rattle.cm_turn.specs.History.{StartsWith};
 ghost use Rattle.cm_laws.specs.Story.{IsLegal};
-ghost use Rattle.cm_manager.specs.Managers.{Closes, IsBookOf};
+ghost use Rattle.cm_manager.specs.Managers.{BearsPassesOut, IsBookOf};
 ghost use Rattle.cm_manager.specs.Closed.{HasEnds};
 ghost use Rattle.cm_manager.specs.Asking.{frame_of};
 
@@ -44,7 +44,7 @@ impl Model for Manager {
 
     ghost view = { λ m. record {
       turn = m.turn;
-      shelf = record { repo = m.repo; blocks = m.repository };
+      manifests = record { repo = m.repo; blocks = m.repository };
     } };
 }
 
@@ -66,8 +66,8 @@ impl Manager {
         ensures count { IfOk result (λ made. made.0.turn.passes ≡ passes) }
         ensures new { IfOk result (λ made.
             made.1 ≡ new_passes made.0.turn.lock realm.frame passes) }
-        ensures shelf { IfOk result (λ made.
-            made.0.shelf ≡ record { repo = repo; blocks = repository }) }
+        ensures manifests { IfOk result (λ made.
+            made.0.manifests ≡ record { repo = repo; blocks = repository }) }
         ensures err { IfErr result (λ back. back ≡ realm) }
     {
         match Turn::new(alloc, realm, passes) {
@@ -109,7 +109,7 @@ impl Manager {
     pub fn close(self, passes: List<Pass<Entry, Frame>>) -> Book
         requires passes { AreAll self.turn passes }
         requires ended { All (λ p. HasEnds p.mine) passes }
-        ensures closes { Closes result.entries passes }
+        ensures closes { BearsPassesOut result.entries passes }
         ensures ended { HasEnds result.entries }
         ensures book { All (λ p. IsBookOf (frame_of p) result) passes }
     {
@@ -121,7 +121,7 @@ impl Manager {
     pub fn close_realm(self, passes: List<Pass<Entry, Frame>>) -> Realm
         requires passes { AreAll self.turn passes }
         requires ended { All (λ p. HasEnds p.mine) passes }
-        ensures closes { Closes result.entries passes }
+        ensures closes { BearsPassesOut result.entries passes }
         ensures ended { HasEnds result.entries }
         ensures frames { All (λ p. p.frame ≡ Some result.frame) passes }
     {

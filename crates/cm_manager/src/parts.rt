@@ -5,11 +5,11 @@ ghost use Rattle.cm_world.specs.declared.event.Target.TheVariants as target;
 ghost use Rattle.cm_manager.specs.Calls.{Finding};
 ghost use Rattle.cm_answers.specs.Questions.{event_for};
 ghost use Rattle.cm_manager.specs.Questions.{Requested};
-ghost use Rattle.cm_manager.specs.Runs.{Tries};
+ghost use Rattle.cm_manager.specs.Runs.{RetriesEvent};
 ghost use Rattle.cm_manager.specs.Gated.{HelpsWith, FindsWith};
 
 use crate::Manager;
-use cm_answers::{Follow, Request, Wish, behind, decided, following, found};
+use cm_answers::{EventRef, Follow, Request, behind, decided, following, found};
 use cm_gate::Gates;
 use cm_names::Moniker;
 use cm_turn::Pass;
@@ -29,11 +29,11 @@ impl Manager {
         moniker: &Moniker,
     ) -> (Pass<Entry, Frame>, Result<u64, Refusal>)
         requires lock { pass.lock ≡ self.now.turn.lock }
-        ensures helps { HelpsWith G.log G.faults self.now.shelf
+        ensures helps { HelpsWith G.log G.faults self.now.manifests
             (λ f c a b. Finding f c (target.Named moniker.now) a b result.1)
             pass result.0 gates.old gates.new }
     {
-        let (pass, went) = self.try_event(rt, alloc, pass, gates, Wish::Find(moniker));
+        let (pass, went) = self.try_event(rt, alloc, pass, gates, EventRef::Find(moniker));
         (pass, found(went))
     }
 
@@ -48,7 +48,7 @@ impl Manager {
     ) -> (Pass<Entry, Frame>, Result<u64, Refusal>)
         requires lock { pass.lock ≡ self.now.turn.lock }
         ensures lock { result.0.lock ≡ pass.lock }
-        ensures finds { FindsWith G.log G.faults self.now.shelf target.now
+        ensures finds { FindsWith G.log G.faults self.now.manifests target.now
             pass result.0 gates.old gates.new result.1 }
     {
         match target {
@@ -68,11 +68,11 @@ impl Manager {
         request: Request<'_>,
     ) -> (Pass<Entry, Frame>, Result<Reply, Refusal>)
         requires lock { pass.lock ≡ self.now.turn.lock }
-        ensures helps { HelpsWith G.log G.faults self.now.shelf
-            (λ f c a b. Tries f c (event_for request.entry inc) a b result.1)
+        ensures helps { HelpsWith G.log G.faults self.now.manifests
+            (λ f c a b. RetriesEvent f c (event_for request.entry inc) a b result.1)
             pass result.0 gates.old gates.new }
     {
-        self.try_event(rt, alloc, pass, gates, Wish::Ask(request, inc))
+        self.try_event(rt, alloc, pass, gates, EventRef::Ask(request, inc))
     }
 
     /// Makes a request of the instance of this incarnation, and does what follows its reply: a
@@ -88,7 +88,7 @@ impl Manager {
         request: Request<'_>,
     ) -> (Pass<Entry, Frame>, Result<Answer, Refusal>)
         requires lock { pass.lock ≡ self.now.turn.lock }
-        ensures helps { HelpsWith G.log G.faults self.now.shelf
+        ensures helps { HelpsWith G.log G.faults self.now.manifests
             (λ f c a b. Requested f c request.entry inc a b result.1)
             pass result.0 gates.old gates.new }
     {

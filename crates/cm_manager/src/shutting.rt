@@ -6,18 +6,19 @@
 //! calls may shut one instance down side by side.
 
 ghost use Rattle.std.specs.Prelude.{◌≡◌, IfNone, true};
-ghost use Rattle.cm_laws.specs.Shutdowns.{IsLeaving, IsMarked, IsOver};
+ghost use Rattle.cm_laws.specs.Shutdowns.{IsLeaving, IsMarked};
+ghost use Rattle.cm_laws.specs.ShutdownsInside.{IsShutBelow};
 ghost use Rattle.cm_manager.specs.Turns.{world_after};
 ghost use Rattle.cm_manager.specs.Asking.{Purged, frame_of};
 ghost use Rattle.cm_manager.specs.Contract.{IsSamePass};
-ghost use Rattle.cm_manager.specs.Acting.{PicksBy};
+ghost use Rattle.cm_manager.specs.Acting.{PickRun};
 ghost use Rattle.cm_manager.specs.Shutdowns.{Shuts, Destroys};
 ghost use Rattle.cm_manager.specs.Sweeps.{Stops};
 ghost use Rattle.cm_manager.specs.Gated.{HelpsWith};
 
 use crate::Manager;
-use crate::began::Picked;
-use cm_answers::{Wish, unmarked};
+use crate::began::PickTurn;
+use cm_answers::{EventRef, unmarked};
 use cm_gate::Gates;
 use cm_laws::{marks_stay, pickers_end, shutdowns_last};
 use cm_turn::Pass;
@@ -35,36 +36,36 @@ impl Manager {
         pass: Pass<Entry, Frame>,
         gates: &mut G,
         target: u64,
-    ) -> (Pass<Entry, Frame>, Picked)
+    ) -> (Pass<Entry, Frame>, PickTurn)
         requires lock { pass.lock ≡ self.now.turn.lock }
         requires leaving { IsLeaving (world_after (frame_of pass) pass.seen) target }
-        ensures helps { HelpsWith G.log G.faults self.now.shelf
-            (λ f c a b. PicksBy f c target result.1 a b)
+        ensures helps { HelpsWith G.log G.faults self.now.manifests
+            (λ f c a b. PickRun f c target result.1 a b)
             pass result.0 gates.old gates.new }
     {
         pickers_end();
-        let (pass, asked) = self.ask(rt, alloc, pass, Wish::Pick(target));
+        let (pass, asked) = self.ask(rt, alloc, pass, EventRef::Pick(target));
         let reply = match asked {
             Ok(reply) => reply,
-            Err(refusal) => return (pass, Picked::Cut(refusal)),
+            Err(refusal) => return (pass, PickTurn::Cut(refusal)),
         };
         match reply {
-            Reply::Done => (pass, Picked::Done),
-            Reply::ShutDown(_) => (pass, Picked::Further),
+            Reply::Done => (pass, PickTurn::Done),
+            Reply::ShutDown(_) => (pass, PickTurn::Further),
             Reply::Stopping(boxed) => {
                 let work = boxed.into_value();
                 let kind = ActKind::Stop;
                 let action = work.action;
                 let (ending, _eager) = self.do_work(rt, alloc, gates, &pass, kind, work);
                 let (pass, _outcome) = self.end_turn(rt, pass, action, ending);
-                (pass, Picked::Further)
+                (pass, PickTurn::Further)
             }
             _ => unreachable!(),
         }
     }
 
     /// Stops an instance that was marked, and all below it, one by one. `Some` tells what ended
-    /// the call among them: want of memory, or of room in the history.
+    /// the call among them: lack of memory, or of room in the history.
     pub(crate) fn stop_all<R: Threads + Wait + Sync, G: Gates>(
         &self,
         rt: &R,
@@ -75,11 +76,11 @@ impl Manager {
     ) -> (Pass<Entry, Frame>, Option<Refusal>)
         requires lock { pass.lock ≡ self.now.turn.lock }
         requires leaving { IsLeaving (world_after (frame_of pass) pass.seen) target }
-        ensures helps { HelpsWith G.log G.faults self.now.shelf
+        ensures helps { HelpsWith G.log G.faults self.now.manifests
             (λ f c a b. Stops f c target a b result.1)
             pass result.0 gates.old gates.new }
         ensures over { let world = world_after (frame_of result.0) result.0.seen in
-            IfNone result.1 (IsOver world target) }
+            IfNone result.1 (IsShutBelow world target) }
     {
         marks_stay();
         shutdowns_last();
@@ -87,9 +88,9 @@ impl Manager {
         for _ in rt.forever() {
             let (after, picked) = self.pick_one(rt, alloc, idle, gates, target);
             match picked {
-                Picked::Done => return (after, None),
-                Picked::Further => idle = after,
-                Picked::Cut(refusal) => return (after, Some(refusal)),
+                PickTurn::Done => return (after, None),
+                PickTurn::Further => idle = after,
+                PickTurn::Cut(refusal) => return (after, Some(refusal)),
             }
         }
         unreachable!()
@@ -107,16 +108,16 @@ impl Manager {
         inc: u64,
     ) -> (Pass<Entry, Frame>, Option<Refusal>)
         requires lock { pass.lock ≡ self.now.turn.lock }
-        ensures helps { HelpsWith G.log G.faults self.now.shelf
+        ensures helps { HelpsWith G.log G.faults self.now.manifests
             (λ f c a b. Shuts f c doom inc a b result.1)
             pass result.0 gates.old gates.new }
         ensures marked { let world = world_after (frame_of result.0) result.0.seen in
             IfNone result.1 (IsMarked doom world inc) }
         ensures over { let world = world_after (frame_of result.0) result.0.seen in
-            IfNone result.1 (IsOver world inc) }
+            IfNone result.1 (IsShutBelow world inc) }
     {
         marks_stay();
-        let (pass, asked) = self.ask(rt, alloc, pass, Wish::Mark(doom, inc));
+        let (pass, asked) = self.ask(rt, alloc, pass, EventRef::Mark(doom, inc));
         match unmarked(asked) {
             None => self.stop_all(rt, alloc, pass, gates, inc),
             Some(refusal) => (pass, Some(refusal)),
@@ -134,11 +135,11 @@ impl Manager {
     ) -> (Pass<Entry, Frame>, Option<Refusal>)
         requires lock { pass.lock ≡ self.now.turn.lock }
         requires due { let world = world_after (frame_of pass) pass.seen in
-            IsMarked true world inc × IsOver world inc }
+            IsMarked true world inc × IsShutBelow world inc }
         ensures same { IsSamePass (frame_of pass) pass result.0 }
         ensures purged { Purged inc pass result.0 result.1 }
     {
-        let (pass, asked) = self.ask(rt, alloc, pass, Wish::Purge(inc));
+        let (pass, asked) = self.ask(rt, alloc, pass, EventRef::Purge(inc));
         match asked {
             Ok(reply) => {
                 drop(reply);
@@ -159,7 +160,7 @@ impl Manager {
         inc: u64,
     ) -> (Pass<Entry, Frame>, Option<Refusal>)
         requires lock { pass.lock ≡ self.now.turn.lock }
-        ensures helps { HelpsWith G.log G.faults self.now.shelf
+        ensures helps { HelpsWith G.log G.faults self.now.manifests
             (λ f c a b. Destroys f c inc a b result.1)
             pass result.0 gates.old gates.new }
     {

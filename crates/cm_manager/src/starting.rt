@@ -4,14 +4,14 @@ ghost use Rattle.std.specs.Prelude.{◌≡◌, ◌≢◌, ◌++◌, ℕ, List as
 ghost use Rattle.cm_world.specs.declared.frame.Frame.{Frame as TheFrame};
 ghost use Rattle.cm_world.specs.declared.reply.Entry.{Entry as TheEntry};
 ghost use Rattle.cm_manager.specs.Asking.{frame_of};
-ghost use Rattle.cm_manager.specs.Acting.{BeginsBy, StartsBy, LaunchesBy};
+ghost use Rattle.cm_manager.specs.Acting.{BeginRun, StartsBy, LaunchesBy};
 ghost use Rattle.cm_manager.specs.Contract.{IsSamePass};
-ghost use Rattle.cm_manager.specs.Runs.{Acts, Eagers};
+ghost use Rattle.cm_manager.specs.Runs.{RunsAction, StartsEager};
 ghost use Rattle.cm_manager.specs.Gated.{HelpsWith};
 
 use crate::Manager;
 use crate::began::{Began, Launch};
-use cm_answers::{Acted, ending_of_eager, if_failed};
+use cm_answers::{ActionResult, ending_of_eager, if_failed};
 use cm_gate::Gates;
 use cm_names::List;
 use cm_turn::Pass;
@@ -24,25 +24,25 @@ use std::thread::Threads;
 /// What a start came to by its begin; `Err` with the instance that has to be resolved first.
 fn launch_of(began: Result<Began, Refusal>) -> Result<Launch, u64>
     ensures { (f : TheFrame) (c i : ℕ) (a b : Seq TheEntry)
-        → BeginsBy f c ActKind.Start i began a b → LaunchesBy f c i result a b }
+        → BeginRun f c ActKind.Start i began a b → LaunchesBy f c i result a b }
 {
     match began {
         Ok(Began::Ended(action, outcome, eager)) => match outcome {
             Outcome::Started => Ok(Launch::Children(action, eager)),
-            other => Ok(Launch::Settled(Ok(Acted::Ended(ActKind::Start, action, other)))),
+            other => Ok(Launch::Settled(Ok(ActionResult::Ended(ActKind::Start, action, other)))),
         },
         Ok(Began::Joined(action, outcome)) => {
-            let went = Ok(Acted::Ended(ActKind::Start, action, outcome));
+            let went = Ok(ActionResult::Ended(ActKind::Start, action, outcome));
             Ok(Launch::Settled(went))
         }
-        Ok(Began::Quiet(reply)) => Ok(Launch::Settled(Ok(Acted::Quiet(reply)))),
+        Ok(Began::Quiet(reply)) => Ok(Launch::Settled(Ok(ActionResult::Quiet(reply)))),
         Ok(Began::Needs(row)) => Err(row),
         Err(refusal) => Ok(Launch::Settled(Err(refusal))),
     }
 }
 
-/// These rows in front of the others. `Err` where memory runs out, which no rows take.
-fn in_front(rows: List<u64>, others: VecDeque<u64>) -> Result<VecDeque<u64>, AllocError>
+/// These rows before the others. `Err` where memory runs out, which no rows take.
+fn in_prefix(rows: List<u64>, others: VecDeque<u64>) -> Result<VecDeque<u64>, AllocError>
     ensures all { IfOk result (λ all. all.items ≡ rows ++ others.items) }
     ensures wanting { OnErr result (rows ≢ []) }
 {
@@ -65,7 +65,7 @@ impl Manager {
         inc: u64,
     ) -> (Pass<Entry, Frame>, Launch)
         requires lock { pass.lock ≡ self.now.turn.lock }
-        ensures helps { HelpsWith G.log G.faults self.now.shelf
+        ensures helps { HelpsWith G.log G.faults self.now.manifests
             (λ f c a b. StartsBy f c inc result.1 a b)
             pass result.0 gates.old gates.new }
     {
@@ -86,7 +86,7 @@ impl Manager {
     }
 
     /// Starts these instances in order, each with its own eager children before the next. `Some`
-    /// tells what ended the call among them: want of memory, or of room in the history.
+    /// tells what ended the call among them: lack of memory, or of room in the history.
     fn start_all<R: Threads + Wait + Sync, G: Gates>(
         &self,
         rt: &R,
@@ -97,8 +97,8 @@ impl Manager {
     ) -> (Pass<Entry, Frame>, Option<Refusal>)
         requires lock { pass.lock ≡ self.now.turn.lock }
         requires known { IsSamePass (frame_of pass) pass pass }
-        ensures helps { HelpsWith G.log G.faults self.now.shelf
-            (λ f c a b. Eagers f c rows.items a b result.1)
+        ensures helps { HelpsWith G.log G.faults self.now.manifests
+            (λ f c a b. StartsEager f c rows.items a b result.1)
             pass result.0 gates.old gates.new }
     {
         let mut idle = pass;
@@ -115,7 +115,7 @@ impl Manager {
                         return (idle, Some(refusal));
                     }
                 }
-                Launch::Children(_action, eager) => match in_front(eager, left) {
+                Launch::Children(_action, eager) => match in_prefix(eager, left) {
                     Ok(all) => left = all,
                     Err(_) => return (idle, Some(Refusal::Memory)),
                 },
@@ -132,21 +132,25 @@ impl Manager {
         pass: Pass<Entry, Frame>,
         gates: &mut G,
         inc: u64,
-    ) -> (Pass<Entry, Frame>, Result<Acted, Refusal>)
+    ) -> (Pass<Entry, Frame>, Result<ActionResult, Refusal>)
         requires lock { pass.lock ≡ self.now.turn.lock }
-        ensures helps { HelpsWith G.log G.faults self.now.shelf
-            (λ f c a b. Acts f c ActKind.Start inc a b result.1)
+        ensures helps { HelpsWith G.log G.faults self.now.manifests
+            (λ f c a b. RunsAction f c ActKind.Start inc a b result.1)
             pass result.0 gates.old gates.new }
     {
         let (after, launch) = self.start_one(rt, alloc, pass, gates, inc);
         match launch {
             Launch::Settled(went) => (after, went),
-            Launch::Children(action, eager) => match in_front(eager, VecDeque::new(alloc)) {
+            Launch::Children(action, eager) => match in_prefix(eager, VecDeque::new(alloc)) {
                 Ok(rows) => {
                     let (after, end) = self.start_all(rt, alloc, after, gates, rows);
                     match end {
                         None => {
-                            let done = Acted::Ended(ActKind::Start, action, Outcome::Started);
+                            let done = ActionResult::Ended(
+                                ActKind::Start,
+                                action,
+                                Outcome::Started,
+                            );
                             (after, Ok(done))
                         }
                         Some(refusal) => (after, Err(refusal)),

@@ -9,17 +9,17 @@ ghost use Rattle.std.specs.Prelude.{◌≡◌, ℕ, true, Contains};
 ghost use Rattle.cm_laws.specs.Shutdowns.{IsMarked};
 ghost use Rattle.cm_laws.specs.Story.{IsLegal, world_of};
 ghost use Rattle.cm_world.specs.Expiring.{runs_once};
-ghost use Rattle.cm_manager.specs.Turns.{Later, world_after};
+ghost use Rattle.cm_manager.specs.Turns.{IsLaterHistory, world_after};
 ghost use Rattle.cm_manager.specs.Asking.{frame_of};
 ghost use Rattle.cm_manager.specs.Contract.{IsSamePass};
-ghost use Rattle.cm_manager.specs.Runs.{Acts, Onces};
+ghost use Rattle.cm_manager.specs.Runs.{RunsAction, StartsSingleRun};
 ghost use Rattle.cm_manager.specs.Sweeps.{Removes, Clears, Sweeps};
 ghost use Rattle.cm_manager.specs.Gated.{HelpsWith};
 
 use crate::Manager;
 use crate::began::Began;
 use crate::manager::check_history;
-use cm_answers::{Acted, Wish, ending_of_eager};
+use cm_answers::{ActionResult, EventRef, ending_of_eager};
 use cm_gate::Gates;
 use cm_laws::{marks_stay, reaps_marked};
 use cm_names::List;
@@ -52,7 +52,7 @@ impl Manager {
     ) -> (Pass<Entry, Frame>, Option<Refusal>)
         requires lock { pass.lock ≡ self.now.turn.lock }
         requires marked { IsMarked true (world_after (frame_of pass) pass.seen) inc }
-        ensures helps { HelpsWith G.log G.faults self.now.shelf
+        ensures helps { HelpsWith G.log G.faults self.now.manifests
             (λ f c a b. Removes f c inc a b result.1)
             pass result.0 gates.old gates.new }
     {
@@ -78,7 +78,7 @@ impl Manager {
         requires known { IsSamePass (frame_of pass) pass pass }
         requires marked { let world = world_after (frame_of pass) pass.seen in
             (i : ℕ) → Contains rows i → IsMarked true world i }
-        ensures helps { HelpsWith G.log G.faults self.now.shelf
+        ensures helps { HelpsWith G.log G.faults self.now.manifests
             (λ f c a b. Clears f c rows a b result.1)
             pass result.0 gates.old gates.new }
     {
@@ -104,12 +104,12 @@ impl Manager {
         inc: u64,
     ) -> (Pass<Entry, Frame>, Option<Refusal>)
         requires lock { pass.lock ≡ self.now.turn.lock }
-        ensures helps { HelpsWith G.log G.faults self.now.shelf
+        ensures helps { HelpsWith G.log G.faults self.now.manifests
             (λ f c a b. Sweeps f c inc a b result.1)
             pass result.0 gates.old gates.new }
     {
         reaps_marked();
-        let (pass, asked) = self.ask(rt, alloc, pass, Wish::Reap(inc));
+        let (pass, asked) = self.ask(rt, alloc, pass, EventRef::Reap(inc));
         let reply = match asked {
             Ok(reply) => reply,
             Err(refusal) => return (pass, Some(refusal)),
@@ -128,10 +128,10 @@ impl Manager {
         pass: Pass<Entry, Frame>,
         gates: &mut G,
         inc: u64,
-    ) -> (Pass<Entry, Frame>, Result<Acted, Refusal>)
+    ) -> (Pass<Entry, Frame>, Result<ActionResult, Refusal>)
         requires lock { pass.lock ≡ self.now.turn.lock }
-        ensures helps { HelpsWith G.log G.faults self.now.shelf
-            (λ f c a b. Acts f c ActKind.Stop inc a b result.1)
+        ensures helps { HelpsWith G.log G.faults self.now.manifests
+            (λ f c a b. RunsAction f c ActKind.Stop inc a b result.1)
             pass result.0 gates.old gates.new }
     {
         let kind = ActKind::Stop;
@@ -140,12 +140,15 @@ impl Manager {
             Ok(Began::Ended(action, outcome, _eager)) => {
                 let (pass, end) = self.sweep(rt, alloc, pass, gates, inc);
                 match end {
-                    None => (pass, Ok(Acted::Ended(kind, action, outcome))),
+                    None => (pass, Ok(ActionResult::Ended(kind, action, outcome))),
                     Some(refusal) => (pass, Err(refusal)),
                 }
             }
-            Ok(Began::Joined(action, outcome)) => (pass, Ok(Acted::Ended(kind, action, outcome))),
-            Ok(Began::Quiet(reply)) => (pass, Ok(Acted::Quiet(reply))),
+            Ok(Began::Joined(action, outcome)) => (
+                pass,
+                Ok(ActionResult::Ended(kind, action, outcome)),
+            ),
+            Ok(Began::Quiet(reply)) => (pass, Ok(ActionResult::Quiet(reply))),
             Ok(Began::Needs(_row)) => unreachable!(),
             Err(refusal) => (pass, Err(refusal)),
         }
@@ -161,7 +164,7 @@ impl Manager {
     ) -> (Pass<Entry, Frame>, bool)
         requires lock { pass.lock ≡ self.now.turn.lock }
         ensures same { IsSamePass (frame_of pass) pass result.0 }
-        ensures later { Later pass.caller pass.seen result.0.seen }
+        ensures later { IsLaterHistory pass.caller pass.seen result.0.seen }
         ensures mine { result.0.mine ≡ pass.mine }
         ensures once { result.1 ≡ runs_once (world_after (frame_of pass) result.0.seen).rows inc }
     {
@@ -181,8 +184,8 @@ impl Manager {
         inc: u64,
     ) -> (Pass<Entry, Frame>, Option<Refusal>)
         requires lock { pass.lock ≡ self.now.turn.lock }
-        ensures helps { HelpsWith G.log G.faults self.now.shelf
-            (λ f c a b. Onces f c inc a b result.1)
+        ensures helps { HelpsWith G.log G.faults self.now.manifests
+            (λ f c a b. StartsSingleRun f c inc a b result.1)
             pass result.0 gates.old gates.new }
     {
         let (pass, once) = self.look_once(rt, pass, inc);

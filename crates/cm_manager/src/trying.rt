@@ -4,12 +4,12 @@ ghost use Rattle.std.specs.Prelude.{◌≡◌, IsTrue};
 ghost use Rattle.cm_manager.specs.Asking.{is_asked, is_plain};
 ghost use Rattle.cm_manager.specs.Acting.{ReadsBy};
 ghost use Rattle.cm_answers.specs.Questions.{event_of};
-ghost use Rattle.cm_manager.specs.Runs.{Tries};
+ghost use Rattle.cm_manager.specs.Runs.{RetriesEvent};
 ghost use Rattle.cm_manager.specs.Gated.{HelpsWith};
 
 use crate::Manager;
 use crate::began::Demand;
-use cm_answers::{Wish, ending};
+use cm_answers::{EventRef, ending};
 use cm_gate::Gates;
 use cm_turn::Pass;
 use cm_world::{ActKind, Entry, Frame, Refusal, Reply};
@@ -40,13 +40,13 @@ impl Manager {
         alloc: Global,
         pass: Pass<Entry, Frame>,
         gates: &mut G,
-        wish: Wish<'_>,
+        wish: EventRef<'_>,
     ) -> (Pass<Entry, Frame>, Result<Reply, Refusal>)
         requires lock { pass.lock ≡ self.now.turn.lock }
         requires asked { IsTrue (is_asked (event_of wish)) }
         requires plain { IsTrue (is_plain (event_of wish)) }
-        ensures helps { HelpsWith G.log G.faults self.now.shelf
-            (λ f c a b. Tries f c (event_of wish.entry) a b result.1)
+        ensures helps { HelpsWith G.log G.faults self.now.manifests
+            (λ f c a b. RetriesEvent f c (event_of wish.entry) a b result.1)
             pass result.0 gates.old gates.new }
     {
         let mut idle = pass;

@@ -5,20 +5,20 @@ ghost use Rattle.cm_world.specs.declared.event.Event.TheVariants as event;
 ghost use Rattle.cm_world.specs.declared.reply.Reply.TheVariants as reply;
 ghost use Rattle.cm_world.specs.World.{outcome_of};
 ghost use Rattle.cm_world.specs.Step.{MayEnd};
-ghost use Rattle.cm_laws.specs.Story.{IsLegal, world_of, Tells};
+ghost use Rattle.cm_laws.specs.Story.{IsLegal, world_of, AddsEntry};
 ghost use Rattle.cm_laws.specs.Laws.{IsJoined};
 ghost use Rattle.cm_steps.specs.Ends.{finish_of};
 ghost use Rattle.cm_steps.specs.Steps.{RefusesQuiet};
 ghost use Rattle.cm_manager.specs.Turns.{world_after};
 ghost use Rattle.cm_manager.specs.Contract.{IsSamePass};
 ghost use Rattle.cm_manager.specs.Asking as asking;
-ghost use Rattle.cm_manager.specs.Asking.{StepsBy, AwaitsBy, Turned, Awaited, Told, frame_of};
-ghost use Rattle.cm_manager.specs.Asking.{DueStays, DueIsOpen, IsDue, IsOpen, IsBusy};
+ghost use Rattle.cm_manager.specs.Asking.{StepsBy, AwaitsBy, Turned, Awaited, RecordsOutcome, frame_of};
+ghost use Rattle.cm_manager.specs.Asking.{DueStays, DueIsOpen, IsDue, TreeAllows, IsBusy};
 ghost use Rattle.cm_answers.specs.Questions.{event_for, event_of};
 
 use crate::Manager;
 use crate::manager::check_history;
-use cm_answers::{Request, Wish};
+use cm_answers::{EventRef, Request};
 use cm_decl::Give;
 use cm_decl::copies::four;
 use cm_laws::{marks_stay, shutdowns_last};
@@ -96,24 +96,24 @@ fn tell_request(
 }
 
 /// Makes one event at the realm.
-fn tell(realm: &mut Realm, alloc: Global, caller: u32, wish: Wish<'_>) -> Result<Reply, NoStep>
-    requires ready { IsLegal realm.old → IsOpen (world_of realm.old) (event_of wish) }
+fn tell(realm: &mut Realm, alloc: Global, caller: u32, wish: EventRef<'_>) -> Result<Reply, NoStep>
+    requires ready { IsLegal realm.old → TreeAllows (world_of realm.old) (event_of wish) }
     ensures legal { IsLegal realm.old }
     ensures steps { StepsBy realm.old realm.new caller (event_of wish.entry) result }
     ensures busy { IfErr result (IsBusy (world_of realm.old) (event_of wish.entry)) }
 {
     check_history(realm);
     match wish {
-        Wish::Find(moniker) => {
+        EventRef::Find(moniker) => {
             let moniker = moniker.clone()?;
             realm.find(alloc, caller, moniker)
         }
-        Wish::Ask(request, inc) => tell_request(realm, alloc, caller, request, inc),
-        Wish::Begin(kind, inc) => realm.begin(alloc, caller, kind, inc),
-        Wish::Mark(doom, inc) => realm.mark(caller, doom, inc),
-        Wish::Pick(target) => realm.pick(alloc, caller, target),
-        Wish::Purge(inc) => realm.purge(alloc, caller, inc),
-        Wish::Reap(inc) => realm.reap(alloc, caller, inc),
+        EventRef::Ask(request, inc) => tell_request(realm, alloc, caller, request, inc),
+        EventRef::Begin(kind, inc) => realm.begin(alloc, caller, kind, inc),
+        EventRef::Mark(doom, inc) => realm.mark(caller, doom, inc),
+        EventRef::Pick(target) => realm.pick(alloc, caller, target),
+        EventRef::Purge(inc) => realm.purge(alloc, caller, inc),
+        EventRef::Reap(inc) => realm.reap(alloc, caller, inc),
     }
 }
 
@@ -123,7 +123,7 @@ fn finish(realm: &mut Realm, caller: u32, action: u64, ending: Ending) -> Outcom
         → MayEnd (world_of realm.old).acts caller action (finish_of ending) }
     ensures legal { IsLegal realm.old }
     ensures tells { let event = event.End action (finish_of ending) in
-        Tells realm.old realm.new caller event (reply.Ended result) }
+        AddsEntry realm.old realm.new caller event (reply.Ended result) }
 {
     check_history(realm);
     match realm.end(caller, action, ending) {
@@ -157,7 +157,7 @@ impl Manager {
         rt: &R,
         alloc: Global,
         pass: Pass<Entry, Frame>,
-        wish: Wish<'_>,
+        wish: EventRef<'_>,
     ) -> (Pass<Entry, Frame>, Result<Reply, NoStep>)
         requires lock { pass.lock ≡ self.now.turn.lock }
         requires due { IsDue (world_after (frame_of pass) pass.seen) (event_of wish) }
@@ -180,12 +180,12 @@ impl Manager {
         rt: &R,
         alloc: Global,
         pass: Pass<Entry, Frame>,
-        wish: Wish<'_>,
+        wish: EventRef<'_>,
     ) -> (Pass<Entry, Frame>, Result<Reply, Refusal>)
         requires lock { pass.lock ≡ self.now.turn.lock }
         requires due { IsDue (world_after (frame_of pass) pass.seen) (event_of wish) }
         ensures same { IsSamePass (frame_of pass) pass result.0 }
-        ensures asked { asking.Asked (event_of wish.entry) pass result.0 result.1 }
+        ensures asked { asking.RecordsEvent (event_of wish.entry) pass result.0 result.1 }
     {
         due_events_stay();
         let mut idle = pass;
@@ -213,7 +213,7 @@ impl Manager {
         requires may { let world = world_after (frame_of pass) pass.seen in
             MayEnd world.acts pass.caller action (finish_of ending) }
         ensures same { IsSamePass (frame_of pass) pass result.0 }
-        ensures told { Told pass result.0 (event.End action (finish_of ending)) result.1 }
+        ensures told { RecordsOutcome pass result.0 (event.End action (finish_of ending)) result.1 }
     {
         let caller = pass.caller();
         let mut held = self.turn.enter(rt, pass);
@@ -254,7 +254,7 @@ impl Manager {
         requires joined { let world = world_after (frame_of pass) pass.seen in
             IsJoined world pass.caller action }
         ensures same { IsSamePass (frame_of pass) pass result.0 }
-        ensures told { Told pass result.0 (event.Await action) result.1 }
+        ensures told { RecordsOutcome pass result.0 (event.Await action) result.1 }
     {
         let mut idle = pass;
         for _ in rt.forever() {

@@ -11,8 +11,8 @@ ghost use Rattle.cm_repo.specs.Blocks.{block_at};
 ghost use Rattle.cm_repo.specs.Urls.{absolute_of};
 ghost use Rattle.cm_world.specs.declared.action.Work.{Work as TheWork};
 ghost use Rattle.cm_steps.specs.Ends.{finish_of};
-ghost use Rattle.cm_manager.specs.Work.{Shelf};
-ghost use Rattle.cm_manager.specs.Doing.{JudgesBy, EndsBy, Fits, HasJob};
+ghost use Rattle.cm_manager.specs.Work.{Manifests};
+ghost use Rattle.cm_manager.specs.Doing.{JudgesBy, EndsBy, FitsAction, HasJob};
 ghost use Rattle.cm_manager.specs.Doing.{unread_outcome, invalid_outcome, launched_outcome, halted_outcome};
 ghost use Rattle.cm_manager.specs.Gated.{DidWith};
 
@@ -87,7 +87,7 @@ fn judge(alloc: Global, bytes: &[u8]) -> Result<Decl, Outcome>
 /// The end of a resolve by the bytes of its manifest.
 fn ending_by(alloc: Global, url: Text, bytes: &[u8]) -> Ending
     ensures ends { EndsBy url bytes.now (finish_of result) }
-    ensures fits { Fits ActKind.Resolve (finish_of result) }
+    ensures fits { FitsAction ActKind.Resolve (finish_of result) }
 {
     match judge(alloc, bytes) {
         Ok(decl) => match Prepared::make(alloc, decl, url) {
@@ -161,9 +161,9 @@ fn launch<R: Threads + Wait + Sync, G: Gates>(
     idle: &Pass<Entry, Frame>,
     work: Work,
 ) -> (Ending, List<u64>)
-    ensures did { (shelf : Shelf) → DidWith G.log G.faults shelf work ActKind.Start (finish_of result.0)
-        gates.old gates.new }
-    ensures fits { Fits ActKind.Start (finish_of result.0) }
+    ensures did { (manifests : Manifests) → DidWith G.log G.faults manifests work ActKind.Start
+        (finish_of result.0) gates.old gates.new }
+    ensures fits { FitsAction ActKind.Start (finish_of result.0) }
     ensures eager { result.1 ≡ work.eager }
 {
     let (job, eager) = job_for(work);
@@ -184,9 +184,9 @@ fn halt<R: Threads + Wait + Sync, G: Gates>(
     idle: &Pass<Entry, Frame>,
     work: Work,
 ) -> Ending
-    ensures did { (shelf : Shelf) → DidWith G.log G.faults shelf work ActKind.Stop (finish_of result)
-        gates.old gates.new }
-    ensures fits { Fits ActKind.Stop (finish_of result) }
+    ensures did { (manifests : Manifests) → DidWith G.log G.faults manifests work ActKind.Stop
+        (finish_of result) gates.old gates.new }
+    ensures fits { FitsAction ActKind.Stop (finish_of result) }
 {
     let (job, eager) = job_for(work);
     drop(eager);
@@ -210,9 +210,9 @@ impl Manager {
         idle: &Pass<Entry, Frame>,
         work: &Work,
     ) -> Ending
-        ensures did { DidWith G.log G.faults self.now.shelf work.now ActKind.Resolve (finish_of result)
+        ensures did { DidWith G.log G.faults self.now.manifests work.now ActKind.Resolve (finish_of result)
             gates.old gates.new }
-        ensures fits { Fits ActKind.Resolve (finish_of result) }
+        ensures fits { FitsAction ActKind.Resolve (finish_of result) }
     {
         match absolute(alloc, work.base.as_str(), work.url.as_str()) {
             Ok(url) => self.find_manifest(rt, alloc, gates, idle, url),
@@ -233,9 +233,9 @@ impl Manager {
         url: Text,
     ) -> Ending
         ensures did { (w : TheWork) → absolute_of w.base w.url ≡ Ok url
-            → DidWith G.log G.faults self.now.shelf w ActKind.Resolve (finish_of result)
+            → DidWith G.log G.faults self.now.manifests w ActKind.Resolve (finish_of result)
             gates.old gates.new }
-        ensures fits { Fits ActKind.Resolve (finish_of result) }
+        ensures fits { FitsAction ActKind.Resolve (finish_of result) }
     {
         match self.repository.find(url.as_str()) {
             Some(bytes) => ending_by(alloc, url, bytes.as_slice()),
@@ -245,7 +245,7 @@ impl Manager {
 
     /// What the gates are asked for the manifest of this URL. `Err` where memory runs out.
     fn question(&self, url: &Text) -> Result<Fetch, Memory>
-        ensures { let repo = self.now.shelf.repo in
+        ensures { let repo = self.now.manifests.repo in
             IfOk result (λ what. what ≡ record { repo = repo; url = url.now }) }
     {
         let repo = self.repo.clone()?;
@@ -262,11 +262,11 @@ impl Manager {
         idle: &Pass<Entry, Frame>,
         url: Text,
     ) -> Ending
-        requires { block_at self.now.shelf.blocks url ≡ None }
+        requires { block_at self.now.manifests.blocks url ≡ None }
         ensures did { (w : TheWork) → absolute_of w.base w.url ≡ Ok url
-            → DidWith G.log G.faults self.now.shelf w ActKind.Resolve (finish_of result)
+            → DidWith G.log G.faults self.now.manifests w ActKind.Resolve (finish_of result)
             gates.old gates.new }
-        ensures fits { Fits ActKind.Resolve (finish_of result) }
+        ensures fits { FitsAction ActKind.Resolve (finish_of result) }
     {
         let Ok(what) = self.question(&url) else {
             return Ending::Other(Outcome::NoMemory);
@@ -292,9 +292,9 @@ impl Manager {
         kind: ActKind,
         work: Work,
     ) -> (Ending, List<u64>)
-        ensures did { DidWith G.log G.faults self.now.shelf work kind (finish_of result.0)
+        ensures did { DidWith G.log G.faults self.now.manifests work kind (finish_of result.0)
             gates.old gates.new }
-        ensures fits { Fits kind (finish_of result.0) }
+        ensures fits { FitsAction kind (finish_of result.0) }
         ensures eager { kind ≡ ActKind.Start → result.1 ≡ work.eager }
     {
         match kind {

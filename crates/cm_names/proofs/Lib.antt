@@ -1,3 +1,3 @@
-pub mod fronts
+pub mod prefixes
 pub mod texts
 pub mod sets

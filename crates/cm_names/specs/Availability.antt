@@ -1,3 +1,4 @@
+-- Promised.
 -- Which availability is enough for which, and the words of a manifest.
 use Rattle.std.specs.Prelude.{ℕ, List, codes, Bool, true, false, not, Option, Some, None}
 use Rattle.cm_names.specs.declared.availability.Availability.{Availability}

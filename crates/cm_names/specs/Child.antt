@@ -1,3 +1,4 @@
+-- Promised.
 -- How the name of a child is written.
 use Rattle.std.specs.Prelude.{ℕ, List, ◌++◌, codes, Option, Some, None}
 use Rattle.cm_names.specs.declared.child.ChildName.{ChildName}

@@ -1,12 +1,15 @@
 pub mod Name
 pub mod Path
+pub mod PathInside
 pub mod Child
 pub mod Availability
-pub mod Fronts
+pub mod Prefixes
 pub mod Moniker
-pub mod MonikerPlaces
+pub mod MonikerInside
+pub mod MonikerStates
 pub mod RightBits
 pub mod Rights
+pub mod RightsInside
 pub mod Urls
 pub mod Steps
 pub mod Text

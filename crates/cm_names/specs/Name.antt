@@ -1,3 +1,4 @@
+-- Promised.
 -- Which texts are names, and the first fault of a text that is none.
 use Rattle.std.specs.Prelude.{ℕ, ◌+◌, ◌≤◌, List, [], ◌∷◌, length, Bool, not, ◌&&◌, ◌||◌, ◌==◌, nat_lt, nat_le}
 use Rattle.std.specs.Prelude.{Option, Some, None, option_map, position, All, if◌then◌else◌, IsTrue}

@@ -1,5 +1,7 @@
+-- Promised.
 -- Which texts are paths and subdirectories, and the first fault of a text that is none.
-use Rattle.std.specs.Prelude.{◌≡◌, ℕ, ◌+◌, List, [], ◌∷◌, ◌++◌, length, codes, Bool, false, not, ◌&&◌, ◌||◌}
+-- ---- the grammar
+use Rattle.std.specs.Prelude.{ℕ, ◌+◌, List, [], ◌∷◌, ◌++◌, length, codes, Bool, false, not, ◌&&◌, ◌||◌}
 use Rattle.std.specs.Prelude.{◌==◌, nat_le, nat_lt, if◌then◌else◌, Option, Some, option_map, position}
 use Rattle.std.specs.Prelude.{slice_get}
 use Rattle.std.specs.List.{list_all, slice_split, filter_map, flat_map}
@@ -7,8 +9,6 @@ use Rattle.std.specs.Str.{bytes_eq}
 use Rattle.cm_names.specs.declared.path.PathFault.{PathFault}
 use Rattle.cm_names.specs.declared.path.PathFault.TheVariants.{Empty, TooLong, BadByte, NotAbsolute}
 use Rattle.cm_names.specs.declared.path.PathFault.TheVariants.{NotRelative, EmptyPart, DotPart}
-
--- ---- the grammar
 
 -- the byte between two parts
 abbrev pub is_slash : ℕ → Bool
@@ -91,7 +91,3 @@ slash_and_text subdir = codes "/" ++ subdir
 -- the path, and each subdirectory behind a slash
 abbrev pub joined_text : List ℕ → List (List ℕ) → List ℕ
 joined_text path subdirs = path ++ flat_map slash_and_text subdirs
-
--- the first path begins with the second one and a slash
-abbrev pub IsInside : List ℕ → List ℕ → Type 0
-IsInside path folder = (rest : List ℕ) × (path ≡ folder ++ (codes "/" ++ rest))

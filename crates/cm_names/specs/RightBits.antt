@@ -1,3 +1,4 @@
+-- Promised.
 -- A set of rights as nine bits of a number.
 use Rattle.std.specs.Prelude.{◌≡◌, ℕ, ◌+◌, ◌*◌, ◌<◌, Bool, true, ◌==◌, if◌then◌else◌}
 use Rattle.std.specs.Int.{bit_at}

@@ -1,10 +1,10 @@
+-- Promised.
 -- Rights, and the words that stand for them.
-use Rattle.std.specs.Prelude.{◌≡◌, ◌≢◌, ℕ, min, List, [], ◌∷◌, ◌++◌, length, codes, map, filter, Bool, true}
+use Rattle.std.specs.Prelude.{ℕ, min, List, [], ◌∷◌, ◌++◌, length, codes, map, filter, Bool, true}
 use Rattle.std.specs.Prelude.{false, not, ◌||◌, if◌then◌else◌, Option, Some, None, option_map, Result, Ok}
 use Rattle.std.specs.Prelude.{Err}
 use Rattle.std.specs.List.{list_all, list_any, join_with_byte}
 use Rattle.std.specs.Str.{bytes_eq}
-use Rattle.std.specs.Option.{option_map_or}
 use Rattle.cm_names.specs.declared.rights.Right.{Right}
 use Rattle.cm_names.specs.declared.rights.Right.TheVariants.{Connect, Enumerate, Execute, GetAttributes}
 use Rattle.cm_names.specs.declared.rights.Right.TheVariants.{ModifyDirectory, ReadBytes, Traverse}
@@ -180,15 +180,6 @@ unfoldable pub rights_of : List (List ℕ) → Result RightSet RightsFault
 rights_of [] = Err Empty
 rights_of (word ∷ rest) = rights_behind [] (word ∷ rest)
 
--- whether the word stands for a set that has the right
-abbrev pub word_has : Right → List ℕ → Bool
-word_has right word = option_map_or (λ r. has r right) (rights_of_word word) false
-
--- the set, where the words have no fault
-abbrev pub rights_if_faultless : Result RightSet RightsFault → Option RightSet
-rights_if_faultless (Ok r) = Some r
-rights_if_faultless (Err e) = None
-
 -- the names of the rights that are in the set, in their order
 abbrev pub words_of : RightSet → List (List ℕ)
 words_of r = map word_of (filter (has r) all_rights)
@@ -196,7 +187,3 @@ words_of r = map word_of (filter (has r) all_rights)
 -- those, joined by commas
 abbrev pub text_of : RightSet → List ℕ
 text_of r = join_with_byte 44 (words_of r)
-
--- the names of a set's rights are read as that set
-abbrev pub WordsAreReadBack : Type 0
-WordsAreReadBack = (r : RightSet) → r ≢ no_rights → rights_of (words_of r) ≡ Ok r

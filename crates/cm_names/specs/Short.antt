@@ -1,3 +1,4 @@
+-- Promised.
 -- What a contract sees of a short text.
 use Rattle.std.specs.Prelude.{ℕ, List}
 

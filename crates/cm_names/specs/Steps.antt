@@ -1,3 +1,4 @@
+-- Promised.
 -- Answers in steps, each of which may be refused.
 use Rattle.std.specs.Prelude.{Result, Ok, Err}
 

@@ -1,3 +1,4 @@
+-- Promised.
 -- What a text is seen as, wherever its bytes stand.
 use Rattle.std.specs.Prelude.{ℕ, List, string_bytes}
 use Rattle.cm_names.specs.declared.text.Stored.{Stored}

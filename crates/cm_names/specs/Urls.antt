@@ -1,3 +1,4 @@
+-- Promised.
 -- The text of a URL, as manifests and commands have it.
 use Rattle.std.specs.Prelude.{ℕ, Bool, not, ◌&&◌, List, length, nat_le, ◌==◌}
 use Rattle.std.specs.List.{list_all}

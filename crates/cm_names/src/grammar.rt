@@ -1,9 +1,9 @@
 //! The grammar of monikers, read byte by byte.
 
 ghost use Rattle.std.specs.Prelude.{◌≡◌, ◌≤◌, length, IfSome, IfNone};
-ghost use Rattle.cm_names.specs.Fronts.{IsLongestFront};
-ghost use Rattle.cm_names.specs.Moniker.{IsMonikerText};
-ghost use Rattle.cm_names.specs.MonikerPlaces.{next, may_end, begin_name};
+ghost use Rattle.cm_names.specs.Prefixes.{IsLongestPrefix};
+ghost use Rattle.cm_names.specs.MonikerInside.{IsMonikerText};
+ghost use Rattle.cm_names.specs.MonikerStates.{next, may_end, begin_name};
 
 use crate::limits::{MAX_NAME_BYTES, MAX_PATH_BYTES};
 use crate::name::{begins, continues};
@@ -13,7 +13,7 @@ const MAX_COUNT: u32 = MAX_NAME_BYTES as u32;
 
 /// Where the text of a moniker stands behind some of its bytes.
 #[derive(Debug, Clone, Copy, PartialEq, Eq)]
-pub enum MonikerPlace {
+pub enum MonikerState {
     /// Nothing yet.
     Start,
     /// The whole of it, a dot.
@@ -30,43 +30,43 @@ pub enum MonikerPlace {
     Second(u32),
 }
 
-impl MonikerPlace {
+impl MonikerState {
     /// The place behind one byte more, where the text of some moniker goes on with it. It leaves
     /// the moniker's length aside.
-    pub fn next(self, byte: u8) -> Option<MonikerPlace>
+    pub fn next(self, byte: u8) -> Option<MonikerState>
         ensures { result ≡ next self byte }
     {
         match self {
-            MonikerPlace::Start => match byte {
-                b'.' => Some(MonikerPlace::Whole),
-                b'/' => Some(MonikerPlace::Root),
+            MonikerState::Start => match byte {
+                b'.' => Some(MonikerState::Whole),
+                b'/' => Some(MonikerState::Root),
                 _ => first_at(byte),
             },
-            MonikerPlace::Whole => None,
-            MonikerPlace::Root | MonikerPlace::Part => first_at(byte),
-            MonikerPlace::First(n) => {
+            MonikerState::Whole => None,
+            MonikerState::Root | MonikerState::Part => first_at(byte),
+            MonikerState::First(n) => {
                 if byte == b':' {
-                    Some(MonikerPlace::Colon)
+                    Some(MonikerState::Colon)
                 } else if byte == b'/' {
-                    Some(MonikerPlace::Part)
+                    Some(MonikerState::Part)
                 } else if continues(byte) && n < MAX_COUNT {
-                    Some(MonikerPlace::First(n + 1))
+                    Some(MonikerState::First(n + 1))
                 } else {
                     None
                 }
             }
-            MonikerPlace::Colon => {
+            MonikerState::Colon => {
                 if begins(byte) {
-                    Some(MonikerPlace::Second(1))
+                    Some(MonikerState::Second(1))
                 } else {
                     None
                 }
             }
-            MonikerPlace::Second(n) => {
+            MonikerState::Second(n) => {
                 if byte == b'/' {
-                    Some(MonikerPlace::Part)
+                    Some(MonikerState::Part)
                 } else if continues(byte) && n < MAX_COUNT {
-                    Some(MonikerPlace::Second(n + 1))
+                    Some(MonikerState::Second(n + 1))
                 } else {
                     None
                 }
@@ -79,34 +79,34 @@ impl MonikerPlace {
         ensures { result ≡ may_end self }
     {
         match self {
-            MonikerPlace::Start | MonikerPlace::Part | MonikerPlace::Colon => false,
-            MonikerPlace::Whole
-            | MonikerPlace::Root
-            | MonikerPlace::First(_)
-            | MonikerPlace::Second(_) => true,
+            MonikerState::Start | MonikerState::Part | MonikerState::Colon => false,
+            MonikerState::Whole
+            | MonikerState::Root
+            | MonikerState::First(_)
+            | MonikerState::Second(_) => true,
         }
     }
 }
 
-fn first_at(byte: u8) -> Option<MonikerPlace>
-    ensures { result ≡ begin_name MonikerPlace.First byte }
+fn first_at(byte: u8) -> Option<MonikerState>
+    ensures { result ≡ begin_name MonikerState.First byte }
 {
     if begins(byte) {
-        Some(MonikerPlace::First(1))
+        Some(MonikerState::First(1))
     } else {
         None
     }
 }
 
-/// The length of the longest front of the bytes that the text of some moniker begins with, where
+/// The length of the longest prefix of the bytes that the text of some moniker begins with, where
 /// they aren't such a text.
 pub fn bad_place(bytes: &[u8]) -> Option<usize>
     requires { length bytes.now ≤ 4096 }
-    ensures front { IfSome result (IsLongestFront IsMonikerText bytes.now) }
+    ensures prefix { IfSome result (IsLongestPrefix IsMonikerText bytes.now) }
     ensures not_whole { IfSome result (λ _. IsMonikerText bytes.now → ⊥) }
     ensures whole { IfNone result (IsMonikerText bytes.now) }
 {
-    let mut place = MonikerPlace::Start;
+    let mut place = MonikerState::Start;
     for (i, byte) in bytes.iter().enumerate() {
         match place.next(*byte) {
             Some(next) => {

@@ -29,7 +29,7 @@ pub use availability::Availability;
 pub use boxed::Boxed;
 pub use child::ChildName;
 pub use dependency::Dependency;
-pub use grammar::MonikerPlace;
+pub use grammar::MonikerState;
 pub use limits::{MAX_NAME_BYTES, MAX_PATH_BYTES, MAX_URL_BYTES};
 pub use list::{Bytes, List};
 pub use memory::Memory;

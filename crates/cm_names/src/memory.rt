@@ -1,4 +1,4 @@
-//! Want of memory, the one fault that every call that allocates may answer.
+//! Lack of memory, the one fault that every call that allocates may answer.
 
 use std::alloc::{AllocError, AllocFailed};
 use std::fmt;

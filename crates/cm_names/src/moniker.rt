@@ -4,9 +4,12 @@ ghost use Rattle.std.specs.Prelude.{◌≡◌, ◌≢◌, ◌↔◌, ◌≤◌, 
 ghost use Rattle.std.specs.Prelude.{IfErr, MatchOption, OnOk};
 ghost use Rattle.cm_names.specs.Name.{IsName};
 ghost use Rattle.cm_names.specs.Child.{child_text};
-ghost use Rattle.cm_names.specs.Moniker.{moniker_text, IsChild, IsChildText, IsMonikerFault, IsMonikerText};
-ghost use Rattle.cm_names.specs.Moniker.{IsMonikerTextOf, behind_slash, ReadsOneWay, WritesItsText};
-ghost use Rattle.cm_names.specs.Moniker.{BeginsWith};
+ghost use Rattle.cm_names.specs.Moniker.{moniker_text, IsChildName};
+ghost use Rattle.cm_names.specs.MonikerInside.{IsChildText, IsMonikerFault};
+ghost use Rattle.cm_names.specs.MonikerInside.{IsMonikerText};
+ghost use Rattle.cm_names.specs.Moniker.{IsMonikerTextOf};
+ghost use Rattle.cm_names.specs.MonikerInside.{behind_slash, MonikersReadOneWay, WritesItsText};
+ghost use Rattle.cm_names.specs.MonikerInside.{MonikerStartsWith};
 ghost use Rattle.cm_names.specs.Path.{parts_of};
 
 use crate::grammar::bad_place;
@@ -37,7 +40,7 @@ pub enum MonikerFault {
     /// The text has more than 4,096 bytes.
     #[error("the moniker is longer than 4096 bytes")]
     TooLong,
-    /// So many bytes are the longest front of the text that the text of some moniker begins with.
+    /// So many bytes are the longest prefix of the text that the text of some moniker begins with.
     #[error("no moniker goes on so behind byte {0}")]
     BadMoniker(u32),
     /// Memory ran out.
@@ -117,12 +120,12 @@ impl Moniker {
         Ok(Moniker { parts })
     }
 
-    /// Whether it stands at `front` or below it: whether the way to it begins with that to
-    /// `front`.
-    pub fn starts_with(&self, front: &Moniker) -> bool
-        ensures { IsTrue result ↔ BeginsWith self.now.parts front.now.parts }
+    /// Whether it stands at `prefix` or below it: whether the way to it begins with that to
+    /// `prefix`.
+    pub fn starts_with(&self, prefix: &Moniker) -> bool
+        ensures { IsTrue result ↔ MonikerStartsWith self.now.parts prefix.now.parts }
     {
-        self.parts.as_slice().starts_with(front.parts.as_slice())
+        self.parts.as_slice().starts_with(prefix.parts.as_slice())
     }
 
     /// Whether it is the root's.
@@ -159,7 +162,7 @@ fn cut_at_colon(part: &str) -> Option<(&str, &str)>
 /// The child's name that has this text.
 fn read_child(alloc: Global, part: &str) -> Result<Shared<ChildName>, Memory>
     requires { IsChildText part.now }
-    ensures is_child { IfOk result (λ child. IsChild child) }
+    ensures is_child { IfOk result (λ child. IsChildName child) }
     ensures text { IfOk result (λ child. child_text child ≡ part.now) }
 {
     match cut_at_colon(part) {
@@ -179,7 +182,7 @@ fn read_child(alloc: Global, part: &str) -> Result<Shared<ChildName>, Memory>
 /// The children's names whose texts stand between the slashes.
 fn read_parts(alloc: Global, text: &str) -> Result<List<Shared<ChildName>>, Memory>
     requires { All IsChildText (parts_of text.now) }
-    ensures names { IfOk result (λ parts. All IsChild parts) }
+    ensures names { IfOk result (λ parts. All IsChildName parts) }
     ensures texts { IfOk result (λ parts. map child_text parts ≡ parts_of text.now) }
 {
     let mut parts = List::new(alloc);
@@ -214,7 +217,7 @@ fn read_whole(alloc: Global, text: &str) -> Result<Moniker, Memory>
 /// Puts the text of a child's name at the end.
 fn push_child(text: &mut Text, child: &Shared<ChildName>) -> Result<(), Memory>
     ensures text { OnOk result (text.new ≡ text.old ++ child_text child.now) }
-    ensures is_child { OnOk result (IsChild child.now) }
+    ensures is_child { OnOk result (IsChildName child.now) }
 {
     let child = child.get();
     if let Some(coll) = &child.coll {
@@ -227,7 +230,7 @@ fn push_child(text: &mut Text, child: &Shared<ChildName>) -> Result<(), Memory>
 /// Law: a text is the text of one moniker at most. So what [`Moniker::read`] gives for the text
 /// that [`Moniker::write`] gave is the moniker that was written.
 pub fn reads_one_way()
-    ensures { ReadsOneWay }
+    ensures { MonikersReadOneWay }
 {}
 
 /// Law: the text of a moniker whose names are names is one of its texts.

@@ -6,6 +6,7 @@ ghost use Rattle.std.specs.Prelude.{None, Some};
 ghost use Rattle.std.specs.List.{flat_map};
 ghost use Rattle.std.specs.Str.{bytes_eq};
 ghost use Rattle.cm_names.specs.Path as spec;
+ghost use Rattle.cm_names.specs.PathInside as spec_inside;
 
 use crate::{MAX_PATH_BYTES, Memory, Name, Plain, Text};
 use std::alloc::{AllocError, Global};
@@ -246,7 +247,7 @@ impl CapPath {
     /// Whether the path names something inside of `folder`, which is where it begins with
     /// `folder` and a slash.
     pub fn is_inside(&self, folder: &CapPath) -> bool
-        ensures { IsTrue result ↔ spec.IsInside self.now folder.now }
+        ensures { IsTrue result ↔ spec_inside.IsInside self.now folder.now }
     {
         match self.as_str().strip_prefix(folder.as_str()) {
             Some(rest) => rest.starts_with('/'),

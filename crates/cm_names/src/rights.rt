@@ -18,6 +18,7 @@ ghost use Rattle.std.specs.List.{list_any, join_with_byte};
 ghost use Rattle.std.specs.Str.{bytes_eq};
 ghost use Rattle.cm_names.specs.declared.rights.Right.{Right as OneRight};
 ghost use Rattle.cm_names.specs.Rights as spec;
+ghost use Rattle.cm_names.specs.RightsInside as spec_inside;
 
 use crate::{List, Memory, Plain, Text};
 use std::alloc::Global;
@@ -299,7 +300,7 @@ impl Rights {
     pub fn read_words(words: &[Text]) -> Result<Rights, RightsFault>
         ensures read { result ≡ spec.rights_of words.now }
         ensures union { IfOk result (λ rights. (right : OneRight)
-            → spec.has rights right ≡ list_any (spec.word_has right) words.now) }
+            → spec.has rights right ≡ list_any (spec_inside.word_has right) words.now) }
     {
         if words.is_empty() {
             return Err(RightsFault::Empty);
@@ -319,7 +320,7 @@ impl Rights {
 
     /// The union of the words' rights, or `None` where [`Rights::read_words`] finds a fault.
     pub fn of_words(words: &[Text]) -> Option<Rights>
-        ensures { result ≡ spec.rights_if_faultless (spec.rights_of words.now) }
+        ensures { result ≡ spec_inside.rights_if_faultless (spec.rights_of words.now) }
     {
         match Rights::read_words(words) {
             Ok(rights) => Some(rights),
@@ -367,5 +368,5 @@ fn joined(alloc: Global, words: &[Text]) -> Result<Text, Memory>
 
 /// Law: the names of a set's rights are read as that set.
 pub fn words_are_read_back()
-    ensures { spec.WordsAreReadBack }
+    ensures { spec_inside.WordsAreReadBack }
 {}

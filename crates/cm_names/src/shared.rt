@@ -47,7 +47,7 @@ impl<T: Drop> Shared<T> {
     }
 }
 
-/// `Err`, which callers take for want of memory, comes where the value has more owners than can be
+/// `Err`, which callers take for lack of memory, comes where the value has more owners than can be
 /// counted; no contract says so.
 impl<T: Drop> Clone for Shared<T> {
     ghost use Rattle.std.specs.Prelude.{◌≡◌};

@@ -38,14 +38,14 @@ impl Model for Short {
 
 impl Short {
     /// The bytes of both, one behind the other.
-    pub(crate) fn join(front: &str, back: &str) -> Short
-        requires { length front.now + length back.now ≤ 14 }
-        ensures { result.bytes ≡ front.now ++ back.now }
+    pub(crate) fn join(prefix: &str, back: &str) -> Short
+        requires { length prefix.now + length back.now ≤ 14 }
+        ensures { result.bytes ≡ prefix.now ++ back.now }
     {
         let mut room = [0; MAX_SHORT_BYTES];
-        let middle = front.len();
+        let middle = prefix.len();
         let count = middle + back.len();
-        room[..middle].copy_from_slice(front.as_bytes());
+        room[..middle].copy_from_slice(prefix.as_bytes());
         room[middle..count].copy_from_slice(back.as_bytes());
         Short {
             room,

@@ -69,23 +69,23 @@ impl Stored {
         }
     }
 
-    /// A place for the bytes of `front` and those of `back` behind them, which takes memory where
+    /// A place for the bytes of `prefix` and those of `back` behind them, which takes memory where
     /// they are more than 14. `Err(Memory)` comes where memory runs out.
-    fn join(alloc: Global, front: &str, back: &str) -> Result<Stored, Memory>
-        ensures { IfOk result (λ made. stored_bytes made ≡ front.now ++ back.now) }
+    fn join(alloc: Global, prefix: &str, back: &str) -> Result<Stored, Memory>
+        ensures { IfOk result (λ made. stored_bytes made ≡ prefix.now ++ back.now) }
     {
-        let count = front.len() + back.len();
+        let count = prefix.len() + back.len();
         if count <= MAX_SHORT_BYTES {
-            return Ok(Stored::Inline(Short::join(front, back)));
+            return Ok(Stored::Inline(Short::join(prefix, back)));
         }
         if count <= MAX_SMALL_BYTES {
             let mut small = ArrayString::new();
-            small.push_str(front);
+            small.push_str(prefix);
             small.push_str(back);
             return Ok(Stored::Small(Arc::new(alloc, small)?));
         }
         let mut large = String::with_capacity(alloc, count)?;
-        large.push_str(front)?;
+        large.push_str(prefix)?;
         large.push_str(back)?;
         Ok(Stored::Large(Arc::new(alloc, large)?))
     }
@@ -205,7 +205,7 @@ impl Text {
     }
 }
 
-/// `Err`, which callers take for want of memory, comes where a text has more copies than can be
+/// `Err`, which callers take for lack of memory, comes where a text has more copies than can be
 /// counted; no contract says so.
 impl Clone for Text {
     ghost use Rattle.std.specs.Prelude.{◌≡◌};

@@ -1,3 +1,4 @@
+-- Inside.
 -- What a quick look at a level comes to. It asks only for what nothing that isn't shut depends on by
 -- strong edges.
 use Rattle.std.specs.Prelude.{◌≡◌, ◌≢◌, ◌==◌, ℕ, List, Bool, true, false, ◌&&◌, Option, Some, None, IsTrue}
@@ -13,16 +14,16 @@ use Rattle.cm_decl.specs.declared.rows.Give.{Give}
 use Rattle.cm_decl.specs.declared.rows.Offer.{Offer}
 use Rattle.cm_decl.specs.declared.rows.Usage.{Usage}
 use Rattle.cm_decl.specs.Graph.{is_strong, is_from_child, target_of}
-use Rattle.cm_decl.specs.Realm.{Depends}
+use Rattle.cm_decl.specs.RealmGraph.{Depends}
 use Rattle.cm_world.specs.declared.row.Row.{Row}
 use Rattle.cm_world.specs.Rows.{is_subtree_shut}
 use Rattle.cm_world.specs.Level.{is_from_row, level, LevelStrong}
 use Rattle.cm_world.specs.Stopping.{is_wholly_shut, IsFree}
-use Rattle.cm_order.specs.declared.named.Look.{Look}
-use Rattle.cm_order.specs.declared.named.Look.TheVariants.{Quick, Close}
-use Rattle.cm_order.specs.declared.search.Wanted.TheVariants.{Idle}
-use Rattle.cm_order.specs.declared.search.Visit.{Visit}
-use Rattle.cm_order.specs.declared.search.Visit.TheVariants.{Here, Below}
+use Rattle.cm_order.specs.declared.named.LookDepth.{LookDepth}
+use Rattle.cm_order.specs.declared.named.LookDepth.TheVariants.{Quick, Close}
+use Rattle.cm_order.specs.declared.search.SearchGoal.TheVariants.{Idle}
+use Rattle.cm_order.specs.declared.search.VisitResult.{VisitResult}
+use Rattle.cm_order.specs.declared.search.VisitResult.TheVariants.{Here, Below}
 use Rattle.cm_order.specs.Kids.{IsKid}
 use Rattle.cm_order.specs.Search.{IsHere, IsFound}
 
@@ -33,8 +34,8 @@ abbrev pub is_in_set : BTreeSet ℕ → ℕ → Bool
 is_in_set named x = contains nat_cmp named x
 
 -- nothing was taken out of a set
-abbrev pub Grows : BTreeSet ℕ → BTreeSet ℕ → Type 0
-Grows old new = (x : ℕ) → IsTrue (is_in_set old x) → IsTrue (is_in_set new x)
+abbrev pub SetGrows : BTreeSet ℕ → BTreeSet ℕ → Type 0
+SetGrows old new = (x : ℕ) → IsTrue (is_in_set old x) → IsTrue (is_in_set new x)
 
 -- whether a text is in a set
 abbrev pub is_in_texts : BTreeSet (List ℕ) → List ℕ → Bool
@@ -75,12 +76,12 @@ abbrev pub is_wired : Give → Bool
 is_wired g = is_strong g.dependency && is_from_child g.from
 
 -- whether offers to a target count: all at a quick look, those to these targets at a close one
-abbrev pub is_aimed : Look → BTreeSet (List ℕ) → List ℕ → Bool
+abbrev pub is_aimed : LookDepth → BTreeSet (List ℕ) → List ℕ → Bool
 is_aimed Quick targets to = true
 is_aimed Close targets to = is_in_texts targets to
 
 -- whether an offer that counts comes strongly from a row of p's level
-abbrev pub is_aimed_from : List Row → ℕ → Look → BTreeSet (List ℕ) → ℕ → Offer → Bool
+abbrev pub is_aimed_from : List Row → ℕ → LookDepth → BTreeSet (List ℕ) → ℕ → Offer → Bool
 is_aimed_from rows p look targets x o = is_aimed look targets o.to && is_offered_from rows p x o
 
 -- a set has each row but p to which a strong edge of p's level leads from w
@@ -95,16 +96,16 @@ HasBound rows p named =
 
 -- what a child was given alone is in the set, and offers to it count, unless no offer is strongly from
 -- a child
-pub record IsPut (rows : List Row) (p : ℕ) (look : Look) (wired : Bool) (named : BTreeSet ℕ)
+pub record IsPut (rows : List Row) (p : ℕ) (look : LookDepth) (wired : Bool) (named : BTreeSet ℕ)
     (targets : BTreeSet (List ℕ)) (r : Row) : Type 0 where
   pub given : HasSources p (is_given_from rows p) r.gives named
   pub target : (wired ≡ false)
       ⊎ ((c : ChildName) → r.name ≡ Some c → IsTrue (is_aimed look targets (target_of c)))
 
 -- that, or it is in the list of those that are all shut
-abbrev pub IsSeen : List Row → ℕ → Look → Bool → BTreeSet ℕ → BTreeSet (List ℕ) → List ℕ → ℕ → Row
+abbrev pub IsSeenShut : List Row → ℕ → LookDepth → Bool → BTreeSet ℕ → BTreeSet (List ℕ) → List ℕ → ℕ → Row
     → Type 0
-IsSeen rows p look wired named targets closed c r =
+IsSeenShut rows p look wired named targets closed c r =
     IsPut rows p look wired named targets r ⊎ (IsTrue (is_in_list closed c) × IsTrue (is_subtree_shut rows c))
 
 -- ---- one look
@@ -124,7 +125,7 @@ abbrev pub AreKidsShut : List Row → ℕ → Type 0
 AreKidsShut rows p = (c : ℕ) → IsKid rows p c → IsTrue (is_subtree_shut rows c)
 
 -- p itself is idle and leads at its own level; or a free child row, or nothing is said
-abbrev pub IsGlance : List Row → ℕ → Visit → Type 0
+abbrev pub IsGlance : List Row → ℕ → VisitResult → Type 0
 IsGlance rows p Here = IsHere rows Idle (record { inc = p; behind = None })
 IsGlance rows p (Below child) = IsChosen rows p child
 

@@ -1,7 +1,9 @@
+-- Inside.
 -- The children of a row, one behind another.
 use Rattle.std.specs.Prelude.{◌≡◌, ℕ, List, ◌&&◌, Option, Some, filter}
 use Rattle.cm_world.specs.declared.row.Row.{Row}
-use Rattle.cm_world.specs.Rows.{row_of, has_parent, is_behind}
+use Rattle.cm_world.specs.Rows.{row_of, has_parent}
+use Rattle.cm_world.specs.RowsInside.{is_behind}
 
 -- the children of a row behind one of them, or all
 abbrev pub kids : List Row → ℕ → Option ℕ → List Row

@@ -1,3 +1,4 @@
+-- Inside.
 -- What is kept of a level: its members, and its graph by names.
 use Rattle.std.specs.Prelude.{◌≡◌, ℕ, List, [], ◌∷◌, Bool, ◌==◌, Option, Some, None, IsTrue, ◌⊎◌}
 use Rattle.std.specs.List.{list_any}
@@ -5,7 +6,7 @@ use Rattle.cm_names.specs.declared.child.ChildName.{ChildName}
 use Rattle.cm_decl.specs.declared.decl.Decl.{Decl}
 use Rattle.cm_decl.specs.declared.node.DynChild.{DynChild}
 use Rattle.cm_decl.specs.declared.node.Node.{Node}
-use Rattle.cm_decl.specs.Graph.{DependsOn, WouldDepend}
+use Rattle.cm_decl.specs.GraphInside.{DependsOn, WouldDepend}
 use Rattle.cm_deps.specs.declared.graph.Graph.{Graph}
 use Rattle.cm_deps.specs.Graph.{IsGraphOf}
 use Rattle.cm_world.specs.declared.row.Row.{Row}
@@ -17,9 +18,9 @@ use Rattle.cm_order.specs.Kids.{IsKid}
 use Rattle.cm_order.specs.Names.{node_in, dynamic_children}
 
 -- something holds of each of a list
-abbrev pub Each : {A : Type 0} → (A → Type 0) → List A → Type 0
-Each P [] = Unit {0}
-Each P (x ∷ xs) = P x × Each P xs
+abbrev pub EachOfList : {A : Type 0} → (A → Type 0) → List A → Type 0
+EachOfList P [] = Unit {0}
+EachOfList P (x ∷ xs) = P x × EachOfList P xs
 
 -- what is kept of p itself, or of a child row of it
 pub record IsMember (rows : List Row) (p : ℕ) (m : Member) : Type 0 where
@@ -33,7 +34,7 @@ has_member members x = list_any (λ m. m.inc == x) members
 
 -- each is a member, and each node of the level is among them
 pub record AreMembers (rows : List Row) (p : ℕ) (members : List Member) : Type 0 where
-  pub each : Each (IsMember rows p) members
+  pub each : EachOfList (IsMember rows p) members
   pub own : IsTrue (has_member members p)
   pub covers : (x : ℕ) → IsKid rows p x → IsTrue (has_member members x)
 

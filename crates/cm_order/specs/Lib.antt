@@ -8,3 +8,4 @@ pub mod Plans
 pub mod Picking
 pub mod Ways
 pub mod Laws
+pub mod LawsInside

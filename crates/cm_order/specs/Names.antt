@@ -1,3 +1,4 @@
+-- Inside.
 -- The nodes of a level by their names: those of the realm graph of the declaration and of the children
 -- that were created in its collections. A doomed child has no node there, since no name finds it.
 use Rattle.std.specs.Prelude.{ℕ, List, [], ◌∷◌, ◌==◌, Option, Some, None, is_some, option_map}

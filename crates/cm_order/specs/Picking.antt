@@ -1,3 +1,4 @@
+-- Inside.
 -- What a pick comes to.
 use Rattle.std.specs.Prelude.{◌≡◌, ℕ, List, Bool, true, false, Some, IsTrue}
 use Rattle.cm_world.specs.declared.row.Row.{Row}
@@ -28,7 +29,7 @@ pub record BlockedBy (rows : List Row) (target a : ℕ) : Type 0 where
   pub may_stop : MayStop rows inc
 
 -- not all is shut, no row may be picked, and this action is what is waited for
-pub record WaitsFor (rows : List Row) (target a : ℕ) : Type 0 where
+pub record PickWaitsFor (rows : List Row) (target a : ℕ) : Type 0 where
   pub undone : is_subtree_shut rows target ≡ false
   pub stuck : CanPick rows target → ⊥
   pub blocked : BlockedBy rows target a
@@ -39,7 +40,7 @@ abbrev pub IsPicked : List Row → ℕ → Picked → Type 0
 IsPicked rows target Done = IsTrue (is_subtree_shut rows target)
 IsPicked rows target (StopNow y) = PicksNow rows target y true
 IsPicked rows target (ShutNow y) = PicksNow rows target y false
-IsPicked rows target (Waits a) = WaitsFor rows target a
+IsPicked rows target (Waits a) = PickWaitsFor rows target a
 
 -- not all at and below the target is shut, and a pick for it may choose this row
 abbrev pub MayBePicked : List Row → ℕ → ℕ → Type 0

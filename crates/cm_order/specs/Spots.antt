@@ -1,3 +1,4 @@
+-- Inside.
 -- Places in a search down the tree.
 use Rattle.std.specs.Prelude.{ℕ, List, [], ◌∷◌, Option, Some, None}
 use Rattle.cm_order.specs.declared.below.Spot.{Spot}

@@ -1,3 +1,4 @@
+-- Inside.
 -- The way up from a row to one above it.
 use Rattle.std.specs.Prelude.{◌≡◌, ℕ, List, Bool, false, not, ◌&&◌, is_none, ◌⊎◌}
 use Rattle.std.specs.Option.{option_map_or}

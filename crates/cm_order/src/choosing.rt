@@ -5,7 +5,7 @@ ghost use Rattle.cm_world.specs.Rows.{row_of, is_below as is_below_of};
 ghost use Rattle.cm_world.specs.Sound.{IsSound};
 ghost use Rattle.cm_world.specs.Step as step;
 ghost use Rattle.cm_order.specs.Picking.{MayBePicked};
-ghost use Rattle.cm_order.specs.Search.{Leads};
+ghost use Rattle.cm_order.specs.Search.{IsFreeAt};
 ghost use Rattle.cm_order.specs.Ways as spec;
 ghost use Rattle.cm_order.specs.Ways.{IsFreeUpTo, IsNodeAt};
 
@@ -93,7 +93,7 @@ fn is_free_up_to<V: View>(alloc: Global, view: &V, top: u64, inc: u64) -> Result
 fn leads_at<V: View>(alloc: Global, view: &V, own: u64, node: u64) -> Result<bool, Memory>
     requires sound { IsSound (V.rows view.now) (V.next_inc view.now) }
     requires node { IsNodeAt (V.rows view.now) own node }
-    ensures { IfOk result (λ leads. IsTrue leads ↔ Leads (V.rows view.now) own node) }
+    ensures { IfOk result (λ leads. IsTrue leads ↔ IsFreeAt (V.rows view.now) own node) }
 {
     let level = Level::of(alloc, view, own)?;
     Ok(level.leads(view, node))

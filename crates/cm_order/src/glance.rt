@@ -9,17 +9,18 @@ ghost use Rattle.std.specs.Prelude.{◌≡◌, ◌&&◌, not, false, None, is_no
 ghost use Rattle.std.specs.Option.{option_map_or};
 ghost use Rattle.std.specs.List.{list_any};
 ghost use Rattle.cm_decl.specs.Graph.{is_strong, is_from_child};
-ghost use Rattle.cm_world.specs.Rows.{row_of, decl_of, child_behind, is_subtree_shut};
+ghost use Rattle.cm_world.specs.Rows.{row_of, decl_of, is_subtree_shut};
+ghost use Rattle.cm_world.specs.RowsInside.{child_behind};
 ghost use Rattle.cm_world.specs.Sound.{IsSound};
 ghost use Rattle.cm_order.specs.Glances.{is_in_set, HasBound, IsChosen, AreKidsShut, IsGlance};
-ghost use Rattle.cm_order.specs.Plans.{IsKnown, AreShutSoFar};
+ghost use Rattle.cm_order.specs.Plans.{IsKnownLevel, AreShutSoFar};
 ghost use Rattle.cm_order.specs.Search.{IsHere};
-ghost use Rattle.cm_order.specs.declared.search.Wanted.TheVariants as wanted;
+ghost use Rattle.cm_order.specs.declared.search.SearchGoal.TheVariants as wanted;
 
 use crate::above::is_unshut;
 use crate::below::all_shut;
-use crate::named::{Look, is_from_child as of_child, is_strong as of_strong, named_at};
-use crate::search::Visit;
+use crate::named::{LookDepth, is_from_child as of_child, is_strong as of_strong, named_at};
+use crate::search::VisitResult;
 use crate::stand::Stand;
 use cm_decl::Usage;
 use cm_names::Memory;
@@ -37,11 +38,11 @@ pub(crate) fn glance<V: View>(
     view: &V,
     stand: &mut Stand,
     behind: Option<u64>,
-) -> Result<Visit, Memory>
+) -> Result<VisitResult, Memory>
     requires sound { IsSound (V.rows view.now) (V.next_inc view.now) }
-    requires known { IsKnown (V.rows view.now) stand.old }
+    requires known { IsKnownLevel (V.rows view.now) stand.old }
     ensures glance { IfOk result (IsGlance (V.rows view.now) stand.old.inc) }
-    ensures known { IsKnown (V.rows view.now) stand.new }
+    ensures known { IsKnownLevel (V.rows view.now) stand.new }
     ensures same { stand.new.inc ≡ stand.old.inc }
 {
     if stand.below_shut {
@@ -52,42 +53,42 @@ pub(crate) fn glance<V: View>(
     }
     let first = free_child(alloc, view, stand, behind)?;
     if first.is_some() {
-        return Ok(Visit::Below(first));
+        return Ok(VisitResult::Below(first));
     }
     if is_last(alloc, view, stand)? {
-        return Ok(Visit::Here);
+        return Ok(VisitResult::Here);
     }
     let child = newly_free(alloc, view, stand)?;
-    Ok(Visit::Below(child))
+    Ok(VisitResult::Below(child))
 }
 
 /// The same of an instance below which all is known to be shut.
-fn lowest<V: View>(view: &V, stand: &Stand) -> Visit
+fn lowest<V: View>(view: &V, stand: &Stand) -> VisitResult
     requires sound { IsSound (V.rows view.now) (V.next_inc view.now) }
-    requires known { IsKnown (V.rows view.now) stand.now }
+    requires known { IsKnownLevel (V.rows view.now) stand.now }
     requires below { IsTrue stand.now.below_shut }
     ensures { IsGlance (V.rows view.now) stand.now.inc result }
 {
     if is_idle(view, stand.inc) {
-        return Visit::Here;
+        return VisitResult::Here;
     }
-    Visit::Below(None)
+    VisitResult::Below(None)
 }
 
 /// The same of an instance without children.
-fn leaf<V: View>(view: &V, stand: &mut Stand) -> Visit
+fn leaf<V: View>(view: &V, stand: &mut Stand) -> VisitResult
     requires sound { IsSound (V.rows view.now) (V.next_inc view.now) }
-    requires known { IsKnown (V.rows view.now) stand.old }
+    requires known { IsKnownLevel (V.rows view.now) stand.old }
     requires none { child_behind (V.rows view.now) stand.old.inc None ≡ None }
     ensures glance { IsGlance (V.rows view.now) stand.old.inc result }
-    ensures known { IsKnown (V.rows view.now) stand.new }
+    ensures known { IsKnownLevel (V.rows view.now) stand.new }
     ensures same { stand.new.inc ≡ stand.old.inc }
 {
     stand.below_shut = true;
     if is_idle(view, stand.inc) {
-        return Visit::Here;
+        return VisitResult::Here;
     }
-    Visit::Below(None)
+    VisitResult::Below(None)
 }
 
 /// The first child that isn't all shut, and on which nothing depends that isn't, as far as what is
@@ -100,13 +101,13 @@ fn free_child<V: View>(
     behind: Option<u64>,
 ) -> Result<Option<u64>, Memory>
     requires sound { IsSound (V.rows view.now) (V.next_inc view.now) }
-    requires known { IsKnown (V.rows view.now) stand.old }
+    requires known { IsKnownLevel (V.rows view.now) stand.old }
     ensures chosen { IfOk result (IsChosen (V.rows view.now) stand.old.inc) }
-    ensures known { IsKnown (V.rows view.now) stand.new }
+    ensures known { IsKnownLevel (V.rows view.now) stand.new }
     ensures same { stand.new.inc ≡ stand.old.inc }
 {
     if stand.named.is_none() {
-        learn(alloc, view, stand, Look::Quick)?;
+        learn(alloc, view, stand, LookDepth::Quick)?;
     }
     next_free(alloc, view, stand, behind)
 }
@@ -114,20 +115,20 @@ fn free_child<V: View>(
 /// The same by a close look, which takes the place of what is known of the level.
 fn newly_free<V: View>(alloc: Global, view: &V, stand: &mut Stand) -> Result<Option<u64>, Memory>
     requires sound { IsSound (V.rows view.now) (V.next_inc view.now) }
-    requires known { IsKnown (V.rows view.now) stand.old }
+    requires known { IsKnownLevel (V.rows view.now) stand.old }
     ensures chosen { IfOk result (IsChosen (V.rows view.now) stand.old.inc) }
-    ensures known { IsKnown (V.rows view.now) stand.new }
+    ensures known { IsKnownLevel (V.rows view.now) stand.new }
     ensures same { stand.new.inc ≡ stand.old.inc }
 {
-    learn(alloc, view, stand, Look::Close)?;
+    learn(alloc, view, stand, LookDepth::Close)?;
     next_free(alloc, view, stand, None)
 }
 
 /// Looks at a level whose instance isn't shut, and puts down what that tells, if it tells anything.
-fn learn<V: View>(alloc: Global, view: &V, stand: &mut Stand, look: Look) -> Result<(), Memory>
+fn learn<V: View>(alloc: Global, view: &V, stand: &mut Stand, look: LookDepth) -> Result<(), Memory>
     requires sound { IsSound (V.rows view.now) (V.next_inc view.now) }
-    requires known { IsKnown (V.rows view.now) stand.old }
-    ensures known { IsKnown (V.rows view.now) stand.new }
+    requires known { IsKnownLevel (V.rows view.now) stand.old }
+    ensures known { IsKnownLevel (V.rows view.now) stand.new }
     ensures same { stand.new.inc ≡ stand.old.inc }
 {
     if !is_unshut(view, stand.inc) {
@@ -149,7 +150,7 @@ fn next_free<V: View>(
     behind: Option<u64>,
 ) -> Result<Option<u64>, Memory>
     requires sound { IsSound (V.rows view.now) (V.next_inc view.now) }
-    requires known { IsKnown (V.rows view.now) stand.now }
+    requires known { IsKnownLevel (V.rows view.now) stand.now }
     ensures { IfOk result (IsChosen (V.rows view.now) stand.now.inc) }
 {
     let Some(named) = &stand.named else {
@@ -247,10 +248,10 @@ fn is_of_child(usage: &Usage) -> bool
 /// at below it isn't looked at again.
 fn is_last<V: View>(alloc: Global, view: &V, stand: &mut Stand) -> Result<bool, Memory>
     requires sound { IsSound (V.rows view.now) (V.next_inc view.now) }
-    requires known { IsKnown (V.rows view.now) stand.old }
+    requires known { IsKnownLevel (V.rows view.now) stand.old }
     ensures last { IfOk result (λ last. IsTrue last →
         IsHere (V.rows view.now) wanted.Idle (record { inc = stand.old.inc; behind = None })) }
-    ensures known { IsKnown (V.rows view.now) stand.new }
+    ensures known { IsKnownLevel (V.rows view.now) stand.new }
     ensures same { stand.new.inc ≡ stand.old.inc }
 {
     if !is_idle(view, stand.inc) {

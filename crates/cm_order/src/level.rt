@@ -6,9 +6,10 @@ ghost use Rattle.cm_decl.specs.declared.node.DynChild.{DynChild as Dynamic};
 ghost use Rattle.cm_deps.specs.Graph.{IsGraphOf};
 ghost use Rattle.cm_world.specs.Sound.{IsSound};
 ghost use Rattle.cm_world.specs.Stopping.{IsFree};
-ghost use Rattle.cm_order.specs.Levels.{Each, IsLevel, IsLevelGraph, IsMember, LeavesFree, MemberDepends};
+ghost use Rattle.cm_order.specs.Levels.{EachOfList, IsLevel, IsLevelGraph, IsMember, LeavesFree};
+ghost use Rattle.cm_order.specs.Levels.{MemberDepends};
 ghost use Rattle.cm_order.specs.Levels.{RowWould, has_member};
-ghost use Rattle.cm_order.specs.Search.{Leads, IsNextLeading};
+ghost use Rattle.cm_order.specs.Search.{IsFreeAt, IsNextLeading};
 
 use crate::members::{Member, dynamic, find_member, members_of};
 use cm_decl::Node;
@@ -66,7 +67,7 @@ impl Level {
         requires sound { IsSound (V.rows view.now) (V.next_inc view.now) }
         requires level { IsLevel (V.rows view.now) self.now }
         requires member { IsTrue (has_member self.now.members.items inc) }
-        ensures { IsTrue result ↔ Leads (V.rows view.now) self.now.own inc }
+        ensures { IsTrue result ↔ IsFreeAt (V.rows view.now) self.now.own inc }
     {
         let Some(member) = find_member(self.members.as_slice(), inc) else {
             return false;
@@ -109,7 +110,7 @@ fn graph_of<V: View>(alloc: Global, view: &V, inc: u64) -> Result<Option<Graph>,
 /// Whether each of the members that depends on the node is shut.
 fn leave_free<V: View>(view: &V, graph: &Graph, members: &[Member], node: &Node) -> bool
     ensures { (d : Declaration) (dynamic : Seq Dynamic) → IsGraphOf d dynamic graph.now →
-        IsTrue result ↔ Each (LeavesFree (V.rows view.now) d dynamic node.now) members.now }
+        IsTrue result ↔ EachOfList (LeavesFree (V.rows view.now) d dynamic node.now) members.now }
 {
     for member in members {
         if binds(view, graph, member, node) {

@@ -41,4 +41,4 @@ pub(crate) mod stand;
 pub use below::all_shut;
 pub use choosing::{may_close, may_pick};
 pub use picking::{Picked, pick, pick_with};
-pub use plan::Plan;
+pub use plan::DescentPlan;

@@ -10,11 +10,12 @@ ghost use Rattle.cm_names.specs.declared.child.ChildName.{ChildName as OneName};
 ghost use Rattle.cm_decl.specs.Graph as graph;
 ghost use Rattle.cm_world.specs.declared.row.Row.{Row};
 ghost use Rattle.cm_world.specs.Level.{is_from_row};
-ghost use Rattle.cm_world.specs.Rows.{row_of, name_of, decl_of, is_subtree_shut};
+ghost use Rattle.cm_world.specs.Rows.{row_of, decl_of, is_subtree_shut};
+ghost use Rattle.cm_world.specs.RowsInside.{name_of};
 ghost use Rattle.cm_world.specs.Sound.{IsSound};
 ghost use Rattle.cm_order.specs.Kids.{IsKid};
-ghost use Rattle.cm_order.specs.Glances.{is_in_set, Grows, is_in_texts, TextsGrow, is_in_list, ListGrows};
-ghost use Rattle.cm_order.specs.Glances.{HasSources, HasBound, IsSeen, is_strong_from};
+ghost use Rattle.cm_order.specs.Glances.{is_in_set, SetGrows, is_in_texts, TextsGrow, is_in_list, ListGrows};
+ghost use Rattle.cm_order.specs.Glances.{HasSources, HasBound, IsSeenShut, is_strong_from};
 ghost use Rattle.cm_order.specs.Glances.{is_given_from, is_aimed_from, is_used_from};
 ghost use Rattle.cm_order.specs.Glances as spec;
 
@@ -27,7 +28,7 @@ use std::collections::BTreeSet;
 
 /// How closely the children of a level are looked at.
 #[derive(Debug, Clone, Copy)]
-pub(crate) enum Look {
+pub(crate) enum LookDepth {
     /// What a child that is shut depends on counts, since something below it may not be shut. So
     /// does each offer.
     Quick,
@@ -38,11 +39,11 @@ pub(crate) enum Look {
 
 /// What the children of a level are looked at for.
 #[derive(Debug, Clone, Copy)]
-struct Asked {
+struct LevelQuery {
     /// The instance whose children they are.
     pub parent: u64,
     /// How closely.
-    pub look: Look,
+    pub look: LookDepth,
     /// Whether something that the instance offers comes strongly from a child.
     pub wired: bool,
 }
@@ -53,7 +54,7 @@ pub(crate) fn named_at<V: View>(
     alloc: Global,
     view: &V,
     parent: u64,
-    look: Look,
+    look: LookDepth,
 ) -> Result<Option<BTreeSet<u64>>, Memory>
     requires { IsSound (V.rows view.now) (V.next_inc view.now) }
     ensures { IfOk result (λ found. IfSome found (HasBound (V.rows view.now) parent)) }
@@ -69,7 +70,7 @@ fn named_by<V: View>(
     alloc: Global,
     view: &V,
     parent: u64,
-    look: Look,
+    look: LookDepth,
     decl: &Decl,
 ) -> Result<Option<BTreeSet<u64>>, Memory>
     requires sound { IsSound (V.rows view.now) (V.next_inc view.now) }
@@ -77,7 +78,7 @@ fn named_by<V: View>(
     ensures { IfOk result (λ found. IfSome found (HasBound (V.rows view.now) parent)) }
 {
     let wired = are_wired(decl.offers.as_slice());
-    let asked = Asked {
+    let asked = LevelQuery {
         parent,
         look,
         wired,
@@ -140,14 +141,14 @@ fn meet(closed: &[u64], named: &BTreeSet<u64>) -> bool
 /// to these targets alone.
 fn put_offers<V: View>(
     view: &V,
-    asked: Asked,
+    asked: LevelQuery,
     offers: &[Offer],
     targets: &BTreeSet<Name>,
     named: &mut BTreeSet<u64>,
 ) -> Result<(), Memory>
     ensures all { OnOk result (HasSources asked.parent
         (is_aimed_from (V.rows view.now) asked.parent asked.look targets.now) offers.now named.new) }
-    ensures kept { OnOk result (Grows named.old named.new) }
+    ensures kept { OnOk result (SetGrows named.old named.new) }
 {
     for offer in offers {
         put_offer(view, asked, offer, targets, named)?;
@@ -159,7 +160,7 @@ fn put_offers<V: View>(
 /// counts.
 fn put_offer<V: View>(
     view: &V,
-    asked: Asked,
+    asked: LevelQuery,
     offer: &Offer,
     targets: &BTreeSet<Name>,
     named: &mut BTreeSet<u64>,
@@ -167,7 +168,7 @@ fn put_offer<V: View>(
     ensures here { OnOk result ((x : ℕ) → x ≢ asked.parent →
         IsTrue (is_aimed_from (V.rows view.now) asked.parent asked.look targets.now x offer.now) →
         IsTrue (is_in_set named.new x)) }
-    ensures kept { OnOk result (Grows named.old named.new) }
+    ensures kept { OnOk result (SetGrows named.old named.new) }
 {
     if !is_aimed(asked.look, targets, &offer.to) {
         return Ok(());
@@ -183,12 +184,12 @@ fn put_offer<V: View>(
 }
 
 /// Whether offers to this target count: all at a quick look, those to these targets at a close one.
-fn is_aimed(look: Look, targets: &BTreeSet<Name>, target: &Name) -> bool
+fn is_aimed(look: LookDepth, targets: &BTreeSet<Name>, target: &Name) -> bool
     ensures { result ≡ spec.is_aimed look targets.now target.now }
 {
     match look {
-        Look::Quick => true,
-        Look::Close => targets.contains(target),
+        LookDepth::Quick => true,
+        LookDepth::Close => targets.contains(target),
     }
 }
 
@@ -201,7 +202,7 @@ fn put_uses<V: View>(
 ) -> Result<(), Memory>
     ensures all { OnOk result (HasSources parent (is_used_from (V.rows view.now) parent) uses.now
         named.new) }
-    ensures kept { OnOk result (Grows named.old named.new) }
+    ensures kept { OnOk result (SetGrows named.old named.new) }
 {
     for usage in uses {
         put_strong(view, parent, usage.dependency, &usage.from, named)?;
@@ -218,7 +219,7 @@ fn put_gives<V: View>(
 ) -> Result<(), Memory>
     ensures all { OnOk result (HasSources parent (is_given_from (V.rows view.now) parent) gives.now
         named.new) }
-    ensures kept { OnOk result (Grows named.old named.new) }
+    ensures kept { OnOk result (SetGrows named.old named.new) }
 {
     for give in gives {
         put_strong(view, parent, give.dependency, &give.from, named)?;
@@ -231,16 +232,16 @@ fn put_gives<V: View>(
 fn put_children<V: View>(
     alloc: Global,
     view: &V,
-    asked: Asked,
+    asked: LevelQuery,
     named: &mut BTreeSet<u64>,
     targets: &mut BTreeSet<Name>,
     closed: &mut Vec<u64>,
 ) -> Result<(), Memory>
     requires { IsSound (V.rows view.now) (V.next_inc view.now) }
     ensures all { OnOk result ((c : ℕ) → (kid : IsKid (V.rows view.now) asked.parent c) →
-        IsSeen (V.rows view.now) asked.parent asked.look asked.wired named.new targets.new
+        IsSeenShut (V.rows view.now) asked.parent asked.look asked.wired named.new targets.new
         closed.new.items c kid.row) }
-    ensures kept { OnOk result (Grows named.old named.new) }
+    ensures kept { OnOk result (SetGrows named.old named.new) }
 {
     let mut behind = None;
     while let Some(child) = view.next_child(asked.parent, behind) {
@@ -254,16 +255,16 @@ fn put_children<V: View>(
 fn put_child<V: View>(
     alloc: Global,
     view: &V,
-    asked: Asked,
+    asked: LevelQuery,
     child: u64,
     named: &mut BTreeSet<u64>,
     targets: &mut BTreeSet<Name>,
     closed: &mut Vec<u64>,
 ) -> Result<(), Memory>
     ensures seen { OnOk result ((r : Row) → row_of (V.rows view.now) child ≡ Some r →
-        IsSeen (V.rows view.now) asked.parent asked.look asked.wired named.new targets.new
+        IsSeenShut (V.rows view.now) asked.parent asked.look asked.wired named.new targets.new
         closed.new.items child r) }
-    ensures kept { OnOk result (Grows named.old named.new) }
+    ensures kept { OnOk result (SetGrows named.old named.new) }
     ensures texts { OnOk result (TextsGrow targets.old targets.new) }
     ensures list { OnOk result (ListGrows closed.old.items closed.new.items) }
 {
@@ -283,13 +284,13 @@ fn put_child<V: View>(
 }
 
 /// Whether all at and below a child is shut, where it is looked at closely.
-fn is_closed<V: View>(alloc: Global, view: &V, child: u64, look: Look) -> Result<bool, Memory>
+fn is_closed<V: View>(alloc: Global, view: &V, child: u64, look: LookDepth) -> Result<bool, Memory>
     ensures { IfOk result (λ shut. IsTrue shut →
         IsTrue (is_subtree_shut (V.rows view.now) child)) }
 {
     match look {
-        Look::Quick => Ok(false),
-        Look::Close => all_shut(alloc, view, child),
+        LookDepth::Quick => Ok(false),
+        LookDepth::Close => all_shut(alloc, view, child),
     }
 }
 
@@ -298,7 +299,7 @@ fn is_closed<V: View>(alloc: Global, view: &V, child: u64, look: Look) -> Result
 fn put_target<V: View>(
     view: &V,
     child: u64,
-    look: Look,
+    look: LookDepth,
     targets: &mut BTreeSet<Name>,
 ) -> Result<(), Memory>
     ensures here { OnOk result ((c : OneName) → name_of (V.rows view.now) child ≡ Some c →
@@ -306,8 +307,8 @@ fn put_target<V: View>(
     ensures kept { OnOk result (TextsGrow targets.old targets.new) }
 {
     match look {
-        Look::Quick => Ok(()),
-        Look::Close => put_name(view, child, targets),
+        LookDepth::Quick => Ok(()),
+        LookDepth::Close => put_name(view, child, targets),
     }
 }
 
@@ -359,7 +360,7 @@ fn put_strong<V: View>(
     ensures here { OnOk result ((x : ℕ) → x ≢ parent →
         IsTrue (is_strong_from (V.rows view.now) parent x dependency source.now) →
         IsTrue (is_in_set named.new x)) }
-    ensures kept { OnOk result (Grows named.old named.new) }
+    ensures kept { OnOk result (SetGrows named.old named.new) }
 {
     match dependency {
         Dependency::Weak => Ok(()),
@@ -376,7 +377,7 @@ fn put_source<V: View>(
 ) -> Result<(), Memory>
     ensures here { OnOk result ((x : ℕ) → x ≢ parent →
         IsTrue (is_from_row (V.rows view.now) parent x source.now) → IsTrue (is_in_set named.new x)) }
-    ensures kept { OnOk result (Grows named.old named.new) }
+    ensures kept { OnOk result (SetGrows named.old named.new) }
 {
     match source {
         Origin::Child(name) => put_found(view.child(parent, name), named),
@@ -387,7 +388,7 @@ fn put_source<V: View>(
 /// Puts a child into the set, if there is one.
 fn put_found(child: Option<u64>, named: &mut BTreeSet<u64>) -> Result<(), Memory>
     ensures here { OnOk result ((x : ℕ) → child ≡ Some x → IsTrue (is_in_set named.new x)) }
-    ensures kept { OnOk result (Grows named.old named.new) }
+    ensures kept { OnOk result (SetGrows named.old named.new) }
 {
     match child {
         None => Ok(()),

@@ -6,16 +6,16 @@ ghost use Rattle.cm_world.specs.Rows.{row_of, is_subtree_shut, is_on};
 ghost use Rattle.cm_world.specs.Sound.{IsSound};
 ghost use Rattle.cm_world.specs.Stopping as spec;
 ghost use Rattle.cm_world.specs.Step.{may_close};
-ghost use Rattle.cm_order.specs.declared.search.Wanted.TheVariants as wanted;
+ghost use Rattle.cm_order.specs.declared.search.SearchGoal.TheVariants as wanted;
 ghost use Rattle.cm_order.specs.Search.{NoneIs};
-ghost use Rattle.cm_order.specs.Picking.{IsPicked, WaitsFor};
+ghost use Rattle.cm_order.specs.Picking.{IsPicked, PickWaitsFor};
 ghost use Rattle.cm_order.specs.Plans.{IsPlan};
 
 use crate::above::{is_unshut, outermost};
 use crate::below::all_shut;
-use crate::plan::Plan;
+use crate::plan::DescentPlan;
 use crate::quick::quick;
-use crate::search::{Wanted, search};
+use crate::search::{SearchGoal, search};
 use cm_names::Memory;
 use cm_walk::above::is_on;
 use cm_world::View;
@@ -69,7 +69,7 @@ pub fn pick<V: View>(alloc: Global, view: &V, target: u64) -> Result<Picked, Mem
     requires closing { IsTrue (may_close (V.rows view.now) target) }
     ensures { IfOk result (IsPicked (V.rows view.now) target) }
 {
-    let mut plan = Plan::new(alloc);
+    let mut plan = DescentPlan::new(alloc);
     pick_with(alloc, view, &mut plan, target)
 }
 
@@ -83,7 +83,7 @@ pub fn pick<V: View>(alloc: Global, view: &V, target: u64) -> Result<Picked, Mem
 pub fn pick_with<V: View>(
     alloc: Global,
     view: &V,
-    plan: &mut Plan,
+    plan: &mut DescentPlan,
     target: u64,
 ) -> Result<Picked, Memory>
     requires sound { IsSound (V.rows view.now) (V.next_inc view.now) }
@@ -102,7 +102,7 @@ pub fn pick_with<V: View>(
     if let Some(inc) = quick(alloc, view, plan, top)? {
         return Ok(stop_or_shut(view, inc));
     }
-    match search(alloc, view, top, Wanted::Idle)? {
+    match search(alloc, view, top, SearchGoal::Idle)? {
         Some(inc) => Ok(stop_or_shut(view, inc)),
         None => Ok(Picked::Waits(action_at(alloc, view, target, top)?)),
     }
@@ -110,7 +110,12 @@ pub fn pick_with<V: View>(
 
 /// Whether all instances at and below the target are shut. What is below it isn't looked at where the
 /// way of the last pick tells that.
-fn is_done<V: View>(alloc: Global, view: &V, plan: &Plan, target: u64) -> Result<bool, Memory>
+fn is_done<V: View>(
+    alloc: Global,
+    view: &V,
+    plan: &DescentPlan,
+    target: u64,
+) -> Result<bool, Memory>
     requires { IsPlan (V.rows view.now) plan.now }
     ensures { IfOk result (λ done. done ≡ is_subtree_shut (V.rows view.now) target) }
 {
@@ -141,9 +146,9 @@ fn action_at<V: View>(alloc: Global, view: &V, target: u64, top: u64) -> Result<
     requires top { spec.outermost (V.rows view.now) target ≡ Some top }
     requires undone { is_subtree_shut (V.rows view.now) target ≡ false }
     requires stuck { NoneIs (V.rows view.now) top wanted.Idle }
-    ensures { IfOk result (WaitsFor (V.rows view.now) target) }
+    ensures { IfOk result (PickWaitsFor (V.rows view.now) target) }
 {
-    let Some(inc) = search(alloc, view, top, Wanted::Pending)? else {
+    let Some(inc) = search(alloc, view, top, SearchGoal::Pending)? else {
         unreachable!();
     };
     match pending(view, inc) {

@@ -21,7 +21,7 @@ use std::mem;
 /// level isn't looked at once more for each of its children. It holds for a tree that it was made
 /// in, and goes on to hold while no instance is resolved, created, doomed or removed.
 #[derive(Drop)]
-pub struct Plan {
+pub struct DescentPlan {
     /// The outermost instance that is being shut down of the last pick. Its way begins there.
     pub(crate) top: u64,
     /// The way of the last pick, from the top down: at the level of each child on it nothing depends
@@ -31,12 +31,12 @@ pub struct Plan {
     pub(crate) others: BTreeMap<u64, Vec<Stand>>,
 }
 
-impl Plan {
+impl DescentPlan {
     /// The plan that knows of no level. It takes no memory.
-    pub fn new(alloc: Global) -> Plan
+    pub fn new(alloc: Global) -> DescentPlan
         ensures { KnowsNone result }
     {
-        Plan {
+        DescentPlan {
             top: 0,
             way: Vec::new(alloc),
             others: BTreeMap::new(alloc),

@@ -7,13 +7,13 @@ ghost use Rattle.cm_world.specs.Rows.{is_subtree_shut};
 ghost use Rattle.cm_world.specs.Sound.{IsSound};
 ghost use Rattle.cm_world.specs.Stopping as spec;
 ghost use Rattle.cm_order.specs.Glances.{IsQuick, IsGlance};
-ghost use Rattle.cm_order.specs.Plans.{IsPlan, IsReached, IsKnown, IsWay};
+ghost use Rattle.cm_order.specs.Plans.{IsPlan, IsFreeOnTheWay, IsKnownLevel, IsDescent};
 
 use crate::above::is_unshut;
 use crate::below::Spot;
 use crate::glance::glance;
-use crate::plan::Plan;
-use crate::search::Visit;
+use crate::plan::DescentPlan;
+use crate::search::VisitResult;
 use crate::stand::Stand;
 use cm_names::Memory;
 use cm_world::View;
@@ -29,7 +29,7 @@ use std::alloc::Global;
 pub(crate) fn quick<V: View>(
     alloc: Global,
     view: &V,
-    plan: &mut Plan,
+    plan: &mut DescentPlan,
     top: u64,
 ) -> Result<Option<u64>, Memory>
     requires sound { IsSound (V.rows view.now) (V.next_inc view.now) }
@@ -52,17 +52,17 @@ fn descend<V: View>(
 ) -> Result<Option<u64>, Memory>
     requires sound { IsSound (V.rows view.now) (V.next_inc view.now) }
     requires top { spec.outermost (V.rows view.now) top ≡ Some top }
-    requires way { IsWay (V.rows view.now) top way.old.items }
+    requires way { IsDescent (V.rows view.now) top way.old.items }
     ensures quick { IfOk result (IsQuick (V.rows view.now) top) }
-    ensures way { IsWay (V.rows view.now) top way.new.items }
+    ensures way { IsDescent (V.rows view.now) top way.new.items }
 {
     let spot = start(view, way, top)?;
     let mut behind = spot.behind;
     let mut at = Some(spot.inc);
     'down: while let Some(here) = at {
         match step(alloc, view, way, top, Spot { inc: here, behind })? {
-            Visit::Here => return Ok(Some(here)),
-            Visit::Below(child) => {
+            VisitResult::Here => return Ok(Some(here)),
+            VisitResult::Below(child) => {
                 at = child;
                 behind = None;
             }
@@ -75,9 +75,9 @@ fn descend<V: View>(
 fn start<V: View>(view: &V, way: &mut Vec<Stand>, top: u64) -> Result<Spot, Memory>
     requires sound { IsSound (V.rows view.now) (V.next_inc view.now) }
     requires top { spec.outermost (V.rows view.now) top ≡ Some top }
-    requires way { IsWay (V.rows view.now) top way.old.items }
-    ensures start { IfOk result (λ s. IsReached (V.rows view.now) top s.inc) }
-    ensures way { IsWay (V.rows view.now) top way.new.items }
+    requires way { IsDescent (V.rows view.now) top way.old.items }
+    ensures start { IfOk result (λ s. IsFreeOnTheWay (V.rows view.now) top s.inc) }
+    ensures way { IsDescent (V.rows view.now) top way.new.items }
 {
     if let Some(spot) = go_back(view, way, top)? {
         return Ok(spot);
@@ -93,9 +93,9 @@ fn start<V: View>(view: &V, way: &mut Vec<Stand>, top: u64) -> Result<Spot, Memo
 /// of its children was left behind; `None` where none is left.
 fn go_back<V: View>(view: &V, way: &mut Vec<Stand>, top: u64) -> Result<Option<Spot>, Memory>
     requires sound { IsSound (V.rows view.now) (V.next_inc view.now) }
-    requires way { IsWay (V.rows view.now) top way.old.items }
-    ensures last { IfOk result (λ last. IfSome last (λ s. IsReached (V.rows view.now) top s.inc)) }
-    ensures way { IsWay (V.rows view.now) top way.new.items }
+    requires way { IsDescent (V.rows view.now) top way.old.items }
+    ensures last { IfOk result (λ last. IfSome last (λ s. IsFreeOnTheWay (V.rows view.now) top s.inc)) }
+    ensures way { IsDescent (V.rows view.now) top way.new.items }
 {
     let mut behind = None;
     let mut closed = None;
@@ -125,9 +125,9 @@ fn left_shut(stand: &Stand) -> Option<u64>
 /// Puts down that one more child is shut with all below it, if it is the next one.
 fn count_done<V: View>(view: &V, stand: &mut Stand, closed: Option<u64>)
     requires sound { IsSound (V.rows view.now) (V.next_inc view.now) }
-    requires known { IsKnown (V.rows view.now) stand.old }
+    requires known { IsKnownLevel (V.rows view.now) stand.old }
     requires closed { IfSome closed (λ c. IsTrue (is_subtree_shut (V.rows view.now) c)) }
-    ensures known { IsKnown (V.rows view.now) stand.new }
+    ensures known { IsKnownLevel (V.rows view.now) stand.new }
     ensures same { stand.new.inc ≡ stand.old.inc }
 {
     let Some(child) = closed else {
@@ -149,21 +149,21 @@ fn step<V: View>(
     way: &mut Vec<Stand>,
     top: u64,
     spot: Spot,
-) -> Result<Visit, Memory>
+) -> Result<VisitResult, Memory>
     requires sound { IsSound (V.rows view.now) (V.next_inc view.now) }
-    requires way { IsWay (V.rows view.now) top way.old.items }
+    requires way { IsDescent (V.rows view.now) top way.old.items }
     ensures step { IfOk result (IsGlance (V.rows view.now) spot.inc) }
-    ensures way { IsWay (V.rows view.now) top way.new.items }
+    ensures way { IsDescent (V.rows view.now) top way.new.items }
 {
     let Some(mut stand) = way.pop() else {
-        return Ok(Visit::Below(None));
+        return Ok(VisitResult::Below(None));
     };
     if stand.inc != spot.inc {
-        return Ok(Visit::Below(None));
+        return Ok(VisitResult::Below(None));
     }
     let seen = glance(alloc, view, &mut stand, spot.behind)?;
     way.push(stand)?;
-    if let Visit::Below(Some(child)) = seen {
+    if let VisitResult::Below(Some(child)) = seen {
         way.push(Stand::new(child))?;
     }
     Ok(seen)

@@ -16,7 +16,7 @@ use std::alloc::Global;
 
 /// Which instances are looked for.
 #[derive(Debug, Clone, Copy, PartialEq, Eq)]
-pub(crate) enum Wanted {
+pub(crate) enum SearchGoal {
     /// Those without a pending action.
     Idle,
     /// Those with one.
@@ -25,7 +25,7 @@ pub(crate) enum Wanted {
 
 /// What a visit to a place of the search comes to.
 #[derive(Debug, Clone, Copy)]
-pub(crate) enum Visit {
+pub(crate) enum VisitResult {
     /// The instance itself is one that is looked for.
     Here,
     /// It isn't: the search goes on below this child of it, if there is one that leads.
@@ -41,7 +41,7 @@ pub(crate) fn search<V: View>(
     alloc: Global,
     view: &V,
     top: u64,
-    wanted: Wanted,
+    wanted: SearchGoal,
 ) -> Result<Option<u64>, Memory>
     requires sound { IsSound (V.rows view.now) (V.next_inc view.now) }
     requires top { spec.outermost (V.rows view.now) top ≡ Some top }
@@ -54,29 +54,34 @@ pub(crate) fn search<V: View>(
     })?;
     while let Some(spot) = left.pop() {
         match look_at(alloc, view, wanted, spot)? {
-            Visit::Here => return Ok(Some(spot.inc)),
-            Visit::Below(child) => go_on(&mut left, spot.inc, child)?,
+            VisitResult::Here => return Ok(Some(spot.inc)),
+            VisitResult::Below(child) => go_on(&mut left, spot.inc, child)?,
         }
     }
     Ok(None)
 }
 
 /// Visits a place of the search.
-fn look_at<V: View>(alloc: Global, view: &V, wanted: Wanted, spot: Spot) -> Result<Visit, Memory>
+fn look_at<V: View>(
+    alloc: Global,
+    view: &V,
+    wanted: SearchGoal,
+    spot: Spot,
+) -> Result<VisitResult, Memory>
     requires { IsSound (V.rows view.now) (V.next_inc view.now) }
     ensures { IfOk result (IsVisit (V.rows view.now) wanted spot) }
 {
     let level = Level::of(alloc, view, spot.inc)?;
     if is_here(view, &level, wanted, spot) {
-        return Ok(Visit::Here);
+        return Ok(VisitResult::Here);
     }
     let child = level.next_leading(view, spot.behind);
-    Ok(Visit::Below(child))
+    Ok(VisitResult::Below(child))
 }
 
 /// Whether the place is new, and its instance is one that is looked for and leads at its own
 /// level.
-fn is_here<V: View>(view: &V, level: &Level, wanted: Wanted, spot: Spot) -> bool
+fn is_here<V: View>(view: &V, level: &Level, wanted: SearchGoal, spot: Spot) -> bool
     requires sound { IsSound (V.rows view.now) (V.next_inc view.now) }
     requires level { IsLevel (V.rows view.now) level.now }
     requires own { level.now.own ≡ spot.inc }
@@ -92,14 +97,14 @@ fn is_here<V: View>(view: &V, level: &Level, wanted: Wanted, spot: Spot) -> bool
 }
 
 /// Whether the instance lives and is one that is looked for.
-fn wants<V: View>(view: &V, wanted: Wanted, inc: u64) -> bool
+fn wants<V: View>(view: &V, wanted: SearchGoal, inc: u64) -> bool
     ensures { result ≡ option_map_or (is_wanted wanted) (row_of (V.rows view.now) inc) false }
 {
     match view.facts(inc) {
         None => false,
         Some(facts) => match wanted {
-            Wanted::Idle => facts.pending.is_none(),
-            Wanted::Pending => facts.pending.is_some(),
+            SearchGoal::Idle => facts.pending.is_none(),
+            SearchGoal::Pending => facts.pending.is_some(),
         },
     }
 }

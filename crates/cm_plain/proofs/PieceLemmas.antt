@@ -13,7 +13,8 @@ use Rattle.serde_json.specs.Data.{Data}
 use Rattle.serde_json.specs.Read.{of_json}
 use Rattle.cm_text.specs.Bytes.{is_mark, is_space, is_quote, begins_with}
 use Rattle.cm_text.specs.Token.{Char, plain, taken, Token, mark, quoted, word, Piece, space, line_comment}
-use Rattle.cm_text.specs.Token.{block_comment, char_bytes, token_bytes, piece_bytes, bytes_of, tokens_of}
+use Rattle.cm_text.specs.Token.{block_comment, char_bytes, token_bytes, piece_bytes, tokens_of}
+use Rattle.cm_text.specs.TokenInside.{bytes_of}
 use Rattle.cm_text.specs.Token.{token as piece}
 use Rattle.cm_text.specs.Split.{is_char, are_pieces, AreTokensOf}
 use Rattle.cm_text.specs.Pieces.{tokens}

@@ -94,29 +94,29 @@ at_string s r h =
     ap (λ l. lex between (34 ∷ l)) e
     ∙ ap₂ (λ o l. token (string_token o) ∷ l) (content-escape s r) (lex-escape s r)
 
-front_by : (x : ℕ) (xs : List ℕ) (b : Bool) → is_plain x ≡ b
+prefix_by : (x : ℕ) (xs : List ℕ) (b : Bool) → is_plain x ≡ b
     → list_all is_plain (take (length (take_while is_plain xs)) xs) ≡ true
     → list_all is_plain (take (length (cond b (x ∷ take_while is_plain xs) [])) (x ∷ xs)) ≡ true
-front_by x xs true e h = rw e h
-front_by x xs false e h = refl
+prefix_by x xs true e h = rw e h
+prefix_by x xs false e h = refl
 
-pub front_is_plain : (xs : List ℕ) → list_all is_plain (take (length (take_while is_plain xs)) xs) ≡ true
-front_is_plain [] = refl
-front_is_plain (x ∷ xs) =
+pub prefix_is_plain : (xs : List ℕ) → list_all is_plain (take (length (take_while is_plain xs)) xs) ≡ true
+prefix_is_plain [] = refl
+prefix_is_plain (x ∷ xs) =
     subst (λ l. list_all is_plain (take (length l) (x ∷ xs)) ≡ true) (sym (take_while-cons is_plain x xs))
-    (front_by x xs (is_plain x) refl (front_is_plain xs))
+    (prefix_by x xs (is_plain x) refl (prefix_is_plain xs))
 
 -- a string up to its closing quote
 pub string_read : (inside s rest : List ℕ) (n : ℕ) → n ≡ length (take_while is_plain inside)
     → s ≡ take n inside → drop n inside ≡ 34 ∷ rest
     → lex between (34 ∷ inside) ≡ token (of_token.string s) ∷ lex between rest
-string_read inside s rest n len front behind =
+string_read inside s rest n len prefix behind =
     let parts : inside ≡ take n inside ++ 34 ∷ rest =
     sym (take-append-drop n inside) ∙ ap (λ l. take n inside ++ l) behind in
     let all : list_all is_plain (take n inside) ≡ true =
-    ap (λ k. list_all is_plain (take k inside)) len ∙ front_is_plain inside in
+    ap (λ k. list_all is_plain (take k inside)) len ∙ prefix_is_plain inside in
     ap (λ l. lex between (34 ∷ l)) parts ∙ at_string (take n inside) rest all
-    ∙ ap (λ l. token (of_token.string l) ∷ lex between rest) (sym front)
+    ∙ ap (λ l. token (of_token.string l) ∷ lex between rest) (sym prefix)
 
 -- the same, by its bytes
 pub parts_of_string : (opened inside closed rest : List ℕ) (n : ℕ) → begins 34 opened ≡ true
@@ -129,7 +129,7 @@ parts_of_string opened inside closed rest n h i len c k r =
     sym (c ∙ unslice n inside) ∙ first_of 34 closed k ∙ ap (λ l. 34 ∷ l) (sym r) in (
       first_of 34 opened h
           ∙ ap (λ l. 34 ∷ l) (sym i ∙ sym (take-append-drop n inside) ∙ ap (λ l. take n inside ++ l) behind),
-      ap (λ k. list_all is_plain (take k inside)) len ∙ front_is_plain inside,
+      ap (λ k. list_all is_plain (take k inside)) len ∙ prefix_is_plain inside,
     )
 
 pub string_passed : (opened inside closed rest s : List ℕ) (n : ℕ) → begins 34 opened ≡ true
@@ -137,9 +137,9 @@ pub string_passed : (opened inside closed rest s : List ℕ) (n : ℕ) → begin
     → closed ≡ take (length inside - n) (drop n inside) → begins 34 closed ≡ true
     → rest ≡ take (length closed - 1) (drop 1 closed) → s ≡ take n inside
     → lex between opened ≡ token (of_token.string s) ∷ lex between rest
-string_passed opened inside closed rest s n h i len c k r front =
+string_passed opened inside closed rest s n h i len c k r prefix =
     ap (lex between) (first_of 34 opened h ∙ ap (λ l. 34 ∷ l) (sym i))
-    ∙ string_read inside s rest n len front
+    ∙ string_read inside s rest n len prefix
     (sym (c ∙ unslice n inside) ∙ first_of 34 closed k ∙ ap (λ l. 34 ∷ l) (sym r))
 
 -- ---- tokens

@@ -1,3 +1,4 @@
+-- Inside.
 -- Reading a JSON text without escapes, numbers or words, lexeme by lexeme.
 use Rattle.std.specs.Prelude.{◌≡◌, ℕ, List, [], ◌∷◌, ◌++◌, length, Bool, true, false, not, ◌||◌, ◌&&◌}
 use Rattle.std.specs.Prelude.{◌==◌, nat_lt, if◌then◌else◌, Option, Some, None, option_and_then, Ok}
@@ -8,7 +9,8 @@ use Rattle.json.specs.Lex.{token, colon, lex, between, Place, fresh, after_value
 use Rattle.json.specs.Lex.{begins_colon, punctuate}
 use Rattle.cm_text.specs.Bytes.{is_mark, is_space}
 use Rattle.cm_text.specs.Token.{Char, plain, taken, mark, quoted, word, Piece, space, line_comment}
-use Rattle.cm_text.specs.Token.{block_comment, piece_bytes, bytes_of}
+use Rattle.cm_text.specs.Token.{block_comment, piece_bytes}
+use Rattle.cm_text.specs.TokenInside.{bytes_of}
 use Rattle.cm_text.specs.Token.{token as piece}
 use Rattle.cm_text.specs.Json.{json_of, is_comma, is_closing}
 use Rattle.serde_json.specs.Data.{Data, Items, Members, no_members, put}
@@ -33,32 +35,32 @@ left p text = punctuate p (lex between text)
 abbrev pub NoColon : List ℕ → Type 0
 NoColon text = begins_colon (lex between text) ≡ false
 
--- a value stands in front of the rest, unless a colon is next
+-- a value stands before the rest, unless a colon is next
 abbrev pub HasValue : ℕ → List ℕ → Data → List ℕ → Type 0
 HasValue depth text d rest =
     (p : Place) → may_begin p ≡ true → NoColon rest
     → converted of_json (value depth (left p text)) ≡ Some (d, left after_value rest)
 
--- items stand in front of the rest, up to their closing bracket
+-- items stand before the rest, up to their closing bracket
 abbrev pub HasItems : ℕ → List ℕ → Items → List ℕ → Type 0
 HasItems depth text ds rest =
     converted of_items (items (value depth) (length (left fresh text)) (left fresh text))
     ≡ Some (ds, left after_value rest)
 
--- members stand in front of the rest, up to their closing brace
+-- members stand before the rest, up to their closing brace
 abbrev pub HasMembers : ℕ → List ℕ → Members → List ℕ → Type 0
 HasMembers depth text ms rest =
     converted (λ found. of_members found no_members)
     (members (value depth) (length (left fresh text)) (left fresh text))
     ≡ Some (ms, left after_value rest)
 
--- a value in front of the rest goes behind those that were found
+-- a value before the rest goes behind those that were found
 pub record AddsItem (depth : ℕ) (text : List ℕ) (old new : List Value) (rest : List ℕ) : Type 0 where
   pub added : Value
   pub grows : new ≡ old ++ added ∷ []
   pub reads : HasValue depth text (view added) rest
 
--- a key and a value in front of the rest are put into the members that were found
+-- a key and a value before the rest are put into the members that were found
 pub record AddsMember (depth : ℕ) (text : List ℕ) (old new : Members) (rest : List ℕ) : Type 0 where
   pub key : List ℕ
   pub behind : List ℕ
@@ -89,13 +91,13 @@ abbrev pub comma_behind_all : Bool → List Piece → Option Bool
 comma_behind_all c [] = Some c
 comma_behind_all c (p ∷ ps) = option_and_then (λ d. comma_behind_all d ps) (comma_behind c p)
 
--- a piece stands in front of the rest
+-- a piece stands before the rest
 pub record PassesPiece (c : Bool) (text : List ℕ) (d : Bool) (rest : List ℕ) : Type 0 where
   pub passed : Piece
   pub bytes : piece_bytes passed ++ rest ≡ text
   pub comma : comma_behind c passed ≡ Some d
 
--- pieces stand in front of the rest
+-- pieces stand before the rest
 pub record PassesPieces (text : List ℕ) (d : Bool) (rest : List ℕ) : Type 0 where
   pub passed : List Piece
   pub bytes : bytes_of passed ++ rest ≡ text

@@ -70,11 +70,11 @@ fn behind_mark(text: &[u8], mark: u8) -> Option<&[u8]>
         (λ rest. lex between text.now ≡ operator_lexeme mark ∷ lex between rest.now) }
     ensures shorter { IfSome result (λ rest. length rest.now < length text.now) }
 {
-    let front = behind_space(text);
-    if !is_next(front, mark) {
+    let prefix = behind_space(text);
+    if !is_next(prefix, mark) {
         return None;
     }
-    Some(&front[1..])
+    Some(&prefix[1..])
 }
 
 /// Whether the byte stands for itself in a string.
@@ -84,7 +84,7 @@ fn is_plain(byte: u8) -> bool
     !(byte == b'"' || byte == b'\\' || byte < b' ')
 }
 
-/// How many bytes of the front stand for themselves in a string.
+/// How many bytes of the prefix stand for themselves in a string.
 fn plain_len(text: &[u8]) -> usize
     ensures { result ≡ length (take_while spec.is_plain text.now) }
 {

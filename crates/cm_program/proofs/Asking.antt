@@ -1,6 +1,7 @@
 -- What words ask for is one thing.
 use Rattle.std.proofs.Common.{◌≡◌, Bool, true, false, Ok, Err, true≢false, sym, ap, subst, ◌∙◌}
-use Rattle.cm_call.specs.Calls.{Gives, Read}
+use Rattle.cm_call.specs.Calls.{WordsResult}
+use Rattle.cm_call.specs.CallsInside.{GivesCall}
 use Rattle.cm_call.specs.declared.call.Call.{Call}
 use Rattle.cm_call.specs.declared.call.Call.TheVariants as call
 use Rattle.cm_call.specs.declared.call.RunOptions.{RunOptions}
@@ -45,35 +46,35 @@ is_audit call.Check = false
 is_audit (call.Generate workload) = false
 is_audit (call.Serve options) = false
 
-pub asked : {read : Read Call} {found own : Call} → read ≡ Ok found → found ≡ own → read ≡ Ok own
+pub asked : {read : WordsResult Call} {found own : Call} → read ≡ Ok found → found ≡ own → read ≡ Ok own
 asked is same = is ∙ ap Ok same
 
-pub one_call : {read : Read Call} {found own other : Call} → read ≡ Ok found → found ≡ own → read ≡ Ok other → own ≡ other
+pub one_call : {read : WordsResult Call} {found own other : Call} → read ≡ Ok found → found ≡ own → read ≡ Ok other → own ≡ other
 one_call is same asks = cc (is, same, asks)
 
 -- words that ask for this ask for no other word
-pub no_other : {A : Type 0} {read : Read Call} {found own other : Call} (is_own : Call → Bool) → read ≡ Ok found → found ≡ own → read ≡ Ok other → is_own own ≡ true → is_own other ≡ false → A
+pub no_other : {A : Type 0} {read : WordsResult Call} {found own other : Call} (is_own : Call → Bool) → read ≡ Ok found → found ≡ own → read ≡ Ok other → is_own own ≡ true → is_own other ≡ false → A
 no_other {own = own} {other = other} is_own is same asks holds fails =
     let one : own ≡ other = one_call is same asks in
     absurd (true≢false (sym holds ∙ ap is_own one ∙ fails))
 
 -- and something is asked for
-pub no_fault : {A : Type 0} {read : Read Call} {found own : Call} {fault : WordsFault} → read ≡ Ok found → found ≡ own → read ≡ Err fault → A
+pub no_fault : {A : Type 0} {read : WordsResult Call} {found own : Call} {fault : WordsFault} → read ≡ Ok found → found ≡ own → read ≡ Err fault → A
 no_fault is same asks = absurd (cc (is, asks))
 
-pub same_options : {read : Read Call} {found : Call} {mine others : RunOptions} → read ≡ Ok found → found ≡ call.Run mine → read ≡ Ok (call.Run others) → mine ≡ others
+pub same_options : {read : WordsResult Call} {found : Call} {mine others : RunOptions} → read ≡ Ok found → found ≡ call.Run mine → read ≡ Ok (call.Run others) → mine ≡ others
 same_options is same asks = cc (is, same, asks)
 
-pub same_workload : {read : Read Call} {found : Call} {mine others : Workload} → read ≡ Ok found → found ≡ call.Generate mine → read ≡ Ok (call.Generate others) → mine ≡ others
+pub same_workload : {read : WordsResult Call} {found : Call} {mine others : Workload} → read ≡ Ok found → found ≡ call.Generate mine → read ≡ Ok (call.Generate others) → mine ≡ others
 same_workload is same asks = cc (is, same, asks)
 
-pub same_serving : {read : Read Call} {found : Call} {mine others : ServeOptions} → read ≡ Ok found → found ≡ call.Serve mine → read ≡ Ok (call.Serve others) → mine ≡ others
+pub same_serving : {read : WordsResult Call} {found : Call} {mine others : ServeOptions} → read ≡ Ok found → found ≡ call.Serve mine → read ≡ Ok (call.Serve others) → mine ≡ others
 same_serving is same asks = cc (is, same, asks)
 
 -- ---- where nothing is asked for
 
-pub unusable : {read : Read Call} (fault : WordsFault) → Gives {X = Call} (Err fault) read → fault ≡ Usage → read ≡ Err Usage
-unusable {read = read} fault gives is = subst (λ (e : WordsFault). Gives {X = Call} (Err e) read) is gives
+pub unusable : {read : WordsResult Call} (fault : WordsFault) → GivesCall {X = Call} (Err fault) read → fault ≡ Usage → read ≡ Err Usage
+unusable {read = read} fault gives is = subst (λ (e : WordsFault). GivesCall {X = Call} (Err e) read) is gives
 
-pub no_call : {A : Type 0} {read : Read Call} {other : Call} (fault : WordsFault) → Gives {X = Call} (Err fault) read → fault ≡ Usage → read ≡ Ok other → A
+pub no_call : {A : Type 0} {read : WordsResult Call} {other : Call} (fault : WordsFault) → GivesCall {X = Call} (Err fault) read → fault ≡ Usage → read ≡ Ok other → A
 no_call fault gives is asks = absurd (cc (unusable fault gives is, asks))

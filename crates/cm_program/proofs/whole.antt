@@ -1,6 +1,6 @@
 pub mod AuditLemmas
 pub mod CheckLemmas
-pub mod FrontLemmas
+pub mod PrefixLemmas
 pub mod Nothing
 pub mod Printing
 pub mod Reporting

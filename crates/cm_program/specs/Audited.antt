@@ -1,16 +1,17 @@
+-- Inside.
 -- What a run with a journal has to know of its script.
 use Rattle.std.specs.Prelude.{◌≡◌, All, true}
-use Rattle.cm_reply.specs.Legible.{IsLegibleFrame}
+use Rattle.cm_reply.specs.LegibleInside.{IsLegibleFrame}
 use Rattle.cm_journal.specs.Asked.{AreWritableLines}
-use Rattle.cm_program.specs.declared.stock.Served.{Served}
+use Rattle.cm_program.specs.declared.stock.LoadedScript.{LoadedScript}
 use Rattle.cm_call.specs.declared.call.Wanted.{Wanted}
 use Rattle.cm_call.specs.declared.call.Wanted.TheVariants.{Answers}
 
 -- a frame and commands that can be told of
-pub record IsLegibleServed (served : Served) : Type 0 where
+pub record IsLegibleServed (served : LoadedScript) : Type 0 where
   pub frame : IsLegibleFrame served.frame
   pub phases : All AreWritableLines served.phases
 
 -- where the journal is wanted, it can be told of what is served
-abbrev pub MayTell : Wanted → Served → Type 0
+abbrev pub MayTell : Wanted → LoadedScript → Type 0
 MayTell wanted served = wanted ≡ Answers true → IsLegibleServed served

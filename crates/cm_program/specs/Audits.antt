@@ -1,3 +1,4 @@
+-- Promised.
 -- What `audit` says of a journal.
 use Rattle.std.specs.Prelude.{◌≡◌, ℕ, List, ◌++◌, codes}
 use Rattle.cm_audit.specs.declared.verdict.Audit.{Audit}

@@ -1,9 +1,10 @@
+-- Promised.
 -- What `check` says of a manifest.
 use Rattle.std.specs.Prelude.{◌≡◌, ℕ, List, ◌++◌, codes, Result, Ok, Err}
 use Rattle.cm_decl.specs.declared.decl.Decl.{Decl}
 use Rattle.cm_decl.specs.declared.section.Section.{Section}
-use Rattle.cm_decl.specs.Faults.{Fault}
-use Rattle.cm_decl.specs.Valid.{IsValid, IsFaultOf}
+use Rattle.cm_decl.specs.Faults.{DeclFault}
+use Rattle.cm_decl.specs.Valid.{IsValid, IsDeclFault}
 use Rattle.cm_read.specs.Manifest.{decl_of_bytes}
 use Rattle.cm_read.specs.Texts as read_text
 use Rattle.cm_read.specs.declared.fault.ReadFault.{ReadFault}
@@ -20,28 +21,28 @@ use Rattle.cm_storage.specs.Texts as storage_text
 -- the status and the line of what was read of a manifest: its first fault, by reading, then by validity, then
 -- of its environments and then of its storage, or that it is valid
 pub data IsJudged (read : Result Decl ReadFault) : ℕ → List ℕ → Type 0 where
-  valid : {d : Decl} → read ≡ Ok d → IsValid d → environments.IsFaultless d → storage.IsFaultless d
+  valid : {d : Decl} → read ≡ Ok d → IsValid d → environments.HasNoFault d → storage.HasNoStorageFault d
       → IsJudged read 0 (codes "valid\n")
   unread : {number index : ℕ} {section : Section} {field : List ℕ}
       → read ≡ Err (read_fault.Bad number section index field)
       → IsJudged read 1 (read_text.fault_text (read_fault.Bad number section index field) ++ codes "\n")
-  invalid : {d : Decl} {f : Fault} → read ≡ Ok d → IsFaultOf d f
+  invalid : {d : Decl} {f : DeclFault} → read ≡ Ok d → IsDeclFault d f
       → IsJudged read 1 (valid_text.fault_text (reported f) ++ codes "\n")
-  unregistered : {d : Decl} {e : EnvFault} → read ≡ Ok d → IsValid d → environments.Judges d (Err e)
+  unregistered : {d : Decl} {e : EnvFault} → read ≡ Ok d → IsValid d → environments.JudgesEnv d (Err e)
       → IsJudged read 1 (env_text.fault_text e ++ codes "\n")
-  unstored : {d : Decl} {n : StorageNote} → read ≡ Ok d → IsValid d → environments.IsFaultless d
-      → storage.Judges d (Err n) → IsJudged read 1 (storage_text.note_text n ++ codes "\n")
+  unstored : {d : Decl} {n : StorageNote} → read ≡ Ok d → IsValid d → environments.HasNoFault d
+      → storage.JudgesStorage d (Err n) → IsJudged read 1 (storage_text.note_text n ++ codes "\n")
 
 -- the status and the line of the manifest that the bytes are
-abbrev pub IsVerdict : List ℕ → ℕ → List ℕ → Type 0
-IsVerdict bytes status line = IsJudged (decl_of_bytes bytes) status line
+abbrev pub IsManifestVerdict : List ℕ → ℕ → List ℕ → Type 0
+IsManifestVerdict bytes status line = IsJudged (decl_of_bytes bytes) status line
 
 -- the manifest that all these bytes are has this status, and this was written of its line
 pub record IsChecked (written : List ℕ → Type 0) (status : ℕ) (bytes : List ℕ) : Type 0 where
   pub line : List ℕ
-  pub verdict : IsVerdict bytes status line
+  pub verdict : IsManifestVerdict bytes status line
   pub out : written line
 
 -- the manifest has some status, and this was written of its line
-abbrev pub IsTold : (List ℕ → Type 0) → List ℕ → Type 0
-IsTold written bytes = (status : ℕ) × IsChecked written status bytes
+abbrev pub IsVerdictWritten : (List ℕ → Type 0) → List ℕ → Type 0
+IsVerdictWritten written bytes = (status : ℕ) × IsChecked written status bytes

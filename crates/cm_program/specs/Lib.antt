@@ -1,10 +1,12 @@
 pub mod Reading
+pub mod ReadingInside
 pub mod Stock
 pub mod Texts
 pub mod Written
 pub mod Checks
 pub mod Audits
 pub mod Printed
+pub mod PrintedInside
 pub mod Reported
 pub mod Headline
 pub mod Sessions

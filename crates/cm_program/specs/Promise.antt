@@ -1,13 +1,14 @@
+-- Promised.
 -- What the program promises, whatever its words are: one record, `Promise`, which the top call ensures, and a
 -- record for each word, which it names at its end.
 use Rattle.std.specs.Prelude.{◌≡◌, ◌≢◌, ◌⊎◌, ℕ, ◌+◌, ◌≤◌, List, [], length, map, Option, None, Ok, Err}
 use Rattle.std.specs.Io.KnownBytes.{Appends, IsAtEnd, Keeps}
-use Rattle.cm_io.specs.Doors.{IsAt, Place}
+use Rattle.cm_io.specs.Doors.{IsOpenAt, DoorPlace}
 use Rattle.cm_io.specs.Outside.{Rose}
 use Rattle.cm_io.specs.declared.door.DoorCounts.{DoorCounts}
 use Rattle.cm_io.specs.declared.sink.Sink as sink
 use Rattle.cm_io.specs.declared.source.Source as source
-use Rattle.cm_gate.specs.declared.asked.Asked.{Asked}
+use Rattle.cm_gate.specs.declared.asked.GateCall.{GateCall}
 use Rattle.cm_call.specs.Calls.{words_of}
 use Rattle.cm_call.specs.Generated.{script_of}
 use Rattle.cm_call.specs.declared.call.Call.TheVariants as call
@@ -18,16 +19,17 @@ use Rattle.cm_call.specs.declared.call.Workload.{Workload}
 use Rattle.cm_session.specs.Links.{LinkView}
 use Rattle.cm_session.specs.Serving.{back_view}
 use Rattle.cm_program.specs.Audits.{IsAudited, IsAuditTold}
-use Rattle.cm_program.specs.Checks.{IsChecked, IsTold}
+use Rattle.cm_program.specs.Checks.{IsChecked, IsVerdictWritten}
 use Rattle.cm_program.specs.Headline.{IsHistory, RunsNothing, RunsScript}
-use Rattle.cm_program.specs.Run.{AsksGenerate, AsksRealm, AsksScript, AsksServe, IsCheckStatus, IsFaulty}
-use Rattle.cm_program.specs.Run.{IsRefusal, IsRefused, IsScriptRun, IsScriptStatus, IsServeStatus}
+use Rattle.cm_program.specs.Run.{AsksGenerate, AsksInput, AsksOutput, AsksRealm, AsksScript, AsksServe}
+use Rattle.cm_program.specs.Run.{IsCheckStatus, IsFaulty}
+use Rattle.cm_program.specs.Run.{IsRefusalStatus, IsRefused, IsScriptRun, IsScriptStatus, IsServeStatus}
 use Rattle.cm_program.specs.Run.{RunsAsServed, RunsOwn, RunsSome}
-use Rattle.cm_program.specs.Sessions.{RunsSessions, served_frame, served_shelf}
+use Rattle.cm_program.specs.Sessions.{RunsSessions, served_frame, served_manifests}
 use Rattle.cm_program.specs.Stock.{served_script}
-use Rattle.cm_program.specs.Written.{AppendsFront, OfKnown, OfSome, Says}
+use Rattle.cm_program.specs.Written.{AppendsPrefix, OfKnown, OfSome, SaysOnErr}
 use Rattle.cm_program.specs.declared.ran.Ran.{Ran}
-use Rattle.cm_program.specs.declared.stock.Served.{Served}
+use Rattle.cm_program.specs.declared.stock.LoadedScript.{LoadedScript}
 use Rattle.cm_call.specs.declared.call.Wanted.{Wanted}
 use Rattle.cm_call.specs.declared.call.Wanted.TheVariants.{Summary}
 
@@ -50,11 +52,11 @@ pub record Came (S K E D L G : Type 0) : Type 0 where
 -- what is told of source, output and error stream, door, links and gates, and what was given and came
 module _ {S K E D L G : Type 0}
     (as_source : source.Ghosts S) (as_out : sink.Ghosts K) (as_err : sink.Ghosts E)
-    (counts_of : D → DoorCounts) (place_of : D → Place) (view : L → LinkView)
-    (log_of : G → Option (List Asked)) (faults_of : G → ℕ)
+    (counts_of : D → DoorCounts) (place_of : D → DoorPlace) (view : L → LinkView)
+    (log_of : G → Option (List GateCall)) (faults_of : G → ℕ)
     (was : Given S K E D G) (now : Came S K E D L G) where
   -- the run of this script, of which this is wanted
-  abbrev pub RunsIt : Wanted → Option (List ℕ) → Served → Type 0
+  abbrev pub RunsIt : Wanted → Option (List ℕ) → LoadedScript → Type 0
   RunsIt wanted folder served =
       RunsScript log_of faults_of wanted folder served was.gates now.ran.gates now.ran.book.entries
       now.ran.status (as_out.written was.out) (as_out.written now.out)
@@ -74,7 +76,7 @@ module _ {S K E D L G : Type 0}
     -- at 0 the input was read to its end
     pub read_out : now.ran.status ≡ 0 → IsAtEnd (as_source.left now.input)
     -- bytes that are no script that is served get 7, 3 or 6
-    pub faulty : OfKnown (λ bytes. IsFaulty bytes → IsRefusal now.ran.status) (as_source.left was.input)
+    pub faulty : OfKnown (λ bytes. IsFaulty bytes → IsRefusalStatus now.ran.status) (as_source.left was.input)
     -- the headline: at 0, 4 and 6 this is the run of the script that is served, where the bytes are one
     pub headline : IsScriptRun now.ran.status
         → OfKnown (RunsAsServed (RunsIt options.wanted options.repository))
@@ -85,7 +87,7 @@ module _ {S K E D L G : Type 0}
         (Idles × Keeps (as_out.written was.out) (as_out.written now.out)) now.ran.status
         (as_source.left was.input)
 
-  -- `check`: 0 and `valid`, or 1 and the first fault, or at 4 a front of that line; of all that the source
+  -- `check`: 0 and `valid`, or 1 and the first fault, or at 4 a prefix of that line; of all that the source
   -- had left, and of some bytes where it doesn't tell that
   pub record OfCheck : Type 0 where
     -- it ends with 0, 1, 3, 4 or 6
@@ -100,12 +102,12 @@ module _ {S K E D L G : Type 0}
     pub invalid : now.ran.status ≡ 1
         → OfSome (IsChecked (Appends (as_out.written was.out) (as_out.written now.out)) 1)
         (as_source.left was.input)
-    -- at 4 a front of one of these lines was written
+    -- at 4 a prefix of one of these lines was written
     pub told : now.ran.status ≡ 4
-        → OfSome (IsTold (AppendsFront (as_out.written was.out) (as_out.written now.out)))
+        → OfSome (IsVerdictWritten (AppendsPrefix (as_out.written was.out) (as_out.written now.out)))
         (as_source.left was.input)
 
-  -- `audit`: 0 and that the journal is legal, or 1 and what comes first in it that isn't, or at 4 a front of
+  -- `audit`: 0 and that the journal is legal, or 1 and what comes first in it that isn't, or at 4 a prefix of
   -- that line; of all that the source had left, and of some bytes where it doesn't tell that
   pub record OfAudit : Type 0 where
     -- it ends with 0, 1, 3, 4 or 6
@@ -120,9 +122,9 @@ module _ {S K E D L G : Type 0}
     pub illegal : now.ran.status ≡ 1
         → OfSome (IsAudited (Appends (as_out.written was.out) (as_out.written now.out)) 1)
         (as_source.left was.input)
-    -- at 4 a front of one of these lines was written
+    -- at 4 a prefix of one of these lines was written
     pub told : now.ran.status ≡ 4
-        → OfSome (IsAuditTold (AppendsFront (as_out.written was.out) (as_out.written now.out)))
+        → OfSome (IsAuditTold (AppendsPrefix (as_out.written was.out) (as_out.written now.out)))
         (as_source.left was.input)
 
   -- `generate`: the workload's own script is run as any other, with no folder, and the line counts its
@@ -133,7 +135,7 @@ module _ {S K E D L G : Type 0}
     -- this is the run of the workload's script, which was served at 0 and 4
     pub runs : RunsOwn (RunsIt (Summary w.size) None) (script_of w.seed w.size) now.ran.status
     -- were its own script refused, nothing would have been done
-    pub unmade : ((served : Served) → served_script (script_of w.seed w.size) ≡ Ok served → ⊥)
+    pub unmade : ((served : LoadedScript) → served_script (script_of w.seed w.size) ≡ Ok served → ⊥)
         → Idles × (now.out ≡ was.out)
     -- the input is as it was
     pub unread : now.input ≡ was.input
@@ -141,13 +143,14 @@ module _ {S K E D L G : Type 0}
   -- `serve`: the history, and what came of each link; input and output are as they were
   pub record OfServe (o : ServeOptions) : Type 0 where
     pub status : IsServeStatus now.ran.status
-    pub sessions : RunsSessions log_of faults_of view (served_frame o) (served_shelf o) o.workers was.gates
+    pub sessions : RunsSessions log_of faults_of view (served_frame o)
+        (served_manifests o) o.workers was.gates
         now.ran.gates now.ran.book.entries (map (back_view view) now.ran.links) now.ran.status
     pub few : length now.ran.links ≤ o.sessions
     pub done : now.ran.status ≡ 0 → (length now.ran.links ≡ o.sessions)
         ⊎ Rose (counts_of was.door).closings (counts_of now.ran.door).closings
     -- at 0 peers could come to the socket that the words name, where the door tells where they may
-    pub place : now.ran.status ≡ 0 → IsAt o.socket (place_of now.ran.door)
+    pub place : now.ran.status ≡ 0 → IsOpenAt o.socket (place_of now.ran.door)
     pub untouched : (now.input ≡ was.input) × (now.out ≡ was.out)
 
   -- what the program promises
@@ -156,6 +159,12 @@ module _ {S K E D L G : Type 0}
     pub usage : now.ran.status ≡ 2 → words_of was.words ≡ Err fault.Usage
     -- and there nothing else comes, unless memory ran out
     pub unusable : words_of was.words ≡ Err fault.Usage → (now.ran.status ≡ 2) ⊎ (now.ran.status ≡ 6)
+    -- input and output are as they were there, whichever of the two comes;
+    pub untouched : words_of was.words ≡ Err fault.Usage → (now.input ≡ was.input) × (now.out ≡ was.out)
+    -- the input is as it was for all words that don't ask for what is made of it,
+    pub unread : (AsksInput was.words → ⊥) → now.input ≡ was.input
+    -- and the output for all that ask for nothing that is written there
+    pub unwritten : (AsksOutput was.words → ⊥) → now.out ≡ was.out
     -- 3 comes only where the source failed in this run,
     pub read : now.ran.status ≡ 3 → Rose (as_source.faults was.input) (as_source.faults now.input)
     -- 4 only where the output failed,
@@ -178,7 +187,7 @@ module _ {S K E D L G : Type 0}
     pub kept : (AsksScript was.words → ⊥) → now.ran.status ≡ 6
         → Keeps (as_out.written was.out) (as_out.written now.out)
     -- on the error stream stands the line of the status, where it has one
-    pub err : Says as_err.written as_err.faults was.err now.err now.ran.status
+    pub err : SaysOnErr as_err.written as_err.faults was.err now.err now.ran.status
     -- the returned book is a legal history of some realm, keeps all laws, and each action has its end in it
     pub history : IsHistory now.ran.book.entries
     -- sixteen gates come back

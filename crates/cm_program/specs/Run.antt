@@ -1,19 +1,20 @@
+-- Promised.
 -- What a run promises.
 use Rattle.std.specs.Prelude.{◌≡◌, ◌⊎◌, ℕ, List, Option, Ok}
 use Rattle.cm_command.specs.declared.script.Script.{Script}
 use Rattle.cm_call.specs.Calls.{words_of}
-use Rattle.cm_program.specs.Stock.{IsFault, Serves, served_script}
+use Rattle.cm_program.specs.Stock.{IsScriptRefusal, LoadsScript, served_script}
 use Rattle.cm_program.specs.Texts.{fault_line}
 use Rattle.cm_program.specs.Written.{IsSaid, OfSome}
-use Rattle.cm_call.specs.declared.call.Call.TheVariants.{Run, Check, Generate, Serve}
+use Rattle.cm_call.specs.declared.call.Call.TheVariants.{Run, Check, Generate, Serve, Audit}
 use Rattle.cm_call.specs.declared.call.RunOptions.{RunOptions}
 use Rattle.cm_call.specs.declared.call.ServeOptions.{ServeOptions}
 use Rattle.cm_call.specs.declared.call.Workload.{Workload}
-use Rattle.cm_program.specs.declared.fault.Fault.{Fault}
-use Rattle.cm_program.specs.declared.fault.Fault.TheVariants as fault
+use Rattle.cm_program.specs.declared.fault.ScriptRefusal.{ScriptRefusal}
+use Rattle.cm_program.specs.declared.fault.ScriptRefusal.TheVariants as fault
 use Rattle.cm_program.specs.declared.scripts.Stop.{Stop}
 use Rattle.cm_program.specs.declared.scripts.Stop.TheVariants.{ReadFault, Refused, Memory}
-use Rattle.cm_program.specs.declared.stock.Served.{Served}
+use Rattle.cm_program.specs.declared.stock.LoadedScript.{LoadedScript}
 
 -- the words are those of `run`
 abbrev pub AsksRun : List (List ℕ) → Type 0
@@ -22,6 +23,10 @@ AsksRun words = (options : RunOptions) × (words_of words ≡ Ok (Run options))
 -- the words are those of `check`
 abbrev pub AsksCheck : List (List ℕ) → Type 0
 AsksCheck words = words_of words ≡ Ok Check
+
+-- the words are those of `audit`
+abbrev pub AsksAudit : List (List ℕ) → Type 0
+AsksAudit words = words_of words ≡ Ok Audit
 
 -- the words are those of `generate`
 abbrev pub AsksGenerate : List (List ℕ) → Type 0
@@ -35,6 +40,14 @@ AsksServe words = (options : ServeOptions) × (words_of words ≡ Ok (Serve opti
 abbrev pub AsksScript : List (List ℕ) → Type 0
 AsksScript words = AsksRun words ⊎ AsksGenerate words
 
+-- the words ask for what is made of the input
+abbrev pub AsksInput : List (List ℕ) → Type 0
+AsksInput words = AsksRun words ⊎ (AsksCheck words ⊎ AsksAudit words)
+
+-- the words ask for something that is written on the output
+abbrev pub AsksOutput : List (List ℕ) → Type 0
+AsksOutput words = AsksInput words ⊎ AsksGenerate words
+
 -- the words ask for something that is done over a realm
 abbrev pub AsksRealm : List (List ℕ) → Type 0
 AsksRealm words = AsksScript words ⊎ AsksServe words
@@ -43,45 +56,46 @@ AsksRealm words = AsksScript words ⊎ AsksServe words
 -- why is said on the error stream
 module _ {E : Type 0} (written_of : E → Option (List ℕ)) (faults_of : E → ℕ) where
   pub record IsRefused (left : Option (List ℕ)) (err_old err_new : E) : Type 0 where
-    pub fault : Fault
-    pub faulty : OfSome (λ bytes. IsFault bytes fault) left
+    pub fault : ScriptRefusal
+    pub faulty : OfSome (λ bytes. IsScriptRefusal bytes fault) left
     pub said : IsSaid written_of faults_of err_old err_new (fault_line fault)
 
 -- of some script that is served this holds: the one that the bytes are which a source had left, or one that
 -- some bytes are where it tells none; or memory ran out before there was one, and then this holds
-unfoldable pub RunsSome : (Served → Type 0) → Type 0 → ℕ → Option (List ℕ) → Type 0
+unfoldable pub RunsSome : (LoadedScript → Type 0) → Type 0 → ℕ → Option (List ℕ) → Type 0
 RunsSome P Idle status left =
-    ((served : Served) × (OfSome (λ bytes. Serves bytes served) left × P served)) ⊎ ((status ≡ 6) × Idle)
+    ((served : LoadedScript) × (OfSome (λ bytes. LoadsScript bytes served) left × P served))
+    ⊎ ((status ≡ 6) × Idle)
 
 -- whichever script that is served the bytes are, this holds of it; they are one at most
-abbrev pub RunsAsServed : (Served → Type 0) → List ℕ → Type 0
-RunsAsServed P bytes = (served : Served) → Serves bytes served → P served
+abbrev pub RunsAsServed : (LoadedScript → Type 0) → List ℕ → Type 0
+RunsAsServed P bytes = (served : LoadedScript) → LoadsScript bytes served → P served
 
 -- where this script is served, this holds of what it asks for; and it is served where the run came to its end
-pub record RunsOwn (P : Served → Type 0) (script : Script) (status : ℕ) : Type 0 where
-  pub runs : (served : Served) → served_script script ≡ Ok served → P served
-  pub is_served : (status ≡ 0) ⊎ (status ≡ 4) → (served : Served) × (served_script script ≡ Ok served)
+pub record RunsOwn (P : LoadedScript → Type 0) (script : Script) (status : ℕ) : Type 0 where
+  pub runs : (served : LoadedScript) → served_script script ≡ Ok served → P served
+  pub is_served : (status ≡ 0) ⊎ (status ≡ 4) → (served : LoadedScript) × (served_script script ≡ Ok served)
 
 -- the bytes are refused, or they are no script that is served
 pub data IsFaulty (bytes : List ℕ) : Type 0 where
-  refused : (fault : Fault) → IsFault bytes fault → IsFaulty bytes
-  unserved : ((served : Served) → Serves bytes served → ⊥) → IsFaulty bytes
+  refused : (fault : ScriptRefusal) → IsScriptRefusal bytes fault → IsFaulty bytes
+  unserved : ((served : LoadedScript) → LoadsScript bytes served → ⊥) → IsFaulty bytes
 
 -- how a fault stops a run
-abbrev pub stop_of : Fault → Stop
+abbrev pub stop_of : ScriptRefusal → Stop
 stop_of (fault.Unread line number at) = Refused (fault.Unread line number at)
 stop_of (fault.Unserved line problem) = Refused (fault.Unserved line problem)
 stop_of fault.Memory = Memory
 
 -- why a script stopped a run
-abbrev pub Stops : Stop → Option (List ℕ) → Type 0
-Stops ReadFault left = Unit {0}
-Stops Memory left = Unit {0}
-Stops (Refused fault) left = OfSome (λ bytes. IsFault bytes fault) left
+abbrev pub ScriptStops : Stop → Option (List ℕ) → Type 0
+ScriptStops ReadFault left = Unit {0}
+ScriptStops Memory left = Unit {0}
+ScriptStops (Refused fault) left = OfSome (λ bytes. IsScriptRefusal bytes fault) left
 
 -- a faulty script's statuses: refused, or the source failed or memory ran out before that was known
-abbrev pub IsRefusal : ℕ → Type 0
-IsRefusal status = (status ≡ 7) ⊎ ((status ≡ 3) ⊎ (status ≡ 6))
+abbrev pub IsRefusalStatus : ℕ → Type 0
+IsRefusalStatus status = (status ≡ 7) ⊎ ((status ≡ 3) ⊎ (status ≡ 6))
 
 -- the status of a script's run: all was written, the output failed, or memory ran out
 abbrev pub IsScriptRun : ℕ → Type 0

@@ -1,3 +1,4 @@
+-- Promised.
 -- What a script asks for.
 use Rattle.std.specs.Prelude.{◌≡◌, ℕ, List, [], ◌∷◌, Result, Ok, Err}
 use Rattle.cm_names.specs.Steps.{◌>>=◌}
@@ -9,11 +10,11 @@ use Rattle.cm_world.specs.declared.frame.Limits.{Limits}
 use Rattle.cm_command.specs.Scripts as scripts
 use Rattle.cm_command.specs.declared.script.Block.{Block}
 use Rattle.cm_command.specs.declared.script.Script.{Script}
-use Rattle.cm_program.specs.Reading.{Read, bad}
-use Rattle.cm_program.specs.declared.fault.Fault.{Fault}
-use Rattle.cm_program.specs.declared.fault.Fault.TheVariants.{Unread, Unserved, Memory}
+use Rattle.cm_program.specs.Reading.{ReadOutcome, bad}
+use Rattle.cm_program.specs.declared.fault.ScriptRefusal.{ScriptRefusal}
+use Rattle.cm_program.specs.declared.fault.ScriptRefusal.TheVariants.{Unread, Unserved, Memory}
 use Rattle.cm_program.specs.declared.fault.Problem.TheVariants.{BadManifestUrl, RepeatedManifest}
-use Rattle.cm_program.specs.declared.stock.Served.{Served}
+use Rattle.cm_program.specs.declared.stock.LoadedScript.{LoadedScript}
 
 -- how many instances a realm may have, and how many entries its history
 abbrev pub limits : Limits
@@ -24,7 +25,7 @@ abbrev pub frame_of : Script → Frame
 frame_of script = record { root = script.root; builtins = script.builtins; limits = limits }
 
 -- a refusal of the repository, as the script's
-abbrev pub accepted : ℕ → Result Blocks RepoFault → Read Blocks
+abbrev pub accepted : ℕ → Result Blocks RepoFault → ReadOutcome Blocks
 accepted line (Ok blocks) = Ok blocks
 accepted line (Err repo.BadUrl) = Err (bad line BadManifestUrl)
 accepted line (Err repo.NoFragment) = Err (bad line BadManifestUrl)
@@ -32,34 +33,34 @@ accepted line (Err repo.Repeated) = Err (bad line RepeatedManifest)
 accepted line (Err repo.Memory) = Err Memory
 
 -- the repository with one block more
-abbrev pub stocked : Blocks → Block → Read Blocks
+abbrev pub stocked : Blocks → Block → ReadOutcome Blocks
 stocked old block = accepted block.line (added old block.url block.bytes)
 
 -- the repository with all blocks
-abbrev pub stock_of : Blocks → List Block → Read Blocks
+abbrev pub stock_of : Blocks → List Block → ReadOutcome Blocks
 stock_of old [] = Ok old
 stock_of old (block ∷ blocks) = stocked old block >>= λ new. stock_of new blocks
 
 -- what a script asks for; or else its first block that is refused
-unfoldable pub served_script : Script → Read Served
+unfoldable pub served_script : Script → ReadOutcome LoadedScript
 served_script script = do
   repository ← stock_of [] script.manifests
   Ok (record { repository = repository; frame = frame_of script; phases = script.phases })
 
 -- the bytes are a script, and this is what it asks for
-pub record Serves (bytes : List ℕ) (served : Served) : Type 0 where
+pub record LoadsScript (bytes : List ℕ) (served : LoadedScript) : Type 0 where
   pub script : Script
   pub reads : scripts.IsScript bytes script
   pub asks : served_script script ≡ Ok served
 
 -- the bytes are a script, and it is refused for this
-pub record Refuses (bytes : List ℕ) (fault : Fault) : Type 0 where
+pub record RefusesScript (bytes : List ℕ) (fault : ScriptRefusal) : Type 0 where
   pub script : Script
   pub reads : scripts.IsScript bytes script
   pub refused : served_script script ≡ Err fault
 
 -- why the bytes are refused: they are no script, or they are one that is refused
-abbrev pub IsFault : List ℕ → Fault → Type 0
-IsFault bytes (Unread line number at) = scripts.Fault bytes line number at
-IsFault bytes (Unserved line problem) = Refuses bytes (Unserved line problem)
-IsFault bytes Memory = ⊥
+abbrev pub IsScriptRefusal : List ℕ → ScriptRefusal → Type 0
+IsScriptRefusal bytes (Unread line number at) = scripts.FirstFault bytes line number at
+IsScriptRefusal bytes (Unserved line problem) = RefusesScript bytes (Unserved line problem)
+IsScriptRefusal bytes Memory = ⊥

@@ -1,9 +1,10 @@
+-- Promised.
 -- The words that users see where a script is refused.
 use Rattle.std.specs.Prelude.{ℕ, List, ◌++◌, codes, decimal}
 use Rattle.cm_command.specs.FaultText as script
 use Rattle.cm_command.specs.declared.fault.ScriptFault.TheVariants as script_fault
-use Rattle.cm_program.specs.declared.fault.Fault.{Fault}
-use Rattle.cm_program.specs.declared.fault.Fault.TheVariants.{Unread, Unserved, Memory}
+use Rattle.cm_program.specs.declared.fault.ScriptRefusal.{ScriptRefusal}
+use Rattle.cm_program.specs.declared.fault.ScriptRefusal.TheVariants.{Unread, Unserved, Memory}
 use Rattle.cm_program.specs.declared.fault.Problem.{Problem}
 use Rattle.cm_program.specs.declared.fault.Problem.TheVariants.{BadManifestUrl, RepeatedManifest}
 
@@ -12,11 +13,11 @@ problem_text BadManifestUrl = codes "77 bad-manifest-url"
 problem_text RepeatedManifest = codes "78 repeated-manifest"
 
 -- `line L: NUMBER WORD`, and at 70 ` at POSITION`
-abbrev pub fault_text : Fault → List ℕ
+abbrev pub fault_text : ScriptRefusal → List ℕ
 fault_text (Unread line number at) = script.fault_text (script_fault.Bad line number at)
 fault_text (Unserved line problem) = codes "line " ++ (decimal line ++ (codes ": " ++ problem_text problem))
 fault_text Memory = codes "out of memory"
 
 -- the line on the error stream
-abbrev pub fault_line : Fault → List ℕ
+abbrev pub fault_line : ScriptRefusal → List ℕ
 fault_line fault = fault_text fault ++ codes "\n"

@@ -1,3 +1,4 @@
+-- Inside.
 -- What is answered where no gate failed: no failed gate is named, and no stop by force.
 use Rattle.std.specs.Prelude.{◌≡◌, ℕ, List, All, Bool, true, false, IsFalse, Result, Ok, Err, Some, slice_get}
 use Rattle.cm_io.specs.Outside.{Rose}
@@ -9,9 +10,9 @@ use Rattle.cm_world.specs.declared.answer.Checked.{Checked}
 use Rattle.cm_world.specs.declared.answer.Refusal.{Refusal}
 use Rattle.cm_world.specs.declared.answer.Refusal.TheVariants as refusal
 use Rattle.cm_world.specs.declared.route.Route.{Route}
-use Rattle.cm_lanes.specs.Script.{Answered}
-use Rattle.cm_session.specs.Told.{done_of}
-use Rattle.cm_program.specs.Sessions.{Sat}
+use Rattle.cm_lanes.specs.Script.{AnsweredLine}
+use Rattle.cm_session.specs.LineOutcome.{done_of}
+use Rattle.cm_program.specs.Sessions.{SessionRecord}
 
 -- no gate's count of faults rose
 abbrev pub AreSound : {G : Type 0} → (G → ℕ) → List G → List G → Type 0
@@ -48,9 +49,9 @@ IsUnfailing (Ok a) = IsUnfailingAnswer a
 IsUnfailing (Err x) = IsUnfailingRefusal x
 
 -- nor does any answer to a script's lines
-abbrev pub AreUnfailing : List (List Answered) → Type 0
-AreUnfailing answered = All (All (λ (a : Answered). IsUnfailing a.result)) answered
+abbrev pub AreUnfailing : List (List AnsweredLine) → Type 0
+AreUnfailing answered = All (All (λ (a : AnsweredLine). IsUnfailing a.result)) answered
 
 -- nor any answer to a link's commands
-abbrev pub AreUnfailingSats : List Sat → Type 0
-AreUnfailingSats sats = All (λ (s : Sat). All (λ d. IsUnfailing d.result) (done_of s.told)) sats
+abbrev pub AreUnfailingSats : List SessionRecord → Type 0
+AreUnfailingSats sats = All (λ (s : SessionRecord). All (λ d. IsUnfailing d.result) (done_of s.told)) sats

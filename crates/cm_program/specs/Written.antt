@@ -1,3 +1,4 @@
+-- Promised.
 -- What is known of the bytes of a source or a sink.
 use Rattle.std.specs.Prelude.{◌≡◌, ◌⊎◌, ℕ, List, take, codes, Option, Some, None}
 use Rattle.std.specs.Io.KnownBytes.{Appends, Keeps}
@@ -13,9 +14,9 @@ abbrev pub OfSome : (List ℕ → Type 0) → Option (List ℕ) → Type 0
 OfSome P None = (bytes : List ℕ) × P bytes
 OfSome P (Some bytes) = P bytes
 
--- known bytes grew by a front of this text
-abbrev pub AppendsFront : Option (List ℕ) → Option (List ℕ) → List ℕ → Type 0
-AppendsFront old new text = (n : ℕ) × Appends old new (take n text)
+-- known bytes grew by a prefix of this text
+abbrev pub AppendsPrefix : Option (List ℕ) → Option (List ℕ) → List ℕ → Type 0
+AppendsPrefix old new text = (n : ℕ) × Appends old new (take n text)
 
 -- the fixed lines of the error stream
 abbrev pub usage_line : List ℕ
@@ -31,15 +32,15 @@ abbrev pub want_line : List ℕ
 want_line = codes "want of memory\n"
 
 module _ {E : Type 0} (written_of : E → Option (List ℕ)) (faults_of : E → ℕ) where
-  -- the whole line stands on the sink, or the sink failed and a front of it does
+  -- the whole line stands on the sink, or the sink failed and a prefix of it does
   abbrev pub IsSaid : E → E → List ℕ → Type 0
   IsSaid old new line =
       Appends (written_of old) (written_of new) line
-      ⊎ (Rose (faults_of old) (faults_of new) × AppendsFront (written_of old) (written_of new) line)
+      ⊎ (Rose (faults_of old) (faults_of new) × AppendsPrefix (written_of old) (written_of new) line)
 
   -- what is said on the error stream at a status: a line of its own at 2, 3, 5 and 6, and nothing at 0, 1
   -- and 4
-  pub record Says (old new : E) (status : ℕ) : Type 0 where
+  pub record SaysOnErr (old new : E) (status : ℕ) : Type 0 where
     pub usage : status ≡ 2 → IsSaid old new usage_line
     pub read : status ≡ 3 → IsSaid old new read_fault_line
     pub door : status ≡ 5 → IsSaid old new door_fault_line

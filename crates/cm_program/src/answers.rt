@@ -4,7 +4,8 @@ ghost use Rattle.std.specs.Prelude.{◌≡◌, ◌++◌, List as Seq, IfOk, OnOk
 ghost use Rattle.std.specs.Prelude.{string_bytes};
 ghost use Rattle.cm_command.specs.declared.script.Line.{Line as TheLine};
 ghost use Rattle.cm_reply.specs.Journal.{entries_text};
-ghost use Rattle.cm_program.specs.Printed.{line_text, texts_of};
+ghost use Rattle.cm_program.specs.Printed.{line_text};
+ghost use Rattle.cm_program.specs.PrintedInside.{texts_of};
 
 use cm_command::Line;
 use cm_lanes::Said;

@@ -6,10 +6,10 @@ ghost use Rattle.cm_io.specs.Outside.{Rose};
 ghost use Rattle.cm_program.specs.Audits as spec;
 ghost use Rattle.cm_program.specs.Audits.{IsAudited, IsAuditTold, IsJournalVerdict};
 ghost use Rattle.cm_program.specs.Run.{IsCheckStatus};
-ghost use Rattle.cm_program.specs.Written.{AppendsFront, OfSome, Says};
+ghost use Rattle.cm_program.specs.Written.{AppendsPrefix, OfSome, SaysOnErr};
 
 use crate::check::{NoVerdict, Verdict};
-use crate::ran::{read_fault, want_of_memory};
+use crate::ran::{out_of_memory, read_fault};
 use cm_audit::{Audit, audit};
 use cm_io::{Put, Sink, Source, SourceFault, put_all, read_up_to};
 use cm_names::{Memory, Text};
@@ -17,7 +17,7 @@ use std::alloc::Global;
 use std::sync::Wait;
 use std::thread::Threads;
 
-/// The most bytes that a journal has, with all that stands in front of it. The source is read a piece
+/// The most bytes that a journal has, with all that stands before it. The source is read a piece
 /// further at most.
 const JOURNAL_LIMIT: usize = 268_435_456;
 
@@ -106,12 +106,12 @@ pub fn run_audit<R: Threads + Wait + Sync, S: Source, K: Sink, E: Sink>(
     ensures illegal { result ≡ 1 →
         OfSome (IsAudited (Appends (K.written out.old) (K.written out.new)) 1)
         (S.left source.old) }
-    ensures front { result ≡ 4 →
-        OfSome (IsAuditTold (AppendsFront (K.written out.old) (K.written out.new)))
+    ensures prefix { result ≡ 4 →
+        OfSome (IsAuditTold (AppendsPrefix (K.written out.old) (K.written out.new)))
         (S.left source.old) }
     ensures silent { (result ≡ 3) ⊎ (result ≡ 6) →
         Keeps (K.written out.old) (K.written out.new) }
-    ensures err { Says E.written E.faults err.old err.new result }
+    ensures err { SaysOnErr E.written E.faults err.old err.new result }
     ensures others { IsCheckStatus result }
 {
     match read_audit(rt, alloc, source) {
@@ -120,6 +120,6 @@ pub fn run_audit<R: Threads + Wait + Sync, S: Source, K: Sink, E: Sink>(
             Put::WriteFault(_) => 4,
         },
         Err(NoVerdict::ReadFault) => read_fault(rt, err),
-        Err(NoVerdict::Memory) => want_of_memory(rt, err),
+        Err(NoVerdict::Memory) => out_of_memory(rt, err),
     }
 }

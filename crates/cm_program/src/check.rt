@@ -9,16 +9,16 @@ ghost use Rattle.cm_env.specs.Faults as environments;
 ghost use Rattle.cm_env.specs.Texts as env_text;
 ghost use Rattle.cm_storage.specs.Faults as storage;
 ghost use Rattle.cm_storage.specs.Texts as storage_text;
-ghost use Rattle.cm_read.specs.Reading.{Fails};
+ghost use Rattle.cm_read.specs.ReadingInside.{FailsReading};
 ghost use Rattle.cm_read.specs.Texts as read_text;
 ghost use Rattle.cm_read.specs.declared.fault.ReadFault.{ReadFault};
-ghost use Rattle.cm_valid.specs.Reports.{Reports};
+ghost use Rattle.cm_valid.specs.ReportsInside.{Reports};
 ghost use Rattle.cm_valid.specs.Texts as valid_text;
-ghost use Rattle.cm_program.specs.Checks.{IsChecked, IsJudged, IsTold, IsVerdict};
+ghost use Rattle.cm_program.specs.Checks.{IsChecked, IsJudged, IsVerdictWritten, IsManifestVerdict};
 ghost use Rattle.cm_program.specs.Run.{IsCheckStatus};
-ghost use Rattle.cm_program.specs.Written.{AppendsFront, OfSome, Says};
+ghost use Rattle.cm_program.specs.Written.{AppendsPrefix, OfSome, SaysOnErr};
 
-use crate::ran::{read_fault, want_of_memory};
+use crate::ran::{out_of_memory, read_fault};
 use cm_decl::Decl;
 use cm_env::{EnvFault, check_env_in};
 use cm_io::{Put, Sink, Source, SourceFault, put_all, read_up_to};
@@ -77,7 +77,7 @@ fn refused(line: Text) -> Verdict
 
 /// The verdict on a manifest that isn't read.
 fn unread(alloc: Global, fault: &ReadFault) -> Result<Verdict, Memory>
-    ensures verdict { (read : Result Declaration ReadFault) → Fails fault.now read →
+    ensures verdict { (read : Result Declaration ReadFault) → FailsReading fault.now read →
         IfOk result (λ verdict. IsJudged read verdict.status verdict.line) }
     ensures status { IfOk result (λ verdict. verdict.status ≡ 1) }
 {
@@ -126,7 +126,7 @@ fn unstored_line(alloc: Global, note: &StorageNote) -> Result<Text, Memory>
 /// The verdict on a manifest whose environments have a fault.
 fn unregistered(alloc: Global, fault: &EnvFault) -> Result<Verdict, Memory>
     ensures verdict { (read : Result Declaration ReadFault) (d : Declaration) → read ≡ Ok d
-        → IsValid d → environments.Judges d (Err fault.now)
+        → IsValid d → environments.JudgesEnv d (Err fault.now)
         → IfOk result (λ verdict. IsJudged read verdict.status verdict.line) }
     ensures status { IfOk result (λ verdict. verdict.status ≡ 1) }
 {
@@ -137,7 +137,7 @@ fn unregistered(alloc: Global, fault: &EnvFault) -> Result<Verdict, Memory>
 /// The verdict on a manifest whose storage has a fault.
 fn unstored(alloc: Global, note: &StorageNote) -> Result<Verdict, Memory>
     ensures verdict { (read : Result Declaration ReadFault) (d : Declaration) → read ≡ Ok d
-        → IsValid d → environments.IsFaultless d → storage.Judges d (Err note.now)
+        → IsValid d → environments.HasNoFault d → storage.JudgesStorage d (Err note.now)
         → IfOk result (λ verdict. IsJudged read verdict.status verdict.line) }
     ensures status { IfOk result (λ verdict. verdict.status ≡ 1) }
 {
@@ -156,7 +156,7 @@ fn valid(alloc: Global) -> Result<Verdict, Memory>
 /// The verdict on a manifest whose routes and environments have no fault.
 fn verdict_on_storage(alloc: Global, decl: &Decl) -> Result<Verdict, Memory>
     ensures verdict { (read : Result Declaration ReadFault) → read ≡ Ok decl.now
-        → IsValid decl.now → environments.IsFaultless decl.now
+        → IsValid decl.now → environments.HasNoFault decl.now
         → IfOk result (λ verdict. IsJudged read verdict.status verdict.line) }
     ensures status { IfOk result (λ verdict. (verdict.status ≡ 0) ⊎ (verdict.status ≡ 1)) }
 {
@@ -180,7 +180,7 @@ fn verdict_on(alloc: Global, decl: &Decl) -> Result<Verdict, Memory>
 
 /// The verdict on the manifest that the bytes are.
 fn verdict_of(alloc: Global, bytes: &[u8]) -> Result<Verdict, Memory>
-    ensures verdict { IfOk result (λ verdict. IsVerdict bytes.now verdict.status verdict.line) }
+    ensures verdict { IfOk result (λ verdict. IsManifestVerdict bytes.now verdict.status verdict.line) }
     ensures status { IfOk result (λ verdict. (verdict.status ≡ 0) ⊎ (verdict.status ≡ 1)) }
 {
     match read_decl(alloc, bytes) {
@@ -199,7 +199,7 @@ fn read_verdict<R: Threads + Wait + Sync, S: Source>(
     source: &mut S,
 ) -> Result<Verdict, NoVerdict>
     ensures verdict { IfOk result
-        (λ verdict. OfSome (λ bytes. IsVerdict bytes verdict.status verdict.line)
+        (λ verdict. OfSome (λ bytes. IsManifestVerdict bytes verdict.status verdict.line)
         (S.left source.old)) }
     ensures status { IfOk result (λ verdict. (verdict.status ≡ 0) ⊎ (verdict.status ≡ 1)) }
     ensures ended { IfOk result (λ verdict. verdict.status ≡ 0 → IsAtEnd (S.left source.new)) }
@@ -241,12 +241,12 @@ pub fn run_check<R: Threads + Wait + Sync, S: Source, K: Sink, E: Sink>(
     ensures invalid { result ≡ 1 →
         OfSome (IsChecked (Appends (K.written out.old) (K.written out.new)) 1)
         (S.left source.old) }
-    ensures front { result ≡ 4 →
-        OfSome (IsTold (AppendsFront (K.written out.old) (K.written out.new)))
+    ensures prefix { result ≡ 4 →
+        OfSome (IsVerdictWritten (AppendsPrefix (K.written out.old) (K.written out.new)))
         (S.left source.old) }
     ensures silent { (result ≡ 3) ⊎ (result ≡ 6) →
         Keeps (K.written out.old) (K.written out.new) }
-    ensures err { Says E.written E.faults err.old err.new result }
+    ensures err { SaysOnErr E.written E.faults err.old err.new result }
     ensures others { IsCheckStatus result }
 {
     match read_verdict(rt, alloc, source) {
@@ -255,6 +255,6 @@ pub fn run_check<R: Threads + Wait + Sync, S: Source, K: Sink, E: Sink>(
             Put::WriteFault(_) => 4,
         },
         Err(NoVerdict::ReadFault) => read_fault(rt, err),
-        Err(NoVerdict::Memory) => want_of_memory(rt, err),
+        Err(NoVerdict::Memory) => out_of_memory(rt, err),
     }
 }

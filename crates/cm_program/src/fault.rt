@@ -30,7 +30,7 @@ impl fmt::Display for Problem {
 /// Why a script is refused: its first fault by [`read_script`](cm_command::read_script), or else
 /// its first block that the repository refuses.
 #[derive(Clone, Copy)]
-pub enum Fault {
+pub enum ScriptRefusal {
     /// 70 to 76: the text is no script, by its first fault.
     Unread {
         line: u32,
@@ -47,7 +47,7 @@ pub enum Fault {
 }
 
 /// It is written `line L: NUMBER WORD`, at 70 followed by ` at POSITION`.
-impl fmt::Display for Fault {
+impl fmt::Display for ScriptRefusal {
     ghost use Rattle.std.specs.Prelude.{Some};
     ghost use Rattle.cm_program.specs.Texts.{fault_text};
 
@@ -55,7 +55,7 @@ impl fmt::Display for Fault {
 
     fn fmt<W: fmt::Write>(&self, f: &mut fmt::Formatter<W>) -> fmt::Result {
         match self {
-            Fault::Unread { line, number, at } => {
+            ScriptRefusal::Unread { line, number, at } => {
                 let fault = ScriptFault::Bad {
                     line: *line,
                     number: *number,
@@ -63,19 +63,19 @@ impl fmt::Display for Fault {
                 };
                 write!(f, "{fault}")
             }
-            Fault::Unserved { line, problem } => write!(f, "line {line}: {problem}"),
-            Fault::Memory => f.write_str("out of memory"),
+            ScriptRefusal::Unserved { line, problem } => write!(f, "line {line}: {problem}"),
+            ScriptRefusal::Memory => f.write_str("out of memory"),
         }
     }
 }
 
-impl From<Memory> for Fault {
+impl From<Memory> for ScriptRefusal {
     ghost use Rattle.std.specs.Prelude.{◌≡◌};
-    ghost use Rattle.cm_program.specs.declared.fault.Fault.TheVariants.{Memory as OutOfMemory};
+    ghost use Rattle.cm_program.specs.declared.fault.ScriptRefusal.TheVariants.{Memory as OutOfMemory};
 
     ghost from_gives = { λ _ e. e ≡ OutOfMemory };
 
-    fn from(_: Memory) -> Fault {
-        Fault::Memory
+    fn from(_: Memory) -> ScriptRefusal {
+        ScriptRefusal::Memory
     }
 }

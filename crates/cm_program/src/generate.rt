@@ -2,18 +2,18 @@
 
 ghost use Rattle.std.specs.Prelude.{◌≡◌, ◌≢◌, All, IfOk, None, Ok, length};
 ghost use Rattle.cm_io.specs.Outside.{Rose};
-ghost use Rattle.cm_lanes.specs.Script.{IsFit};
-ghost use Rattle.cm_call.specs.Calls.{IsWorkload};
+ghost use Rattle.cm_lanes.specs.ScriptInside.{IsFit};
+ghost use Rattle.cm_call.specs.CallsInside.{IsWorkload};
 ghost use Rattle.cm_call.specs.Generated.{script_of};
 ghost use Rattle.cm_program.specs.Headline.{IsHistory, RunsNothing, RunsScript};
 ghost use Rattle.cm_program.specs.Run.{IsScriptRun, RunsOwn};
 ghost use Rattle.cm_program.specs.Stock.{served_script};
-ghost use Rattle.cm_program.specs.Written.{Says};
-ghost use Rattle.cm_program.specs.declared.stock.Served.{Served as TheServed};
+ghost use Rattle.cm_program.specs.Written.{SaysOnErr};
+ghost use Rattle.cm_program.specs.declared.stock.LoadedScript.{LoadedScript as TheServed};
 
-use crate::ran::{Finished, ended, want_of_memory};
+use crate::ran::{Finished, ended, out_of_memory};
 use crate::running::run_served;
-use crate::stock::{Served, serve_script};
+use crate::stock::{LoadedScript, serve_script};
 use cm_call::{Wanted, Workload, generated};
 use cm_gate::Gates;
 use cm_io::Sink;
@@ -23,8 +23,8 @@ use std::sync::Wait;
 use std::thread::Threads;
 
 /// What the script of a workload asks for. Its manifests are never refused, so that a refusal is
-/// want of memory.
-fn serve_generated(alloc: Global, workload: Workload) -> Result<Served, Memory>
+/// lack of memory.
+fn serve_generated(alloc: Global, workload: Workload) -> Result<LoadedScript, Memory>
     requires { IsWorkload workload }
     ensures good { IfOk result (λ served.
         served_script (script_of workload.seed workload.size) ≡ Ok served) }
@@ -60,12 +60,12 @@ pub fn run_generated<R: Threads + Wait + Sync, K: Sink, E: Sink, G: Gates + Send
         RunsNothing result.book.entries gates result.gates × (out.new ≡ out.old) }
     ensures cause { result.status ≡ 4 → Rose (K.faults out.old) (K.faults out.new) }
     ensures whole { result.status ≢ 4 → result.status ≢ 6 → K.faults out.new ≡ K.faults out.old }
-    ensures err { Says E.written E.faults err.old err.new result.status }
+    ensures err { SaysOnErr E.written E.faults err.old err.new result.status }
     ensures others { IsScriptRun result.status }
 {
     let instances = workload.size;
     let Ok(served) = serve_generated(alloc, workload) else {
-        return ended(alloc, want_of_memory(rt, err), gates);
+        return ended(alloc, out_of_memory(rt, err), gates);
     };
     let wanted = Wanted::Summary { instances };
     run_served(rt, alloc, wanted, None, served, out, err, gates)

@@ -37,4 +37,4 @@ mod sessions;
 mod stock;
 mod wanted;
 
-pub use ran::{Ran, want_of_memory};
+pub use ran::{Ran, out_of_memory};

@@ -4,9 +4,9 @@ ghost use Rattle.std.specs.Prelude.{◌≡◌, All, [], length, IfOk, IfSome};
 ghost use Rattle.cm_world.specs.declared.frame.Frame.{Frame as TheFrame};
 ghost use Rattle.cm_cache.specs.Keeping.{IsKeptNumber};
 ghost use Rattle.cm_turn.specs.Passes.{new_passes};
-ghost use Rattle.cm_manager.specs.Work.{Shelf};
-ghost use Rattle.cm_lanes.specs.Script.{IsFit};
-ghost use Rattle.cm_program.specs.Performing.{Performs};
+ghost use Rattle.cm_manager.specs.Work.{Manifests};
+ghost use Rattle.cm_lanes.specs.ScriptInside.{IsFit};
+ghost use Rattle.cm_program.specs.Performing.{RunsPhases};
 ghost use Rattle.cm_program.specs.Reported.{IsReport, IsReportOn};
 
 use cm_book::Book;
@@ -28,7 +28,7 @@ use std::thread::Threads;
 
 /// What the lanes made of a script.
 #[derive(Drop)]
-pub struct Performed<G> {
+pub struct LanesResult<G> {
     /// The history of the realm, with the entries of all lanes.
     pub book: Book,
     /// How many routes and openings of the history asked for a use whose answer was still there.
@@ -70,7 +70,7 @@ fn performed_in<G>(
     realm: Realm,
     gates: List<G>,
     said: Option<List<Said>>,
-) -> Performed<G>
+) -> LanesResult<G>
     ensures history { result.book.entries ≡ realm.entries }
     ensures kept { IsKeptNumber realm.frame realm.entries result.kept }
     ensures reported { IfSome result.report (IsReport wanted realm.frame realm.entries) }
@@ -79,7 +79,7 @@ fn performed_in<G>(
 {
     let kept = realm.kept();
     let report = report_of(alloc, wanted, &realm);
-    Performed {
+    LanesResult {
         book: realm.into_book(),
         kept,
         report,
@@ -97,14 +97,14 @@ fn perform_under<R: Threads + Wait + Sync, G: Gates + Send + Drop>(
     passes: List<Pass<Entry, Frame>>,
     phases: &[List<Line>],
     gates: List<G>,
-) -> Performed<G>
+) -> LanesResult<G>
     requires count { manager.turn.passes ≡ 16 }
     requires new { (f : TheFrame) × (passes ≡ new_passes manager.turn.lock f 16) }
     requires gates { length gates ≡ 16 }
     requires fit { All (λ lines. All IsFit lines) phases.now }
     ensures gates { length result.gates ≡ 16 }
     ensures performs { (f : TheFrame) → passes ≡ new_passes manager.turn.lock f 16
-        → Performs G.log G.faults manager.shelf f phases.now gates result }
+        → RunsPhases G.log G.faults manager.manifests f phases.now gates result }
     ensures reported { (f : TheFrame) → passes ≡ new_passes manager.turn.lock f 16
         → IfSome result.report (IsReport wanted f result.book.entries) }
 {
@@ -127,13 +127,13 @@ pub fn perform<R: Threads + Wait + Sync, G: Gates + Send + Drop>(
     repo: Option<Text>,
     phases: &[List<Line>],
     gates: List<G>,
-) -> Performed<G>
+) -> LanesResult<G>
     requires empty { realm.entries ≡ [] }
     requires gates { length gates ≡ 16 }
     requires fit { All (λ lines. All IsFit lines) phases.now }
     ensures gates { length result.gates ≡ 16 }
-    ensures performs { let shelf : Shelf = record { repo = repo; blocks = repository } in
-        Performs G.log G.faults shelf realm.frame phases.now gates result }
+    ensures performs { let manifests : Manifests = record { repo = repo; blocks = repository } in
+        RunsPhases G.log G.faults manifests realm.frame phases.now gates result }
     ensures reported { IfSome result.report (IsReport wanted realm.frame result.book.entries) }
 {
     match Manager::new(alloc, realm, repository, repo, 16) {

@@ -24,9 +24,9 @@ pub struct Ran<D, L, G> {
     /// - 2: the words ask for nothing, and `err` tells what they may be; nothing was written on
     ///   `out`.
     /// - 3: the source failed, which `err` tells; nothing was written on `out`.
-    /// - 4: `out` failed; a front of the text was written.
+    /// - 4: `out` failed; a prefix of the text was written.
     /// - 5: the door failed, which `err` tells; the links that came before were served.
-    /// - 6: memory ran out, or a line was answered so, which `err` tells; a front of the text was
+    /// - 6: memory ran out, or a line was answered so, which `err` tells; a prefix of the text was
     ///   written.
     /// - 7: the script is refused, and the line on `err` says where and why; nothing was written
     ///   on `out`.
@@ -84,7 +84,7 @@ pub fn ended<G>(alloc: Global, status: u8, gates: List<G>) -> Finished<G>
     }
 }
 
-/// Writes a line on the error stream: the whole of it, or a front where the stream fails.
+/// Writes a line on the error stream: the whole of it, or a prefix where the stream fails.
 pub fn tell<R: Threads + Wait + Sync, E: Sink>(rt: &R, err: &mut E, line: &[u8])
     ensures { IsSaid E.written E.faults err.old err.new line.now }
 {
@@ -95,7 +95,7 @@ pub fn tell<R: Threads + Wait + Sync, E: Sink>(rt: &R, err: &mut E, line: &[u8])
 }
 
 /// Says that memory ran out. The result is the status.
-pub fn want_of_memory<R: Threads + Wait + Sync, E: Sink>(rt: &R, err: &mut E) -> u8
+pub fn out_of_memory<R: Threads + Wait + Sync, E: Sink>(rt: &R, err: &mut E) -> u8
     ensures status { result ≡ 6 }
     ensures said { IsSaid E.written E.faults err.old err.new want_line }
 {

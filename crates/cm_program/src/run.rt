@@ -8,7 +8,7 @@ ghost use Rattle.cm_session.specs.Links.{view_of};
 use crate::audit::run_audit;
 use crate::check::run_check;
 use crate::generate::run_generated;
-use crate::ran::{Ran, stopped, tell, want_of_memory};
+use crate::ran::{Ran, out_of_memory, stopped, tell};
 use crate::scripts::run_script;
 use crate::serving::run_sessions;
 use cm_call::{Call, Wanted, WordsFault, read_words};
@@ -26,7 +26,7 @@ use std::thread::Threads;
 /// of that folder besides the script's. The word `check` asks for the verdict on the manifest that
 /// the input is. The words `generate G N` ask for the run of a workload of N instances, which is
 /// made from G and for which the input isn't read: the one line that is written counts its answers,
-/// and how many of those to uses were still there.
+/// and how many of those were cache hits.
 ///
 /// The word `audit` asks for the verdict on the journal that the input is, by
 /// [`audit`](cm_audit::audit): what `run --journal` writes can be handed in as it is.
@@ -119,6 +119,6 @@ where
             );
             stopped(alloc, 2, gates, door)
         }
-        Err(WordsFault::Memory) => stopped(alloc, want_of_memory(rt, err), gates, door),
+        Err(WordsFault::Memory) => stopped(alloc, out_of_memory(rt, err), gates, door),
     }
 }

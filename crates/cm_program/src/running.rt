@@ -5,18 +5,18 @@ ghost use Rattle.std.specs.Prelude.{false, length, true};
 ghost use Rattle.cm_io.specs.Outside.{Rose};
 ghost use Rattle.cm_reply.specs.Journal as journal;
 ghost use Rattle.cm_lanes.specs.declared.said.Said.{Said as TheSaid};
-ghost use Rattle.cm_lanes.specs.Script.{IsFit};
+ghost use Rattle.cm_lanes.specs.ScriptInside.{IsFit};
 ghost use Rattle.cm_typed.specs.Typed.{IsTypedEntry};
 ghost use Rattle.cm_program.specs.Audited.{MayTell};
 ghost use Rattle.cm_program.specs.Headline.{RunsScript};
-ghost use Rattle.cm_program.specs.Printed.{IsPrinted, printed_text};
+ghost use Rattle.cm_program.specs.PrintedInside.{IsPrinted, printed_text};
 ghost use Rattle.cm_program.specs.Run.{IsScriptRun};
-ghost use Rattle.cm_program.specs.Written.{AppendsFront, Says};
+ghost use Rattle.cm_program.specs.Written.{AppendsPrefix, SaysOnErr};
 
 use crate::answers::{push_answers, push_entries};
-use crate::performing::{Performed, perform};
-use crate::ran::{Finished, ended, want_of_memory};
-use crate::stock::Served;
+use crate::performing::{LanesResult, perform};
+use crate::ran::{Finished, ended, out_of_memory};
+use crate::stock::LoadedScript;
 use crate::wanted::summary_text;
 use cm_call::Wanted;
 use cm_command::Line;
@@ -34,7 +34,7 @@ use std::thread::Threads;
 
 /// What is printed, and of what besides the answers.
 #[derive(Clone, Copy)]
-struct Sheet<'a> {
+struct Printout<'a> {
     /// What is wanted.
     wanted: Wanted,
     /// The first lines of the journal.
@@ -63,7 +63,7 @@ fn new_realm(alloc: Global, frame: Frame) -> Result<(Text, Realm), Memory>
 }
 
 /// Whether memory ran out for one of the answers.
-fn is_wanting(said: &[Said]) -> bool
+fn is_out_of_memory(said: &[Said]) -> bool
     ensures told { result ≡ false → All (λ s. s.result ≢ Err Refusal.Memory) said.now }
     ensures wanting { result ≡ true → Any (λ s. s.result ≡ Err Refusal.Memory) said.now }
 {
@@ -77,7 +77,7 @@ fn answers_text(
     phases: &[List<Line>],
     said: &[Said],
     journal: bool,
-    sheet: &Sheet<'_>,
+    sheet: &Printout<'_>,
 ) -> Result<Text, Memory>
     ensures { IfOk result (λ text. text ≡ printed_text phases.now said.now
         (Wanted.Answers journal) sheet.now.head.now sheet.now.entries.now sheet.now.kept
@@ -97,7 +97,7 @@ fn text_of(
     alloc: Global,
     phases: &[List<Line>],
     said: &[Said],
-    sheet: &Sheet<'_>,
+    sheet: &Printout<'_>,
 ) -> Result<Text, Memory>
     ensures { IfOk result (λ text. text ≡ printed_text phases.now said.now
         sheet.now.wanted sheet.now.head.now sheet.now.entries.now sheet.now.kept
@@ -118,7 +118,7 @@ fn print<R: Threads + Wait + Sync, K: Sink>(
     out: &mut K,
     phases: &[List<Line>],
     said: &[Said],
-    sheet: &Sheet<'_>,
+    sheet: &Printout<'_>,
 ) -> u8
     ensures printed { IsPrinted (printed_text phases.now said.now sheet.now.wanted
         sheet.now.head.now sheet.now.entries.now sheet.now.kept sheet.now.report.now) said.now result
@@ -131,7 +131,7 @@ fn print<R: Threads + Wait + Sync, K: Sink>(
         return 6;
     };
     let put = put_all(rt, out, text.as_str().as_bytes());
-    if is_wanting(said) {
+    if is_out_of_memory(said) {
         return 6;
     }
     match put {
@@ -140,13 +140,13 @@ fn print<R: Threads + Wait + Sync, K: Sink>(
     }
 }
 
-/// Says on the error stream what the status is for, where it is want of memory.
+/// Says on the error stream what the status is for, where it is out of memory.
 #[tactic(auto, using(crate::proofs::whole::Saying::says))]
 fn report<R: Threads + Wait + Sync, E: Sink>(rt: &R, err: &mut E, status: u8)
-    ensures { IsScriptRun status → Says E.written E.faults err.old err.new status }
+    ensures { IsScriptRun status → SaysOnErr E.written E.faults err.old err.new status }
 {
     if status == 6 {
-        want_of_memory(rt, err);
+        out_of_memory(rt, err);
     }
 }
 
@@ -160,23 +160,23 @@ fn print_performed<R: Threads + Wait + Sync, K: Sink, E: Sink, G>(
     phases: &[List<Line>],
     head: &Text,
     wanted: Wanted,
-    done: Performed<G>,
+    done: LanesResult<G>,
 ) -> Finished<G>
     ensures said { (said : Seq TheSaid) (report : Seq ℕ) → done.said ≡ Some said
         → done.report ≡ Some report → IsPrinted (printed_text phases.now said wanted head.now
         done.book.entries done.kept report) said result.status (K.written out.old)
         (K.written out.new) }
     ensures unsaid { (done.said ≡ None) ⊎ (done.report ≡ None)
-        → (result.status ≡ 6) × AppendsFront (K.written out.old) (K.written out.new) [] }
+        → (result.status ≡ 6) × AppendsPrefix (K.written out.old) (K.written out.new) [] }
     ensures typed { All IsTypedEntry done.book.entries }
     ensures book { result.book ≡ done.book }
     ensures gates { result.gates ≡ done.gates }
     ensures cause { result.status ≡ 4 → Rose (K.faults out.old) (K.faults out.new) }
     ensures whole { result.status ≢ 4 → result.status ≢ 6 → K.faults out.new ≡ K.faults out.old }
-    ensures err { Says E.written E.faults err.old err.new result.status }
+    ensures err { SaysOnErr E.written E.faults err.old err.new result.status }
     ensures others { IsScriptRun result.status }
 {
-    let Performed {
+    let LanesResult {
         book,
         kept,
         report: made,
@@ -186,12 +186,12 @@ fn print_performed<R: Threads + Wait + Sync, K: Sink, E: Sink, G>(
     entries_fit(book.entries());
     let (Some(said), Some(made)) = (said, made) else {
         return Finished {
-            status: want_of_memory(rt, err),
+            status: out_of_memory(rt, err),
             book,
             gates,
         };
     };
-    let sheet = Sheet {
+    let sheet = Printout {
         wanted,
         head,
         entries: book.entries(),
@@ -215,7 +215,7 @@ pub fn run_served<R: Threads + Wait + Sync, K: Sink, E: Sink, G: Gates + Send + 
     alloc: Global,
     wanted: Wanted,
     repo: Option<Text>,
-    served: Served,
+    served: LoadedScript,
     out: &mut K,
     err: &mut E,
     gates: List<G>,
@@ -228,16 +228,16 @@ pub fn run_served<R: Threads + Wait + Sync, K: Sink, E: Sink, G: Gates + Send + 
         result.book.entries result.status (K.written out.old) (K.written out.new) }
     ensures cause { result.status ≡ 4 → Rose (K.faults out.old) (K.faults out.new) }
     ensures whole { result.status ≢ 4 → result.status ≢ 6 → K.faults out.new ≡ K.faults out.old }
-    ensures err { Says E.written E.faults err.old err.new result.status }
+    ensures err { SaysOnErr E.written E.faults err.old err.new result.status }
     ensures others { IsScriptRun result.status }
 {
-    let Served {
+    let LoadedScript {
         repository,
         frame,
         phases,
     } = served;
     let Ok((head, realm)) = new_realm(alloc, frame) else {
-        return ended(alloc, want_of_memory(rt, err), gates);
+        return ended(alloc, out_of_memory(rt, err), gates);
     };
     let done = perform(
         rt,

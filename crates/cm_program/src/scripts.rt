@@ -3,20 +3,20 @@
 ghost use Rattle.std.specs.Prelude.{◌≡◌, ◌≢◌, ◌⊎◌, All, IfOk, IfErr, length};
 ghost use Rattle.std.specs.Io.KnownBytes.{IsAtEnd, Keeps};
 ghost use Rattle.cm_io.specs.Outside.{Rose};
-ghost use Rattle.cm_lanes.specs.Script.{IsFit};
+ghost use Rattle.cm_lanes.specs.ScriptInside.{IsFit};
 ghost use Rattle.cm_program.specs.Audited.{IsLegibleServed};
 ghost use Rattle.cm_program.specs.Headline.{IsHistory, RunsNothing, RunsScript};
-ghost use Rattle.cm_program.specs.Run.{IsFaulty, IsRefusal, IsRefused, IsScriptRun};
-ghost use Rattle.cm_program.specs.Run.{IsScriptStatus, RunsAsServed, RunsSome, Stops};
+ghost use Rattle.cm_program.specs.Run.{IsFaulty, IsRefusalStatus, IsRefused, IsScriptRun};
+ghost use Rattle.cm_program.specs.Run.{IsScriptStatus, RunsAsServed, RunsSome, ScriptStops};
 ghost use Rattle.cm_program.specs.Run as run;
-ghost use Rattle.cm_program.specs.Stock.{Serves};
+ghost use Rattle.cm_program.specs.Stock.{LoadsScript};
 ghost use Rattle.cm_program.specs.Texts as spec;
-ghost use Rattle.cm_program.specs.Written.{IsSaid, OfKnown, OfSome, Says};
+ghost use Rattle.cm_program.specs.Written.{IsSaid, OfKnown, OfSome, SaysOnErr};
 
-use crate::fault::Fault;
-use crate::ran::{Finished, ended, read_fault, tell, want_of_memory};
+use crate::fault::ScriptRefusal;
+use crate::ran::{Finished, ended, out_of_memory, read_fault, tell};
 use crate::running::run_served;
-use crate::stock::{Served, serve};
+use crate::stock::{LoadedScript, serve};
 use cm_call::Wanted;
 use cm_gate::Gates;
 use cm_io::{Sink, Source, SourceFault, read_up_to};
@@ -34,18 +34,25 @@ const READ_LIMIT: usize = 67_108_864 + 65_537;
 #[derive(Drop)]
 pub enum Stop {
     ReadFault,
-    Refused(Fault),
+    Refused(ScriptRefusal),
     Memory,
 }
 
 /// How a fault stops a run.
-fn stop_of(fault: Fault) -> Stop
+fn stop_of(fault: ScriptRefusal) -> Stop
     ensures { result ≡ run.stop_of fault }
 {
     match fault {
-        Fault::Memory => Stop::Memory,
-        Fault::Unread { line, number, at } => Stop::Refused(Fault::Unread { line, number, at }),
-        Fault::Unserved { line, problem } => Stop::Refused(Fault::Unserved { line, problem }),
+        ScriptRefusal::Memory => Stop::Memory,
+        ScriptRefusal::Unread { line, number, at } => Stop::Refused(ScriptRefusal::Unread {
+            line,
+            number,
+            at,
+        }),
+        ScriptRefusal::Unserved { line, problem } => Stop::Refused(ScriptRefusal::Unserved {
+            line,
+            problem,
+        }),
     }
 }
 
@@ -54,12 +61,12 @@ fn read_served<R: Threads + Wait + Sync, S: Source>(
     rt: &R,
     alloc: Global,
     source: &mut S,
-) -> Result<Served, Stop>
+) -> Result<LoadedScript, Stop>
     ensures good { IfOk result
-        (λ served. OfSome (λ bytes. Serves bytes served) (S.left source.old)) }
+        (λ served. OfSome (λ bytes. LoadsScript bytes served) (S.left source.old)) }
     ensures fit { IfOk result (λ served. All (λ lines. All IsFit lines) served.phases) }
     ensures tells { IfOk result IsLegibleServed }
-    ensures bad { IfErr result (λ stop. Stops stop (S.left source.old)) }
+    ensures bad { IfErr result (λ stop. ScriptStops stop (S.left source.old)) }
     ensures fault { IfErr result (λ stop. stop ≡ Stop.ReadFault →
         Rose (S.faults source.old) (S.faults source.new)) }
     ensures ended { IfOk result (λ served. IsAtEnd (S.left source.new)) }
@@ -79,7 +86,7 @@ fn read_served<R: Threads + Wait + Sync, S: Source>(
     }
 }
 
-fn fault_line(alloc: Global, fault: Fault) -> Result<Text, Memory>
+fn fault_line(alloc: Global, fault: ScriptRefusal) -> Result<Text, Memory>
     ensures { IfOk result (λ text. text ≡ spec.fault_line fault) }
 {
     let mut text = Text::new(alloc);
@@ -89,10 +96,15 @@ fn fault_line(alloc: Global, fault: Fault) -> Result<Text, Memory>
 
 /// Says why the script is refused. The result is the status.
 #[tactic(auto, using(crate::proofs::whole::Saying::says))]
-fn refuse<R: Threads + Wait + Sync, E: Sink>(rt: &R, alloc: Global, err: &mut E, fault: Fault) -> u8
+fn refuse<R: Threads + Wait + Sync, E: Sink>(
+    rt: &R,
+    alloc: Global,
+    err: &mut E,
+    fault: ScriptRefusal,
+) -> u8
     ensures refused { result ≡ 7 →
         IsSaid E.written E.faults err.old err.new (spec.fault_line fault) }
-    ensures err { Says E.written E.faults err.old err.new result }
+    ensures err { SaysOnErr E.written E.faults err.old err.new result }
     ensures others { (result ≡ 7) ⊎ (result ≡ 6) }
 {
     match fault_line(alloc, fault) {
@@ -100,7 +112,7 @@ fn refuse<R: Threads + Wait + Sync, E: Sink>(rt: &R, alloc: Global, err: &mut E,
             tell(rt, err, text.as_str().as_bytes());
             7
         }
-        Err(Memory) => want_of_memory(rt, err),
+        Err(Memory) => out_of_memory(rt, err),
     }
 }
 
@@ -129,7 +141,7 @@ pub fn run_script<R: Threads + Wait + Sync, S: Source, K: Sink, E: Sink, G: Gate
     ensures refused { result.status ≡ 7 →
         IsRefused E.written E.faults (S.left script.old) err.old err.new }
     ensures faulty { OfKnown (λ bytes. IsFaulty bytes →
-        IsRefusal result.status) (S.left script.old) }
+        IsRefusalStatus result.status) (S.left script.old) }
     ensures headline { IsScriptRun result.status →
         OfKnown (RunsAsServed (λ served. RunsScript G.log G.faults wanted repo served gates
         result.gates result.book.entries result.status (K.written out.old)
@@ -146,13 +158,13 @@ pub fn run_script<R: Threads + Wait + Sync, S: Source, K: Sink, E: Sink, G: Gate
         RunsNothing result.book.entries gates result.gates) (S.left script.old) }
     ensures silent { (result.status ≡ 3) ⊎ (result.status ≡ 7) →
         Keeps (K.written out.old) (K.written out.new) }
-    ensures err { Says E.written E.faults err.old err.new result.status }
+    ensures err { SaysOnErr E.written E.faults err.old err.new result.status }
     ensures others { IsScriptStatus result.status }
 {
     match read_served(rt, alloc, script) {
         Ok(served) => run_served(rt, alloc, wanted, repo, served, out, err, gates),
         Err(Stop::ReadFault) => ended(alloc, read_fault(rt, err), gates),
         Err(Stop::Refused(fault)) => ended(alloc, refuse(rt, alloc, err, fault), gates),
-        Err(Stop::Memory) => ended(alloc, want_of_memory(rt, err), gates),
+        Err(Stop::Memory) => ended(alloc, out_of_memory(rt, err), gates),
     }
 }

@@ -1,14 +1,14 @@
 //! The command `serve`: sessions over the links of a door.
 
 ghost use Rattle.std.specs.Prelude.{◌≡◌, [], IfOk, length};
-ghost use Rattle.cm_call.specs.Calls.{IsServing};
-ghost use Rattle.cm_io.specs.Doors.{IsAt, IsShut};
+ghost use Rattle.cm_call.specs.CallsInside.{IsServing};
+ghost use Rattle.cm_io.specs.Doors.{IsOpenAt, IsShut};
 ghost use Rattle.cm_program.specs.Headline.{IsHistory};
-ghost use Rattle.cm_program.specs.Sessions.{Attended, served_frame, served_shelf};
-ghost use Rattle.cm_program.specs.Written.{Says};
+ghost use Rattle.cm_program.specs.Sessions.{Attended, served_frame, served_manifests};
+ghost use Rattle.cm_program.specs.Written.{SaysOnErr};
 ghost use Rattle.cm_session.specs.Links.{view_of};
 
-use crate::ran::{Ran, door_fault, stopped, want_of_memory};
+use crate::ran::{Ran, door_fault, out_of_memory, stopped};
 use crate::sessions::{Service, attend};
 use crate::stock::LIMITS;
 use cm_call::ServeOptions;
@@ -62,14 +62,14 @@ where
     requires options { IsServing options }
     requires shut { IsShut (D.place door) }
     ensures attended { Attended G.log G.faults (view_of D.Link.Source D.Link.Sink) D.counts
-        (served_frame options) (served_shelf options) options.sessions options.workers gates
+        (served_frame options) (served_manifests options) options.sessions options.workers gates
         (D.counts door) result }
-    ensures place { result.status ≡ 0 → IsAt options.socket (D.place result.door) }
+    ensures place { result.status ≡ 0 → IsOpenAt options.socket (D.place result.door) }
     ensures history { IsHistory result.book.entries }
-    ensures err { Says E.written E.faults err.old err.new result.status }
+    ensures err { SaysOnErr E.written E.faults err.old err.new result.status }
 {
     let Ok((socket, service)) = service_of(alloc, options) else {
-        return stopped(alloc, want_of_memory(rt, err), gates, door);
+        return stopped(alloc, out_of_memory(rt, err), gates, door);
     };
     let mut door = door;
     match door.listen(rt, socket.as_str()) {

@@ -4,12 +4,12 @@ ghost use Rattle.std.specs.Prelude.{◌≡◌, ◌<◌, ◌≤◌, [], Some, len
 ghost use Rattle.cm_io.specs.Doors.{IsOpen};
 ghost use Rattle.cm_world.specs.declared.frame.Frame.{Frame as TheFrame};
 ghost use Rattle.cm_turn.specs.Passes.{new_passes};
-ghost use Rattle.cm_manager.specs.Work.{Shelf};
+ghost use Rattle.cm_manager.specs.Work.{Manifests};
 ghost use Rattle.cm_program.specs.Sessions.{Attended, status_of};
-ghost use Rattle.cm_program.specs.Written.{Says};
+ghost use Rattle.cm_program.specs.Written.{SaysOnErr};
 ghost use Rattle.cm_session.specs.Links.{view_of};
 
-use crate::ran::{Ran, door_fault, stopped, want_of_memory};
+use crate::ran::{Ran, door_fault, out_of_memory, stopped};
 use cm_gate::Gates;
 use cm_io::{Door, Sink};
 use cm_manager::Manager;
@@ -40,12 +40,12 @@ pub struct Service {
 #[tactic(auto, using(crate::proofs::whole::Saying::says))]
 fn tell_cause<R: Threads + Wait + Sync, E: Sink>(rt: &R, err: &mut E, cause: Cause) -> u8
     ensures status { result ≡ status_of cause }
-    ensures err { Says E.written E.faults err.old err.new result }
+    ensures err { SaysOnErr E.written E.faults err.old err.new result }
 {
     match cause {
         Cause::Done => 0,
         Cause::DoorFault => door_fault(rt, err),
-        Cause::Memory => want_of_memory(rt, err),
+        Cause::Memory => out_of_memory(rt, err),
     }
 }
 
@@ -73,9 +73,9 @@ where
     requires listening { IsOpen (D.place door) }
     ensures attended { (f : TheFrame) → passes ≡ new_passes manager.turn.lock f 16 →
         Attended G.log G.faults (view_of D.Link.Source D.Link.Sink) D.counts
-        f manager.shelf sessions workers gates (D.counts door) result }
+        f manager.manifests sessions workers gates (D.counts door) result }
     ensures place { D.place result.door ≡ D.place door }
-    ensures err { Says E.written E.faults err.old err.new result.status }
+    ensures err { SaysOnErr E.written E.faults err.old err.new result.status }
 {
     let Served {
         passes,
@@ -113,11 +113,11 @@ where
     requires sessions { (0 < service.sessions) × (service.sessions ≤ 4096) }
     requires workers { (0 < service.workers) × (service.workers ≤ 16) }
     requires listening { IsOpen (D.place door) }
-    ensures attended { let shelf : Shelf = record { repo = Some service.folder; blocks = [] } in
+    ensures attended { let manifests : Manifests = record { repo = Some service.folder; blocks = [] } in
         Attended G.log G.faults (view_of D.Link.Source D.Link.Sink) D.counts
-        service.realm.frame shelf service.sessions service.workers gates (D.counts door) result }
+        service.realm.frame manifests service.sessions service.workers gates (D.counts door) result }
     ensures place { D.place result.door ≡ D.place door }
-    ensures err { Says E.written E.faults err.old err.new result.status }
+    ensures err { SaysOnErr E.written E.faults err.old err.new result.status }
 {
     let Service {
         realm,
@@ -131,7 +131,7 @@ where
         ),
         Err(realm) => {
             drop(realm);
-            stopped(alloc, want_of_memory(rt, err), gates, door)
+            stopped(alloc, out_of_memory(rt, err), gates, door)
         }
     }
 }

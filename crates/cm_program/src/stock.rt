@@ -2,12 +2,13 @@
 
 ghost use Rattle.std.specs.Prelude.{◌≡◌, ◌≢◌, [], All, IfOk, IfErr};
 ghost use Rattle.cm_program.specs.Stock as spec;
-ghost use Rattle.cm_program.specs.Stock.{IsFault, Serves};
-ghost use Rattle.cm_program.specs.Reading.{Gives, Steps, bad};
+ghost use Rattle.cm_program.specs.Stock.{IsScriptRefusal, LoadsScript};
+ghost use Rattle.cm_program.specs.Reading.{bad};
+ghost use Rattle.cm_program.specs.ReadingInside.{GivesOutcome, LeavesReading};
 ghost use Rattle.cm_command.specs.Scripts.{IsScript};
-ghost use Rattle.cm_lanes.specs.Script.{IsFit};
+ghost use Rattle.cm_lanes.specs.ScriptInside.{IsFit};
 
-use crate::fault::{Fault, Problem};
+use crate::fault::{Problem, ScriptRefusal};
 use cm_command::{Block, Line, Script, ScriptFault, read_script};
 use cm_names::{Bytes, List};
 use cm_repo::{RepoFault, Repository};
@@ -22,7 +23,7 @@ pub const LIMITS: Limits = Limits {
 
 /// What a script asks for.
 #[derive(Drop)]
-pub struct Served {
+pub struct LoadedScript {
     /// The manifests.
     pub repository: Repository,
     /// What the realm is made with: its root, what stands above it, and its limits.
@@ -32,18 +33,18 @@ pub struct Served {
 }
 
 /// Puts a block into the repository.
-fn stock(repository: &mut Repository, block: Block) -> Result<(), Fault>
-    ensures { Steps repository.new result (spec.stocked repository.old block) }
+fn stock(repository: &mut Repository, block: Block) -> Result<(), ScriptRefusal>
+    ensures { LeavesReading repository.new result (spec.stocked repository.old block) }
 {
     let Block { line, url, bytes } = block;
     match repository.add(url.as_str(), bytes) {
         Ok(()) => Ok(()),
-        Err(RepoFault::Memory) => Err(Fault::Memory),
-        Err(RepoFault::Repeated) => Err(Fault::Unserved {
+        Err(RepoFault::Memory) => Err(ScriptRefusal::Memory),
+        Err(RepoFault::Repeated) => Err(ScriptRefusal::Unserved {
             line,
             problem: Problem::RepeatedManifest,
         }),
-        Err(_) => Err(Fault::Unserved {
+        Err(_) => Err(ScriptRefusal::Unserved {
             line,
             problem: Problem::BadManifestUrl,
         }),
@@ -51,8 +52,8 @@ fn stock(repository: &mut Repository, block: Block) -> Result<(), Fault>
 }
 
 /// The repository of all blocks.
-fn stock_all(alloc: Global, blocks: List<Block>) -> Result<Repository, Fault>
-    ensures { Gives result (spec.stock_of [] blocks) }
+fn stock_all(alloc: Global, blocks: List<Block>) -> Result<Repository, ScriptRefusal>
+    ensures { GivesOutcome result (spec.stock_of [] blocks) }
 {
     let mut repository = Repository::new(alloc);
     for block in blocks.into_vec() {
@@ -66,8 +67,8 @@ fn stock_all(alloc: Global, blocks: List<Block>) -> Result<Repository, Fault>
 
 /// What the script asks for, or why it is refused.
 #[tactic(auto, unfolding(crate::specs::Stock::served_script))]
-pub fn serve_script(alloc: Global, script: Script) -> Result<Served, Fault>
-    ensures { Gives result (spec.served_script script) }
+pub fn serve_script(alloc: Global, script: Script) -> Result<LoadedScript, ScriptRefusal>
+    ensures { GivesOutcome result (spec.served_script script) }
 {
     let Script {
         manifests,
@@ -81,7 +82,7 @@ pub fn serve_script(alloc: Global, script: Script) -> Result<Served, Fault>
         builtins,
         limits: LIMITS,
     };
-    Ok(Served {
+    Ok(LoadedScript {
         repository,
         frame,
         phases,
@@ -89,22 +90,26 @@ pub fn serve_script(alloc: Global, script: Script) -> Result<Served, Fault>
 }
 
 /// The script that the bytes are, which are given back to memory here.
-fn script_of(alloc: Global, bytes: Bytes) -> Result<Script, Fault>
+fn script_of(alloc: Global, bytes: Bytes) -> Result<Script, ScriptRefusal>
     ensures ok { IfOk result (λ script. IsScript bytes script) }
-    ensures fault { IfErr result (λ fault. fault ≢ Fault.Memory → IsFault bytes fault) }
+    ensures fault { IfErr result (λ fault. fault ≢ ScriptRefusal.Memory → IsScriptRefusal bytes fault) }
 {
     match read_script(alloc, bytes.as_slice()) {
         Ok(script) => Ok(script),
-        Err(ScriptFault::Bad { line, number, at }) => Err(Fault::Unread { line, number, at }),
-        Err(ScriptFault::Memory) => Err(Fault::Memory),
+        Err(ScriptFault::Bad { line, number, at }) => Err(ScriptRefusal::Unread {
+            line,
+            number,
+            at,
+        }),
+        Err(ScriptFault::Memory) => Err(ScriptRefusal::Memory),
     }
 }
 
 /// What the script that the bytes are asks for, or why they are refused.
-pub fn serve(alloc: Global, bytes: Bytes) -> Result<Served, Fault>
-    ensures good { IfOk result (Serves bytes) }
+pub fn serve(alloc: Global, bytes: Bytes) -> Result<LoadedScript, ScriptRefusal>
+    ensures good { IfOk result (LoadsScript bytes) }
     ensures fit { IfOk result (λ served. All (λ lines. All IsFit lines) served.phases) }
-    ensures bad { IfErr result (λ fault. fault ≢ Fault.Memory → IsFault bytes fault) }
+    ensures bad { IfErr result (λ fault. fault ≢ ScriptRefusal.Memory → IsScriptRefusal bytes fault) }
 {
     let script = script_of(alloc, bytes)?;
     serve_script(alloc, script)

@@ -53,7 +53,7 @@ fn count_shown(said: &[Said]) -> usize
     said.iter().filter(|s| is_shown(&s.result)).count()
 }
 
-/// The line that counts these answers, with the number of those to uses that were still there.
+/// The line that counts these answers, with the number of those to uses that were cache hits.
 #[tactic(auto, using(crate::proofs::lanes::Printing::counted))]
 pub fn summary_text(
     alloc: Global,

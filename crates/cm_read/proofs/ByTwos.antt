@@ -5,38 +5,39 @@ use Rattle.std.proofs.lemmas.Result.{err_from_is_err_and}
 use Rattle.cm_names.specs.Steps.{◌>>=◌}
 use Rattle.cm_read.specs.declared.fault.ReadFault.{ReadFault}
 use Rattle.cm_read.specs.declared.fault.ReadFault.TheVariants.{Bad, Memory}
-use Rattle.cm_read.specs.Reading.{Read, Fails, Gives}
+use Rattle.cm_read.specs.Reading.{ReadResult}
+use Rattle.cm_read.specs.ReadingInside.{FailsReading, GivesReading}
 use Rattle.cm_read.specs.Both.{both}
 
 -- ---- the first readings, and all
 
-fails_all : {A X : Type 0} (fault : ReadFault) (first : Read A) (next : A → Read X) (all : Read X)
-    → (first >>= next) ≡ all → Fails fault first → Fails fault all
+fails_all : {A X : Type 0} (fault : ReadFault) (first : ReadResult A) (next : A → ReadResult X) (all : ReadResult X)
+    → (first >>= next) ≡ all → FailsReading fault first → FailsReading fault all
 fails_all Memory first next all e f = tt
 fails_all (Bad number section index field) first next all e f = sym e ∙ ap (λ r. r >>= next) f
 
 -- what is told of a fault of the first readings is what all have
-pub fails_then : {A X : Type 0} (fault : ReadFault) (told : Read X) (first : Read A) (next : A → Read X)
-    (all : Read X) → IsErrAnd told (λ other. other ≡ fault) → (first >>= next) ≡ all → Fails fault first
-    → Gives told all
+pub fails_then : {A X : Type 0} (fault : ReadFault) (told : ReadResult X) (first : ReadResult A) (next : A → ReadResult X)
+    (all : ReadResult X) → IsErrAnd told (λ other. other ≡ fault) → (first >>= next) ≡ all → FailsReading fault first
+    → GivesReading told all
 fails_then fault told first next all t e f =
     let p = err_from_is_err_and told t in rw (p.1, p.2) (fails_all fault first next all e f)
 
 -- what all give is what comes behind the values of the first readings
-pub reads_then : {A X : Type 0} (value : A) (first : Read A) (next : A → Read X) (all : Read X)
+pub reads_then : {A X : Type 0} (value : A) (first : ReadResult A) (next : A → ReadResult X) (all : ReadResult X)
     → (first >>= next) ≡ all → first ≡ Ok value → all ≡ next value
 reads_then value first next all e f = sym e ∙ ap (λ r. r >>= next) f
 
 -- the same of what is made from that
-pub gives_then : {A X : Type 0} (value : A) (first : Read A) (next : A → Read X) (all result : Read X)
-    → (first >>= next) ≡ all → first ≡ Ok value → Gives result (next value) → Gives result all
+pub gives_then : {A X : Type 0} (value : A) (first : ReadResult A) (next : A → ReadResult X) (all result : ReadResult X)
+    → (first >>= next) ≡ all → first ≡ Ok value → GivesReading result (next value) → GivesReading result all
 gives_then value first next all result e f h =
-    subst (λ (r : Read _). Gives result r) (sym (reads_then value first next all e f)) h
+    subst (λ (r : ReadResult _). GivesReading result r) (sym (reads_then value first next all e f)) h
 
 -- ---- so many fields
 
-pub three : {A B C X : Type 0} (a : Read A) (b : Read B) (c : Read C)
-    (k : A → B → C → Read X)
+pub three : {A B C X : Type 0} (a : ReadResult A) (b : ReadResult B) (c : ReadResult C)
+    (k : A → B → C → ReadResult X)
     → (both (both a b) c >>= λ p. k p.0.0 p.0.1 p.1)
     ≡ (a >>= λ x. b >>= λ y. c >>= λ z. k x y z)
 three (Err o) b c k = refl
@@ -44,8 +45,8 @@ three (Ok x) (Err o) c k = refl
 three (Ok x) (Ok y) (Err o) k = refl
 three (Ok x) (Ok y) (Ok z) k = refl
 
-pub four : {A B C D X : Type 0} (a : Read A) (b : Read B) (c : Read C) (d : Read D)
-    (k : A → B → C → D → Read X)
+pub four : {A B C D X : Type 0} (a : ReadResult A) (b : ReadResult B) (c : ReadResult C) (d : ReadResult D)
+    (k : A → B → C → D → ReadResult X)
     → (both (both a b) (both c d) >>= λ p. k p.0.0 p.0.1 p.1.0 p.1.1)
     ≡ (a >>= λ x. b >>= λ y. c >>= λ z. d >>= λ u. k x y z u)
 four (Err o) b c d k = refl
@@ -54,8 +55,8 @@ four (Ok x) (Ok y) (Err o) d k = refl
 four (Ok x) (Ok y) (Ok z) (Err o) k = refl
 four (Ok x) (Ok y) (Ok z) (Ok u) k = refl
 
-pub five : {A B C D E X : Type 0} (a : Read A) (b : Read B) (c : Read C) (d : Read D) (e : Read E)
-    (k : A → B → C → D → E → Read X)
+pub five : {A B C D E X : Type 0} (a : ReadResult A) (b : ReadResult B) (c : ReadResult C) (d : ReadResult D) (e : ReadResult E)
+    (k : A → B → C → D → E → ReadResult X)
     → (both (both a b) (both c (both d e)) >>= λ p. k p.0.0 p.0.1 p.1.0 p.1.1.0 p.1.1.1)
     ≡ (a >>= λ x. b >>= λ y. c >>= λ z. d >>= λ u. e >>= λ v. k x y z u v)
 five (Err o) b c d e k = refl
@@ -65,9 +66,9 @@ five (Ok x) (Ok y) (Ok z) (Err o) e k = refl
 five (Ok x) (Ok y) (Ok z) (Ok u) (Err o) k = refl
 five (Ok x) (Ok y) (Ok z) (Ok u) (Ok v) k = refl
 
-pub six : {A B C D E F X : Type 0} (a : Read A) (b : Read B) (c : Read C) (d : Read D) (e : Read E)
-    (g : Read F)
-    (k : A → B → C → D → E → F → Read X)
+pub six : {A B C D E F X : Type 0} (a : ReadResult A) (b : ReadResult B) (c : ReadResult C) (d : ReadResult D) (e : ReadResult E)
+    (g : ReadResult F)
+    (k : A → B → C → D → E → F → ReadResult X)
     → (both (both a b) (both (both c d) (both e g)) >>= λ p. k p.0.0 p.0.1 p.1.0.0 p.1.0.1 p.1.1.0 p.1.1.1)
     ≡ (a >>= λ x. b >>= λ y. c >>= λ z. d >>= λ u. e >>= λ v. g >>= λ w. k x y z u v w)
 six (Err o) b c d e g k = refl
@@ -78,9 +79,9 @@ six (Ok x) (Ok y) (Ok z) (Ok u) (Err o) g k = refl
 six (Ok x) (Ok y) (Ok z) (Ok u) (Ok v) (Err o) k = refl
 six (Ok x) (Ok y) (Ok z) (Ok u) (Ok v) (Ok w) k = refl
 
-pub seven : {A B C D E F G X : Type 0} (a : Read A) (b : Read B) (c : Read C) (d : Read D) (e : Read E)
-    (g : Read F) (h : Read G)
-    (k : A → B → C → D → E → F → G → Read X)
+pub seven : {A B C D E F G X : Type 0} (a : ReadResult A) (b : ReadResult B) (c : ReadResult C) (d : ReadResult D) (e : ReadResult E)
+    (g : ReadResult F) (h : ReadResult G)
+    (k : A → B → C → D → E → F → G → ReadResult X)
     → (both (both (both a b) (both c d)) (both e (both g h))
     >>= λ p. k p.0.0.0 p.0.0.1 p.0.1.0 p.0.1.1 p.1.0 p.1.1.0 p.1.1.1)
     ≡ (a >>= λ x. b >>= λ y. c >>= λ z. d >>= λ u. e >>= λ v. g >>= λ w. h >>= λ t. k x y z u v w t)
@@ -93,7 +94,7 @@ seven (Ok x) (Ok y) (Ok z) (Ok u) (Ok v) (Err o) h k = refl
 seven (Ok x) (Ok y) (Ok z) (Ok u) (Ok v) (Ok w) (Err o) k = refl
 seven (Ok x) (Ok y) (Ok z) (Ok u) (Ok v) (Ok w) (Ok t) k = refl
 
-pub two : {A B X : Type 0} (a : Read A) (b : Read B) (k : A → B → Read X)
+pub two : {A B X : Type 0} (a : ReadResult A) (b : ReadResult B) (k : A → B → ReadResult X)
     → (both a b >>= λ p. k p.0 p.1) ≡ (a >>= λ x. b >>= λ y. k x y)
 two (Err o) b k = refl
 two (Ok x) (Err o) k = refl
@@ -101,9 +102,9 @@ two (Ok x) (Ok y) k = refl
 
 -- ---- two fields, and what is asked of what is given
 
-asked : {A B C D E F R X : Type 0} (a : Read A) (b : Read B) (c : Read C) (d : Read D) (e : Read E)
-    (g : Read F)
-    (f : A → B → C → D → E → F → R) (k : R → Read X)
+asked : {A B C D E F R X : Type 0} (a : ReadResult A) (b : ReadResult B) (c : ReadResult C) (d : ReadResult D) (e : ReadResult E)
+    (g : ReadResult F)
+    (f : A → B → C → D → E → F → R) (k : R → ReadResult X)
     → ((a >>= λ x. b >>= λ y. c >>= λ z. d >>= λ u. e >>= λ v. g >>= λ w. Ok (f x y z u v w)) >>= k)
     ≡ (a >>= λ x. b >>= λ y. c >>= λ z. d >>= λ u. e >>= λ v. g >>= λ w. k (f x y z u v w))
 asked (Err o) b c d e g f k = refl
@@ -114,16 +115,16 @@ asked (Ok x) (Ok y) (Ok z) (Ok u) (Err o) g f k = refl
 asked (Ok x) (Ok y) (Ok z) (Ok u) (Ok v) (Err o) f k = refl
 asked (Ok x) (Ok y) (Ok z) (Ok u) (Ok v) (Ok w) f k = refl
 
-behind_two : {N F X : Type 0} (n : Read N) (f : Read F) (p q : N → F → Read X)
+behind_two : {N F X : Type 0} (n : ReadResult N) (f : ReadResult F) (p q : N → F → ReadResult X)
     → ((x : N) (y : F) → p x y ≡ q x y)
     → (n >>= λ x. f >>= λ y. p x y) ≡ (n >>= λ x. f >>= λ y. q x y)
 behind_two (Err e) f p q h = refl
 behind_two (Ok x) (Err e) p q h = refl
 behind_two (Ok x) (Ok y) p q h = h x y
 
-pub two_and_asked : {M N A B C D E F R X : Type 0} (m : Read M) (n : Read N) (a : Read A) (b : Read B)
-    (c : Read C) (d : Read D) (e : Read E) (g : Read F) (f : A → B → C → D → E → F → R)
-    (k : M → N → R → Read X)
+pub two_and_asked : {M N A B C D E F R X : Type 0} (m : ReadResult M) (n : ReadResult N) (a : ReadResult A) (b : ReadResult B)
+    (c : ReadResult C) (d : ReadResult D) (e : ReadResult E) (g : ReadResult F) (f : A → B → C → D → E → F → R)
+    (k : M → N → R → ReadResult X)
     → (both (both m n) (a >>= λ x. b >>= λ y. c >>= λ z. d >>= λ u. e >>= λ v. g >>= λ w. Ok (f x y z u v w))
     >>= λ p. k p.0.0 p.0.1 p.1)
     ≡ (m >>= λ i. n >>= λ j. a >>= λ x. b >>= λ y. c >>= λ z. d >>= λ u. e >>= λ v. g >>= λ w.

@@ -1,3 +1,4 @@
+-- Promised.
 -- The items of `environments`, and the registrations in them.
 use Rattle.std.specs.Prelude.{ℕ, List, [], ◌∷◌, ◌++◌, map, codes, Option, unwrap_or, ok_or, Ok, Err}
 use Rattle.serde_json.specs.Data.{Data, Items, no_items, item}
@@ -6,14 +7,14 @@ use Rattle.cm_decl.specs.declared.kind.Kind.TheVariants as kind
 use Rattle.cm_decl.specs.declared.origin.Origin.{Origin}
 use Rattle.cm_decl.specs.declared.environment.Registration.{Registration}
 use Rattle.cm_decl.specs.declared.environment.Environment.{Environment}
-use Rattle.cm_read.specs.declared.fault.Place.{Place}
+use Rattle.cm_read.specs.declared.fault.ItemPlace.{ItemPlace}
 use Rattle.cm_read.specs.declared.fault.ReadFault.{ReadFault}
 use Rattle.cm_read.specs.declared.fault.ReadFault.TheVariants.{Bad, Memory}
 use Rattle.cm_read.specs.declared.rows.Registry.{Registry}
 use Rattle.cm_read.specs.declared.rows.Registry.TheVariants.{Runners, Debug}
 use Rattle.cm_read.specs.Numbers.{wrong_type}
 use Rattle.cm_names.specs.Steps.{◌>>=◌}
-use Rattle.cm_read.specs.Reading.{Read, bad}
+use Rattle.cm_read.specs.Reading.{ReadResult, bad}
 use Rattle.cm_read.specs.Fields.{or_default, name_at, object_at, known_at}
 use Rattle.cm_read.specs.Words.{extends_at, static_from_at}
 use Rattle.cm_read.specs.Items.{item_names_at, as_at}
@@ -31,13 +32,13 @@ registration_fields Runners = codes "runner" ∷ codes "from" ∷ codes "as" ∷
 registration_fields Debug = codes "protocol" ∷ codes "from" ∷ codes "as" ∷ []
 
 -- the name of a runner, of which an item has one
-unfoldable pub runner_names_at : Place → Data → Read (List (List ℕ))
+unfoldable pub runner_names_at : ItemPlace → Data → ReadResult (List (List ℕ))
 runner_names_at at d = do
   name ← name_at at (codes "runner") d
   Ok (name ∷ [])
 
 -- the names of a registration: one runner, or one or more protocols
-abbrev pub registration_names_at : Registry → Place → Data → Read (List (List ℕ))
+abbrev pub registration_names_at : Registry → ItemPlace → Data → ReadResult (List (List ℕ))
 registration_names_at Runners at d = runner_names_at at d
 registration_names_at Debug at d = item_names_at kind.Protocol at d
 
@@ -46,14 +47,14 @@ abbrev pub registration : Origin → Option (List ℕ) → List ℕ → Registra
 registration from target name = record { name = name; from = from; target = unwrap_or target name }
 
 -- a registration for each of these names
-unfoldable pub registered_at : Place → List (List ℕ) → Data → Read (List Registration)
+unfoldable pub registered_at : ItemPlace → List (List ℕ) → Data → ReadResult (List Registration)
 registered_at at names d = do
   from ← static_from_at at d
   target ← as_at at names d
   Ok (map (registration from target) names)
 
 -- an item of `runners` or of `debug`: a registration for each name
-unfoldable pub registration_at : Registry → Place → Data → Read (List Registration)
+unfoldable pub registration_at : Registry → ItemPlace → Data → ReadResult (List Registration)
 registration_at which at d = do
   members ← object_at at d
   known ← known_at at (registration_fields which) members
@@ -61,7 +62,7 @@ registration_at which at d = do
   registered_at at names d
 
 -- the registrations of the items, one item after another; all stand at the place of the environment
-abbrev pub registrations_in_at : Registry → Place → Items → Read (List Registration)
+abbrev pub registrations_in_at : Registry → ItemPlace → Items → ReadResult (List Registration)
 registrations_in_at which at no_items = Ok []
 registrations_in_at which at (item d ds) = do
   first ← registration_at which at d
@@ -74,18 +75,18 @@ in_field field (Bad number section index inner) = Bad number section index field
 in_field field Memory = Memory
 
 -- a fault inside a field that lists items is told with that field
-abbrev pub inside : {A : Type 0} → List ℕ → Read A → Read A
+abbrev pub inside : {A : Type 0} → List ℕ → ReadResult A → ReadResult A
 inside field (Ok x) = Ok x
 inside field (Err fault) = Err (in_field field fault)
 
 -- the registrations that a value lists
-unfoldable pub registry_in_at : Registry → Place → Data → Read (List Registration)
+unfoldable pub registry_in_at : Registry → ItemPlace → Data → ReadResult (List Registration)
 registry_in_at which at d = do
   items ← ok_or (as_array d) (bad at wrong_type (registry_word which))
   inside (registry_word which) (registrations_in_at which at items)
 
 -- `runners` or `debug`, by default no registrations
-unfoldable pub registry_at : Registry → Place → Data → Read (List Registration)
+unfoldable pub registry_at : Registry → ItemPlace → Data → ReadResult (List Registration)
 registry_at which at d = or_default (get (registry_word which) d) [] (registry_in_at which at)
 
 -- ---- environments
@@ -97,7 +98,7 @@ environment_fields =
     ∷ codes "__stop_timeout_ms" ∷ []
 
 -- the row of an environment, whose fields are known
-unfoldable pub environment_row_at : Place → Data → Read (List Environment)
+unfoldable pub environment_row_at : ItemPlace → Data → ReadResult (List Environment)
 environment_row_at at d = do
   name ← name_at at (codes "name") d
   extends ← extends_at at d
@@ -106,7 +107,7 @@ environment_row_at at d = do
   Ok (record { name = name; extends = extends; runners = runners; debug = debug } ∷ [])
 
 -- an item of `environments`: one row
-unfoldable pub environment_item_at : Place → Data → Read (List Environment)
+unfoldable pub environment_item_at : ItemPlace → Data → ReadResult (List Environment)
 environment_item_at at d = do
   members ← object_at at d
   known ← known_at at environment_fields members

@@ -1,8 +1,9 @@
+-- Promised.
 -- What the fields of an item are read as.
-use Rattle.std.specs.Prelude.{ℕ, List, [], ◌∷◌, length, map, Option, Some, None, ok_or}
+-- ---- whether a field is there
+use Rattle.std.specs.Prelude.{ℕ, List, [], ◌∷◌, length, Option, Some, None, ok_or}
 use Rattle.std.specs.Prelude.{Result, Ok, Err, ◌==◌, if◌then◌else◌}
 use Rattle.std.specs.Str.{bytes_eq}
-use Rattle.std.specs.Borrow.{Bor}
 use Rattle.std.specs.List.{list_any}
 use Rattle.serde_json.specs.Data.{Data, array, Items, no_items, item, Members, no_members, member}
 use Rattle.serde_json.specs.Find.{get, as_str, as_array, as_object}
@@ -11,107 +12,105 @@ use Rattle.cm_names.specs.Path.{path_fault, subdir_fault}
 use Rattle.cm_names.specs.Rights.{RightSet, rights_of}
 use Rattle.cm_names.specs.Urls.{is_url_text}
 use Rattle.cm_names.specs.declared.rights.RightsFault.{RightsFault}
-use Rattle.cm_read.specs.declared.fault.Place.{Place}
+use Rattle.cm_read.specs.declared.fault.ItemPlace.{ItemPlace}
 use Rattle.cm_read.specs.declared.fault.ReadFault.{ReadFault}
 use Rattle.cm_read.specs.Numbers.{unknown_field, missing, wrong_type, bad_name, bad_path, bad_rights}
 use Rattle.cm_read.specs.Numbers.{unknown_word}
 use Rattle.cm_names.specs.Steps.{◌>>=◌}
-use Rattle.cm_read.specs.Reading.{Read, bad}
-
--- ---- whether a field is there
+use Rattle.cm_read.specs.Reading.{ReadResult, bad}
 
 -- the value of a field that has to be there
-abbrev pub needed_at : Place → List ℕ → Data → Read Data
+abbrev pub needed_at : ItemPlace → List ℕ → Data → ReadResult Data
 needed_at at key d = ok_or (get key d) (bad at missing key)
 
 -- what a field gives, or its default where it is missing
-abbrev pub or_default : {A : Type 0} → Option Data → A → (Data → Read A) → Read A
+abbrev pub or_default : {A : Type 0} → Option Data → A → (Data → ReadResult A) → ReadResult A
 or_default None default read = Ok default
 or_default (Some d) default read = read d
 
 -- what a field gives, if it is there
-abbrev pub if_there : {A : Type 0} → Option Data → (Data → Read A) → Read (Option A)
+abbrev pub if_there : {A : Type 0} → Option Data → (Data → ReadResult A) → ReadResult (Option A)
 if_there None read = Ok None
 if_there (Some d) read = read d >>= λ x. Ok (Some x)
 
 -- ---- one text
 
 -- the text that a value is
-abbrev pub text_at : Place → List ℕ → Data → Read (List ℕ)
+abbrev pub text_at : ItemPlace → List ℕ → Data → ReadResult (List ℕ)
 text_at at key d = ok_or (as_str d) (bad at wrong_type key)
 
 -- a value, where the text has no fault
-abbrev pub unless_fault : {A F : Type 0} → Option F → ReadFault → A → Read A
+abbrev pub unless_fault : {A F : Type 0} → Option F → ReadFault → A → ReadResult A
 unless_fault None e x = Ok x
 unless_fault (Some f) e x = Err e
 
 -- the name that a text is
-abbrev pub name_from : Place → List ℕ → List ℕ → Read (List ℕ)
+abbrev pub name_from : ItemPlace → List ℕ → List ℕ → ReadResult (List ℕ)
 name_from at key text = unless_fault (name_fault text) (bad at bad_name key) text
 
 -- the path that a text is
-abbrev pub path_from : Place → List ℕ → List ℕ → Read (List ℕ)
+abbrev pub path_from : ItemPlace → List ℕ → List ℕ → ReadResult (List ℕ)
 path_from at key text = unless_fault (path_fault text) (bad at bad_path key) text
 
 -- the subdirectory that a text is
-abbrev pub subdir_from : Place → List ℕ → List ℕ → Read (List ℕ)
+abbrev pub subdir_from : ItemPlace → List ℕ → List ℕ → ReadResult (List ℕ)
 subdir_from at key text = unless_fault (subdir_fault text) (bad at bad_path key) text
 
 -- the URL text that a text is
-abbrev pub url_from : Place → List ℕ → List ℕ → Read (List ℕ)
+abbrev pub url_from : ItemPlace → List ℕ → List ℕ → ReadResult (List ℕ)
 url_from at key text = if is_url_text text then Ok text else Err (bad at bad_name key)
 
 -- what one of a field's listed words means
-abbrev pub listed_at : {A : Type 0} → (List ℕ → Option A) → Place → List ℕ → Data → Read A
+abbrev pub listed_at : {A : Type 0} → (List ℕ → Option A) → ItemPlace → List ℕ → Data → ReadResult A
 listed_at meaning at key d = do
   text ← text_at at key d
   ok_or (meaning text) (bad at unknown_word key)
 
 -- the name that a value is
-unfoldable pub name_in_at : Place → List ℕ → Data → Read (List ℕ)
+unfoldable pub name_in_at : ItemPlace → List ℕ → Data → ReadResult (List ℕ)
 name_in_at at key d = do
   text ← text_at at key d
   name_from at key text
 
 -- the name in a field that has to be there
-unfoldable pub name_at : Place → List ℕ → Data → Read (List ℕ)
+unfoldable pub name_at : ItemPlace → List ℕ → Data → ReadResult (List ℕ)
 name_at at key d = do
   value ← needed_at at key d
   name_in_at at key value
 
 -- the URL text in a field that has to be there
-unfoldable pub url_at : Place → List ℕ → Data → Read (List ℕ)
+unfoldable pub url_at : ItemPlace → List ℕ → Data → ReadResult (List ℕ)
 url_at at key d = do
   value ← needed_at at key d
   text ← text_at at key value
   url_from at key text
 
 -- the path that a value is
-unfoldable pub path_in_at : Place → List ℕ → Data → Read (List ℕ)
+unfoldable pub path_in_at : ItemPlace → List ℕ → Data → ReadResult (List ℕ)
 path_in_at at key d = do
   text ← text_at at key d
   path_from at key text
 
 -- the path in a field that has to be there
-unfoldable pub path_at : Place → List ℕ → Data → Read (List ℕ)
+unfoldable pub path_at : ItemPlace → List ℕ → Data → ReadResult (List ℕ)
 path_at at key d = do
   value ← needed_at at key d
   path_in_at at key value
 
 -- the subdirectory that a value is
-unfoldable pub subdir_in_at : Place → List ℕ → Data → Read (List ℕ)
+unfoldable pub subdir_in_at : ItemPlace → List ℕ → Data → ReadResult (List ℕ)
 subdir_in_at at key d = do
   text ← text_at at key d
   subdir_from at key text
 
 -- the subdirectory in a field that may be missing
-unfoldable pub subdir_at : Place → List ℕ → Data → Read (Option (List ℕ))
+unfoldable pub subdir_at : ItemPlace → List ℕ → Data → ReadResult (Option (List ℕ))
 subdir_at at key d = if_there (get key d) (subdir_in_at at key)
 
 -- ---- several texts
 
 -- the texts that the values are
-abbrev pub texts_in_at : Place → List ℕ → Items → Read (List (List ℕ))
+abbrev pub texts_in_at : ItemPlace → List ℕ → Items → ReadResult (List (List ℕ))
 texts_in_at at key no_items = Ok []
 texts_in_at at key (item d ds) = do
   text ← text_at at key d
@@ -119,7 +118,7 @@ texts_in_at at key (item d ds) = do
   Ok (text ∷ others)
 
 -- a text, or a list of one or more texts
-unfoldable pub texts_at : Place → List ℕ → Data → Read (List (List ℕ))
+unfoldable pub texts_at : ItemPlace → List ℕ → Data → ReadResult (List (List ℕ))
 texts_at at key (array ds) = do
   texts ← texts_in_at at key ds
   if length texts == 0 then Err (bad at wrong_type key) else Ok texts
@@ -128,7 +127,7 @@ texts_at at key d = do
   Ok (text ∷ [])
 
 -- what the texts are read as, or the fault of the first one that has a fault
-abbrev pub each : {A : Type 0} → (List ℕ → Read A) → List (List ℕ) → Read (List A)
+abbrev pub each : {A : Type 0} → (List ℕ → ReadResult A) → List (List ℕ) → ReadResult (List A)
 each read [] = Ok []
 each read (text ∷ texts) = do
   first ← read text
@@ -136,24 +135,24 @@ each read (text ∷ texts) = do
   Ok (first ∷ others)
 
 -- a name, or a list of one or more names
-unfoldable pub names_at : Place → List ℕ → Data → Read (List (List ℕ))
+unfoldable pub names_at : ItemPlace → List ℕ → Data → ReadResult (List (List ℕ))
 names_at at key d = do
   texts ← texts_at at key d
   each (name_from at key) texts
 
--- what stands behind a `#` at the front
+-- what stands behind a `#` at the start
 abbrev pub behind_mark : List ℕ → Option (List ℕ)
 behind_mark [] = None
 behind_mark (c ∷ cs) = if c == 35 then Some cs else None
 
 -- the name that a reference names
-abbrev pub reference_from : Place → List ℕ → List ℕ → Read (List ℕ)
+abbrev pub reference_from : ItemPlace → List ℕ → List ℕ → ReadResult (List ℕ)
 reference_from at key text = do
   name ← ok_or (behind_mark text) (bad at unknown_word key)
   name_from at key name
 
 -- the names of a reference, or of a list of one or more references
-unfoldable pub references_at : Place → List ℕ → Data → Read (List (List ℕ))
+unfoldable pub references_at : ItemPlace → List ℕ → Data → ReadResult (List (List ℕ))
 references_at at key d = do
   texts ← texts_at at key d
   each (reference_from at key) texts
@@ -161,19 +160,19 @@ references_at at key d = do
 -- ---- rights
 
 -- the rights that words stand for
-abbrev pub rights_from : Place → List ℕ → Result RightSet RightsFault → Read RightSet
+abbrev pub rights_from : ItemPlace → List ℕ → Result RightSet RightsFault → ReadResult RightSet
 rights_from at key (Ok rights) = Ok rights
 rights_from at key (Err e) = Err (bad at bad_rights key)
 
 -- the rights that a list of words stands for
-unfoldable pub rights_in_at : Place → List ℕ → Data → Read RightSet
+unfoldable pub rights_in_at : ItemPlace → List ℕ → Data → ReadResult RightSet
 rights_in_at at key d = do
   items ← ok_or (as_array d) (bad at wrong_type key)
   words ← texts_in_at at key items
   rights_from at key (rights_of words)
 
 -- the rights in a field that has to be there
-unfoldable pub rights_at : Place → List ℕ → Data → Read RightSet
+unfoldable pub rights_at : ItemPlace → List ℕ → Data → ReadResult RightSet
 rights_at at key d = do
   value ← needed_at at key d
   rights_in_at at key value
@@ -181,7 +180,7 @@ rights_at at key d = do
 -- ---- known fields
 
 -- the members of an item, which has to be an object
-abbrev pub object_at : Place → Data → Read Members
+abbrev pub object_at : ItemPlace → Data → ReadResult Members
 object_at at d = ok_or (as_object d) (bad at wrong_type [])
 
 -- the first key that isn't among the known ones; an object's keys stand in byte order
@@ -191,14 +190,10 @@ unknown_in known (member k d ms) =
     if list_any (λ w. bytes_eq w k) known then unknown_in known ms else Some k
 
 -- there is no unknown field
-abbrev pub no_unknown : Place → Option (List ℕ) → Read (Unit {0})
+abbrev pub no_unknown : ItemPlace → Option (List ℕ) → ReadResult (Unit {0})
 no_unknown at None = Ok tt
 no_unknown at (Some k) = Err (bad at unknown_field k)
 
 -- the item has known fields alone
-abbrev pub known_at : Place → List (List ℕ) → Members → Read (Unit {0})
+abbrev pub known_at : ItemPlace → List (List ℕ) → Members → ReadResult (Unit {0})
 known_at at known ms = no_unknown at (unknown_in known ms)
-
--- the texts that references point to
-abbrev pub map_now : List (Bor (List ℕ)) → List (List ℕ)
-map_now ts = map (λ t. t.now) ts

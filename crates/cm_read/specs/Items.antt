@@ -1,3 +1,4 @@
+-- Promised.
 -- The items of each section, and the rows that they give.
 use Rattle.std.specs.Prelude.{ℕ, List, [], ◌∷◌, length, map, codes, nat_lt, Option, Some, None, unwrap_or, Ok}
 use Rattle.std.specs.Prelude.{Err, if◌then◌else◌}
@@ -33,11 +34,11 @@ use Rattle.cm_read.specs.declared.rows.OfferRow.{OfferRow}
 use Rattle.cm_read.specs.declared.rows.OfferRow.TheVariants as offered
 use Rattle.cm_read.specs.declared.rows.UseSource.{UseSource}
 use Rattle.cm_read.specs.declared.rows.UseSource.TheVariants as source
-use Rattle.cm_read.specs.declared.fault.Place.{Place}
+use Rattle.cm_read.specs.declared.fault.ItemPlace.{ItemPlace}
 use Rattle.cm_read.specs.declared.rows.Terms.{Terms}
 use Rattle.cm_read.specs.Numbers.{kind_count, not_with_many}
 use Rattle.cm_names.specs.Steps.{◌>>=◌}
-use Rattle.cm_read.specs.Reading.{Read, bad}
+use Rattle.cm_read.specs.Reading.{ReadResult, bad}
 use Rattle.cm_read.specs.Fields.{needed_at, if_there, name_in_at, name_at, url_at, path_in_at, path_at}
 use Rattle.cm_read.specs.Fields.{subdir_at, names_at, references_at, rights_in_at, rights_at, object_at}
 use Rattle.cm_read.specs.Fields.{known_at}
@@ -53,7 +54,7 @@ abbrev pub child_fields : List (List ℕ)
 child_fields = codes "name" ∷ codes "url" ∷ codes "startup" ∷ codes "environment" ∷ []
 
 -- the row of a child, whose fields are known
-unfoldable pub child_row_at : Place → Data → Read (List Child)
+unfoldable pub child_row_at : ItemPlace → Data → ReadResult (List Child)
 child_row_at at d = do
   name ← name_at at (codes "name") d
   url ← url_at at (codes "url") d
@@ -62,7 +63,7 @@ child_row_at at d = do
   Ok (record { name = name; url = url; eager = eager; environment = environment } ∷ [])
 
 -- an item of `children`: one row
-unfoldable pub child_at : Place → Data → Read (List Child)
+unfoldable pub child_at : ItemPlace → Data → ReadResult (List Child)
 child_at at d = do
   members ← object_at at d
   known ← known_at at child_fields members
@@ -73,7 +74,7 @@ abbrev pub collection_fields : List (List ℕ)
 collection_fields = codes "name" ∷ codes "durability" ∷ codes "allowed_offers" ∷ codes "environment" ∷ []
 
 -- the row of a collection, whose fields are known
-unfoldable pub collection_row_at : Place → Data → Read (List Collection)
+unfoldable pub collection_row_at : ItemPlace → Data → ReadResult (List Collection)
 collection_row_at at d = do
   name ← name_at at (codes "name") d
   durability ← durability_at at d
@@ -87,7 +88,7 @@ collection_row_at at d = do
   } ∷ [])
 
 -- an item of `collections`: one row
-unfoldable pub collection_at : Place → Data → Read (List Collection)
+unfoldable pub collection_at : ItemPlace → Data → ReadResult (List Collection)
 collection_at at d = do
   members ← object_at at d
   known ← known_at at collection_fields members
@@ -96,63 +97,63 @@ collection_at at d = do
 -- ---- kinds
 
 -- the kind whose field alone is there
-abbrev pub one_kind : Place → Option Data → Option Data → Read Kind
+abbrev pub one_kind : ItemPlace → Option Data → Option Data → ReadResult Kind
 one_kind at (Some d) None = Ok kind.Protocol
 one_kind at None (Some d) = Ok kind.Directory
 one_kind at None None = Err (bad at kind_count [])
 one_kind at (Some d) (Some e) = Err (bad at kind_count [])
 
 -- what an item of a section with storage is about, whose field alone is there
-abbrev pub one_sort : Place → Option Data → Option Data → Option Data → Read Sort
+abbrev pub one_sort : ItemPlace → Option Data → Option Data → Option Data → ReadResult Sort
 one_sort at (Some d) None None = Ok (sort.Routed kind.Protocol)
 one_sort at None (Some d) None = Ok (sort.Routed kind.Directory)
 one_sort at None None (Some d) = Ok sort.Storage
 one_sort at _ _ _ = Err (bad at kind_count [])
 
 -- exactly one of the fields `protocol`, `directory` and `storage` is there
-unfoldable pub sort_at : Place → Data → Read Sort
+unfoldable pub sort_at : ItemPlace → Data → ReadResult Sort
 sort_at at d = one_sort at (get (codes "protocol") d) (get (codes "directory") d) (get (codes "storage") d)
 
 -- the kind of an item of `expose`, which has exactly one of the fields `protocol` and `directory`
-unfoldable pub kind_at : Place → Data → Read Kind
+unfoldable pub kind_at : ItemPlace → Data → ReadResult Kind
 kind_at at d = one_kind at (get (codes "protocol") d) (get (codes "directory") d)
 
 -- the name of a directory that is provided or used, of which an item has one
-unfoldable pub directory_name_at : Place → Data → Read (List ℕ)
+unfoldable pub directory_name_at : ItemPlace → Data → ReadResult (List ℕ)
 directory_name_at at d = name_at at (codes "directory") d
 
 -- the names of an item, one or more
-unfoldable pub item_names_at : Kind → Place → Data → Read (List (List ℕ))
+unfoldable pub item_names_at : Kind → ItemPlace → Data → ReadResult (List (List ℕ))
 item_names_at k at d = do
   value ← needed_at at (kind_word k) d
   names_at at (kind_word k) value
 
 -- the name of a storage that is provided or used, of which an item has one
-unfoldable pub storage_name_at : Place → Data → Read (List ℕ)
+unfoldable pub storage_name_at : ItemPlace → Data → ReadResult (List ℕ)
 storage_name_at at d = name_at at (codes "storage") d
 
 -- the name that the directory of a storage has at its source
-unfoldable pub backing_at : Place → Data → Read (List ℕ)
+unfoldable pub backing_at : ItemPlace → Data → ReadResult (List ℕ)
 backing_at at d = name_at at (codes "backing_dir") d
 
 -- the names of storages that are offered, one or more
-unfoldable pub storage_names_at : Place → Data → Read (List (List ℕ))
+unfoldable pub storage_names_at : ItemPlace → Data → ReadResult (List (List ℕ))
 storage_names_at at d = do
   value ← needed_at at (codes "storage") d
   names_at at (codes "storage") value
 
 -- a value in a field that may not stand beside several names
-abbrev pub alone : {A : Type 0} → Place → List ℕ → List (List ℕ) → A → Read A
+abbrev pub alone : {A : Type 0} → ItemPlace → List ℕ → List (List ℕ) → A → ReadResult A
 alone at key names x = if nat_lt 1 (length names) then Err (bad at not_with_many key) else Ok x
 
 -- the path that a value beside a protocol's names is
-unfoldable pub protocol_path_in_at : Place → List (List ℕ) → Data → Read (List ℕ)
+unfoldable pub protocol_path_in_at : ItemPlace → List (List ℕ) → Data → ReadResult (List ℕ)
 protocol_path_in_at at names d = do
   path ← path_in_at at (codes "path") d
   alone at (codes "path") names path
 
 -- `path` beside a protocol's names, which may be missing
-unfoldable pub protocol_path_at : Place → List (List ℕ) → Data → Read (Option (List ℕ))
+unfoldable pub protocol_path_at : ItemPlace → List (List ℕ) → Data → ReadResult (Option (List ℕ))
 protocol_path_at at names d = if_there (get (codes "path") d) (protocol_path_in_at at names)
 
 -- the given path, or the default one of the name
@@ -192,14 +193,14 @@ abbrev pub protocol_capability_row : Option (List ℕ) → List ℕ → Capabili
 protocol_capability_row path name = capability_row.Capability (protocol_row path name)
 
 -- a row for each name
-unfoldable pub protocol_capability_at : Place → Data → Read (List CapabilityRow)
+unfoldable pub protocol_capability_at : ItemPlace → Data → ReadResult (List CapabilityRow)
 protocol_capability_at at d = do
   names ← item_names_at kind.Protocol at d
   path ← protocol_path_at at names d
   Ok (map (protocol_capability_row path) names)
 
 -- one row
-unfoldable pub directory_capability_at : Place → Data → Read (List CapabilityRow)
+unfoldable pub directory_capability_at : ItemPlace → Data → ReadResult (List CapabilityRow)
 directory_capability_at at d = do
   name ← directory_name_at at d
   path ← path_at at (codes "path") d
@@ -212,7 +213,7 @@ directory_capability_at at d = do
   }) ∷ [])
 
 -- one row
-unfoldable pub storage_at : Place → Data → Read (List CapabilityRow)
+unfoldable pub storage_at : ItemPlace → Data → ReadResult (List CapabilityRow)
 storage_at at d = do
   name ← storage_name_at at d
   from ← static_from_at at d
@@ -228,13 +229,13 @@ storage_at at d = do
   }) ∷ [])
 
 -- the rows of a capability of that sort
-abbrev pub capability_of_sort : Sort → Place → Data → Read (List CapabilityRow)
+abbrev pub capability_of_sort : Sort → ItemPlace → Data → ReadResult (List CapabilityRow)
 capability_of_sort (sort.Routed kind.Protocol) at d = protocol_capability_at at d
 capability_of_sort (sort.Routed kind.Directory) at d = directory_capability_at at d
 capability_of_sort sort.Storage at d = storage_at at d
 
 -- an item of `capabilities`
-unfoldable pub capability_at : Place → Data → Read (List CapabilityRow)
+unfoldable pub capability_at : ItemPlace → Data → ReadResult (List CapabilityRow)
 capability_at at d = do
   members ← object_at at d
   s ← sort_at at d
@@ -295,7 +296,7 @@ protocol_use_row source.Debug path dependency availability name =
     use_row.Debug (debug_use path name)
 
 -- a row for each of these names
-unfoldable pub protocols_used_at : Place → List (List ℕ) → Data → Read (List UseRow)
+unfoldable pub protocols_used_at : ItemPlace → List (List ℕ) → Data → ReadResult (List UseRow)
 protocols_used_at at names d = do
   from ← use_source_at at d
   path ← protocol_path_at at names d
@@ -304,13 +305,13 @@ protocols_used_at at names d = do
   Ok (map (protocol_use_row from path dependency availability) names)
 
 -- a row for each name
-unfoldable pub protocol_use_at : Place → Data → Read (List UseRow)
+unfoldable pub protocol_use_at : ItemPlace → Data → ReadResult (List UseRow)
 protocol_use_at at d = do
   names ← item_names_at kind.Protocol at d
   protocols_used_at at names d
 
 -- one row
-unfoldable pub directory_use_at : Place → Data → Read (List UseRow)
+unfoldable pub directory_use_at : ItemPlace → Data → ReadResult (List UseRow)
 directory_use_at at d = do
   name ← directory_name_at at d
   from ← use_from_at at d
@@ -331,7 +332,7 @@ directory_use_at at d = do
   }) ∷ [])
 
 -- one row; its availability isn't kept
-unfoldable pub storage_use_at : Place → Data → Read (List UseRow)
+unfoldable pub storage_use_at : ItemPlace → Data → ReadResult (List UseRow)
 storage_use_at at d = do
   name ← storage_name_at at d
   from ← storage_use_from_at at d
@@ -340,13 +341,13 @@ storage_use_at at d = do
   Ok (use_row.Storage (record { name = name; path = path }) ∷ [])
 
 -- the rows of a use of that sort
-abbrev pub use_of_sort : Sort → Place → Data → Read (List UseRow)
+abbrev pub use_of_sort : Sort → ItemPlace → Data → ReadResult (List UseRow)
 use_of_sort (sort.Routed kind.Protocol) at d = protocol_use_at at d
 use_of_sort (sort.Routed kind.Directory) at d = directory_use_at at d
 use_of_sort sort.Storage at d = storage_use_at at d
 
 -- an item of `use`
-unfoldable pub use_at : Place → Data → Read (List UseRow)
+unfoldable pub use_at : ItemPlace → Data → ReadResult (List UseRow)
 use_at at d = do
   members ← object_at at d
   s ← sort_at at d
@@ -356,17 +357,17 @@ use_at at d = do
 -- ---- offers and exposes
 
 -- the target name that a value is
-unfoldable pub as_in_at : Place → List (List ℕ) → Data → Read (List ℕ)
+unfoldable pub as_in_at : ItemPlace → List (List ℕ) → Data → ReadResult (List ℕ)
 as_in_at at names d = do
   name ← name_in_at at (codes "as") d
   alone at (codes "as") names name
 
 -- `as`, which may be missing
-unfoldable pub as_at : Place → List (List ℕ) → Data → Read (Option (List ℕ))
+unfoldable pub as_at : ItemPlace → List (List ℕ) → Data → ReadResult (Option (List ℕ))
 as_at at names d = if_there (get (codes "as") d) (as_in_at at names)
 
 -- `rights` that may be missing
-unfoldable pub given_rights_at : Place → Data → Read (Option RightSet)
+unfoldable pub given_rights_at : ItemPlace → Data → ReadResult (Option RightSet)
 given_rights_at at d = if_there (get (codes "rights") d) (rights_in_at at (codes "rights"))
 
 -- the row of a name; its target name is by default the name itself
@@ -404,7 +405,7 @@ storage_offer_in (offered.Offer o) = None
 storage_offer_in (offered.Storage o) = Some o
 
 -- `to` of an offer, which has to be there
-unfoldable pub targets_at : Place → Data → Read (List (List ℕ))
+unfoldable pub targets_at : ItemPlace → Data → ReadResult (List (List ℕ))
 targets_at at d = do
   value ← needed_at at (codes "to") d
   references_at at (codes "to") value
@@ -419,7 +420,7 @@ offer_rows targets give = map (λ to. offered.Offer (offer_row give to)) targets
 
 -- beside these declared children, for each of these names in turn a row for each target; `rights` and
 -- `subdir` are known for directories alone
-unfoldable pub offered_at : Kind → List Child → Place → List (List ℕ) → Data → Read (List OfferRow)
+unfoldable pub offered_at : Kind → List Child → ItemPlace → List (List ℕ) → Data → ReadResult (List OfferRow)
 offered_at k children at names d = do
   from ← offer_from_at at d
   targets ← targets_at at d
@@ -440,7 +441,7 @@ offered_at k children at names d = do
   })) names))
 
 -- the same of the names of the item
-unfoldable pub routed_offer_at : Kind → List Child → Place → Data → Read (List OfferRow)
+unfoldable pub routed_offer_at : Kind → List Child → ItemPlace → Data → ReadResult (List OfferRow)
 routed_offer_at k children at d = do
   names ← item_names_at k at d
   offered_at k children at names d
@@ -460,7 +461,7 @@ storage_offer_rows from target targets name =
     map (λ to. offered.Storage (storage_offer from target name to)) targets
 
 -- for each of these names in turn a row for each target; its availability isn't kept
-unfoldable pub storages_offered_at : Place → List (List ℕ) → Data → Read (List OfferRow)
+unfoldable pub storages_offered_at : ItemPlace → List (List ℕ) → Data → ReadResult (List OfferRow)
 storages_offered_at at names d = do
   from ← storage_from_at at d
   targets ← targets_at at d
@@ -469,18 +470,18 @@ storages_offered_at at names d = do
   Ok (flat_map (storage_offer_rows from target targets) names)
 
 -- the same of the names of the item
-unfoldable pub storage_offer_at : Place → Data → Read (List OfferRow)
+unfoldable pub storage_offer_at : ItemPlace → Data → ReadResult (List OfferRow)
 storage_offer_at at d = do
   names ← storage_names_at at d
   storages_offered_at at names d
 
 -- the rows of an offer of that sort
-abbrev pub offer_of_sort : Sort → List Child → Place → Data → Read (List OfferRow)
+abbrev pub offer_of_sort : Sort → List Child → ItemPlace → Data → ReadResult (List OfferRow)
 offer_of_sort (sort.Routed k) children at d = routed_offer_at k children at d
 offer_of_sort sort.Storage children at d = storage_offer_at at d
 
 -- an item of `offer` beside these declared children
-unfoldable pub offer_at : List Child → Place → Data → Read (List OfferRow)
+unfoldable pub offer_at : List Child → ItemPlace → Data → ReadResult (List OfferRow)
 offer_at children at d = do
   members ← object_at at d
   s ← sort_at at d
@@ -497,7 +498,7 @@ expose_fields kind.Directory =
     ∷ codes "availability" ∷ codes "source_availability" ∷ []
 
 -- beside these declared children, a row for each of these names
-unfoldable pub exposed_at : Kind → List Child → Place → List (List ℕ) → Data → Read (List Give)
+unfoldable pub exposed_at : Kind → List Child → ItemPlace → List (List ℕ) → Data → ReadResult (List Give)
 exposed_at k children at names d = do
   from ← expose_from_at at d
   to ← expose_to_at at d
@@ -517,7 +518,7 @@ exposed_at k children at names d = do
   })) names)
 
 -- an item of `expose` beside these declared children: a row for each name
-unfoldable pub expose_at : List Child → Place → Data → Read (List Give)
+unfoldable pub expose_at : List Child → ItemPlace → Data → ReadResult (List Give)
 expose_at children at d = do
   members ← object_at at d
   k ← kind_at at d

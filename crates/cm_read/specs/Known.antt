@@ -1,3 +1,4 @@
+-- Inside.
 -- The keys that are known in an object of a manifest.
 use Rattle.std.specs.Prelude.{ℕ, List}
 use Rattle.cm_read.specs.declared.known.Object.{Object}

@@ -1,8 +1,11 @@
 pub mod Numbers
 pub mod Reading
+pub mod ReadingInside
 pub mod Both
 pub mod Fields
+pub mod FieldsInside
 pub mod Words
+pub mod WordsInside
 pub mod Items
 pub mod Environments
 pub mod Parts
@@ -12,3 +15,4 @@ pub mod Known
 pub mod Texts
 pub mod Writing
 pub mod Readable
+pub mod ReadableInside

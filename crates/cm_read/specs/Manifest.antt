@@ -1,3 +1,4 @@
+-- Promised.
 -- What a manifest declares, or its first fault.
 use Rattle.std.specs.Prelude.{ℕ, List, [], ◌∷◌, length, codes, nat_lt, Option, Some, None, filter_map}
 use Rattle.std.specs.Prelude.{ok_or, Result, Ok, Err, if◌then◌else◌}
@@ -13,7 +14,7 @@ use Rattle.cm_decl.specs.declared.decl.Decl.{Decl}
 use Rattle.cm_read.specs.declared.fault.ReadFault.{ReadFault}
 use Rattle.cm_read.specs.Numbers.{not_utf8, not_json, not_object, too_large, max_bytes}
 use Rattle.cm_names.specs.Steps.{◌>>=◌}
-use Rattle.cm_read.specs.Reading.{Read, bad, start}
+use Rattle.cm_read.specs.Reading.{ReadResult, bad, start}
 use Rattle.cm_read.specs.Fields.{if_there, object_at, known_at, name_at}
 use Rattle.cm_read.specs.Sections.{section_at}
 use Rattle.cm_read.specs.declared.rows.SectionRows.{SectionRows}
@@ -33,27 +34,27 @@ abbrev pub whole : ℕ → ReadFault
 whole number = bad (start section.Manifest) number []
 
 -- the runner of a program, whose other members are read over
-unfoldable pub program_at : Data → Read (List ℕ)
+unfoldable pub program_at : Data → ReadResult (List ℕ)
 program_at d = do
   members ← object_at (start section.Program) d
   name_at (start section.Program) (codes "runner") d
 
 -- the runner, if there is a program
-unfoldable pub runner_at : Data → Read (Option (List ℕ))
+unfoldable pub runner_at : Data → ReadResult (Option (List ℕ))
 runner_at d = if_there (get (codes "program") d) program_at
 
 -- the manifest is an object with known sections alone
-unfoldable pub sections_at : Data → Read (Unit {0})
+unfoldable pub sections_at : Data → ReadResult (Unit {0})
 sections_at d = do
   members ← ok_or (as_object d) (whole not_object)
   known_at (start section.Manifest) section_names members
 
 -- the rows of `children`, beside which the others are read
-unfoldable pub children_at : Data → Read (List Child)
+unfoldable pub children_at : Data → ReadResult (List Child)
 children_at d = section_at child_at section.Children (get (codes "children") d)
 
 -- the rows of all sections that list them, in the order of the sections; `facets` is read over
-unfoldable pub section_rows_at : Data → Read SectionRows
+unfoldable pub section_rows_at : Data → ReadResult SectionRows
 section_rows_at d = do
   children ← children_at d
   collections ← section_at collection_at section.Collections (get (codes "collections") d)
@@ -90,7 +91,7 @@ declared_by runner rows = record {
 }
 
 -- the declaration that a value is
-unfoldable pub decl_at : Data → Read Decl
+unfoldable pub decl_at : Data → ReadResult Decl
 decl_at d = do
   known ← sections_at d
   runner ← runner_at d
@@ -98,34 +99,34 @@ decl_at d = do
   Ok (declared_by runner rows)
 
 -- the declaration that a value is, where the text has one
-abbrev pub of_data : Option Data → Read Decl
+abbrev pub of_data : Option Data → ReadResult Decl
 of_data None = Err (whole not_json)
 of_data (Some d) = decl_at d
 
 -- the declaration that a JSON text is
-abbrev pub decl_of_json : List ℕ → Read Decl
+abbrev pub decl_of_json : List ℕ → ReadResult Decl
 decl_of_json text = of_data (json.read text)
 
 -- the JSON text of a text in the relaxed spelling, where it has one
-abbrev pub json_text : Result (List ℕ) TextFault → Read (List ℕ)
+abbrev pub json_text : Result (List ℕ) TextFault → ReadResult (List ℕ)
 json_text (Ok json) = Ok json
 json_text (Err e) = Err (whole not_json)
 
 -- the declaration that a text in the relaxed spelling is
-abbrev pub decl_of_text : List ℕ → Read Decl
+abbrev pub decl_of_text : List ℕ → ReadResult Decl
 decl_of_text text = do
   json ← json_text (json_of text)
   decl_of_json json
 
 -- the text that bytes are
-abbrev pub text_of : List ℕ → Read (List ℕ)
+abbrev pub text_of : List ℕ → ReadResult (List ℕ)
 text_of bytes =
     if nat_lt max_bytes (length bytes) then Err (whole too_large)
     else if is_utf8 bytes then Ok bytes
     else Err (whole not_utf8)
 
 -- the declaration that bytes are, or their first fault
-abbrev pub decl_of_bytes : List ℕ → Read Decl
+abbrev pub decl_of_bytes : List ℕ → ReadResult Decl
 decl_of_bytes bytes = do
   text ← text_of bytes
   decl_of_text text

@@ -1,3 +1,4 @@
+-- Promised.
 -- The numbers of the faults, and the limits.
 use Rattle.std.specs.Prelude.{ℕ}
 

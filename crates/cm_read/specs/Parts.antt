@@ -1,3 +1,4 @@
+-- Inside.
 -- Parts of what is read, for the functions that read in steps.
 use Rattle.std.specs.Prelude.{ℕ, List, ◌++◌, filter_map, codes, Ok, Option, Bool}
 use Rattle.serde_json.specs.Data.{Data}
@@ -8,14 +9,15 @@ use Rattle.cm_decl.specs.declared.kind.Kind.{Kind}
 use Rattle.cm_decl.specs.declared.origin.Origin.{Origin}
 use Rattle.cm_decl.specs.declared.rows.Child.{Child}
 use Rattle.cm_decl.specs.declared.decl.Decl.{Decl}
-use Rattle.cm_read.specs.declared.fault.Place.{Place}
-use Rattle.cm_read.specs.declared.rows.Asked.{Asked}
+use Rattle.cm_read.specs.declared.fault.ItemPlace.{ItemPlace}
+use Rattle.cm_read.specs.declared.rows.AskedTerms.{AskedTerms}
 use Rattle.cm_read.specs.declared.rows.Terms.{Terms}
 use Rattle.cm_read.specs.declared.rows.CapabilityRow.{CapabilityRow}
 use Rattle.cm_read.specs.declared.rows.UseRow.{UseRow}
 use Rattle.cm_read.specs.declared.rows.OfferRow.{OfferRow}
 use Rattle.cm_names.specs.Steps.{◌>>=◌}
-use Rattle.cm_read.specs.Reading.{Read, Gives}
+use Rattle.cm_read.specs.Reading.{ReadResult}
+use Rattle.cm_read.specs.ReadingInside.{GivesReading}
 use Rattle.cm_read.specs.Fields.{subdir_at}
 use Rattle.cm_read.specs.Words.{given_availability_at, source_unknown_at, settled}
 use Rattle.cm_read.specs.Items.{as_at, given_rights_at}
@@ -26,7 +28,7 @@ use Rattle.cm_read.specs.Items.{storage_offer_in}
 
 -- what is asked of what is given
 abbrev pub asked_with : Option (List ℕ) → Option RightSet → Option (List ℕ) → Dependency → Availability
-    → Bool → Asked
+    → Bool → AskedTerms
 asked_with target rights subdir dependency availability unknown = record {
   target = target;
   rights = rights;
@@ -37,7 +39,7 @@ asked_with target rights subdir dependency availability unknown = record {
 }
 
 -- what an item asks of what it gives by these names, with the dependency that is read so
-unfoldable pub asked_at : Read Dependency → Place → List (List ℕ) → Data → Read Asked
+unfoldable pub asked_at : ReadResult Dependency → ItemPlace → List (List ℕ) → Data → ReadResult AskedTerms
 asked_at dependency at names d = do
   target ← as_at at names d
   rights ← given_rights_at at d
@@ -48,12 +50,14 @@ asked_at dependency at names d = do
   Ok (asked_with target rights subdir dependency availability unknown)
 
 -- where the dependency is what its reading gives, the result is what is asked with it
-abbrev pub GivesAsked : Read Dependency → Place → List (List ℕ) → Data → Read Asked → Type 0
+abbrev pub GivesAsked : ReadResult Dependency → ItemPlace → List (List ℕ) → Data → ReadResult AskedTerms
+    → Type 0
 GivesAsked dependency at names d result =
-    (wanted : Read Dependency) → Gives dependency wanted → Gives result (asked_at wanted at names d)
+    (wanted : ReadResult Dependency) → GivesReading dependency wanted
+    → GivesReading result (asked_at wanted at names d)
 
 -- the terms of an item of that kind from that source, beside these declared children
-abbrev pub terms_by : Kind → List Child → Origin → Asked → Terms
+abbrev pub terms_by : Kind → List Child → Origin → AskedTerms → Terms
 terms_by k children from asked = record {
   kind = k;
   from = settled children asked.unknown from;

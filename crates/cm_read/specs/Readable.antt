@@ -1,6 +1,8 @@
+-- Promised.
 -- Which declarations a manifest can have, and that these are read back from their text.
+-- ---- values
 use Rattle.std.specs.Prelude.{◌≡◌, ◌≢◌, ℕ, ◌≤◌, ◌+◌, List, length, Bool, true, false, Option, Some, None}
-use Rattle.std.specs.Prelude.{Ok, IsTrue, All}
+use Rattle.std.specs.Prelude.{IsTrue, All}
 use Rattle.cm_names.specs.Name.{IsName}
 use Rattle.cm_names.specs.Path.{is_path, is_subdir}
 use Rattle.cm_names.specs.Rights.{RightSet, no_rights}
@@ -23,13 +25,8 @@ use Rattle.cm_decl.specs.declared.storage.Storage.{Storage}
 use Rattle.cm_decl.specs.declared.storage.StorageUse.{StorageUse}
 use Rattle.cm_decl.specs.declared.storage.StorageOffer.{StorageOffer}
 use Rattle.cm_decl.specs.declared.decl.Decl.{Decl}
-use Rattle.cm_decl.specs.Valid.{is_well_formed}
 use Rattle.cm_read.specs.Numbers.{max_rows}
 use Rattle.cm_names.specs.Urls.{is_url_text}
-use Rattle.cm_read.specs.Manifest.{decl_of_json}
-use Rattle.cm_write.specs.Writing.{decl_text}
-
--- ---- values
 
 -- some right
 abbrev pub AreRights : RightSet → Type 0
@@ -40,12 +37,12 @@ abbrev pub IsSubDir : List ℕ → Type 0
 IsSubDir t = IsTrue (is_subdir t)
 
 -- an origin of a section that has parent and void where it is said; a child is in no collection
-abbrev pub IsOrigin : Bool → Bool → Origin → Type 0
-IsOrigin parent void origin.Parent = IsTrue parent
-IsOrigin parent void origin.Own = Unit {0}
-IsOrigin parent void origin.Framework = Unit {0}
-IsOrigin parent void (origin.Child child) = (child.coll ≡ None) × IsName child.name
-IsOrigin parent void origin.Void = IsTrue void
+abbrev pub IsOriginRow : Bool → Bool → Origin → Type 0
+IsOriginRow parent void origin.Parent = IsTrue parent
+IsOriginRow parent void origin.Own = Unit {0}
+IsOriginRow parent void origin.Framework = Unit {0}
+IsOriginRow parent void (origin.Child child) = (child.coll ≡ None) × IsName child.name
+IsOriginRow parent void origin.Void = IsTrue void
 
 -- the source of a registration or a storage: the parent, the component itself, or a child in no collection
 abbrev pub IsStaticSource : Origin → Type 0
@@ -80,7 +77,7 @@ MustHave kind.Directory (Some x) P = P x
 -- ---- rows
 
 -- a row of `children`
-pub record IsChild (c : Child) : Type 0 where
+pub record IsChildRow (c : Child) : Type 0 where
   pub name : IsName c.name
   pub url : IsTrue (is_url_text c.url)
   pub environment : ForSomeOf c.environment IsName
@@ -99,16 +96,16 @@ pub record IsCapability (c : Capability) : Type 0 where
 -- a row of `use`
 pub record IsUsage (u : Usage) : Type 0 where
   pub name : IsName u.name
-  pub from : IsOrigin true false u.from
+  pub from : IsOriginRow true false u.from
   pub path : IsTrue (is_path u.path)
   pub rights : MustHave u.kind u.rights AreRights
   pub subdir : MayHave u.kind u.subdir IsSubDir
   pub availability : u.availability ≢ SameAsTarget
 
 -- what a row of `offer` and one of `expose` have in common; an offer may come from the parent
-pub record IsGive (parent : Bool) (g : Give) : Type 0 where
+pub record IsGiveRow (parent : Bool) (g : Give) : Type 0 where
   pub source_name : IsName g.source_name
-  pub from : IsOrigin parent true g.from
+  pub from : IsOriginRow parent true g.from
   pub target_name : IsName g.target_name
   pub rights : MayHave g.kind g.rights AreRights
   pub subdir : MayHave g.kind g.subdir IsSubDir
@@ -116,11 +113,11 @@ pub record IsGive (parent : Bool) (g : Give) : Type 0 where
 -- a row of `offer`
 pub record IsOffer (o : Offer) : Type 0 where
   pub to : IsName o.to
-  pub give : IsGive true o.give
+  pub give : IsGiveRow true o.give
 
 -- a row of `expose`
 pub record IsExpose (g : Give) : Type 0 where
-  pub give : IsGive false g
+  pub give : IsGiveRow false g
   pub dependency : g.dependency ≡ Strong
 
 -- a registration
@@ -169,7 +166,7 @@ pub record AreRows {A : Type 0} (IsRow : A → Type 0) (rows : List A) : Type 0 
 -- the rows, words and limits that the tables of the manifest allow
 pub record IsReadable (d : Decl) : Type 0 where
   pub runner : ForSomeOf d.runner IsName
-  pub children : AreRows IsChild d.children
+  pub children : AreRows IsChildRow d.children
   pub collections : AreRows IsCollection d.collections
   pub capabilities : AreRows IsCapability d.capabilities
   pub uses : AreRows IsUsage d.uses
@@ -184,20 +181,3 @@ pub record IsReadable (d : Decl) : Type 0 where
   pub capability_rows : length d.capabilities + length d.storages ≤ max_rows
   pub use_rows : length d.uses + (length d.debug_uses + length d.storage_uses) ≤ max_rows
   pub offer_rows : length d.offers + length d.storage_offers ≤ max_rows
-
--- the text of a readable declaration is read as that declaration
-abbrev pub TextsAreReadBack : Type 0
-TextsAreReadBack = (d : Decl) → IsReadable d → decl_of_json (decl_text d) ≡ Ok d
-
--- what is read is readable
-abbrev pub WhatIsReadIsReadable : Type 0
-WhatIsReadIsReadable = (text : List ℕ) (d : Decl) → decl_of_json text ≡ Ok d → IsReadable d
-
--- so it is read back from its own text
-abbrev pub WhatIsReadIsReadBack : Type 0
-WhatIsReadIsReadBack =
-    (text : List ℕ) (d : Decl) → decl_of_json text ≡ Ok d → decl_of_json (decl_text d) ≡ Ok d
-
--- and its rows come from where they may
-abbrev pub ReadableIsWellFormed : Type 0
-ReadableIsWellFormed = (d : Decl) → IsReadable d → IsTrue (is_well_formed d)

@@ -1,20 +1,22 @@
+-- Promised.
 -- The rows of a section.
 use Rattle.std.specs.Prelude.{◌+◌, ◌-◌, ◌^◌, min, List, [], ◌++◌, length, Option, Some, None, ok_or, Ok, Err}
 use Rattle.std.specs.Prelude.{nat_le, if◌then◌else◌}
 use Rattle.serde_json.specs.Data.{Data, Items, no_items, item}
 use Rattle.serde_json.specs.Find.{as_array}
 use Rattle.cm_decl.specs.declared.section.Section.{Section}
-use Rattle.cm_read.specs.declared.fault.Place.{Place}
+use Rattle.cm_read.specs.declared.fault.ItemPlace.{ItemPlace}
 use Rattle.cm_read.specs.Numbers.{wrong_type, too_many_rows, max_rows}
 use Rattle.cm_names.specs.Steps.{◌>>=◌}
-use Rattle.cm_read.specs.Reading.{Read, bad, start}
+use Rattle.cm_read.specs.Reading.{ReadResult, bad, start}
 
 -- the place of the next item; the index stands still at the greatest one
-abbrev pub next : Place → Place
+abbrev pub next : ItemPlace → ItemPlace
 next at = record at { index = min (at.index + 1) (2 ^ 32 - 1) }
 
 -- the rows of the items, one item after another
-abbrev pub rows_at : {A : Type 0} → (Place → Data → Read (List A)) → Place → Items → Read (List A)
+abbrev pub rows_at : {A : Type 0} → (ItemPlace → Data → ReadResult (List A)) → ItemPlace → Items
+    → ReadResult (List A)
 rows_at read at no_items = Ok []
 rows_at read at (item d ds) = do
   first ← read at d
@@ -22,7 +24,8 @@ rows_at read at (item d ds) = do
   Ok (first ++ others)
 
 -- the rows of a section: none where it is missing
-abbrev pub section_at : {A : Type 0} → (Place → Data → Read (List A)) → Section → Option Data → Read (List A)
+abbrev pub section_at : {A : Type 0} → (ItemPlace → Data → ReadResult (List A)) → Section → Option Data
+    → ReadResult (List A)
 section_at read s None = Ok []
 section_at read s (Some d) = do
   items ← ok_or (as_array d) (bad (start s) wrong_type [])

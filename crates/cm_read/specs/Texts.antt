@@ -1,3 +1,4 @@
+-- Promised.
 -- How a fault is written.
 use Rattle.std.specs.Prelude.{ℕ, List, [], ◌∷◌, ◌++◌, codes, decimal}
 use Rattle.cm_decl.specs.Words.{section_word}

@@ -1,4 +1,6 @@
+-- Promised.
 -- The listed words of fields, and where a capability comes from.
+-- ---- what the words mean
 use Rattle.std.specs.Prelude.{ℕ, List, codes, Bool, true, false, not, ◌&&◌, Option, Some, None, Ok, Err}
 use Rattle.std.specs.Prelude.{is_none, if◌then◌else◌, ok_or}
 use Rattle.std.specs.Str.{bytes_eq}
@@ -16,15 +18,13 @@ use Rattle.cm_names.specs.declared.child.ChildName.{ChildName}
 use Rattle.cm_decl.specs.declared.rows.Child.{Child}
 use Rattle.cm_decl.specs.declared.origin.Origin.{Origin}
 use Rattle.cm_decl.specs.declared.origin.Origin.TheVariants as origin
-use Rattle.cm_read.specs.declared.fault.Place.{Place}
+use Rattle.cm_read.specs.declared.fault.ItemPlace.{ItemPlace}
 use Rattle.cm_read.specs.declared.rows.UseSource.{UseSource}
 use Rattle.cm_read.specs.declared.rows.UseSource.TheVariants as source
 use Rattle.cm_read.specs.Numbers.{unknown_word, bad_name}
 use Rattle.cm_names.specs.Steps.{◌>>=◌}
-use Rattle.cm_read.specs.Reading.{Read, bad}
+use Rattle.cm_read.specs.Reading.{ReadResult, bad}
 use Rattle.cm_read.specs.Fields.{needed_at, or_default, if_there, text_at, name_from, listed_at, behind_mark}
-
--- ---- what the words mean
 
 -- whether the child starts together with its parent
 unfoldable pub startup_named : List ℕ → Option Bool
@@ -125,64 +125,47 @@ storage_id_named t =
 unfoldable pub expose_target_named : List ℕ → Option (Unit {0})
 expose_target_named t = if bytes_eq t (codes "parent") then Some tt else None
 
--- what one of two words says
-abbrev pub flag_named : List ℕ → List ℕ → List ℕ → Option Bool
-flag_named off on t =
-    if bytes_eq t off then Some false
-    else if bytes_eq t on then Some true
-    else None
-
--- ---- fields
-
--- a field with one of two words, by default the first
-abbrev pub flag_at : List ℕ → List ℕ → List ℕ → Place → Data → Read Bool
-flag_at key off on at d = or_default (get key d) false (listed_at (flag_named off on) at key)
-
--- a field that says the parent alone, by default
-abbrev pub parent_alone : List ℕ → Place → Data → Read (Unit {0})
-parent_alone key at d = or_default (get key d) tt (listed_at expose_target_named at key)
-
 -- `startup`, by default `lazy`
-unfoldable pub startup_at : Place → Data → Read Bool
+unfoldable pub startup_at : ItemPlace → Data → ReadResult Bool
 startup_at at d =
     or_default (get (codes "startup") d) false (listed_at startup_named at (codes "startup"))
 
 -- `durability`, which has to be there
-unfoldable pub durability_at : Place → Data → Read Durability
+unfoldable pub durability_at : ItemPlace → Data → ReadResult Durability
 durability_at at d = do
   value ← needed_at at (codes "durability") d
   listed_at durability_named at (codes "durability") value
 
 -- `allowed_offers`, by default `static_only`
-unfoldable pub allowed_offers_at : Place → Data → Read Bool
+unfoldable pub allowed_offers_at : ItemPlace → Data → ReadResult Bool
 allowed_offers_at at d =
     or_default (get (codes "allowed_offers") d) false (listed_at offers_named at (codes "allowed_offers"))
 
 -- `dependency`, by default `strong`
-unfoldable pub dependency_at : Place → Data → Read Dependency
+unfoldable pub dependency_at : ItemPlace → Data → ReadResult Dependency
 dependency_at at d =
     or_default (get (codes "dependency") d) Strong (listed_at dependency_named at (codes "dependency"))
 
 -- `availability` of a use, by default `required`
-unfoldable pub availability_at : Place → Data → Read Availability
+unfoldable pub availability_at : ItemPlace → Data → ReadResult Availability
 availability_at at d =
     or_default (get (codes "availability") d) Required
     (listed_at availability_named at (codes "availability"))
 
 -- `availability` of an offer or an expose, by default `required`
-unfoldable pub given_availability_at : Place → Data → Read Availability
+unfoldable pub given_availability_at : ItemPlace → Data → ReadResult Availability
 given_availability_at at d =
     or_default (get (codes "availability") d) Required
     (listed_at given_availability_named at (codes "availability"))
 
 -- `source_availability`, by default `required`
-unfoldable pub source_unknown_at : Place → Data → Read Bool
+unfoldable pub source_unknown_at : ItemPlace → Data → ReadResult Bool
 source_unknown_at at d =
     or_default (get (codes "source_availability") d) false
     (listed_at source_named at (codes "source_availability"))
 
 -- `to` of an expose, by default `parent`
-unfoldable pub expose_to_at : Place → Data → Read (Unit {0})
+unfoldable pub expose_to_at : ItemPlace → Data → ReadResult (Unit {0})
 expose_to_at at d =
     or_default (get (codes "to") d) tt (listed_at expose_target_named at (codes "to"))
 
@@ -204,108 +187,108 @@ settled children unknown (origin.Child c) =
 settled children unknown from = from
 
 -- the child that a reference names, or what the listed word means
-abbrev pub origin_from : Place → Option Origin → Option (List ℕ) → Read Origin
+abbrev pub origin_from : ItemPlace → Option Origin → Option (List ℕ) → ReadResult Origin
 origin_from at named (Some name) = do
   child ← name_from at (codes "from") name
   Ok (child_origin child)
 origin_from at named None = ok_or named (bad at unknown_word (codes "from"))
 
 -- the origin of a use that a value is
-unfoldable pub use_from_in_at : Place → Data → Read Origin
+unfoldable pub use_from_in_at : ItemPlace → Data → ReadResult Origin
 use_from_in_at at d = do
   text ← text_at at (codes "from") d
   origin_from at (use_origin_named text) (behind_mark text)
 
 -- the origin of an offer that a value is
-unfoldable pub offer_from_in_at : Place → Data → Read Origin
+unfoldable pub offer_from_in_at : ItemPlace → Data → ReadResult Origin
 offer_from_in_at at d = do
   text ← text_at at (codes "from") d
   origin_from at (offer_origin_named text) (behind_mark text)
 
 -- the origin of an expose that a value is
-unfoldable pub expose_from_in_at : Place → Data → Read Origin
+unfoldable pub expose_from_in_at : ItemPlace → Data → ReadResult Origin
 expose_from_in_at at d = do
   text ← text_at at (codes "from") d
   origin_from at (expose_origin_named text) (behind_mark text)
 
 -- `from` of a use, by default `parent`
-unfoldable pub use_from_at : Place → Data → Read Origin
+unfoldable pub use_from_at : ItemPlace → Data → ReadResult Origin
 use_from_at at d = or_default (get (codes "from") d) origin.Parent (use_from_in_at at)
 
 -- `from` of an offer, which has to be there
-unfoldable pub offer_from_at : Place → Data → Read Origin
+unfoldable pub offer_from_at : ItemPlace → Data → ReadResult Origin
 offer_from_at at d = do
   value ← needed_at at (codes "from") d
   offer_from_in_at at value
 
 -- `from` of an expose, which has to be there
-unfoldable pub expose_from_at : Place → Data → Read Origin
+unfoldable pub expose_from_at : ItemPlace → Data → ReadResult Origin
 expose_from_at at d = do
   value ← needed_at at (codes "from") d
   expose_from_in_at at value
 
 -- where a protocol that is used comes from: an origin, or the debug registrations of the environment
-abbrev pub source_from : Place → List ℕ → Read UseSource
+abbrev pub source_from : ItemPlace → List ℕ → ReadResult UseSource
 source_from at text =
     if bytes_eq text (codes "debug") then Ok source.Debug
     else (origin_from at (use_origin_named text) (behind_mark text) >>= λ from. Ok (source.From from))
 
 -- where a protocol that is used comes from, as a value says it
-unfoldable pub use_source_in_at : Place → Data → Read UseSource
+unfoldable pub use_source_in_at : ItemPlace → Data → ReadResult UseSource
 use_source_in_at at d = do
   text ← text_at at (codes "from") d
   source_from at text
 
 -- `from` of a protocol that is used, by default `parent`
-unfoldable pub use_source_at : Place → Data → Read UseSource
+unfoldable pub use_source_at : ItemPlace → Data → ReadResult UseSource
 use_source_at at d = or_default (get (codes "from") d) (source.From origin.Parent) (use_source_in_at at)
 
 -- the origin of a registration or a storage that a value is
-unfoldable pub static_from_in_at : Place → Data → Read Origin
+unfoldable pub static_from_in_at : ItemPlace → Data → ReadResult Origin
 static_from_in_at at d = do
   text ← text_at at (codes "from") d
   origin_from at (static_origin_named text) (behind_mark text)
 
 -- `from` of a registration or a storage, which has to be there
-unfoldable pub static_from_at : Place → Data → Read Origin
+unfoldable pub static_from_at : ItemPlace → Data → ReadResult Origin
 static_from_at at d = do
   value ← needed_at at (codes "from") d
   static_from_in_at at value
 
 -- `from` of an offer of a storage, which has to be there; no child is meant
-unfoldable pub storage_from_at : Place → Data → Read Origin
+unfoldable pub storage_from_at : ItemPlace → Data → ReadResult Origin
 storage_from_at at d = do
   value ← needed_at at (codes "from") d
   listed_at storage_origin_named at (codes "from") value
 
 -- `from` of a use of a storage: the parent alone, by default
-unfoldable pub storage_use_from_at : Place → Data → Read (Unit {0})
+unfoldable pub storage_use_from_at : ItemPlace → Data → ReadResult (Unit {0})
 storage_use_from_at at d =
     or_default (get (codes "from") d) tt (listed_at expose_target_named at (codes "from"))
 
 -- ---- environments and storage
 
 -- `extends`, by default `none`
-unfoldable pub extends_at : Place → Data → Read Bool
+unfoldable pub extends_at : ItemPlace → Data → ReadResult Bool
 extends_at at d = or_default (get (codes "extends") d) false (listed_at extends_named at (codes "extends"))
 
 -- `storage_id`, which has to be there
-unfoldable pub storage_id_at : Place → Data → Read Bool
+unfoldable pub storage_id_at : ItemPlace → Data → ReadResult Bool
 storage_id_at at d = do
   value ← needed_at at (codes "storage_id") d
   listed_at storage_id_named at (codes "storage_id") value
 
 -- the name behind the `#` of a reference; a text without one is no name
-abbrev pub environment_from : Place → Option (List ℕ) → Read (List ℕ)
+abbrev pub environment_from : ItemPlace → Option (List ℕ) → ReadResult (List ℕ)
 environment_from at None = Err (bad at bad_name (codes "environment"))
 environment_from at (Some name) = name_from at (codes "environment") name
 
 -- the name of an environment that a value is
-unfoldable pub environment_in_at : Place → Data → Read (List ℕ)
+unfoldable pub environment_in_at : ItemPlace → Data → ReadResult (List ℕ)
 environment_in_at at d = do
   text ← text_at at (codes "environment") d
   environment_from at (behind_mark text)
 
 -- `environment` of a child or a collection, which may be missing
-unfoldable pub environment_at : Place → Data → Read (Option (List ℕ))
+unfoldable pub environment_at : ItemPlace → Data → ReadResult (Option (List ℕ))
 environment_at at d = if_there (get (codes "environment") d) (environment_in_at at)

@@ -3,17 +3,17 @@
 ghost use Rattle.std.specs.Prelude.{◌≡◌};
 ghost use Rattle.serde_json.specs.View.{view, items_view};
 ghost use Rattle.cm_read.specs.Environments as spec;
-ghost use Rattle.cm_read.specs.Reading.{Gives, IsFault};
+ghost use Rattle.cm_read.specs.ReadingInside.{GivesReading, IsReadFault};
 
 use crate::both::both;
-use crate::fault::{Place, ReadFault, fault};
+use crate::fault::{ItemPlace, ReadFault, fault};
 use crate::fields::{name_of, object_of};
 use crate::gives::as_of;
 use crate::items::item_names_of;
 use crate::known::{Object, check_keys};
 use crate::number::WRONG_TYPE;
 use crate::rows::{Registry, one_row, registrations_from};
-use crate::sections::Item;
+use crate::sections::SectionItem;
 use crate::words::{extends_of, static_from_of};
 use cm_decl::{Child, Environment, Kind, Registration};
 use cm_names::{List, Name};
@@ -32,8 +32,8 @@ fn registry_word(which: Registry) -> &'static str
 
 /// The name of a runner, of which an item has one.
 #[tactic(auto, unfolding(crate::specs::Environments::runner_names_at))]
-fn runner_names_of(alloc: Global, at: Place, item: &Value) -> Result<List<Name>, ReadFault>
-    ensures { Gives result (spec.runner_names_at at (view item.now)) }
+fn runner_names_of(alloc: Global, at: ItemPlace, item: &Value) -> Result<List<Name>, ReadFault>
+    ensures { GivesReading result (spec.runner_names_at at (view item.now)) }
 {
     let name = name_of(alloc, at, item, "runner")?;
     one_row(alloc, name)
@@ -43,10 +43,10 @@ fn runner_names_of(alloc: Global, at: Place, item: &Value) -> Result<List<Name>,
 fn registration_names_of(
     alloc: Global,
     which: Registry,
-    at: Place,
+    at: ItemPlace,
     item: &Value,
 ) -> Result<List<Name>, ReadFault>
-    ensures { Gives result (spec.registration_names_at which at (view item.now)) }
+    ensures { GivesReading result (spec.registration_names_at which at (view item.now)) }
 {
     match which {
         Registry::Runners => runner_names_of(alloc, at, item),
@@ -58,11 +58,11 @@ fn registration_names_of(
 #[tactic(auto, unfolding(crate::specs::Environments::registered_at))]
 fn registered(
     alloc: Global,
-    at: Place,
+    at: ItemPlace,
     names: &[Name],
     item: &Value,
 ) -> Result<List<Registration>, ReadFault>
-    ensures { Gives result (spec.registered_at at names.now (view item.now)) }
+    ensures { GivesReading result (spec.registered_at at names.now (view item.now)) }
 {
     let read = both(
         static_from_of(alloc, at, item),
@@ -77,10 +77,10 @@ fn registered(
 fn registration_of(
     alloc: Global,
     which: Registry,
-    at: Place,
+    at: ItemPlace,
     item: &Value,
 ) -> Result<List<Registration>, ReadFault>
-    ensures { Gives result (spec.registration_at which at (view item.now)) }
+    ensures { GivesReading result (spec.registration_at which at (view item.now)) }
 {
     let members = object_of(alloc, at, item)?;
     check_keys(alloc, at, Object::Registration(which), members)?;
@@ -92,10 +92,10 @@ fn registration_of(
 fn registrations_in(
     alloc: Global,
     which: Registry,
-    at: Place,
+    at: ItemPlace,
     items: &[Value],
 ) -> Result<List<Registration>, ReadFault>
-    ensures { Gives result (spec.registrations_in_at which at (items_view items.now)) }
+    ensures { GivesReading result (spec.registrations_in_at which at (items_view items.now)) }
 {
     let mut rows = List::new(alloc);
     for item in items {
@@ -106,7 +106,7 @@ fn registrations_in(
 
 /// The fault, told with another field, unless memory runs out.
 fn in_field(alloc: Global, field: &str, found: ReadFault) -> ReadFault
-    ensures { IsFault result (spec.in_field field.now found) }
+    ensures { IsReadFault result (spec.in_field field.now found) }
 {
     match found {
         ReadFault::Bad {
@@ -114,7 +114,7 @@ fn in_field(alloc: Global, field: &str, found: ReadFault) -> ReadFault
             section,
             index,
             field: _inner,
-        } => fault(alloc, Place { section, index }, number, field),
+        } => fault(alloc, ItemPlace { section, index }, number, field),
         ReadFault::Memory => ReadFault::Memory,
     }
 }
@@ -124,10 +124,10 @@ fn in_field(alloc: Global, field: &str, found: ReadFault) -> ReadFault
 fn registry_in(
     alloc: Global,
     which: Registry,
-    at: Place,
+    at: ItemPlace,
     value: &Value,
 ) -> Result<List<Registration>, ReadFault>
-    ensures { Gives result (spec.registry_in_at which at (view value.now)) }
+    ensures { GivesReading result (spec.registry_in_at which at (view value.now)) }
 {
     let Some(items) = value.as_array() else {
         return Err(fault(alloc, at, WRONG_TYPE, registry_word(which)));
@@ -143,10 +143,10 @@ fn registry_in(
 fn registry_of(
     alloc: Global,
     which: Registry,
-    at: Place,
+    at: ItemPlace,
     item: &Value,
 ) -> Result<List<Registration>, ReadFault>
-    ensures { Gives result (spec.registry_at which at (view item.now)) }
+    ensures { GivesReading result (spec.registry_at which at (view item.now)) }
 {
     let Some(value) = item.get(registry_word(which)) else {
         return Ok(List::new(alloc));
@@ -156,8 +156,12 @@ fn registry_of(
 
 /// The row of an item of `environments`, whose fields are known.
 #[tactic(auto, unfolding(crate::specs::Environments::environment_row_at))]
-fn environment_row(alloc: Global, at: Place, item: &Value) -> Result<List<Environment>, ReadFault>
-    ensures { Gives result (spec.environment_row_at at (view item.now)) }
+fn environment_row(
+    alloc: Global,
+    at: ItemPlace,
+    item: &Value,
+) -> Result<List<Environment>, ReadFault>
+    ensures { GivesReading result (spec.environment_row_at at (view item.now)) }
 {
     let read = both(
         both(
@@ -179,7 +183,7 @@ fn environment_row(alloc: Global, at: Place, item: &Value) -> Result<List<Enviro
     one_row(alloc, row)
 }
 
-impl Item for Environment {
+impl SectionItem for Environment {
     ghost use Rattle.cm_read.specs.Environments.{environment_item_at};
 
     ghost reads = { λ _. environment_item_at };
@@ -187,7 +191,7 @@ impl Item for Environment {
     #[tactic(auto, unfolding(crate::specs::Environments::environment_item_at))]
     fn read(
         alloc: Global,
-        at: Place,
+        at: ItemPlace,
         _children: &[Child],
         item: &Value,
     ) -> Result<List<Environment>, ReadFault> {

@@ -3,7 +3,8 @@
 ghost use Rattle.std.specs.Prelude.{◌≡◌};
 ghost use Rattle.cm_read.specs.Manifest as manifest;
 ghost use Rattle.cm_read.specs.Reading as spec;
-ghost use Rattle.cm_read.specs.Reading.{IsFault, bad};
+ghost use Rattle.cm_read.specs.Reading.{bad};
+ghost use Rattle.cm_read.specs.ReadingInside.{IsReadFault};
 
 use cm_decl::Section;
 use cm_names::{Memory, Text};
@@ -13,14 +14,14 @@ use std::fmt;
 
 /// Where an item stands: its section, and its index there, counted from 0.
 #[derive(Clone, Copy)]
-pub struct Place {
+pub struct ItemPlace {
     /// The section.
     pub section: Section,
     /// The index, which stands still at 4,294,967,295.
     pub index: u32,
 }
 
-/// Why bytes are no manifest: the first fault in the order below, or want of memory.
+/// Why bytes are no manifest: the first fault in the order below, or lack of memory.
 ///
 /// It is written `invalid NUMBER SECTION INDEX`, followed by a space and the field where it isn't
 /// empty, or `out of memory`.
@@ -147,15 +148,15 @@ impl fmt::Display for ReadFault {
 impl Error for ReadFault {}
 
 /// The place of a section's first item, and of the section itself.
-pub fn start(section: Section) -> Place
+pub fn start(section: Section) -> ItemPlace
     ensures { result ≡ spec.start section }
 {
-    Place { section, index: 0 }
+    ItemPlace { section, index: 0 }
 }
 
 /// The fault of a field, unless memory runs out.
-pub fn fault(alloc: Global, at: Place, number: u8, field: &str) -> ReadFault
-    ensures { IsFault result (bad at number field.now) }
+pub fn fault(alloc: Global, at: ItemPlace, number: u8, field: &str) -> ReadFault
+    ensures { IsReadFault result (bad at number field.now) }
 {
     match Text::from_str(alloc, field) {
         Ok(field) => ReadFault::Bad {
@@ -170,7 +171,7 @@ pub fn fault(alloc: Global, at: Place, number: u8, field: &str) -> ReadFault
 
 /// A fault of the whole manifest, unless memory runs out.
 pub fn whole(alloc: Global, number: u8) -> ReadFault
-    ensures { IsFault result (manifest.whole number) }
+    ensures { IsReadFault result (manifest.whole number) }
 {
     fault(alloc, start(Section::Manifest), number, "")
 }

@@ -5,10 +5,10 @@ ghost use Rattle.std.specs.List.{list_any};
 ghost use Rattle.std.specs.Str.{bytes_eq};
 ghost use Rattle.serde_json.specs.View.{view, members_view, items_view};
 ghost use Rattle.cm_read.specs.Fields as spec;
-ghost use Rattle.cm_read.specs.Fields.{map_now};
-ghost use Rattle.cm_read.specs.Reading.{Gives, GivesBy};
+ghost use Rattle.cm_read.specs.FieldsInside.{map_now};
+ghost use Rattle.cm_read.specs.ReadingInside.{GivesReading, GivesBy};
 
-use crate::fault::{Place, ReadFault, fault};
+use crate::fault::{ItemPlace, ReadFault, fault};
 use crate::number::{
     BAD_NAME, BAD_PATH, BAD_RIGHTS, MISSING, UNKNOWN_FIELD, UNKNOWN_WORD, WRONG_TYPE,
 };
@@ -21,7 +21,7 @@ use std::alloc::Global;
 /// The value of a field that has to be there.
 pub fn needed<'a>(
     alloc: Global,
-    at: Place,
+    at: ItemPlace,
     item: &'a Value,
     key: &str,
 ) -> Result<&'a Value, ReadFault>
@@ -36,7 +36,7 @@ pub fn needed<'a>(
 /// The text that a value is.
 pub fn text_of<'a>(
     alloc: Global,
-    at: Place,
+    at: ItemPlace,
     value: &'a Value,
     key: &str,
 ) -> Result<&'a str, ReadFault>
@@ -49,8 +49,8 @@ pub fn text_of<'a>(
 }
 
 /// The name that a text is.
-pub fn name_from(alloc: Global, at: Place, key: &str, text: &str) -> Result<Name, ReadFault>
-    ensures { Gives result (spec.name_from at key.now text.now) }
+pub fn name_from(alloc: Global, at: ItemPlace, key: &str, text: &str) -> Result<Name, ReadFault>
+    ensures { GivesReading result (spec.name_from at key.now text.now) }
 {
     match Name::read(alloc, text) {
         Ok(name) => Ok(name),
@@ -60,8 +60,8 @@ pub fn name_from(alloc: Global, at: Place, key: &str, text: &str) -> Result<Name
 }
 
 /// The path that a text is.
-fn path_from(alloc: Global, at: Place, key: &str, text: &str) -> Result<CapPath, ReadFault>
-    ensures { Gives result (spec.path_from at key.now text.now) }
+fn path_from(alloc: Global, at: ItemPlace, key: &str, text: &str) -> Result<CapPath, ReadFault>
+    ensures { GivesReading result (spec.path_from at key.now text.now) }
 {
     match CapPath::read(alloc, text) {
         Ok(path) => Ok(path),
@@ -71,8 +71,8 @@ fn path_from(alloc: Global, at: Place, key: &str, text: &str) -> Result<CapPath,
 }
 
 /// The subdirectory that a text is.
-fn subdir_from(alloc: Global, at: Place, key: &str, text: &str) -> Result<SubDir, ReadFault>
-    ensures { Gives result (spec.subdir_from at key.now text.now) }
+fn subdir_from(alloc: Global, at: ItemPlace, key: &str, text: &str) -> Result<SubDir, ReadFault>
+    ensures { GivesReading result (spec.subdir_from at key.now text.now) }
 {
     match SubDir::read(alloc, text) {
         Ok(path) => Ok(path),
@@ -83,8 +83,8 @@ fn subdir_from(alloc: Global, at: Place, key: &str, text: &str) -> Result<SubDir
 
 /// The name that a value is.
 #[tactic(auto, unfolding(crate::specs::Fields::name_in_at))]
-pub fn name_in(alloc: Global, at: Place, value: &Value, key: &str) -> Result<Name, ReadFault>
-    ensures { Gives result (spec.name_in_at at key.now (view value.now)) }
+pub fn name_in(alloc: Global, at: ItemPlace, value: &Value, key: &str) -> Result<Name, ReadFault>
+    ensures { GivesReading result (spec.name_in_at at key.now (view value.now)) }
 {
     let text = text_of(alloc, at, value, key)?;
     name_from(alloc, at, key, text)
@@ -92,8 +92,8 @@ pub fn name_in(alloc: Global, at: Place, value: &Value, key: &str) -> Result<Nam
 
 /// The name in a field that has to be there.
 #[tactic(auto, unfolding(crate::specs::Fields::name_at))]
-pub fn name_of(alloc: Global, at: Place, item: &Value, key: &str) -> Result<Name, ReadFault>
-    ensures { Gives result (spec.name_at at key.now (view item.now)) }
+pub fn name_of(alloc: Global, at: ItemPlace, item: &Value, key: &str) -> Result<Name, ReadFault>
+    ensures { GivesReading result (spec.name_at at key.now (view item.now)) }
 {
     let value = needed(alloc, at, item, key)?;
     name_in(alloc, at, value, key)
@@ -101,8 +101,8 @@ pub fn name_of(alloc: Global, at: Place, item: &Value, key: &str) -> Result<Name
 
 /// The URL text in a field that has to be there.
 #[tactic(auto, unfolding(crate::specs::Fields::url_at))]
-pub fn url_of(alloc: Global, at: Place, item: &Value, key: &str) -> Result<Text, ReadFault>
-    ensures { Gives result (spec.url_at at key.now (view item.now)) }
+pub fn url_of(alloc: Global, at: ItemPlace, item: &Value, key: &str) -> Result<Text, ReadFault>
+    ensures { GivesReading result (spec.url_at at key.now (view item.now)) }
 {
     let value = needed(alloc, at, item, key)?;
     let text = text_of(alloc, at, value, key)?;
@@ -114,8 +114,8 @@ pub fn url_of(alloc: Global, at: Place, item: &Value, key: &str) -> Result<Text,
 
 /// The path that a value is.
 #[tactic(auto, unfolding(crate::specs::Fields::path_in_at))]
-pub fn path_in(alloc: Global, at: Place, value: &Value, key: &str) -> Result<CapPath, ReadFault>
-    ensures { Gives result (spec.path_in_at at key.now (view value.now)) }
+pub fn path_in(alloc: Global, at: ItemPlace, value: &Value, key: &str) -> Result<CapPath, ReadFault>
+    ensures { GivesReading result (spec.path_in_at at key.now (view value.now)) }
 {
     let text = text_of(alloc, at, value, key)?;
     path_from(alloc, at, key, text)
@@ -123,8 +123,8 @@ pub fn path_in(alloc: Global, at: Place, value: &Value, key: &str) -> Result<Cap
 
 /// The path in a field that has to be there.
 #[tactic(auto, unfolding(crate::specs::Fields::path_at))]
-pub fn path_of(alloc: Global, at: Place, item: &Value, key: &str) -> Result<CapPath, ReadFault>
-    ensures { Gives result (spec.path_at at key.now (view item.now)) }
+pub fn path_of(alloc: Global, at: ItemPlace, item: &Value, key: &str) -> Result<CapPath, ReadFault>
+    ensures { GivesReading result (spec.path_at at key.now (view item.now)) }
 {
     let value = needed(alloc, at, item, key)?;
     path_in(alloc, at, value, key)
@@ -132,8 +132,8 @@ pub fn path_of(alloc: Global, at: Place, item: &Value, key: &str) -> Result<CapP
 
 /// The subdirectory that a value is.
 #[tactic(auto, unfolding(crate::specs::Fields::subdir_in_at))]
-fn subdir_in(alloc: Global, at: Place, value: &Value, key: &str) -> Result<SubDir, ReadFault>
-    ensures { Gives result (spec.subdir_in_at at key.now (view value.now)) }
+fn subdir_in(alloc: Global, at: ItemPlace, value: &Value, key: &str) -> Result<SubDir, ReadFault>
+    ensures { GivesReading result (spec.subdir_in_at at key.now (view value.now)) }
 {
     let text = text_of(alloc, at, value, key)?;
     subdir_from(alloc, at, key, text)
@@ -143,11 +143,11 @@ fn subdir_in(alloc: Global, at: Place, value: &Value, key: &str) -> Result<SubDi
 #[tactic(auto, unfolding(crate::specs::Fields::subdir_at))]
 pub fn subdir_of(
     alloc: Global,
-    at: Place,
+    at: ItemPlace,
     item: &Value,
     key: &str,
 ) -> Result<Option<SubDir>, ReadFault>
-    ensures { Gives result (spec.subdir_at at key.now (view item.now)) }
+    ensures { GivesReading result (spec.subdir_at at key.now (view item.now)) }
 {
     let Some(value) = item.get(key) else {
         return Ok(None);
@@ -157,8 +157,13 @@ pub fn subdir_of(
 }
 
 /// The texts that the values are.
-fn texts_in(alloc: Global, at: Place, values: &[Value], key: &str) -> Result<List<Text>, ReadFault>
-    ensures { Gives result (spec.texts_in_at at key.now (items_view values.now)) }
+fn texts_in(
+    alloc: Global,
+    at: ItemPlace,
+    values: &[Value],
+    key: &str,
+) -> Result<List<Text>, ReadFault>
+    ensures { GivesReading result (spec.texts_in_at at key.now (items_view values.now)) }
 {
     let mut texts = List::new(alloc);
     for value in values {
@@ -170,8 +175,8 @@ fn texts_in(alloc: Global, at: Place, values: &[Value], key: &str) -> Result<Lis
 
 /// A text, or a list of one or more texts.
 #[tactic(auto, unfolding(crate::specs::Fields::texts_at))]
-fn texts_of(alloc: Global, at: Place, value: &Value, key: &str) -> Result<List<Text>, ReadFault>
-    ensures { Gives result (spec.texts_at at key.now (view value.now)) }
+fn texts_of(alloc: Global, at: ItemPlace, value: &Value, key: &str) -> Result<List<Text>, ReadFault>
+    ensures { GivesReading result (spec.texts_at at key.now (view value.now)) }
 {
     match value {
         Value::Array(values) => {
@@ -189,8 +194,13 @@ fn texts_of(alloc: Global, at: Place, value: &Value, key: &str) -> Result<List<T
 }
 
 /// The names that the texts are.
-fn each_name(alloc: Global, at: Place, key: &str, texts: &[Text]) -> Result<List<Name>, ReadFault>
-    ensures { Gives result (spec.each (spec.name_from at key.now) texts.now) }
+fn each_name(
+    alloc: Global,
+    at: ItemPlace,
+    key: &str,
+    texts: &[Text],
+) -> Result<List<Name>, ReadFault>
+    ensures { GivesReading result (spec.each (spec.name_from at key.now) texts.now) }
 {
     let mut names = List::new(alloc);
     for text in texts {
@@ -201,14 +211,19 @@ fn each_name(alloc: Global, at: Place, key: &str, texts: &[Text]) -> Result<List
 
 /// A name, or a list of one or more names.
 #[tactic(auto, unfolding(crate::specs::Fields::names_at))]
-pub fn names_of(alloc: Global, at: Place, value: &Value, key: &str) -> Result<List<Name>, ReadFault>
-    ensures { Gives result (spec.names_at at key.now (view value.now)) }
+pub fn names_of(
+    alloc: Global,
+    at: ItemPlace,
+    value: &Value,
+    key: &str,
+) -> Result<List<Name>, ReadFault>
+    ensures { GivesReading result (spec.names_at at key.now (view value.now)) }
 {
     let texts = texts_of(alloc, at, value, key)?;
     each_name(alloc, at, key, texts.as_slice())
 }
 
-/// What stands behind a `#` at the front.
+/// What stands behind a `#` at the start.
 pub fn behind_mark(text: &str) -> Option<&str>
     ensures { option_map (λ s. s.now) result ≡ spec.behind_mark text.now }
 {
@@ -216,8 +231,8 @@ pub fn behind_mark(text: &str) -> Option<&str>
 }
 
 /// The name of the reference that a text is.
-fn reference_from(alloc: Global, at: Place, key: &str, text: &str) -> Result<Name, ReadFault>
-    ensures { Gives result (spec.reference_from at key.now text.now) }
+fn reference_from(alloc: Global, at: ItemPlace, key: &str, text: &str) -> Result<Name, ReadFault>
+    ensures { GivesReading result (spec.reference_from at key.now text.now) }
 {
     match behind_mark(text) {
         None => Err(fault(alloc, at, UNKNOWN_WORD, key)),
@@ -228,11 +243,11 @@ fn reference_from(alloc: Global, at: Place, key: &str, text: &str) -> Result<Nam
 /// The names of the references that the texts are.
 fn each_reference(
     alloc: Global,
-    at: Place,
+    at: ItemPlace,
     key: &str,
     texts: &[Text],
 ) -> Result<List<Name>, ReadFault>
-    ensures { Gives result (spec.each (spec.reference_from at key.now) texts.now) }
+    ensures { GivesReading result (spec.each (spec.reference_from at key.now) texts.now) }
 {
     let mut names = List::new(alloc);
     for text in texts {
@@ -245,11 +260,11 @@ fn each_reference(
 #[tactic(auto, unfolding(crate::specs::Fields::references_at))]
 pub fn references_of(
     alloc: Global,
-    at: Place,
+    at: ItemPlace,
     value: &Value,
     key: &str,
 ) -> Result<List<Name>, ReadFault>
-    ensures { Gives result (spec.references_at at key.now (view value.now)) }
+    ensures { GivesReading result (spec.references_at at key.now (view value.now)) }
 {
     let texts = texts_of(alloc, at, value, key)?;
     each_reference(alloc, at, key, texts.as_slice())
@@ -257,8 +272,13 @@ pub fn references_of(
 
 /// The rights that a list of words stands for.
 #[tactic(auto, unfolding(crate::specs::Fields::rights_in_at))]
-pub fn rights_in(alloc: Global, at: Place, value: &Value, key: &str) -> Result<Rights, ReadFault>
-    ensures { Gives result (spec.rights_in_at at key.now (view value.now)) }
+pub fn rights_in(
+    alloc: Global,
+    at: ItemPlace,
+    value: &Value,
+    key: &str,
+) -> Result<Rights, ReadFault>
+    ensures { GivesReading result (spec.rights_in_at at key.now (view value.now)) }
 {
     let Some(items) = value.as_array() else {
         return Err(fault(alloc, at, WRONG_TYPE, key));
@@ -272,8 +292,8 @@ pub fn rights_in(alloc: Global, at: Place, value: &Value, key: &str) -> Result<R
 
 /// The rights in a field that has to be there.
 #[tactic(auto, unfolding(crate::specs::Fields::rights_at))]
-pub fn rights_of(alloc: Global, at: Place, item: &Value, key: &str) -> Result<Rights, ReadFault>
-    ensures { Gives result (spec.rights_at at key.now (view item.now)) }
+pub fn rights_of(alloc: Global, at: ItemPlace, item: &Value, key: &str) -> Result<Rights, ReadFault>
+    ensures { GivesReading result (spec.rights_at at key.now (view item.now)) }
 {
     let value = needed(alloc, at, item, key)?;
     rights_in(alloc, at, value, key)
@@ -302,7 +322,7 @@ fn unknown_key<'a>(map: &'a Map<String, Value>, known: &[&str]) -> Option<&'a st
 /// The members of an item, which has to be an object.
 pub fn object_of<'a>(
     alloc: Global,
-    at: Place,
+    at: ItemPlace,
     item: &'a Value,
 ) -> Result<&'a Map<String, Value>, ReadFault>
     ensures { GivesBy (λ m. members_view m.now.entries) result
@@ -317,11 +337,11 @@ pub fn object_of<'a>(
 /// The least key that isn't among the known ones is refused.
 pub fn check_known(
     alloc: Global,
-    at: Place,
+    at: ItemPlace,
     members: &Map<String, Value>,
     known: &[&str],
 ) -> Result<(), ReadFault>
-    ensures { Gives result
+    ensures { GivesReading result
         (spec.known_at at (map_now known.now) (members_view members.now.entries)) }
 {
     match unknown_key(members, known) {

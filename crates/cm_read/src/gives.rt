@@ -5,16 +5,16 @@ ghost use Rattle.std.specs.List.{flat_map};
 ghost use Rattle.serde_json.specs.View.{view};
 ghost use Rattle.cm_read.specs.Items as spec;
 ghost use Rattle.cm_read.specs.Parts as parts;
-ghost use Rattle.cm_read.specs.Reading.{Gives};
+ghost use Rattle.cm_read.specs.ReadingInside.{GivesReading};
 
 use crate::both::both;
-use crate::fault::{Place, ReadFault, fault};
+use crate::fault::{ItemPlace, ReadFault, fault};
 use crate::fields::{name_in, needed, object_of, references_of, rights_in, subdir_of};
 use crate::items::{item_names_of, kind_of, sort_of};
 use crate::known::{Object, check_keys};
 use crate::number::NOT_WITH_MANY;
-use crate::rows::{Asked, OfferRow, Sort, Terms, give_rows, offer_rows, storage_offers_from};
-use crate::sections::Item;
+use crate::rows::{AskedTerms, OfferRow, Sort, Terms, give_rows, offer_rows, storage_offers_from};
+use crate::sections::SectionItem;
 use crate::storage::storage_names_of;
 use crate::words::{
     dependency_of, expose_from_of, expose_to_of, given_availability_of, offer_from_of, settle,
@@ -27,8 +27,8 @@ use std::alloc::Global;
 
 /// The target name that a value is.
 #[tactic(auto, unfolding(crate::specs::Items::as_in_at))]
-fn as_in(alloc: Global, at: Place, names: &[Name], value: &Value) -> Result<Name, ReadFault>
-    ensures { Gives result (spec.as_in_at at names.now (view value.now)) }
+fn as_in(alloc: Global, at: ItemPlace, names: &[Name], value: &Value) -> Result<Name, ReadFault>
+    ensures { GivesReading result (spec.as_in_at at names.now (view value.now)) }
 {
     let name = name_in(alloc, at, value, "as")?;
     if names.len() > 1 {
@@ -41,11 +41,11 @@ fn as_in(alloc: Global, at: Place, names: &[Name], value: &Value) -> Result<Name
 #[tactic(auto, unfolding(crate::specs::Items::as_at))]
 pub fn as_of(
     alloc: Global,
-    at: Place,
+    at: ItemPlace,
     names: &[Name],
     item: &Value,
 ) -> Result<Option<Name>, ReadFault>
-    ensures { Gives result (spec.as_at at names.now (view item.now)) }
+    ensures { GivesReading result (spec.as_at at names.now (view item.now)) }
 {
     let Some(value) = item.get("as") else {
         return Ok(None);
@@ -56,8 +56,8 @@ pub fn as_of(
 
 /// `rights` that may be missing.
 #[tactic(auto, unfolding(crate::specs::Items::given_rights_at))]
-fn given_rights_of(alloc: Global, at: Place, item: &Value) -> Result<Option<Rights>, ReadFault>
-    ensures { Gives result (spec.given_rights_at at (view item.now)) }
+fn given_rights_of(alloc: Global, at: ItemPlace, item: &Value) -> Result<Option<Rights>, ReadFault>
+    ensures { GivesReading result (spec.given_rights_at at (view item.now)) }
 {
     let Some(value) = item.get("rights") else {
         return Ok(None);
@@ -68,8 +68,8 @@ fn given_rights_of(alloc: Global, at: Place, item: &Value) -> Result<Option<Righ
 
 /// `to` of an offer, which has to be there.
 #[tactic(auto, unfolding(crate::specs::Items::targets_at))]
-fn targets_of(alloc: Global, at: Place, item: &Value) -> Result<List<Name>, ReadFault>
-    ensures { Gives result (spec.targets_at at (view item.now)) }
+fn targets_of(alloc: Global, at: ItemPlace, item: &Value) -> Result<List<Name>, ReadFault>
+    ensures { GivesReading result (spec.targets_at at (view item.now)) }
 {
     let value = needed(alloc, at, item, "to")?;
     references_of(alloc, at, value, "to")
@@ -79,11 +79,11 @@ fn targets_of(alloc: Global, at: Place, item: &Value) -> Result<List<Name>, Read
 #[tactic(auto, unfolding(crate::specs::Parts::asked_at))]
 fn asked_of(
     alloc: Global,
-    at: Place,
+    at: ItemPlace,
     names: &[Name],
     dependency: Result<Dependency, ReadFault>,
     item: &Value,
-) -> Result<Asked, ReadFault>
+) -> Result<AskedTerms, ReadFault>
     ensures { parts.GivesAsked dependency at names.now (view item.now) result }
 {
     let read = both(
@@ -100,7 +100,7 @@ fn asked_of(
         ),
     )?;
     let ((target, rights), ((subdir, dependency), (availability, unknown))) = read;
-    Ok(Asked {
+    Ok(AskedTerms {
         target,
         rights,
         subdir,
@@ -111,7 +111,7 @@ fn asked_of(
 }
 
 /// The terms of an item of that kind from that source, beside these declared children.
-fn terms_by(kind: Kind, from: Origin, children: &[Child], asked: Asked) -> Terms
+fn terms_by(kind: Kind, from: Origin, children: &[Child], asked: AskedTerms) -> Terms
     ensures { result ≡ parts.terms_by kind children.now from asked }
 {
     Terms {
@@ -157,12 +157,12 @@ fn offer_by(
 fn offered(
     alloc: Global,
     kind: Kind,
-    at: Place,
+    at: ItemPlace,
     children: &[Child],
     names: &[Name],
     item: &Value,
 ) -> Result<List<OfferRow>, ReadFault>
-    ensures { Gives result (spec.offered_at kind children.now at names.now (view item.now)) }
+    ensures { GivesReading result (spec.offered_at kind children.now at names.now (view item.now)) }
 {
     let read = both(
         both(offer_from_of(alloc, at, item), targets_of(alloc, at, item)),
@@ -178,11 +178,11 @@ fn offered(
 fn routed_offer(
     alloc: Global,
     kind: Kind,
-    at: Place,
+    at: ItemPlace,
     children: &[Child],
     item: &Value,
 ) -> Result<List<OfferRow>, ReadFault>
-    ensures { Gives result (spec.routed_offer_at kind children.now at (view item.now)) }
+    ensures { GivesReading result (spec.routed_offer_at kind children.now at (view item.now)) }
 {
     let names = item_names_of(alloc, kind, at, item)?;
     offered(alloc, kind, at, children, names.as_slice(), item)
@@ -192,11 +192,11 @@ fn routed_offer(
 #[tactic(auto, unfolding(crate::specs::Items::storages_offered_at))]
 fn storages_offered(
     alloc: Global,
-    at: Place,
+    at: ItemPlace,
     names: &[Name],
     item: &Value,
 ) -> Result<List<OfferRow>, ReadFault>
-    ensures { Gives result (spec.storages_offered_at at names.now (view item.now)) }
+    ensures { GivesReading result (spec.storages_offered_at at names.now (view item.now)) }
 {
     let read = both(
         both(
@@ -214,14 +214,14 @@ fn storages_offered(
 
 /// The rows of a storage that is offered; its availability isn't kept.
 #[tactic(auto, unfolding(crate::specs::Items::storage_offer_at))]
-fn storage_offer(alloc: Global, at: Place, item: &Value) -> Result<List<OfferRow>, ReadFault>
-    ensures { Gives result (spec.storage_offer_at at (view item.now)) }
+fn storage_offer(alloc: Global, at: ItemPlace, item: &Value) -> Result<List<OfferRow>, ReadFault>
+    ensures { GivesReading result (spec.storage_offer_at at (view item.now)) }
 {
     let names = storage_names_of(alloc, at, item)?;
     storages_offered(alloc, at, names.as_slice(), item)
 }
 
-impl Item for OfferRow {
+impl SectionItem for OfferRow {
     ghost use Rattle.cm_read.specs.Items.{offer_at};
 
     ghost reads = { offer_at };
@@ -229,7 +229,7 @@ impl Item for OfferRow {
     #[tactic(auto, unfolding(crate::specs::Items::offer_at))]
     fn read(
         alloc: Global,
-        at: Place,
+        at: ItemPlace,
         children: &[Child],
         item: &Value,
     ) -> Result<List<OfferRow>, ReadFault> {
@@ -255,12 +255,12 @@ fn expose_by(alloc: Global, terms: Terms, names: &[Name]) -> Result<List<Give>, 
 fn exposed(
     alloc: Global,
     kind: Kind,
-    at: Place,
+    at: ItemPlace,
     children: &[Child],
     names: &[Name],
     item: &Value,
 ) -> Result<List<Give>, ReadFault>
-    ensures { Gives result (spec.exposed_at kind children.now at names.now (view item.now)) }
+    ensures { GivesReading result (spec.exposed_at kind children.now at names.now (view item.now)) }
 {
     let read = both(
         both(
@@ -274,7 +274,7 @@ fn exposed(
     Ok(expose_by(alloc, terms, names)?)
 }
 
-impl Item for Give {
+impl SectionItem for Give {
     ghost use Rattle.cm_read.specs.Items.{expose_at};
 
     ghost reads = { expose_at };
@@ -282,7 +282,7 @@ impl Item for Give {
     #[tactic(auto, unfolding(crate::specs::Items::expose_at))]
     fn read(
         alloc: Global,
-        at: Place,
+        at: ItemPlace,
         children: &[Child],
         item: &Value,
     ) -> Result<List<Give>, ReadFault> {

@@ -3,17 +3,17 @@
 ghost use Rattle.std.specs.Prelude.{◌≡◌};
 ghost use Rattle.serde_json.specs.View.{view};
 ghost use Rattle.cm_read.specs.Items as spec;
-ghost use Rattle.cm_read.specs.Reading.{Gives};
+ghost use Rattle.cm_read.specs.ReadingInside.{GivesReading};
 
 use crate::both::both;
-use crate::fault::{Place, ReadFault, fault};
+use crate::fault::{ItemPlace, ReadFault, fault};
 use crate::fields::{
     name_of, names_of, needed, object_of, path_in, path_of, rights_of, subdir_of, url_of,
 };
 use crate::known::{Object, check_keys};
 use crate::number::{KIND_COUNT, NOT_WITH_MANY};
 use crate::rows::{CapabilityRow, Sort, UseRow, one_row, protocol_rows, uses_from};
-use crate::sections::Item;
+use crate::sections::SectionItem;
 use crate::storage::{storage_capability, storage_use};
 use crate::words::{
     allowed_offers_of, availability_of, dependency_of, durability_of, environment_of, startup_of,
@@ -27,8 +27,8 @@ use std::alloc::Global;
 
 /// The row of an item of `children`, whose fields are known.
 #[tactic(auto, unfolding(crate::specs::Items::child_row_at))]
-fn child_row(alloc: Global, at: Place, item: &Value) -> Result<List<Child>, ReadFault>
-    ensures { Gives result (spec.child_row_at at (view item.now)) }
+fn child_row(alloc: Global, at: ItemPlace, item: &Value) -> Result<List<Child>, ReadFault>
+    ensures { GivesReading result (spec.child_row_at at (view item.now)) }
 {
     let read = both(
         both(
@@ -47,7 +47,7 @@ fn child_row(alloc: Global, at: Place, item: &Value) -> Result<List<Child>, Read
     one_row(alloc, row)
 }
 
-impl Item for Child {
+impl SectionItem for Child {
     ghost use Rattle.cm_read.specs.Items.{child_at};
 
     ghost reads = { λ _. child_at };
@@ -55,7 +55,7 @@ impl Item for Child {
     #[tactic(auto, unfolding(crate::specs::Items::child_at))]
     fn read(
         alloc: Global,
-        at: Place,
+        at: ItemPlace,
         _children: &[Child],
         item: &Value,
     ) -> Result<List<Child>, ReadFault> {
@@ -67,8 +67,8 @@ impl Item for Child {
 
 /// The row of an item of `collections`, whose fields are known.
 #[tactic(auto, unfolding(crate::specs::Items::collection_row_at))]
-fn collection_row(alloc: Global, at: Place, item: &Value) -> Result<List<Collection>, ReadFault>
-    ensures { Gives result (spec.collection_row_at at (view item.now)) }
+fn collection_row(alloc: Global, at: ItemPlace, item: &Value) -> Result<List<Collection>, ReadFault>
+    ensures { GivesReading result (spec.collection_row_at at (view item.now)) }
 {
     let read = both(
         both(
@@ -90,7 +90,7 @@ fn collection_row(alloc: Global, at: Place, item: &Value) -> Result<List<Collect
     one_row(alloc, row)
 }
 
-impl Item for Collection {
+impl SectionItem for Collection {
     ghost use Rattle.cm_read.specs.Items.{collection_at};
 
     ghost reads = { λ _. collection_at };
@@ -98,7 +98,7 @@ impl Item for Collection {
     #[tactic(auto, unfolding(crate::specs::Items::collection_at))]
     fn read(
         alloc: Global,
-        at: Place,
+        at: ItemPlace,
         _children: &[Child],
         item: &Value,
     ) -> Result<List<Collection>, ReadFault> {
@@ -110,8 +110,8 @@ impl Item for Collection {
 
 /// What an item with exactly one of the three fields is about.
 #[tactic(auto, unfolding(crate::specs::Items::sort_at))]
-pub fn sort_of(alloc: Global, at: Place, item: &Value) -> Result<Sort, ReadFault>
-    ensures { Gives result (spec.sort_at at (view item.now)) }
+pub fn sort_of(alloc: Global, at: ItemPlace, item: &Value) -> Result<Sort, ReadFault>
+    ensures { GivesReading result (spec.sort_at at (view item.now)) }
 {
     match (
         item.get("protocol"),
@@ -127,8 +127,8 @@ pub fn sort_of(alloc: Global, at: Place, item: &Value) -> Result<Sort, ReadFault
 
 /// The kind of an item with exactly one of the two fields.
 #[tactic(auto, unfolding(crate::specs::Items::kind_at))]
-pub fn kind_of(alloc: Global, at: Place, item: &Value) -> Result<Kind, ReadFault>
-    ensures { Gives result (spec.kind_at at (view item.now)) }
+pub fn kind_of(alloc: Global, at: ItemPlace, item: &Value) -> Result<Kind, ReadFault>
+    ensures { GivesReading result (spec.kind_at at (view item.now)) }
 {
     match (item.get("protocol"), item.get("directory")) {
         (Some(_), None) => Ok(Kind::Protocol),
@@ -139,8 +139,8 @@ pub fn kind_of(alloc: Global, at: Place, item: &Value) -> Result<Kind, ReadFault
 
 /// The name of a directory that is provided or used.
 #[tactic(auto, unfolding(crate::specs::Items::directory_name_at))]
-fn directory_name_of(alloc: Global, at: Place, item: &Value) -> Result<Name, ReadFault>
-    ensures { Gives result (spec.directory_name_at at (view item.now)) }
+fn directory_name_of(alloc: Global, at: ItemPlace, item: &Value) -> Result<Name, ReadFault>
+    ensures { GivesReading result (spec.directory_name_at at (view item.now)) }
 {
     name_of(alloc, at, item, "directory")
 }
@@ -150,10 +150,10 @@ fn directory_name_of(alloc: Global, at: Place, item: &Value) -> Result<Name, Rea
 pub fn item_names_of(
     alloc: Global,
     kind: Kind,
-    at: Place,
+    at: ItemPlace,
     item: &Value,
 ) -> Result<List<Name>, ReadFault>
-    ensures { Gives result (spec.item_names_at kind at (view item.now)) }
+    ensures { GivesReading result (spec.item_names_at kind at (view item.now)) }
 {
     let value = needed(alloc, at, item, word_of(kind))?;
     names_of(alloc, at, value, word_of(kind))
@@ -163,11 +163,11 @@ pub fn item_names_of(
 #[tactic(auto, unfolding(crate::specs::Items::protocol_path_in_at))]
 fn protocol_path_in(
     alloc: Global,
-    at: Place,
+    at: ItemPlace,
     names: &[Name],
     value: &Value,
 ) -> Result<CapPath, ReadFault>
-    ensures { Gives result (spec.protocol_path_in_at at names.now (view value.now)) }
+    ensures { GivesReading result (spec.protocol_path_in_at at names.now (view value.now)) }
 {
     let path = path_in(alloc, at, value, "path")?;
     if names.len() > 1 {
@@ -180,11 +180,11 @@ fn protocol_path_in(
 #[tactic(auto, unfolding(crate::specs::Items::protocol_path_at))]
 fn protocol_path_of(
     alloc: Global,
-    at: Place,
+    at: ItemPlace,
     names: &[Name],
     item: &Value,
 ) -> Result<Option<CapPath>, ReadFault>
-    ensures { Gives result (spec.protocol_path_at at names.now (view item.now)) }
+    ensures { GivesReading result (spec.protocol_path_at at names.now (view item.now)) }
 {
     let Some(value) = item.get("path") else {
         return Ok(None);
@@ -197,10 +197,10 @@ fn protocol_path_of(
 #[tactic(auto, unfolding(crate::specs::Items::protocol_capability_at))]
 fn protocol_capability(
     alloc: Global,
-    at: Place,
+    at: ItemPlace,
     item: &Value,
 ) -> Result<List<CapabilityRow>, ReadFault>
-    ensures { Gives result (spec.protocol_capability_at at (view item.now)) }
+    ensures { GivesReading result (spec.protocol_capability_at at (view item.now)) }
 {
     let names = item_names_of(alloc, Kind::Protocol, at, item)?;
     let path = protocol_path_of(alloc, at, names.as_slice(), item)?;
@@ -211,10 +211,10 @@ fn protocol_capability(
 #[tactic(auto, unfolding(crate::specs::Items::directory_capability_at))]
 fn directory_capability(
     alloc: Global,
-    at: Place,
+    at: ItemPlace,
     item: &Value,
 ) -> Result<List<CapabilityRow>, ReadFault>
-    ensures { Gives result (spec.directory_capability_at at (view item.now)) }
+    ensures { GivesReading result (spec.directory_capability_at at (view item.now)) }
 {
     let read = both(
         both(
@@ -233,7 +233,7 @@ fn directory_capability(
     one_row(alloc, row)
 }
 
-impl Item for CapabilityRow {
+impl SectionItem for CapabilityRow {
     ghost use Rattle.cm_read.specs.Items.{capability_at};
 
     ghost reads = { λ _. capability_at };
@@ -241,7 +241,7 @@ impl Item for CapabilityRow {
     #[tactic(auto, unfolding(crate::specs::Items::capability_at))]
     fn read(
         alloc: Global,
-        at: Place,
+        at: ItemPlace,
         _children: &[Child],
         item: &Value,
     ) -> Result<List<CapabilityRow>, ReadFault> {
@@ -260,11 +260,11 @@ impl Item for CapabilityRow {
 #[tactic(auto, unfolding(crate::specs::Items::protocols_used_at))]
 fn protocols_used(
     alloc: Global,
-    at: Place,
+    at: ItemPlace,
     names: &[Name],
     item: &Value,
 ) -> Result<List<UseRow>, ReadFault>
-    ensures { Gives result (spec.protocols_used_at at names.now (view item.now)) }
+    ensures { GivesReading result (spec.protocols_used_at at names.now (view item.now)) }
 {
     let read = both(
         both(
@@ -282,8 +282,8 @@ fn protocols_used(
 
 /// The rows of a protocol that is used, one for each name.
 #[tactic(auto, unfolding(crate::specs::Items::protocol_use_at))]
-fn protocol_use(alloc: Global, at: Place, item: &Value) -> Result<List<UseRow>, ReadFault>
-    ensures { Gives result (spec.protocol_use_at at (view item.now)) }
+fn protocol_use(alloc: Global, at: ItemPlace, item: &Value) -> Result<List<UseRow>, ReadFault>
+    ensures { GivesReading result (spec.protocol_use_at at (view item.now)) }
 {
     let names = item_names_of(alloc, Kind::Protocol, at, item)?;
     protocols_used(alloc, at, names.as_slice(), item)
@@ -291,8 +291,8 @@ fn protocol_use(alloc: Global, at: Place, item: &Value) -> Result<List<UseRow>, 
 
 /// The row of a directory that is used.
 #[tactic(auto, unfolding(crate::specs::Items::directory_use_at))]
-fn directory_use(alloc: Global, at: Place, item: &Value) -> Result<List<UseRow>, ReadFault>
-    ensures { Gives result (spec.directory_use_at at (view item.now)) }
+fn directory_use(alloc: Global, at: ItemPlace, item: &Value) -> Result<List<UseRow>, ReadFault>
+    ensures { GivesReading result (spec.directory_use_at at (view item.now)) }
 {
     let read = both(
         both(
@@ -327,7 +327,7 @@ fn directory_use(alloc: Global, at: Place, item: &Value) -> Result<List<UseRow>,
     one_row(alloc, row)
 }
 
-impl Item for UseRow {
+impl SectionItem for UseRow {
     ghost use Rattle.cm_read.specs.Items.{use_at};
 
     ghost reads = { λ _. use_at };
@@ -335,7 +335,7 @@ impl Item for UseRow {
     #[tactic(auto, unfolding(crate::specs::Items::use_at))]
     fn read(
         alloc: Global,
-        at: Place,
+        at: ItemPlace,
         _children: &[Child],
         item: &Value,
     ) -> Result<List<UseRow>, ReadFault> {

@@ -2,12 +2,13 @@
 
 ghost use Rattle.std.specs.Prelude.{◌≡◌};
 ghost use Rattle.serde_json.specs.View.{members_view};
-ghost use Rattle.cm_read.specs.Fields.{known_at, map_now};
+ghost use Rattle.cm_read.specs.Fields.{known_at};
+ghost use Rattle.cm_read.specs.FieldsInside.{map_now};
 ghost use Rattle.cm_read.specs.Items.{capability_fields, use_fields, offer_fields, expose_fields};
 ghost use Rattle.cm_read.specs.Known as spec;
-ghost use Rattle.cm_read.specs.Reading.{Gives};
+ghost use Rattle.cm_read.specs.ReadingInside.{GivesReading};
 
-use crate::fault::{Place, ReadFault};
+use crate::fault::{ItemPlace, ReadFault};
 use crate::fields::check_known;
 use crate::rows::{Registry, Sort};
 use cm_decl::Kind;
@@ -160,11 +161,11 @@ fn keys_of(object: Object) -> &'static [&'static str]
 /// The members of an object have known keys alone.
 pub fn check_keys(
     alloc: Global,
-    at: Place,
+    at: ItemPlace,
     object: Object,
     members: &Map<String, Value>,
 ) -> Result<(), ReadFault>
-    ensures { Gives result (known_at at (spec.keys_of object) (members_view members.now.entries)) }
+    ensures { GivesReading result (known_at at (spec.keys_of object) (members_view members.now.entries)) }
 {
     check_known(alloc, at, members, keys_of(object))
 }

@@ -1,7 +1,7 @@
 //! What holds of every manifest and declaration, as functions with empty bodies.
 
-ghost use Rattle.cm_read.specs.Readable.{TextsAreReadBack, ReadableIsWellFormed};
-ghost use Rattle.cm_read.specs.Readable.{WhatIsReadIsReadable, WhatIsReadIsReadBack};
+ghost use Rattle.cm_read.specs.ReadableInside.{TextsAreReadBack, ReadableIsWellFormed};
+ghost use Rattle.cm_read.specs.ReadableInside.{WhatIsReadIsReadable, WhatIsReadIsReadBack};
 
 /// The text of a declaration that a manifest can have is read as that declaration.
 #[tactic(auto, using(crate::proofs::back::TextBack::texts_are_read_back_lem))]

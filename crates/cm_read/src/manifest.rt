@@ -7,7 +7,7 @@ ghost use Rattle.cm_text.specs.Json.{json_of};
 ghost use Rattle.cm_decl.specs.Valid.{is_well_formed};
 ghost use Rattle.cm_read.specs.Manifest as spec;
 ghost use Rattle.cm_read.specs.Readable.{IsReadable};
-ghost use Rattle.cm_read.specs.Reading.{Gives, GivesBy};
+ghost use Rattle.cm_read.specs.ReadingInside.{GivesReading, GivesBy};
 ghost use Rattle.cm_read.specs.Sections.{section_at};
 
 use crate::apart::put_rows;
@@ -16,7 +16,7 @@ use crate::fields::{name_of, object_of};
 use crate::known::{Object, check_keys};
 use crate::number::{NOT_JSON, NOT_OBJECT, NOT_UTF8, TOO_LARGE};
 use crate::rows::SectionRows;
-use crate::sections::{Item, section_of};
+use crate::sections::{SectionItem, section_of};
 use cm_decl::{Child, Decl, Section};
 use cm_names::{List, Memory, Name, Text};
 use cm_plain::{is_plain_text, read_plain};
@@ -30,7 +30,7 @@ const MAX_BYTES: usize = 1_048_576;
 /// The runner of a program.
 #[tactic(auto, unfolding(crate::specs::Manifest::program_at))]
 fn program_in(alloc: Global, value: &Value) -> Result<Name, ReadFault>
-    ensures { Gives result (spec.program_at (view value.now)) }
+    ensures { GivesReading result (spec.program_at (view value.now)) }
 {
     object_of(alloc, start(Section::Program), value)?;
     name_of(alloc, start(Section::Program), value, "runner")
@@ -39,7 +39,7 @@ fn program_in(alloc: Global, value: &Value) -> Result<Name, ReadFault>
 /// The runner, if there is a program.
 #[tactic(auto, unfolding(crate::specs::Manifest::runner_at))]
 fn runner_of(alloc: Global, value: &Value) -> Result<Option<Name>, ReadFault>
-    ensures { Gives result (spec.runner_at (view value.now)) }
+    ensures { GivesReading result (spec.runner_at (view value.now)) }
 {
     let Some(value) = value.get("program") else {
         return Ok(None);
@@ -51,7 +51,7 @@ fn runner_of(alloc: Global, value: &Value) -> Result<Option<Name>, ReadFault>
 /// The manifest is an object with known sections alone.
 #[tactic(auto, unfolding(crate::specs::Manifest::sections_at))]
 fn check_sections(alloc: Global, value: &Value) -> Result<(), ReadFault>
-    ensures { Gives result (spec.sections_at (view value.now)) }
+    ensures { GivesReading result (spec.sections_at (view value.now)) }
 {
     let Some(members) = value.as_object() else {
         return Err(whole(alloc, NOT_OBJECT));
@@ -62,7 +62,7 @@ fn check_sections(alloc: Global, value: &Value) -> Result<(), ReadFault>
 /// The rows of `children`.
 #[tactic(auto, unfolding(crate::specs::Manifest::children_at))]
 fn children_of(alloc: Global, value: &Value) -> Result<List<Child>, ReadFault>
-    ensures { Gives result (spec.children_at (view value.now)) }
+    ensures { GivesReading result (spec.children_at (view value.now)) }
 {
     let none = List::new(alloc);
     section_of::<Child>(
@@ -106,7 +106,7 @@ fn read_sections(alloc: Global, value: &Value, rows: &mut SectionRows) -> Result
 
 /// The rows of all sections that list them.
 fn section_rows_of(alloc: Global, value: &Value) -> Result<SectionRows, ReadFault>
-    ensures { Gives result (spec.section_rows_at (view value.now)) }
+    ensures { GivesReading result (spec.section_rows_at (view value.now)) }
 {
     let mut rows = SectionRows {
         children: List::new(alloc),
@@ -159,7 +159,7 @@ fn declared_by(alloc: Global, runner: Option<Name>, rows: SectionRows) -> Result
 /// The declaration that a value is.
 #[tactic(auto, unfolding(crate::specs::Manifest::decl_at))]
 fn decl_of(alloc: Global, value: &Value) -> Result<Decl, ReadFault>
-    ensures { Gives result (spec.decl_at (view value.now)) }
+    ensures { GivesReading result (spec.decl_at (view value.now)) }
 {
     check_sections(alloc, value)?;
     let runner = runner_of(alloc, value)?;
@@ -179,7 +179,7 @@ fn decl_of(alloc: Global, value: &Value) -> Result<Decl, ReadFault>
 /// [`ReadFault`] says when each fault comes; `Err(Memory)` where memory runs out.
 #[tactic(auto, using(crate::proofs::reading::DeclRead::is_of_data))]
 pub fn read_decl_text(alloc: Global, text: &str) -> Result<Decl, ReadFault>
-    ensures decl { Gives result (spec.decl_of_json text.now) }
+    ensures decl { GivesReading result (spec.decl_of_json text.now) }
     ensures readable { IfOk result IsReadable }
     ensures formed { IfOk result (λ d. IsTrue (is_well_formed d)) }
 {
@@ -215,7 +215,7 @@ fn text_of(alloc: Global, bytes: &[u8]) -> Result<&str, ReadFault>
 /// The JSON text of a text in the relaxed spelling.
 fn json_text(alloc: Global, text: &str) -> Result<Text, ReadFault>
     requires { length text.now < 2 ^ 32 }
-    ensures { Gives result (spec.json_text (json_of text.now)) }
+    ensures { GivesReading result (spec.json_text (json_of text.now)) }
 {
     match cm_text::to_json(alloc, text) {
         Ok(json) => Ok(json),
@@ -228,7 +228,7 @@ fn json_text(alloc: Global, text: &str) -> Result<Text, ReadFault>
 /// itself, and its JSON isn't written.
 fn decl_of_text(alloc: Global, text: &str) -> Result<Decl, ReadFault>
     requires { length text.now < 2 ^ 32 }
-    ensures decl { Gives result (spec.decl_of_text text.now) }
+    ensures decl { GivesReading result (spec.decl_of_text text.now) }
     ensures readable { IfOk result IsReadable }
     ensures formed { IfOk result (λ d. IsTrue (is_well_formed d)) }
 {
@@ -297,7 +297,7 @@ fn decl_of_text(alloc: Global, text: &str) -> Result<Decl, ReadFault>
 ///
 /// [`ReadFault`] says when each fault comes; `Err(Memory)` where memory runs out.
 pub fn read_decl(alloc: Global, bytes: &[u8]) -> Result<Decl, ReadFault>
-    ensures decl { Gives result (spec.decl_of_bytes bytes.now) }
+    ensures decl { GivesReading result (spec.decl_of_bytes bytes.now) }
     ensures readable { IfOk result IsReadable }
     ensures formed { IfOk result (λ d. IsTrue (is_well_formed d)) }
 {

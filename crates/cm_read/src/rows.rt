@@ -4,7 +4,7 @@ ghost use Rattle.std.specs.Prelude.{◌≡◌, [], ◌∷◌, ◌++◌, map, IfO
 ghost use Rattle.std.specs.List.{flat_map};
 ghost use Rattle.cm_read.specs.Environments as environments;
 ghost use Rattle.cm_read.specs.Items as spec;
-ghost use Rattle.cm_read.specs.Reading.{Gives};
+ghost use Rattle.cm_read.specs.ReadingInside.{GivesReading};
 
 use crate::fault::ReadFault;
 use cm_decl::copies::{three, two};
@@ -92,7 +92,7 @@ pub struct SectionRows {
 
 /// The list of one row.
 pub fn one_row<T: Drop>(alloc: Global, row: T) -> Result<List<T>, ReadFault>
-    ensures { Gives result (Ok (row ∷ [])) }
+    ensures { GivesReading result (Ok (row ∷ [])) }
 {
     let mut rows = List::new(alloc);
     rows.push(row)?;
@@ -264,7 +264,7 @@ pub struct Terms {
 
 /// What an item of `offer` or `expose` asks of what it gives.
 #[derive(Drop)]
-pub struct Asked {
+pub struct AskedTerms {
     /// `as`, if it is there.
     pub target: Option<Name>,
     /// `rights`, if they are there.

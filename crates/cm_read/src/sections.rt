@@ -2,10 +2,10 @@
 
 ghost use Rattle.std.specs.Prelude.{option_map};
 ghost use Rattle.serde_json.specs.View.{view, items_view};
-ghost use Rattle.cm_read.specs.Reading.{Gives};
+ghost use Rattle.cm_read.specs.ReadingInside.{GivesReading};
 ghost use Rattle.cm_read.specs.Sections.{section_at, rows_at};
 
-use crate::fault::{Place, ReadFault, fault, start};
+use crate::fault::{ItemPlace, ReadFault, fault, start};
 use crate::number::{TOO_MANY_ROWS, WRONG_TYPE};
 use cm_decl::{Child, Section};
 use cm_names::List;
@@ -16,33 +16,33 @@ use std::alloc::Global;
 const MAX_ROWS: usize = 16_384;
 
 /// The rows of a section, which are read item by item.
-pub trait Item: Drop {
+pub trait SectionItem: Drop {
     ghost use Rattle.std.specs.Prelude.{List};
     ghost use Rattle.serde_json.specs.Data.{Data};
-    ghost use Rattle.cm_read.specs.Reading.{Read};
-    ghost use Rattle.cm_read.specs.declared.fault.Place.{Place};
+    ghost use Rattle.cm_read.specs.Reading.{ReadResult};
+    ghost use Rattle.cm_read.specs.declared.fault.ItemPlace.{ItemPlace};
     ghost use Rattle.cm_decl.specs.declared.rows.Child.{Child as DeclaredChild};
 
-    ghost reads: { List DeclaredChild → Place → Data → Read (List Self) };
+    ghost reads: { List DeclaredChild → ItemPlace → Data → ReadResult (List Self) };
 
     /// The rows that the item at that place gives beside these declared children.
     fn read(
         alloc: Global,
-        at: Place,
+        at: ItemPlace,
         children: &[Child],
         item: &Value,
     ) -> Result<List<Self>, ReadFault>
-        ensures { Gives result (reads children.now at (view item.now)) };
+        ensures { GivesReading result (reads children.now at (view item.now)) };
 }
 
 /// The rows of the items, one item after another.
-fn rows_of<T: Item>(
+fn rows_of<T: SectionItem>(
     alloc: Global,
-    start: Place,
+    start: ItemPlace,
     children: &[Child],
     items: &[Value],
 ) -> Result<List<T>, ReadFault>
-    ensures { Gives result (rows_at (T.reads children.now) start (items_view items.now)) }
+    ensures { GivesReading result (rows_at (T.reads children.now) start (items_view items.now)) }
 {
     let mut rows = List::with_capacity(alloc, items.len().min(MAX_ROWS))?;
     let mut at = start;
@@ -54,13 +54,13 @@ fn rows_of<T: Item>(
 }
 
 /// The rows of a section beside these declared children: none where it is missing.
-pub fn section_of<T: Item>(
+pub fn section_of<T: SectionItem>(
     alloc: Global,
     section: Section,
     children: &[Child],
     value: Option<&Value>,
 ) -> Result<List<T>, ReadFault>
-    ensures { Gives result
+    ensures { GivesReading result
         (section_at (T.reads children.now) section
         (option_map (λ v. view v.now) value.entry)) }
 {

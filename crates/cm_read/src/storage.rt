@@ -2,10 +2,10 @@
 
 ghost use Rattle.serde_json.specs.View.{view};
 ghost use Rattle.cm_read.specs.Items as spec;
-ghost use Rattle.cm_read.specs.Reading.{Gives};
+ghost use Rattle.cm_read.specs.ReadingInside.{GivesReading};
 
 use crate::both::both;
-use crate::fault::{Place, ReadFault};
+use crate::fault::{ItemPlace, ReadFault};
 use crate::fields::{name_of, names_of, needed, path_of, subdir_of};
 use crate::rows::{CapabilityRow, UseRow, one_row};
 use crate::words::{availability_of, static_from_of, storage_id_of, storage_use_from_of};
@@ -17,10 +17,10 @@ use std::alloc::Global;
 /// The row of a storage that is provided.
 pub fn storage_capability(
     alloc: Global,
-    at: Place,
+    at: ItemPlace,
     item: &Value,
 ) -> Result<List<CapabilityRow>, ReadFault>
-    ensures { Gives result (spec.storage_at at (view item.now)) }
+    ensures { GivesReading result (spec.storage_at at (view item.now)) }
 {
     let read = both(
         both(
@@ -48,8 +48,8 @@ pub fn storage_capability(
 
 /// The row of a storage that is used; its availability isn't kept.
 #[tactic(auto, unfolding(crate::specs::Items::storage_use_at, crate::specs::Items::storage_name_at))]
-pub fn storage_use(alloc: Global, at: Place, item: &Value) -> Result<List<UseRow>, ReadFault>
-    ensures { Gives result (spec.storage_use_at at (view item.now)) }
+pub fn storage_use(alloc: Global, at: ItemPlace, item: &Value) -> Result<List<UseRow>, ReadFault>
+    ensures { GivesReading result (spec.storage_use_at at (view item.now)) }
 {
     let read = both(
         both(
@@ -67,8 +67,8 @@ pub fn storage_use(alloc: Global, at: Place, item: &Value) -> Result<List<UseRow
 
 /// The names of storages that are offered, one or more.
 #[tactic(auto, unfolding(crate::specs::Items::storage_names_at))]
-pub fn storage_names_of(alloc: Global, at: Place, item: &Value) -> Result<List<Name>, ReadFault>
-    ensures { Gives result (spec.storage_names_at at (view item.now)) }
+pub fn storage_names_of(alloc: Global, at: ItemPlace, item: &Value) -> Result<List<Name>, ReadFault>
+    ensures { GivesReading result (spec.storage_names_at at (view item.now)) }
 {
     let value = needed(alloc, at, item, "storage")?;
     names_of(alloc, at, value, "storage")

@@ -5,9 +5,11 @@ ghost use Rattle.serde_json.specs.View.{view};
 ghost use Rattle.cm_read.specs.Fields as fields;
 ghost use Rattle.cm_read.specs.Numbers.{unknown_word};
 ghost use Rattle.cm_read.specs.Words as spec;
-ghost use Rattle.cm_read.specs.Reading.{Gives, bad};
+ghost use Rattle.cm_read.specs.WordsInside as spec_inside;
+ghost use Rattle.cm_read.specs.Reading.{bad};
+ghost use Rattle.cm_read.specs.ReadingInside.{GivesReading};
 
-use crate::fault::{Place, ReadFault, fault};
+use crate::fault::{ItemPlace, ReadFault, fault};
 use crate::fields::{behind_mark, name_from, needed, text_of};
 use crate::number::{BAD_NAME, UNKNOWN_WORD};
 use crate::rows::UseSource;
@@ -18,7 +20,7 @@ use std::alloc::Global;
 
 /// What one of two words says.
 fn flag_named(off: &str, on: &str, text: &str) -> Option<bool>
-    ensures { result ≡ spec.flag_named off.now on.now text.now }
+    ensures { result ≡ spec_inside.flag_named off.now on.now text.now }
 {
     if text == off {
         Some(false)
@@ -161,8 +163,13 @@ fn expose_target_named(text: &str) -> Option<()>
 }
 
 /// What a listed word means; a word that isn't listed is a fault.
-fn listed<T: Drop>(alloc: Global, at: Place, key: &str, named: Option<T>) -> Result<T, ReadFault>
-    ensures { Gives result (ok_or named (bad at unknown_word key.now)) }
+fn listed<T: Drop>(
+    alloc: Global,
+    at: ItemPlace,
+    key: &str,
+    named: Option<T>,
+) -> Result<T, ReadFault>
+    ensures { GivesReading result (ok_or named (bad at unknown_word key.now)) }
 {
     match named {
         Some(meaning) => Ok(meaning),
@@ -173,13 +180,13 @@ fn listed<T: Drop>(alloc: Global, at: Place, key: &str, named: Option<T>) -> Res
 /// A field with one of two words, by default the first.
 fn flag_of(
     alloc: Global,
-    at: Place,
+    at: ItemPlace,
     item: &Value,
     key: &str,
     off: &str,
     on: &str,
 ) -> Result<bool, ReadFault>
-    ensures { Gives result (spec.flag_at key.now off.now on.now at (view item.now)) }
+    ensures { GivesReading result (spec_inside.flag_at key.now off.now on.now at (view item.now)) }
 {
     let Some(value) = item.get(key) else {
         return Ok(false);
@@ -190,16 +197,16 @@ fn flag_of(
 
 /// `startup`, by default `lazy`.
 #[tactic(auto, unfolding(crate::specs::Words::startup_at, crate::specs::Words::startup_named))]
-pub fn startup_of(alloc: Global, at: Place, item: &Value) -> Result<bool, ReadFault>
-    ensures { Gives result (spec.startup_at at (view item.now)) }
+pub fn startup_of(alloc: Global, at: ItemPlace, item: &Value) -> Result<bool, ReadFault>
+    ensures { GivesReading result (spec.startup_at at (view item.now)) }
 {
     flag_of(alloc, at, item, "startup", "lazy", "eager")
 }
 
 /// `durability`, which has to be there.
 #[tactic(auto, unfolding(crate::specs::Words::durability_at))]
-pub fn durability_of(alloc: Global, at: Place, item: &Value) -> Result<Durability, ReadFault>
-    ensures { Gives result (spec.durability_at at (view item.now)) }
+pub fn durability_of(alloc: Global, at: ItemPlace, item: &Value) -> Result<Durability, ReadFault>
+    ensures { GivesReading result (spec.durability_at at (view item.now)) }
 {
     let value = needed(alloc, at, item, "durability")?;
     let text = text_of(alloc, at, value, "durability")?;
@@ -208,8 +215,8 @@ pub fn durability_of(alloc: Global, at: Place, item: &Value) -> Result<Durabilit
 
 /// `allowed_offers`, by default `static_only`.
 #[tactic(auto, unfolding(crate::specs::Words::allowed_offers_at, crate::specs::Words::offers_named))]
-pub fn allowed_offers_of(alloc: Global, at: Place, item: &Value) -> Result<bool, ReadFault>
-    ensures { Gives result (spec.allowed_offers_at at (view item.now)) }
+pub fn allowed_offers_of(alloc: Global, at: ItemPlace, item: &Value) -> Result<bool, ReadFault>
+    ensures { GivesReading result (spec.allowed_offers_at at (view item.now)) }
 {
     flag_of(
         alloc,
@@ -223,8 +230,8 @@ pub fn allowed_offers_of(alloc: Global, at: Place, item: &Value) -> Result<bool,
 
 /// `dependency`, by default `strong`.
 #[tactic(auto, unfolding(crate::specs::Words::dependency_at))]
-pub fn dependency_of(alloc: Global, at: Place, item: &Value) -> Result<Dependency, ReadFault>
-    ensures { Gives result (spec.dependency_at at (view item.now)) }
+pub fn dependency_of(alloc: Global, at: ItemPlace, item: &Value) -> Result<Dependency, ReadFault>
+    ensures { GivesReading result (spec.dependency_at at (view item.now)) }
 {
     let Some(value) = item.get("dependency") else {
         return Ok(Dependency::Strong);
@@ -235,8 +242,12 @@ pub fn dependency_of(alloc: Global, at: Place, item: &Value) -> Result<Dependenc
 
 /// `availability` of a use, by default `required`.
 #[tactic(auto, unfolding(crate::specs::Words::availability_at))]
-pub fn availability_of(alloc: Global, at: Place, item: &Value) -> Result<Availability, ReadFault>
-    ensures { Gives result (spec.availability_at at (view item.now)) }
+pub fn availability_of(
+    alloc: Global,
+    at: ItemPlace,
+    item: &Value,
+) -> Result<Availability, ReadFault>
+    ensures { GivesReading result (spec.availability_at at (view item.now)) }
 {
     let Some(value) = item.get("availability") else {
         return Ok(Availability::Required);
@@ -249,10 +260,10 @@ pub fn availability_of(alloc: Global, at: Place, item: &Value) -> Result<Availab
 #[tactic(auto, unfolding(crate::specs::Words::given_availability_at))]
 pub fn given_availability_of(
     alloc: Global,
-    at: Place,
+    at: ItemPlace,
     item: &Value,
 ) -> Result<Availability, ReadFault>
-    ensures { Gives result (spec.given_availability_at at (view item.now)) }
+    ensures { GivesReading result (spec.given_availability_at at (view item.now)) }
 {
     let Some(value) = item.get("availability") else {
         return Ok(Availability::Required);
@@ -263,8 +274,8 @@ pub fn given_availability_of(
 
 /// `source_availability`, by default `required`.
 #[tactic(auto, unfolding(crate::specs::Words::source_unknown_at, crate::specs::Words::source_named))]
-pub fn source_unknown_of(alloc: Global, at: Place, item: &Value) -> Result<bool, ReadFault>
-    ensures { Gives result (spec.source_unknown_at at (view item.now)) }
+pub fn source_unknown_of(alloc: Global, at: ItemPlace, item: &Value) -> Result<bool, ReadFault>
+    ensures { GivesReading result (spec.source_unknown_at at (view item.now)) }
 {
     flag_of(
         alloc,
@@ -277,8 +288,8 @@ pub fn source_unknown_of(alloc: Global, at: Place, item: &Value) -> Result<bool,
 }
 
 /// A field that says the parent alone, by default.
-fn parent_alone(alloc: Global, at: Place, item: &Value, key: &str) -> Result<(), ReadFault>
-    ensures { Gives result (spec.parent_alone key.now at (view item.now)) }
+fn parent_alone(alloc: Global, at: ItemPlace, item: &Value, key: &str) -> Result<(), ReadFault>
+    ensures { GivesReading result (spec_inside.parent_alone key.now at (view item.now)) }
 {
     let Some(value) = item.get(key) else {
         return Ok(());
@@ -289,8 +300,8 @@ fn parent_alone(alloc: Global, at: Place, item: &Value, key: &str) -> Result<(),
 
 /// `to` of an expose, by default `parent`.
 #[tactic(auto, unfolding(crate::specs::Words::expose_to_at))]
-pub fn expose_to_of(alloc: Global, at: Place, item: &Value) -> Result<(), ReadFault>
-    ensures { Gives result (spec.expose_to_at at (view item.now)) }
+pub fn expose_to_of(alloc: Global, at: ItemPlace, item: &Value) -> Result<(), ReadFault>
+    ensures { GivesReading result (spec.expose_to_at at (view item.now)) }
 {
     parent_alone(alloc, at, item, "to")
 }
@@ -319,11 +330,11 @@ pub fn settle(from: Origin, unknown: bool, children: &[Child]) -> Origin
 /// The child that a reference names, or what the listed word means.
 fn origin_from(
     alloc: Global,
-    at: Place,
+    at: ItemPlace,
     named: Option<Origin>,
     text: &str,
 ) -> Result<Origin, ReadFault>
-    ensures { Gives result (spec.origin_from at named (fields.behind_mark text.now)) }
+    ensures { GivesReading result (spec.origin_from at named (fields.behind_mark text.now)) }
 {
     match behind_mark(text) {
         Some(name) => {
@@ -336,8 +347,8 @@ fn origin_from(
 
 /// The origin of a use that a value is.
 #[tactic(auto, unfolding(crate::specs::Words::use_from_in_at))]
-fn use_from_in(alloc: Global, at: Place, value: &Value) -> Result<Origin, ReadFault>
-    ensures { Gives result (spec.use_from_in_at at (view value.now)) }
+fn use_from_in(alloc: Global, at: ItemPlace, value: &Value) -> Result<Origin, ReadFault>
+    ensures { GivesReading result (spec.use_from_in_at at (view value.now)) }
 {
     let text = text_of(alloc, at, value, "from")?;
     origin_from(alloc, at, use_origin_named(text), text)
@@ -345,8 +356,8 @@ fn use_from_in(alloc: Global, at: Place, value: &Value) -> Result<Origin, ReadFa
 
 /// The origin of an offer that a value is.
 #[tactic(auto, unfolding(crate::specs::Words::offer_from_in_at))]
-fn offer_from_in(alloc: Global, at: Place, value: &Value) -> Result<Origin, ReadFault>
-    ensures { Gives result (spec.offer_from_in_at at (view value.now)) }
+fn offer_from_in(alloc: Global, at: ItemPlace, value: &Value) -> Result<Origin, ReadFault>
+    ensures { GivesReading result (spec.offer_from_in_at at (view value.now)) }
 {
     let text = text_of(alloc, at, value, "from")?;
     origin_from(alloc, at, offer_origin_named(text), text)
@@ -354,8 +365,8 @@ fn offer_from_in(alloc: Global, at: Place, value: &Value) -> Result<Origin, Read
 
 /// The origin of an expose that a value is.
 #[tactic(auto, unfolding(crate::specs::Words::expose_from_in_at))]
-fn expose_from_in(alloc: Global, at: Place, value: &Value) -> Result<Origin, ReadFault>
-    ensures { Gives result (spec.expose_from_in_at at (view value.now)) }
+fn expose_from_in(alloc: Global, at: ItemPlace, value: &Value) -> Result<Origin, ReadFault>
+    ensures { GivesReading result (spec.expose_from_in_at at (view value.now)) }
 {
     let text = text_of(alloc, at, value, "from")?;
     origin_from(alloc, at, expose_origin_named(text), text)
@@ -363,8 +374,8 @@ fn expose_from_in(alloc: Global, at: Place, value: &Value) -> Result<Origin, Rea
 
 /// `from` of a use, by default `parent`.
 #[tactic(auto, unfolding(crate::specs::Words::use_from_at))]
-pub fn use_from_of(alloc: Global, at: Place, item: &Value) -> Result<Origin, ReadFault>
-    ensures { Gives result (spec.use_from_at at (view item.now)) }
+pub fn use_from_of(alloc: Global, at: ItemPlace, item: &Value) -> Result<Origin, ReadFault>
+    ensures { GivesReading result (spec.use_from_at at (view item.now)) }
 {
     let Some(value) = item.get("from") else {
         return Ok(Origin::Parent);
@@ -374,8 +385,8 @@ pub fn use_from_of(alloc: Global, at: Place, item: &Value) -> Result<Origin, Rea
 
 /// `from` of an offer, which has to be there.
 #[tactic(auto, unfolding(crate::specs::Words::offer_from_at))]
-pub fn offer_from_of(alloc: Global, at: Place, item: &Value) -> Result<Origin, ReadFault>
-    ensures { Gives result (spec.offer_from_at at (view item.now)) }
+pub fn offer_from_of(alloc: Global, at: ItemPlace, item: &Value) -> Result<Origin, ReadFault>
+    ensures { GivesReading result (spec.offer_from_at at (view item.now)) }
 {
     let value = needed(alloc, at, item, "from")?;
     offer_from_in(alloc, at, value)
@@ -383,16 +394,16 @@ pub fn offer_from_of(alloc: Global, at: Place, item: &Value) -> Result<Origin, R
 
 /// `from` of an expose, which has to be there.
 #[tactic(auto, unfolding(crate::specs::Words::expose_from_at))]
-pub fn expose_from_of(alloc: Global, at: Place, item: &Value) -> Result<Origin, ReadFault>
-    ensures { Gives result (spec.expose_from_at at (view item.now)) }
+pub fn expose_from_of(alloc: Global, at: ItemPlace, item: &Value) -> Result<Origin, ReadFault>
+    ensures { GivesReading result (spec.expose_from_at at (view item.now)) }
 {
     let value = needed(alloc, at, item, "from")?;
     expose_from_in(alloc, at, value)
 }
 
 /// What a text says of where a protocol that is used comes from.
-fn source_from(alloc: Global, at: Place, text: &str) -> Result<UseSource, ReadFault>
-    ensures { Gives result (spec.source_from at text.now) }
+fn source_from(alloc: Global, at: ItemPlace, text: &str) -> Result<UseSource, ReadFault>
+    ensures { GivesReading result (spec.source_from at text.now) }
 {
     match text {
         "debug" => Ok(UseSource::Debug),
@@ -405,8 +416,8 @@ fn source_from(alloc: Global, at: Place, text: &str) -> Result<UseSource, ReadFa
 
 /// Where a protocol that is used comes from, as a value says it.
 #[tactic(auto, unfolding(crate::specs::Words::use_source_in_at))]
-fn use_source_in(alloc: Global, at: Place, value: &Value) -> Result<UseSource, ReadFault>
-    ensures { Gives result (spec.use_source_in_at at (view value.now)) }
+fn use_source_in(alloc: Global, at: ItemPlace, value: &Value) -> Result<UseSource, ReadFault>
+    ensures { GivesReading result (spec.use_source_in_at at (view value.now)) }
 {
     let text = text_of(alloc, at, value, "from")?;
     source_from(alloc, at, text)
@@ -414,8 +425,8 @@ fn use_source_in(alloc: Global, at: Place, value: &Value) -> Result<UseSource, R
 
 /// `from` of a protocol that is used, by default `parent`.
 #[tactic(auto, unfolding(crate::specs::Words::use_source_at))]
-pub fn use_source_of(alloc: Global, at: Place, item: &Value) -> Result<UseSource, ReadFault>
-    ensures { Gives result (spec.use_source_at at (view item.now)) }
+pub fn use_source_of(alloc: Global, at: ItemPlace, item: &Value) -> Result<UseSource, ReadFault>
+    ensures { GivesReading result (spec.use_source_at at (view item.now)) }
 {
     let Some(value) = item.get("from") else {
         return Ok(UseSource::From(Origin::Parent));
@@ -425,8 +436,8 @@ pub fn use_source_of(alloc: Global, at: Place, item: &Value) -> Result<UseSource
 
 /// The origin of a registration or a storage that a value is.
 #[tactic(auto, unfolding(crate::specs::Words::static_from_in_at))]
-fn static_from_in(alloc: Global, at: Place, value: &Value) -> Result<Origin, ReadFault>
-    ensures { Gives result (spec.static_from_in_at at (view value.now)) }
+fn static_from_in(alloc: Global, at: ItemPlace, value: &Value) -> Result<Origin, ReadFault>
+    ensures { GivesReading result (spec.static_from_in_at at (view value.now)) }
 {
     let text = text_of(alloc, at, value, "from")?;
     origin_from(alloc, at, static_origin_named(text), text)
@@ -434,8 +445,8 @@ fn static_from_in(alloc: Global, at: Place, value: &Value) -> Result<Origin, Rea
 
 /// `from` of a registration or a storage, which has to be there.
 #[tactic(auto, unfolding(crate::specs::Words::static_from_at))]
-pub fn static_from_of(alloc: Global, at: Place, item: &Value) -> Result<Origin, ReadFault>
-    ensures { Gives result (spec.static_from_at at (view item.now)) }
+pub fn static_from_of(alloc: Global, at: ItemPlace, item: &Value) -> Result<Origin, ReadFault>
+    ensures { GivesReading result (spec.static_from_at at (view item.now)) }
 {
     let value = needed(alloc, at, item, "from")?;
     static_from_in(alloc, at, value)
@@ -443,8 +454,8 @@ pub fn static_from_of(alloc: Global, at: Place, item: &Value) -> Result<Origin, 
 
 /// `from` of an offer of a storage, which has to be there; no child is meant.
 #[tactic(auto, unfolding(crate::specs::Words::storage_from_at))]
-pub fn storage_from_of(alloc: Global, at: Place, item: &Value) -> Result<Origin, ReadFault>
-    ensures { Gives result (spec.storage_from_at at (view item.now)) }
+pub fn storage_from_of(alloc: Global, at: ItemPlace, item: &Value) -> Result<Origin, ReadFault>
+    ensures { GivesReading result (spec.storage_from_at at (view item.now)) }
 {
     let value = needed(alloc, at, item, "from")?;
     let text = text_of(alloc, at, value, "from")?;
@@ -453,24 +464,24 @@ pub fn storage_from_of(alloc: Global, at: Place, item: &Value) -> Result<Origin,
 
 /// `from` of a use of a storage: the parent alone, by default.
 #[tactic(auto, unfolding(crate::specs::Words::storage_use_from_at))]
-pub fn storage_use_from_of(alloc: Global, at: Place, item: &Value) -> Result<(), ReadFault>
-    ensures { Gives result (spec.storage_use_from_at at (view item.now)) }
+pub fn storage_use_from_of(alloc: Global, at: ItemPlace, item: &Value) -> Result<(), ReadFault>
+    ensures { GivesReading result (spec.storage_use_from_at at (view item.now)) }
 {
     parent_alone(alloc, at, item, "from")
 }
 
 /// `extends`, by default `none`.
 #[tactic(auto, unfolding(crate::specs::Words::extends_at, crate::specs::Words::extends_named))]
-pub fn extends_of(alloc: Global, at: Place, item: &Value) -> Result<bool, ReadFault>
-    ensures { Gives result (spec.extends_at at (view item.now)) }
+pub fn extends_of(alloc: Global, at: ItemPlace, item: &Value) -> Result<bool, ReadFault>
+    ensures { GivesReading result (spec.extends_at at (view item.now)) }
 {
     flag_of(alloc, at, item, "extends", "none", "realm")
 }
 
 /// `storage_id`, which has to be there.
 #[tactic(auto, unfolding(crate::specs::Words::storage_id_at))]
-pub fn storage_id_of(alloc: Global, at: Place, item: &Value) -> Result<bool, ReadFault>
-    ensures { Gives result (spec.storage_id_at at (view item.now)) }
+pub fn storage_id_of(alloc: Global, at: ItemPlace, item: &Value) -> Result<bool, ReadFault>
+    ensures { GivesReading result (spec.storage_id_at at (view item.now)) }
 {
     let value = needed(alloc, at, item, "storage_id")?;
     let text = text_of(alloc, at, value, "storage_id")?;
@@ -478,8 +489,8 @@ pub fn storage_id_of(alloc: Global, at: Place, item: &Value) -> Result<bool, Rea
 }
 
 /// The name behind the `#` of a reference; a text without one is no name.
-fn environment_from(alloc: Global, at: Place, text: &str) -> Result<Name, ReadFault>
-    ensures { Gives result (spec.environment_from at (fields.behind_mark text.now)) }
+fn environment_from(alloc: Global, at: ItemPlace, text: &str) -> Result<Name, ReadFault>
+    ensures { GivesReading result (spec.environment_from at (fields.behind_mark text.now)) }
 {
     match behind_mark(text) {
         Some(name) => name_from(alloc, at, "environment", name),
@@ -489,8 +500,8 @@ fn environment_from(alloc: Global, at: Place, text: &str) -> Result<Name, ReadFa
 
 /// The name of an environment that a value is.
 #[tactic(auto, unfolding(crate::specs::Words::environment_in_at))]
-fn environment_in(alloc: Global, at: Place, value: &Value) -> Result<Name, ReadFault>
-    ensures { Gives result (spec.environment_in_at at (view value.now)) }
+fn environment_in(alloc: Global, at: ItemPlace, value: &Value) -> Result<Name, ReadFault>
+    ensures { GivesReading result (spec.environment_in_at at (view value.now)) }
 {
     let text = text_of(alloc, at, value, "environment")?;
     environment_from(alloc, at, text)
@@ -498,8 +509,8 @@ fn environment_in(alloc: Global, at: Place, value: &Value) -> Result<Name, ReadF
 
 /// `environment` of a child or a collection, which may be missing.
 #[tactic(auto, unfolding(crate::specs::Words::environment_at))]
-pub fn environment_of(alloc: Global, at: Place, item: &Value) -> Result<Option<Name>, ReadFault>
-    ensures { Gives result (spec.environment_at at (view item.now)) }
+pub fn environment_of(alloc: Global, at: ItemPlace, item: &Value) -> Result<Option<Name>, ReadFault>
+    ensures { GivesReading result (spec.environment_at at (view item.now)) }
 {
     let Some(value) = item.get("environment") else {
         return Ok(None);

@@ -4,7 +4,7 @@ use Rattle.cm_names.specs.declared.child.ChildName.{ChildName}
 use Rattle.cm_names.specs.declared.moniker.Moniker.{Moniker}
 use Rattle.cm_names.specs.Child.{child_text}
 use Rattle.cm_names.specs.Moniker.{text_of_parts, moniker_text}
-use Rattle.cm_reply.specs.Lists.{parts_text}
+use Rattle.cm_reply.specs.ListsInside.{parts_text}
 
 parts_joined : (c : ChildName) (cs : List ChildName) → parts_text (c ∷ cs) ≡ text_of_parts (c ∷ cs)
 parts_joined c [] = append-nil (child_text c)

@@ -1,3 +1,4 @@
+-- Promised.
 -- How the answers to commands are written. Lines after the first begin with two spaces, and no
 -- line feed stands behind the last.
 use Rattle.std.specs.Prelude.{ℕ, List, [], ◌++◌, length, codes, decimal, not, Option, Some, None, Result, Ok}
@@ -13,7 +14,7 @@ use Rattle.cm_world.specs.declared.answer.Answer.TheVariants as answer
 use Rattle.cm_command.specs.declared.command.Command.{Command}
 use Rattle.cm_command.specs.declared.command.Command.TheVariants as command
 use Rattle.cm_command.specs.Written.{target_text}
-use Rattle.cm_reply.specs.Lists.{Text, further_lines, when}
+use Rattle.cm_reply.specs.Lists.{TextBytes, further_lines, when}
 use Rattle.cm_reply.specs.Routes.{place_text, route_text}
 use Rattle.cm_reply.specs.States.{happening_text, incarnation_text, look_text, survey_text, kid_text}
 use Rattle.cm_reply.specs.Refusals.{refusal_text}
@@ -37,44 +38,44 @@ target_of (command.Exited target) = target
 target_of (command.Events target from) = target
 
 -- the child that the command creates
-abbrev pub child_of : Command → Text
+abbrev pub child_of : Command → TextBytes
 child_of (command.Create parent coll name url gives) = in_collection (Some coll) name
 child_of _ = []
 
 -- the collection whose children the command lists
-abbrev pub collection_of : Command → Text
+abbrev pub collection_of : Command → TextBytes
 collection_of (command.ListChildren target coll) = coll
 collection_of _ = []
 
 -- a word, and the instance as the command names it
-abbrev pub of_target : Text → Command → Text
+abbrev pub of_target : TextBytes → Command → TextBytes
 of_target word c = word ++ (codes " " ++ target_text (target_of c))
 
 -- the action that brought it about, or that it was so before
-abbrev pub done_by : Option ℕ → Text
+abbrev pub done_by : Option ℕ → TextBytes
 done_by None = codes " already"
 done_by (Some action) = codes " action " ++ decimal action
 
 -- the route of a use, or why it has none
-abbrev pub found_text : Result Route Refusal → Text
+abbrev pub found_text : Result Route Refusal → TextBytes
 found_text (Ok route) = codes "route " ++ route_text route
 found_text (Err refusal) = refusal_text refusal
 
 -- what a check of all routes says of an instance without a declaration, or of one use
-abbrev pub checked_words : Option Text → Result Route Refusal → Text
+abbrev pub checked_words : Option TextBytes → Result Route Refusal → TextBytes
 checked_words None found = codes "unresolved"
 checked_words (Some path) found = path ++ (codes " " ++ found_text found)
 
 -- what a check of all routes says of one use, behind where the instance stands
-abbrev pub checked_text : Checked → Text
+abbrev pub checked_text : Checked → TextBytes
 checked_text c = moniker_text c.moniker ++ (codes " " ++ checked_words c.path c.result)
 
 -- how many items there are, and each on a line of its own
-abbrev pub counted : {A : Type 0} → (A → Text) → List A → Text
+abbrev pub counted : {A : Type 0} → (A → TextBytes) → List A → TextBytes
 counted text items = codes " " ++ (decimal (length items) ++ further_lines text items)
 
 -- the answer to that command
-abbrev pub answer_text : Command → Answer → Text
+abbrev pub answer_text : Command → Answer → TextBytes
 answer_text c (answer.Resolved action) = of_target (codes "resolved") c ++ done_by action
 answer_text c (answer.Started action) = of_target (codes "started") c ++ done_by action
 answer_text c (answer.Stopped action forced) =
@@ -99,6 +100,6 @@ answer_text c (answer.Streamed next told) =
     ++ further_lines happening_text told))))
 
 -- the answer to that command, or why it was refused
-abbrev pub reply_text : Command → Result Answer Refusal → Text
+abbrev pub reply_text : Command → Result Answer Refusal → TextBytes
 reply_text c (Ok answer) = answer_text c answer
 reply_text c (Err refusal) = refusal_text refusal

@@ -1,3 +1,4 @@
+-- Inside.
 -- The first word of an event, and what stands behind it.
 use Rattle.std.specs.Prelude.{◌≡◌, ℕ, List, ◌∷◌, ◌++◌, codes, decimal, Bool, Option, Some, None}
 use Rattle.std.specs.Prelude.{if◌then◌else◌}
@@ -9,14 +10,14 @@ use Rattle.cm_world.specs.declared.action.ActKind.{ActKind}
 use Rattle.cm_world.specs.declared.action.Finish.{Finish}
 use Rattle.cm_world.specs.declared.event.Event.{Event}
 use Rattle.cm_world.specs.declared.event.Event.TheVariants as event
-use Rattle.cm_reply.specs.Lists.{Text}
+use Rattle.cm_reply.specs.Lists.{TextBytes}
 use Rattle.cm_reply.specs.States.{act_word}
 use Rattle.cm_reply.specs.Events.{mark_word, finish_text, groups_text, event_text}
 use Rattle.cm_reply.specs.declared.event_words.EventWord.{EventWord}
 use Rattle.cm_reply.specs.declared.event_words.EventWord.TheVariants as word
 
 -- the word
-abbrev pub word_of : EventWord → Text
+abbrev pub word_of : EventWord → TextBytes
 word_of word.Find = codes "find"
 word_of word.Begin = codes "begin"
 word_of word.End = codes "end"
@@ -36,7 +37,7 @@ word_of word.Tail = codes "tail"
 word_of word.Reap = codes "reap"
 
 -- the event of that word
-abbrev pub event_named : Text → Option EventWord
+abbrev pub event_named : TextBytes → Option EventWord
 event_named t =
     if bytes_eq t (codes "find") then Some word.Find
     else if bytes_eq t (codes "begin") then Some word.Begin
@@ -63,14 +64,14 @@ Told word.Find = Moniker
 Told word.Begin = ActKind × ℕ
 Told word.End = ℕ × Finish
 Told word.Await = ℕ
-Told word.Create = ℕ × (Text × (Text × (Text × List Give)))
+Told word.Create = ℕ × (TextBytes × (TextBytes × (TextBytes × List Give)))
 Told word.Mark = Bool × ℕ
 Told word.Pick = ℕ
 Told word.Purge = ℕ
-Told word.Route = ℕ × Text
-Told word.Open = ℕ × Text
-Told word.OpenExposed = ℕ × Text
-Told word.List = ℕ × Text
+Told word.Route = ℕ × TextBytes
+Told word.Open = ℕ × TextBytes
+Told word.OpenExposed = ℕ × TextBytes
+Told word.List = ℕ × TextBytes
 Told word.Show = ℕ
 Told word.Survey = ℕ
 Told word.Exited = ℕ
@@ -98,11 +99,11 @@ event_of word.Tail x = event.Tail x.0 x.1
 event_of word.Reap i = event.Reap i
 
 -- a number, and a text behind a space
-abbrev pub numbered : ℕ → Text → Text
+abbrev pub numbered : ℕ → TextBytes → TextBytes
 numbered n t = decimal n ++ (codes " " ++ t)
 
 -- what stands behind the word
-abbrev pub told_text : (v : EventWord) → Told v → Text
+abbrev pub told_text : (v : EventWord) → Told v → TextBytes
 told_text word.Find m = moniker_text m
 told_text word.Begin x = act_word x.0 ++ (codes " " ++ decimal x.1)
 told_text word.End x = numbered x.0 (finish_text x.1)

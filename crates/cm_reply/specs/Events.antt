@@ -1,3 +1,4 @@
+-- Promised.
 -- How events are written.
 use Rattle.std.specs.Prelude.{◌++◌, List, flat_map, codes, decimal, Bool, true, false}
 use Rattle.cm_names.specs.Moniker.{moniker_text}
@@ -8,25 +9,25 @@ use Rattle.cm_world.specs.declared.action.Finish.TheVariants as finish
 use Rattle.cm_world.specs.declared.event.Event.{Event}
 use Rattle.cm_world.specs.declared.event.Event.TheVariants as event
 use Rattle.cm_command.specs.Written.{spaced, give_words}
-use Rattle.cm_reply.specs.Lists.{Text}
+use Rattle.cm_reply.specs.Lists.{TextBytes}
 use Rattle.cm_reply.specs.States.{act_word, outcome_text}
 
 -- what is offered, as a command writes it, each word behind a space
-abbrev pub groups_text : List Give → Text
+abbrev pub groups_text : List Give → TextBytes
 groups_text gives = flat_map spaced (flat_map give_words gives)
 
 -- what a mark is for
-abbrev pub mark_word : Bool → Text
+abbrev pub mark_word : Bool → TextBytes
 mark_word true = codes "doomed"
 mark_word false = codes "closing"
 
 -- what the beginner of an action reports
-abbrev pub finish_text : Finish → Text
+abbrev pub finish_text : Finish → TextBytes
 finish_text (finish.Resolved url decl) = codes "resolved " ++ (url ++ (codes " " ++ decl_text decl))
 finish_text (finish.Other outcome) = outcome_text outcome
 
 -- an event: its word, and what it is about
-abbrev pub event_text : Event → Text
+abbrev pub event_text : Event → TextBytes
 event_text (event.Find moniker) = codes "find " ++ moniker_text moniker
 event_text (event.Begin kind inc) = codes "begin " ++ (act_word kind ++ (codes " " ++ decimal inc))
 event_text (event.End action finish) = codes "end " ++ (decimal action ++ (codes " " ++ finish_text finish))

@@ -1,3 +1,4 @@
+-- Inside.
 -- Texts that are written out: a journal's entries and header, and answers to commands.
 use Rattle.std.specs.Prelude.{◌≡◌, ℕ, List, [], ◌∷◌, ◌++◌, codes, true, false, flat_map, Some, None, Ok, Err}
 use Rattle.cm_names.specs.Rights.{reading}
@@ -27,7 +28,7 @@ use Rattle.cm_world.specs.declared.route.StepKind.TheVariants.{UseHop, OfferHop,
 use Rattle.cm_world.specs.declared.route.Why.TheVariants.{NoExpose}
 use Rattle.cm_command.specs.declared.command.Command.{Command}
 use Rattle.cm_command.specs.declared.command.Command.TheVariants as command
-use Rattle.cm_reply.specs.Lists.{Text}
+use Rattle.cm_reply.specs.Lists.{TextBytes}
 use Rattle.cm_reply.specs.Answers.{reply_text}
 use Rattle.cm_reply.specs.Journal.{entries_text, header_text, line}
 
@@ -38,7 +39,7 @@ abbrev pub root : Moniker
 root = record { parts = [] }
 
 -- a child that the root declares
-abbrev pub child : Text → Moniker
+abbrev pub child : TextBytes → Moniker
 child name = record { parts = static_name name ∷ [] }
 
 abbrev pub logger : Moniker
@@ -59,7 +60,7 @@ element = record {
 }
 
 -- the path of a use
-abbrev pub log_sink : Text
+abbrev pub log_sink : TextBytes
 log_sink = codes "/svc/fuchsia.logger.LogSink"
 
 -- a hop; only its step and where its instance stands are written
@@ -112,7 +113,7 @@ begun action = reply.Begun (record {
 })
 
 -- an action that resolved an instance
-abbrev pub resolved : ℕ → Text → Decl → Entry
+abbrev pub resolved : ℕ → TextBytes → Decl → Entry
 resolved action url decl = entry (End action (Resolved url decl)) (reply.Ended outcome.Resolved)
 
 -- the root, the client and the provider are resolved on the way
@@ -132,7 +133,7 @@ route_entries at_root at_client at_logger =
     ∷ []
 
 -- their lines, where the declarations have these texts
-abbrev pub route_lines : Text → Text → Text → List Text
+abbrev pub route_lines : TextBytes → TextBytes → TextBytes → List TextBytes
 route_lines at_root at_client at_logger =
     codes "1 0 find client => need 0"
     ∷ codes "2 0 begin resolve 0 => begun 1"
@@ -170,7 +171,7 @@ frame = record {
 }
 
 -- the lines before the entries
-abbrev pub header_lines : List Text
+abbrev pub header_lines : List TextBytes
 header_lines =
     codes "journal"
     ∷ codes "builtin protocol p"

@@ -1,3 +1,4 @@
+-- Inside.
 -- How a journal grows.
 use Rattle.std.specs.Prelude.{◌≡◌, ◌+◌, List, [], ◌∷◌, ◌++◌, length}
 use Rattle.cm_world.specs.declared.frame.Frame.{Frame}

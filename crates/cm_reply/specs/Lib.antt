@@ -1,4 +1,5 @@
 pub mod Lists
+pub mod ListsInside
 pub mod Routes
 pub mod States
 pub mod Refusals
@@ -7,7 +8,9 @@ pub mod Events
 pub mod Replies
 pub mod Journal
 pub mod Legible
+pub mod LegibleInside
 pub mod Lines
+pub mod LinesInside
 pub mod EventWords
 pub mod Reading
 pub mod Laws

@@ -1,3 +1,4 @@
+-- Inside.
 -- What the readers of a journal's line promise: whatever legible text stands there is found, or memory ran
 -- out. That nothing else is found is then tested at the whole line, which is written again and compared.
 use Rattle.std.specs.Prelude.{◌≡◌, ℕ, ◌<◌, ◌^◌, List, [], ◌++◌, codes, decimal, if◌then◌else◌}
@@ -18,7 +19,7 @@ use Rattle.cm_world.specs.declared.event.Target.{Target}
 use Rattle.cm_world.specs.declared.event.Target.TheVariants.{Inc}
 use Rattle.cm_command.specs.declared.tokens.WordFault.{WordFault}
 use Rattle.cm_command.specs.declared.tokens.WordFault.TheVariants as word_fault
-use Rattle.cm_reply.specs.Lists.{Text}
+use Rattle.cm_reply.specs.Lists.{TextBytes}
 use Rattle.cm_reply.specs.Legible.{IsLegible}
 use Rattle.cm_reply.specs.Lines.{asked_text, IsEntryLine}
 use Rattle.cm_reply.specs.EventWords.{Told, event_of, told_text}
@@ -45,7 +46,7 @@ decl_fault (read_fault.Bad number section index field) = NotAnEntry
 decl_fault read_fault.Memory = Memory
 
 -- the outcome of that word; one that has a fault with it has none
-abbrev pub outcome_named : Text → Option Outcome
+abbrev pub outcome_named : TextBytes → Option Outcome
 outcome_named t =
     if bytes_eq t (codes "resolved") then Some outcome.Resolved
     else if bytes_eq t (codes "started") then Some outcome.Started
@@ -65,13 +66,13 @@ IsPlain (outcome.Invalid note) = ⊥
 IsPlain _ = Unit {0}
 
 -- the fault of a manifest behind its word `invalid`
-abbrev pub note_words : FaultNote → Text
+abbrev pub note_words : FaultNote → TextBytes
 note_words note =
     decimal note.number
     ++ (codes " " ++ (section_word note.section ++ (codes " " ++ (decimal note.index ++ []))))
 
 -- the section of that word
-abbrev pub section_named : Text → Option Section
+abbrev pub section_named : TextBytes → Option Section
 section_named t =
     if bytes_eq t (codes "manifest") then Some section.Manifest
     else if bytes_eq t (codes "program") then Some section.Program
@@ -88,11 +89,13 @@ section_named t =
 -- ---- events
 
 -- whatever legible event of that word has the text behind it, it is found
-abbrev pub Finds : EventWord → Text → Result Event EntryFault → Type 0
-Finds v t result = (x : Told v) → IsLegible (event_of v x) → t ≡ told_text v x → IsOr result (event_of v x)
+abbrev pub FindsEvent : EventWord → TextBytes → Result Event EntryFault → Type 0
+FindsEvent v t result = (x : Told v) → IsLegible (event_of v x) → t ≡ told_text v x
+    → IsOr result (event_of v x)
 
 -- the event creates a child of the parent, which is told by its number
-pub record IsCreatedIn (parent : Target) (coll name url : Text) (gives : List Give) (e : Event) : Type 0 where
+pub record IsCreatedIn (parent : Target) (coll name url : TextBytes) (gives : List Give)
+    (e : Event) : Type 0 where
   pub inc : ℕ
   pub by_number : parent ≡ Inc inc
   pub event : e ≡ Create inc coll name url gives
@@ -106,15 +109,15 @@ pub record IsAskable (a : Asked) : Type 0 where
   pub legible : IsLegible a.event
 
 -- how they are written
-abbrev pub text_of_asked : Asked → Text
+abbrev pub text_of_asked : Asked → TextBytes
 text_of_asked a = asked_text a.number a.caller a.event
 
 -- whatever such three have the text, they are found
-abbrev pub FindsAsked : Text → Result Asked EntryFault → Type 0
+abbrev pub FindsAsked : TextBytes → Result Asked EntryFault → Type 0
 FindsAsked t result = (a : Asked) → IsAskable a → t ≡ text_of_asked a → IsOr result a
 
 -- the three that have the text, or that there are none
-abbrev pub IsAsked : Text → Result Asked EntryFault → Type 0
+abbrev pub IsAsked : TextBytes → Result Asked EntryFault → Type 0
 IsAsked t result =
     MatchResult result (λ a. IsAskable a × (t ≡ text_of_asked a))
     (λ f. f ≡ NotAnEntry → (a : Asked) → IsAskable a → t ≡ text_of_asked a → ⊥)
@@ -122,12 +125,12 @@ IsAsked t result =
 -- ---- lines
 
 -- the line that says these four
-abbrev pub line_of : ℕ → ℕ → Event → Text → JournalLine
+abbrev pub line_of : ℕ → ℕ → Event → TextBytes → JournalLine
 line_of number caller event reply =
     record { number = number; caller = caller; event = event; reply = reply }
 
 -- whatever entry the line tells of, it is found
-abbrev pub FindsEntry : Text → Result JournalLine EntryFault → Type 0
+abbrev pub FindsEntry : TextBytes → Result JournalLine EntryFault → Type 0
 FindsEntry t result =
-    (number caller : ℕ) (event : Event) (reply : Text) → IsEntryLine t number caller event reply
+    (number caller : ℕ) (event : Event) (reply : TextBytes) → IsEntryLine t number caller event reply
     → IsOr result (line_of number caller event reply)

@@ -1,15 +1,16 @@
+-- Promised.
 -- How refusals are written.
 use Rattle.std.specs.Prelude.{◌++◌, codes, decimal}
 use Rattle.cm_names.specs.Moniker.{moniker_text}
 use Rattle.cm_decl.specs.Words.{node_text}
 use Rattle.cm_world.specs.declared.answer.Refusal.{Refusal}
 use Rattle.cm_world.specs.declared.answer.Refusal.TheVariants as refusal
-use Rattle.cm_reply.specs.Lists.{Text, each_behind}
+use Rattle.cm_reply.specs.Lists.{TextBytes, each_behind}
 use Rattle.cm_reply.specs.Routes.{failure_text, void_text}
 use Rattle.cm_reply.specs.States.{incarnation_text, outcome_text}
 
--- a refusal behind its first word: its number, its word and what belongs to it; want of memory has no number
-abbrev pub refusal_words : Refusal → Text
+-- a refusal behind its first word: its number, its word and what belongs to it; lack of memory has no number
+abbrev pub refusal_words : Refusal → TextBytes
 refusal_words refusal.CollectionNotFound = codes "60 collection-not-found"
 refusal_words (refusal.AlreadyExists inc) = codes "61 already-exists" ++ incarnation_text inc
 refusal_words refusal.DynamicOffersRefused = codes "62 dynamic-offers-refused"
@@ -35,5 +36,5 @@ refusal_words (refusal.SourceShut inc) = codes "89 source-shut" ++ incarnation_t
 refusal_words refusal.Memory = codes "want-of-memory"
 
 -- why a command was refused
-abbrev pub refusal_text : Refusal → Text
+abbrev pub refusal_text : Refusal → TextBytes
 refusal_text x = codes "refused " ++ refusal_words x

@@ -1,16 +1,17 @@
+-- Promised.
 -- How the replies to events are written.
 use Rattle.std.specs.Prelude.{[], ◌++◌, length, codes, decimal}
 use Rattle.cm_names.specs.Moniker.{moniker_text}
 use Rattle.cm_decl.specs.Words.{node_text}
 use Rattle.cm_world.specs.declared.reply.Reply.{Reply}
 use Rattle.cm_world.specs.declared.reply.Reply.TheVariants as reply
-use Rattle.cm_reply.specs.Lists.{Text, each_behind, bracketed}
+use Rattle.cm_reply.specs.Lists.{TextBytes, each_behind, bracketed}
 use Rattle.cm_reply.specs.Routes.{route_text, failure_text, void_text}
 use Rattle.cm_reply.specs.States.{outcome_text, look_text, survey_text, kid_text}
 
 -- a reply that tells of routes, of lists and looks, of programs that have ended, or of what is left
 -- to be removed
-abbrev pub other_text : Reply → Text
+abbrev pub other_text : Reply → TextBytes
 other_text reply.NoSuchUse = codes "no-such-use"
 other_text reply.ClientOff = codes "client-off"
 other_text (reply.SourceShut inc) = codes "source-shut " ++ decimal inc
@@ -29,7 +30,7 @@ other_text _ = []
 
 -- a reply: one that finds instances or tells of actions, creations, marks and removals as
 -- follows, every other as above
-abbrev pub replied_text : Reply → Text
+abbrev pub replied_text : Reply → TextBytes
 replied_text (reply.Found inc) = codes "found " ++ decimal inc
 replied_text (reply.Need inc) = codes "need " ++ decimal inc
 replied_text (reply.Shut inc) = codes "shut " ++ decimal inc

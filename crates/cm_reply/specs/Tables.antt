@@ -1,3 +1,4 @@
+-- Inside.
 -- Tables of texts: each refusal, reason, outcome, event and reply at least once, and the short answers.
 use Rattle.std.specs.Prelude.{◌≡◌, ℕ, List, [], ◌∷◌, ◌++◌, codes, map, true, false, Some, None, Ok}
 use Rattle.cm_names.specs.Rights.{no_rights, reading}
@@ -31,7 +32,7 @@ use Rattle.cm_world.specs.declared.route.Route.{Route as WholeRoute}
 use Rattle.cm_world.specs.declared.route.Why.{Why}
 use Rattle.cm_world.specs.declared.route.Why.TheVariants as why
 use Rattle.cm_command.specs.declared.command.Command.TheVariants as command
-use Rattle.cm_reply.specs.Lists.{Text}
+use Rattle.cm_reply.specs.Lists.{TextBytes}
 use Rattle.cm_reply.specs.Routes.{why_word}
 use Rattle.cm_reply.specs.States.{outcome_text}
 use Rattle.cm_reply.specs.Refusals.{refusal_text}
@@ -128,7 +129,7 @@ refusals =
     ∷ refusal.Memory
     ∷ []
 
-abbrev pub refusal_texts : List Text
+abbrev pub refusal_texts : List TextBytes
 refusal_texts =
     codes "refused 60 collection-not-found"
     ∷ codes "refused 61 already-exists incarnation 5"
@@ -166,7 +167,7 @@ reasons =
     ∷ why.RightsTooWeak reading no_rights
     ∷ []
 
-abbrev pub reason_words : List Text
+abbrev pub reason_words : List TextBytes
 reason_words =
     codes "no-offer"
     ∷ codes "no-expose"
@@ -195,7 +196,7 @@ outcomes =
     ∷ outcome.NoMemory
     ∷ []
 
-abbrev pub outcome_texts : List Text
+abbrev pub outcome_texts : List TextBytes
 outcome_texts =
     codes "resolved"
     ∷ codes "started"
@@ -238,7 +239,7 @@ events =
     ∷ event.Reap 5
     ∷ []
 
-abbrev pub event_texts : List Text
+abbrev pub event_texts : List TextBytes
 event_texts =
     codes "find core/session/elements:e1"
     ∷ codes "begin resolve 5"
@@ -310,7 +311,7 @@ replies =
     ∷ reply.Reaping []
     ∷ []
 
-abbrev pub reply_texts : List Text
+abbrev pub reply_texts : List TextBytes
 reply_texts =
     codes "found 2"
     ∷ codes "need 0"
@@ -360,7 +361,7 @@ PrintsReplies = map replied_text replies ≡ reply_texts
 
 -- ---- short answers
 
-abbrev pub answers : List Text
+abbrev pub answers : List TextBytes
 answers =
     reply_text (command.Resolve (Named (child core))) (Ok (answer.Resolved (Some 4)))
     ∷ reply_text (command.Resolve (Inc 5)) (Ok (answer.Resolved None))
@@ -375,7 +376,7 @@ answers =
     ∷ reply_text (command.Events (Inc 5) 9) (Ok (answer.Streamed 8 []))
     ∷ []
 
-abbrev pub answer_texts : List Text
+abbrev pub answer_texts : List TextBytes
 answer_texts =
     codes "resolved core action 4"
     ∷ codes "resolved @5 already"

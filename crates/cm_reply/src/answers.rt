@@ -3,11 +3,11 @@
 ghost use Rattle.std.specs.Prelude.{◌≡◌, ◌++◌, codes, IfOk, OnOk};
 ghost use Rattle.cm_world.specs.declared.answer.Answer.TheVariants as answer;
 ghost use Rattle.cm_command.specs.Written as written;
-ghost use Rattle.cm_reply.specs.Lists.{Gains};
+ghost use Rattle.cm_reply.specs.ListsInside.{GainsText};
 ghost use Rattle.cm_reply.specs.States.{incarnation_text, look_text};
 ghost use Rattle.cm_reply.specs.Answers as spec;
 
-use crate::lists::{Item, push, push_each, push_moniker, push_value, roomy};
+use crate::lists::{ListItem, push, push_each, push_moniker, push_value, roomy};
 use crate::refusals::push_refusal;
 use crate::routes::{push_place, push_route};
 use crate::states::{push_look, when};
@@ -88,7 +88,7 @@ pub fn push_reply(
     command: &Command,
     reply: &Result<Answer, Refusal>,
 ) -> Result<(), Memory>
-    ensures { OnOk result (Gains text.old text.new (spec.reply_text command.now reply.now)) }
+    ensures { OnOk result (GainsText text.old text.new (spec.reply_text command.now reply.now)) }
 {
     match reply {
         Ok(answer) => push_answer(text, command, answer),
@@ -98,7 +98,7 @@ pub fn push_reply(
 
 /// Puts the answer to the command at the end.
 fn push_answer(text: &mut String, command: &Command, answer: &Answer) -> Result<(), Memory>
-    ensures { OnOk result (Gains text.old text.new (spec.answer_text command.now answer.now)) }
+    ensures { OnOk result (GainsText text.old text.new (spec.answer_text command.now answer.now)) }
 {
     match answer {
         Answer::Resolved(action) => push_done(text, "resolved", command, *action),
@@ -152,7 +152,7 @@ fn target_of(command: &Command) -> &Target
 
 /// Puts the instance that a target names at the end, as a command writes it.
 fn push_target(text: &mut String, target: &Target) -> Result<(), Memory>
-    ensures { OnOk result (Gains text.old text.new (written.target_text target.now)) }
+    ensures { OnOk result (GainsText text.old text.new (written.target_text target.now)) }
 {
     match target {
         Target::Named(moniker) => push_moniker(text, moniker),
@@ -162,7 +162,7 @@ fn push_target(text: &mut String, target: &Target) -> Result<(), Memory>
 
 /// Puts the word at the end, and the instance as the command names it.
 fn push_of_target(text: &mut String, word: &str, command: &Command) -> Result<(), Memory>
-    ensures { OnOk result (Gains text.old text.new (spec.of_target word.now command.now)) }
+    ensures { OnOk result (GainsText text.old text.new (spec.of_target word.now command.now)) }
 {
     push(text, word)?;
     push(text, " ")?;
@@ -171,7 +171,7 @@ fn push_of_target(text: &mut String, word: &str, command: &Command) -> Result<()
 
 /// Puts the action that did it at the end, or that it was so before.
 fn push_done_by(text: &mut String, action: Option<u64>) -> Result<(), Memory>
-    ensures { OnOk result (Gains text.old text.new (spec.done_by action)) }
+    ensures { OnOk result (GainsText text.old text.new (spec.done_by action)) }
 {
     match action {
         None => push(text, " already"),
@@ -186,7 +186,7 @@ fn push_done(
     command: &Command,
     action: Option<u64>,
 ) -> Result<(), Memory>
-    ensures { OnOk result (Gains text.old text.new
+    ensures { OnOk result (GainsText text.old text.new
         (spec.of_target word.now command.now ++ spec.done_by action)) }
 {
     push_of_target(text, word, command)?;
@@ -200,7 +200,7 @@ fn push_stopped(
     action: Option<u64>,
     forced: bool,
 ) -> Result<(), Memory>
-    ensures { OnOk result (Gains text.old text.new
+    ensures { OnOk result (GainsText text.old text.new
         (spec.answer_text command.now (answer.Stopped action forced))) }
 {
     push_of_target(text, "stopped", command)?;
@@ -211,7 +211,7 @@ fn push_stopped(
 /// Puts the child that the command creates at the end, with its collection; nothing for any other
 /// command.
 fn push_child_of(text: &mut String, command: &Command) -> Result<(), Memory>
-    ensures { OnOk result (Gains text.old text.new (spec.child_of command.now)) }
+    ensures { OnOk result (GainsText text.old text.new (spec.child_of command.now)) }
 {
     match command {
         Command::Create { coll, name, .. } => push_value(text, format_args!("{coll}:{name}")),
@@ -221,7 +221,7 @@ fn push_child_of(text: &mut String, command: &Command) -> Result<(), Memory>
 
 /// Puts the collection whose children the command lists at the end; nothing for any other command.
 fn push_collection(text: &mut String, command: &Command) -> Result<(), Memory>
-    ensures { OnOk result (Gains text.old text.new (spec.collection_of command.now)) }
+    ensures { OnOk result (GainsText text.old text.new (spec.collection_of command.now)) }
 {
     match command {
         Command::ListChildren { coll, .. } => push(text, coll.as_str()),
@@ -231,7 +231,7 @@ fn push_collection(text: &mut String, command: &Command) -> Result<(), Memory>
 
 /// Puts at the end that the child was created which the command names.
 fn push_created(text: &mut String, command: &Command, inc: u64) -> Result<(), Memory>
-    ensures { OnOk result (Gains text.old text.new
+    ensures { OnOk result (GainsText text.old text.new
         (spec.answer_text command.now (answer.Created inc))) }
 {
     push_of_target(text, "created", command)?;
@@ -242,7 +242,7 @@ fn push_created(text: &mut String, command: &Command, inc: u64) -> Result<(), Me
 
 /// Puts the children of the collection that the command names at the end.
 fn push_children(text: &mut String, command: &Command, kids: &[Kid]) -> Result<(), Memory>
-    ensures { OnOk result (Gains text.old text.new
+    ensures { OnOk result (GainsText text.old text.new
         (spec.answer_text command.now (answer.Children kids.now))) }
 {
     push_of_target(text, "children", command)?;
@@ -253,7 +253,7 @@ fn push_children(text: &mut String, command: &Command, kids: &[Kid]) -> Result<(
 
 /// Puts the number of the instance and its URL at the end.
 fn push_url(text: &mut String, look: &Look) -> Result<(), Memory>
-    ensures { OnOk result (Gains text.old text.new
+    ensures { OnOk result (GainsText text.old text.new
         (incarnation_text look.now.inc ++ (codes " url " ++ look.now.url))) }
 {
     push_incarnation(text, look.inc)?;
@@ -263,7 +263,7 @@ fn push_url(text: &mut String, look: &Look) -> Result<(), Memory>
 
 /// Puts the number of the instance, its URL and how it is at the end.
 fn push_standing(text: &mut String, look: &Look) -> Result<(), Memory>
-    ensures { OnOk result (Gains text.old text.new (incarnation_text look.now.inc
+    ensures { OnOk result (GainsText text.old text.new (incarnation_text look.now.inc
         ++ (codes " url " ++ (look.now.url ++ (codes " " ++ look_text look.now))))) }
 {
     push_url(text, look)?;
@@ -273,7 +273,7 @@ fn push_standing(text: &mut String, look: &Look) -> Result<(), Memory>
 
 /// Puts at the end how the instance is.
 fn push_shown(text: &mut String, command: &Command, look: &Look) -> Result<(), Memory>
-    ensures { OnOk result (Gains text.old text.new
+    ensures { OnOk result (GainsText text.old text.new
         (spec.answer_text command.now (answer.Shown look.now))) }
 {
     push_of_target(text, "shown", command)?;
@@ -287,7 +287,7 @@ fn push_streamed(
     next: u64,
     told: &[Happening],
 ) -> Result<(), Memory>
-    ensures { OnOk result (Gains text.old text.new
+    ensures { OnOk result (GainsText text.old text.new
         (spec.answer_text command.now (answer.Streamed next told.now))) }
 {
     push_of_target(text, "events", command)?;
@@ -298,8 +298,8 @@ fn push_streamed(
 }
 
 /// Puts at the end how many items there are, and each on a line of its own.
-fn push_counted<T: Item>(text: &mut String, items: &[T]) -> Result<(), Memory>
-    ensures { OnOk result (Gains text.old text.new (spec.counted T.written items.now)) }
+fn push_counted<T: ListItem>(text: &mut String, items: &[T]) -> Result<(), Memory>
+    ensures { OnOk result (GainsText text.old text.new (spec.counted T.written items.now)) }
 {
     let count = items.len();
     push_value(text, format_args!(" {count}"))?;
@@ -307,13 +307,13 @@ fn push_counted<T: Item>(text: &mut String, items: &[T]) -> Result<(), Memory>
 }
 
 /// Puts the word, the instance, how many items there are, and each on a line of its own at the end.
-fn push_listing<T: Item>(
+fn push_listing<T: ListItem>(
     text: &mut String,
     word: &str,
     command: &Command,
     items: &[T],
 ) -> Result<(), Memory>
-    ensures { OnOk result (Gains text.old text.new
+    ensures { OnOk result (GainsText text.old text.new
         (spec.of_target word.now command.now ++ spec.counted T.written items.now)) }
 {
     push_of_target(text, word, command)?;
@@ -322,7 +322,7 @@ fn push_listing<T: Item>(
 
 /// It is written as `MONIKER PATH` and the text of its route or refusal, or as
 /// `MONIKER unresolved`.
-impl Item for Checked {
+impl ListItem for Checked {
     ghost use Rattle.cm_reply.specs.Answers.{checked_text};
 
     ghost written = { checked_text };
@@ -340,7 +340,7 @@ fn push_checked(
     path: &Option<CapPath>,
     found: &Result<Shared<Route>, Refusal>,
 ) -> Result<(), Memory>
-    ensures { OnOk result (Gains text.old text.new (spec.checked_words path.now found.now)) }
+    ensures { OnOk result (GainsText text.old text.new (spec.checked_words path.now found.now)) }
 {
     let Some(path) = path else {
         return push(text, "unresolved");
@@ -352,7 +352,7 @@ fn push_checked(
 
 /// Puts the route of a use, or why it has none, at the end.
 fn push_found(text: &mut String, found: &Result<Shared<Route>, Refusal>) -> Result<(), Memory>
-    ensures { OnOk result (Gains text.old text.new (spec.found_text found.now)) }
+    ensures { OnOk result (GainsText text.old text.new (spec.found_text found.now)) }
 {
     match found {
         Ok(route) => {

@@ -2,13 +2,14 @@
 
 ghost use Rattle.std.specs.Prelude.{◌≡◌, ◌≢◌, ◌++◌, ℕ, List as Seq, string_bytes, IfOk, IfErr, MatchOption};
 ghost use Rattle.cm_reply.specs.Lines as lines;
-ghost use Rattle.cm_reply.specs.Lines.{IsCutAtLast, IsEntryLine, IsSomeEntryLine};
+ghost use Rattle.cm_reply.specs.Lines.{IsEntryLine};
+ghost use Rattle.cm_reply.specs.LinesInside.{IsCutAtLast, IsSomeEntryLine};
 ghost use Rattle.cm_reply.specs.Reading.{FindsEntry, IsAsked, text_of_asked};
 
 use crate::entry_words::EntryFault;
 use crate::events::push_event;
 use crate::lists::{push_value, roomy};
-use crate::reading::{Asked, read_front};
+use crate::reading::{Asked, read_prefix};
 use cm_command::tokens::text_of;
 use cm_command::words::is_same;
 use cm_names::{Memory, Text};
@@ -31,7 +32,7 @@ pub struct JournalLine {
 
 /// What stands before the last arrow of a line and behind it; `None` where there is no arrow.
 fn cut_at_arrow(line: &[u8]) -> Option<(&[u8], &[u8])>
-    ensures { MatchOption result ((front rest : Seq ℕ) → line.now ≡ front ++ (lines.arrow ++ rest) → ⊥)
+    ensures { MatchOption result ((prefix rest : Seq ℕ) → line.now ≡ prefix ++ (lines.arrow ++ rest) → ⊥)
         (λ parts. IsCutAtLast line.now parts.0.now parts.1.now) }
 {
     let Some(place) = memmem::rfind(line, " => ".as_bytes()) else {
@@ -57,7 +58,7 @@ fn asked_text(alloc: Global, asked: &Asked) -> Result<String, Memory>
 fn read_asked(alloc: Global, text: &[u8]) -> Result<Asked, EntryFault>
     ensures { IsAsked text.now result }
 {
-    let found = match read_front(alloc, text) {
+    let found = match read_prefix(alloc, text) {
         Ok(found) => found,
         Err(fault) => return Err(fault),
     };
@@ -91,14 +92,14 @@ pub fn read_entry(alloc: Global, line: &[u8]) -> Result<JournalLine, EntryFault>
     ensures finds { FindsEntry line.now result }
     ensures fault { IfErr result (λ e. e ≢ EntryFault.Memory → IsSomeEntryLine line.now → ⊥) }
 {
-    let Some((front, rest)) = cut_at_arrow(line) else {
+    let Some((prefix, rest)) = cut_at_arrow(line) else {
         return Err(EntryFault::NotAnEntry);
     };
     let Some(reply) = text_of(rest) else {
         return Err(EntryFault::NotAnEntry);
     };
     let reply = Text::from_str(alloc, reply)?;
-    match read_asked(alloc, front) {
+    match read_asked(alloc, prefix) {
         Ok(
             Asked {
                 number,

@@ -58,7 +58,7 @@ fn fault_of(fault: WordFault) -> EntryFault
     ensures { result ≡ spec.fault_of fault }
 {
     match fault {
-        WordFault::Bad(_fronts) => EntryFault::NotAnEntry,
+        WordFault::Bad(_prefixes) => EntryFault::NotAnEntry,
         WordFault::Memory => EntryFault::Memory,
     }
 }
@@ -105,7 +105,7 @@ pub fn short_number(word: &[u8]) -> Result<u32, EntryFault>
     }
 }
 
-/// The number in front of the first space, and what stands behind it.
+/// The number before the first space, and what stands behind it.
 pub fn numbered(rest: &[u8]) -> Result<(u64, &[u8]), EntryFault>
     ensures small { IfOk result (λ r. r.0 < 2 ^ 64) }
     ensures finds { (n : ℕ) (more : Seq ℕ) → n < 2 ^ 64 → rest.now ≡ decimal n ++ 32 ∷ more →

@@ -1,7 +1,7 @@
 //! The texts of events.
 
 ghost use Rattle.std.specs.Prelude.{OnOk};
-ghost use Rattle.cm_reply.specs.Lists.{Gains};
+ghost use Rattle.cm_reply.specs.ListsInside.{GainsText};
 ghost use Rattle.cm_reply.specs.Events as spec;
 
 use crate::lists::{push, push_moniker, push_value};
@@ -15,7 +15,7 @@ use cm_world::{Event, Finish};
 
 /// Puts the event at the end as a journal has it. `Err` where memory runs out.
 pub fn push_event(text: &mut String, event: &Event) -> Result<(), Memory>
-    ensures { OnOk result (Gains text.old text.new (spec.event_text event.now)) }
+    ensures { OnOk result (GainsText text.old text.new (spec.event_text event.now)) }
 {
     match event {
         Event::Find(moniker) => {
@@ -54,7 +54,7 @@ pub fn push_event(text: &mut String, event: &Event) -> Result<(), Memory>
 
 /// Puts what is offered to a created child at the end, as a command writes it.
 fn push_groups(text: &mut String, gives: &List<Give>) -> Result<(), Memory>
-    ensures { OnOk result (Gains text.old text.new (spec.groups_text gives.now)) }
+    ensures { OnOk result (GainsText text.old text.new (spec.groups_text gives.now)) }
 {
     let alloc = *text.allocator();
     let mut groups = Text::new(alloc);
@@ -64,7 +64,7 @@ fn push_groups(text: &mut String, gives: &List<Give>) -> Result<(), Memory>
 
 /// Puts what the beginner of an action reports at the end.
 fn push_finish(text: &mut String, finish: &Finish) -> Result<(), Memory>
-    ensures { OnOk result (Gains text.old text.new (spec.finish_text finish.now)) }
+    ensures { OnOk result (GainsText text.old text.new (spec.finish_text finish.now)) }
 {
     match finish {
         Finish::Resolved(url, decl) => {

@@ -1,7 +1,8 @@
 //! The journal.
 
 ghost use Rattle.std.specs.Prelude.{◌≡◌, ◌++◌, flat_map, IfOk, OnOk};
-ghost use Rattle.cm_reply.specs.Lists.{Gains, when_some};
+ghost use Rattle.cm_reply.specs.Lists.{when_some};
+ghost use Rattle.cm_reply.specs.ListsInside.{GainsText};
 ghost use Rattle.cm_reply.specs.Journal as spec;
 
 use crate::events::push_event;
@@ -82,9 +83,9 @@ pub fn entry_text(alloc: Global, number: u64, entry: &Entry) -> Result<Text, Mem
 }
 
 /// Puts an entry of a history at the end, as [`entry_text`] writes it. `Err` where memory runs out;
-/// a front of it may stand there then.
+/// a prefix of it may stand there then.
 pub fn push_entry(text: &mut String, number: u64, entry: &Entry) -> Result<(), Memory>
-    ensures { OnOk result (Gains text.old text.new (spec.entry_text number entry.now)) }
+    ensures { OnOk result (GainsText text.old text.new (spec.entry_text number entry.now)) }
 {
     let caller = entry.caller;
     push_value(text, format_args!("{number} {caller} "))?;
@@ -95,7 +96,7 @@ pub fn push_entry(text: &mut String, number: u64, entry: &Entry) -> Result<(), M
 
 /// Puts a line for each builtin capability at the end.
 fn push_builtins(text: &mut String, builtins: &[Builtin]) -> Result<(), Memory>
-    ensures { OnOk result (Gains text.old text.new (flat_map spec.builtin_line builtins.now)) }
+    ensures { OnOk result (GainsText text.old text.new (flat_map spec.builtin_line builtins.now)) }
 {
     for builtin in builtins {
         push_builtin(text, builtin)?;
@@ -116,7 +117,7 @@ pub fn builtin_text(alloc: Global, builtin: &Builtin) -> Result<Text, Memory>
 
 /// Puts the builtin capability at the end, as its line says it.
 fn push_builtin(text: &mut String, builtin: &Builtin) -> Result<(), Memory>
-    ensures { OnOk result (Gains text.old text.new (spec.builtin_text builtin.now)) }
+    ensures { OnOk result (GainsText text.old text.new (spec.builtin_text builtin.now)) }
 {
     push(text, "builtin ")?;
     push_words(text, builtin)
@@ -124,7 +125,7 @@ fn push_builtin(text: &mut String, builtin: &Builtin) -> Result<(), Memory>
 
 /// Puts the builtin capability at the end, behind its first word.
 fn push_words(text: &mut String, builtin: &Builtin) -> Result<(), Memory>
-    ensures { OnOk result (Gains text.old text.new
+    ensures { OnOk result (GainsText text.old text.new
         (spec.builtin_words builtin.now.kind builtin.now)) }
 {
     match builtin.kind {
@@ -143,7 +144,7 @@ fn push_words(text: &mut String, builtin: &Builtin) -> Result<(), Memory>
 
 /// Puts the path of a directory at the end, and its rights behind a space, where it has some.
 fn push_served(text: &mut String, builtin: &Builtin) -> Result<(), Memory>
-    ensures { OnOk result (Gains text.old text.new
+    ensures { OnOk result (GainsText text.old text.new
         (builtin.now.path ++ when_some spec.provided_rights builtin.now.rights)) }
 {
     push(text, builtin.path.as_str())?;
@@ -152,7 +153,7 @@ fn push_served(text: &mut String, builtin: &Builtin) -> Result<(), Memory>
 
 /// Puts the rights of a directory at the end, behind a space; nothing where it has none.
 fn push_provided(text: &mut String, rights: Option<Rights>) -> Result<(), Memory>
-    ensures { OnOk result (Gains text.old text.new (when_some spec.provided_rights rights)) }
+    ensures { OnOk result (GainsText text.old text.new (when_some spec.provided_rights rights)) }
 {
     match rights {
         None => Ok(()),

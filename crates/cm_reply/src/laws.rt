@@ -4,7 +4,7 @@
 //! `specs/`, which its proof shows.
 
 ghost use Rattle.cm_reply.specs.Laws as laws;
-ghost use Rattle.cm_reply.specs.Lines.{EntriesReadOneWay};
+ghost use Rattle.cm_reply.specs.LinesInside.{EntriesReadOneWay};
 ghost use Rattle.cm_reply.specs.EventWords.{EachIsTold};
 ghost use Rattle.cm_reply.specs.Examples as examples;
 ghost use Rattle.cm_reply.specs.Tables as tables;

@@ -4,7 +4,8 @@ ghost use Rattle.std.specs.Prelude.{◌≡◌, [], codes, string_bytes, IfOk, On
 ghost use Rattle.cm_names.specs.Child.{child_text};
 ghost use Rattle.cm_names.specs.Moniker.{moniker_text};
 ghost use Rattle.cm_reply.specs.Lists as spec;
-ghost use Rattle.cm_reply.specs.Lists.{Gains};
+ghost use Rattle.cm_reply.specs.ListsInside as spec_inside;
+ghost use Rattle.cm_reply.specs.ListsInside.{GainsText};
 
 use cm_names::{ChildName, Memory, Moniker, Shared};
 use std::alloc::Global;
@@ -21,21 +22,21 @@ pub fn roomy(alloc: Global) -> Result<String, Memory>
 }
 
 /// What stands in a list that is written.
-pub trait Item {
+pub trait ListItem {
     ghost use Rattle.std.specs.Prelude.{List as Seq, ℕ, OnOk};
-    ghost use Rattle.cm_reply.specs.Lists.{Gains};
+    ghost use Rattle.cm_reply.specs.ListsInside.{GainsText};
 
     // The text of the item.
     ghost written: { Self → Seq ℕ };
 
     /// Puts the text of the item at the end. `Err` where memory runs out.
     fn push_to(&self, text: &mut String) -> Result<(), Memory>
-        ensures { OnOk result (Gains text.old text.new (written self.now)) };
+        ensures { OnOk result (GainsText text.old text.new (written self.now)) };
 }
 
 /// Puts these words at the end. `Err` where memory runs out.
 pub fn push(text: &mut String, words: &str) -> Result<(), Memory>
-    ensures { OnOk result (Gains text.old text.new words.now) }
+    ensures { OnOk result (GainsText text.old text.new words.now) }
 {
     text.push_str(words)?;
     Ok(())
@@ -43,14 +44,14 @@ pub fn push(text: &mut String, words: &str) -> Result<(), Memory>
 
 /// Puts what `{}` writes of the value at the end. `Err` where memory runs out.
 pub fn push_value<D: fmt::Display + Drop>(text: &mut String, value: D) -> Result<(), Memory>
-    ensures { OnOk result (IfSome (D.output value) (Gains text.old text.new)) }
+    ensures { OnOk result (IfSome (D.output value) (GainsText text.old text.new)) }
 {
     text.write(value)?;
     Ok(())
 }
 
 /// It is written as its name, or as `COLLECTION:NAME`.
-impl Item for ChildName {
+impl ListItem for ChildName {
     ghost use Rattle.cm_names.specs.Child.{child_text};
 
     ghost written = { child_text };
@@ -68,7 +69,7 @@ impl Item for ChildName {
 }
 
 /// It is written as the value.
-impl<T: Item + Drop> Item for Shared<T> {
+impl<T: ListItem + Drop> ListItem for Shared<T> {
     ghost written = { T.written };
 
     fn push_to(&self, text: &mut String) -> Result<(), Memory> {
@@ -78,7 +79,7 @@ impl<T: Item + Drop> Item for Shared<T> {
 
 /// Puts names of children at the end, each behind a slash.
 fn push_behind_slashes(text: &mut String, parts: &[Shared<ChildName>]) -> Result<(), Memory>
-    ensures { OnOk result (Gains text.old text.new
+    ensures { OnOk result (GainsText text.old text.new
         (spec.each_behind (codes "/") child_text parts.now)) }
 {
     for part in parts {
@@ -90,7 +91,7 @@ fn push_behind_slashes(text: &mut String, parts: &[Shared<ChildName>]) -> Result
 
 /// Puts names of children at the end, with slashes between them; a dot for none.
 fn push_parts(text: &mut String, parts: &[Shared<ChildName>]) -> Result<(), Memory>
-    ensures { OnOk result (Gains text.old text.new (spec.parts_text parts.now)) }
+    ensures { OnOk result (GainsText text.old text.new (spec_inside.parts_text parts.now)) }
 {
     let [first, others @ ..] = parts else {
         return push(text, ".");
@@ -101,14 +102,14 @@ fn push_parts(text: &mut String, parts: &[Shared<ChildName>]) -> Result<(), Memo
 
 /// Puts where an instance stands at the end. `Err` where memory runs out.
 pub fn push_moniker(text: &mut String, moniker: &Moniker) -> Result<(), Memory>
-    ensures { OnOk result (Gains text.old text.new (moniker_text moniker.now)) }
+    ensures { OnOk result (GainsText text.old text.new (moniker_text moniker.now)) }
 {
     push_parts(text, moniker.parts.as_slice())
 }
 
 /// Puts the text of each item, behind that mark, at the end. `Err` where memory runs out.
-pub fn push_each<T: Item>(text: &mut String, mark: &str, items: &[T]) -> Result<(), Memory>
-    ensures { OnOk result (Gains text.old text.new (spec.each_behind mark.now T.written items.now)) }
+pub fn push_each<T: ListItem>(text: &mut String, mark: &str, items: &[T]) -> Result<(), Memory>
+    ensures { OnOk result (GainsText text.old text.new (spec.each_behind mark.now T.written items.now)) }
 {
     for item in items {
         push(text, mark)?;
@@ -119,8 +120,8 @@ pub fn push_each<T: Item>(text: &mut String, mark: &str, items: &[T]) -> Result<
 
 /// Puts the text of each item, behind a space and between brackets, at the end. `Err` where
 /// memory runs out.
-pub fn push_bracketed<T: Item>(text: &mut String, items: &[T]) -> Result<(), Memory>
-    ensures { OnOk result (Gains text.old text.new (spec.bracketed T.written items.now)) }
+pub fn push_bracketed<T: ListItem>(text: &mut String, items: &[T]) -> Result<(), Memory>
+    ensures { OnOk result (GainsText text.old text.new (spec.bracketed T.written items.now)) }
 {
     for item in items {
         push(text, " [")?;

@@ -9,7 +9,7 @@ ghost use Rattle.cm_command.specs.declared.command.Command.{Command as OneComman
 ghost use Rattle.cm_command.specs.Grammar.{CommandText};
 ghost use Rattle.cm_reply.specs.Events.{event_text};
 ghost use Rattle.cm_reply.specs.Legible.{IsLegible};
-ghost use Rattle.cm_reply.specs.Reading.{Finds, FindsAsked, IsAskable, IsCreatedIn, IsOr};
+ghost use Rattle.cm_reply.specs.Reading.{FindsEvent, FindsAsked, IsAskable, IsCreatedIn, IsOr};
 ghost use Rattle.cm_reply.specs.declared.event_words.EventWord.TheVariants as word;
 
 use crate::entry_words::{
@@ -42,7 +42,7 @@ pub struct Asked {
 /// `find MONIKER`, behind its word.
 fn find(alloc: Global, rest: &[u8]) -> Result<Event, EntryFault>
     ensures legible { IfOk result IsLegible }
-    ensures finds { Finds word.Find rest.now result }
+    ensures finds { FindsEvent word.Find rest.now result }
 {
     Ok(Event::Find(moniker(alloc, rest)?))
 }
@@ -50,7 +50,7 @@ fn find(alloc: Global, rest: &[u8]) -> Result<Event, EntryFault>
 /// `await ACTION`, behind its word.
 fn await_end(rest: &[u8]) -> Result<Event, EntryFault>
     ensures legible { IfOk result IsLegible }
-    ensures finds { Finds word.Await rest.now result }
+    ensures finds { FindsEvent word.Await rest.now result }
 {
     Ok(Event::Await(number(rest)?))
 }
@@ -58,7 +58,7 @@ fn await_end(rest: &[u8]) -> Result<Event, EntryFault>
 /// `pick N`, behind its word.
 fn pick(rest: &[u8]) -> Result<Event, EntryFault>
     ensures legible { IfOk result IsLegible }
-    ensures finds { Finds word.Pick rest.now result }
+    ensures finds { FindsEvent word.Pick rest.now result }
 {
     Ok(Event::Pick(number(rest)?))
 }
@@ -66,7 +66,7 @@ fn pick(rest: &[u8]) -> Result<Event, EntryFault>
 /// `purge N`, behind its word.
 fn purge(rest: &[u8]) -> Result<Event, EntryFault>
     ensures legible { IfOk result IsLegible }
-    ensures finds { Finds word.Purge rest.now result }
+    ensures finds { FindsEvent word.Purge rest.now result }
 {
     Ok(Event::Purge(number(rest)?))
 }
@@ -74,7 +74,7 @@ fn purge(rest: &[u8]) -> Result<Event, EntryFault>
 /// `show N`, behind its word.
 fn show(rest: &[u8]) -> Result<Event, EntryFault>
     ensures legible { IfOk result IsLegible }
-    ensures finds { Finds word.Show rest.now result }
+    ensures finds { FindsEvent word.Show rest.now result }
 {
     Ok(Event::Show(number(rest)?))
 }
@@ -82,7 +82,7 @@ fn show(rest: &[u8]) -> Result<Event, EntryFault>
 /// `survey N`, behind its word.
 fn survey(rest: &[u8]) -> Result<Event, EntryFault>
     ensures legible { IfOk result IsLegible }
-    ensures finds { Finds word.Survey rest.now result }
+    ensures finds { FindsEvent word.Survey rest.now result }
 {
     Ok(Event::Survey(number(rest)?))
 }
@@ -90,7 +90,7 @@ fn survey(rest: &[u8]) -> Result<Event, EntryFault>
 /// `exited N`, behind its word.
 fn exited(rest: &[u8]) -> Result<Event, EntryFault>
     ensures legible { IfOk result IsLegible }
-    ensures finds { Finds word.Exited rest.now result }
+    ensures finds { FindsEvent word.Exited rest.now result }
 {
     Ok(Event::Exited(number(rest)?))
 }
@@ -98,7 +98,7 @@ fn exited(rest: &[u8]) -> Result<Event, EntryFault>
 /// `reap N`, behind its word.
 fn reap(rest: &[u8]) -> Result<Event, EntryFault>
     ensures legible { IfOk result IsLegible }
-    ensures finds { Finds word.Reap rest.now result }
+    ensures finds { FindsEvent word.Reap rest.now result }
 {
     Ok(Event::Reap(number(rest)?))
 }
@@ -106,7 +106,7 @@ fn reap(rest: &[u8]) -> Result<Event, EntryFault>
 /// `begin KIND N`, behind its word.
 fn begin(rest: &[u8]) -> Result<Event, EntryFault>
     ensures legible { IfOk result IsLegible }
-    ensures finds { Finds word.Begin rest.now result }
+    ensures finds { FindsEvent word.Begin rest.now result }
 {
     let (first, more) = cut(rest, b' ');
     let Some(more) = more else {
@@ -125,7 +125,7 @@ fn begin(rest: &[u8]) -> Result<Event, EntryFault>
 /// `end ACTION OUTCOME`, behind its word.
 fn end(alloc: Global, rest: &[u8]) -> Result<Event, EntryFault>
     ensures legible { IfOk result IsLegible }
-    ensures finds { Finds word.End rest.now result }
+    ensures finds { FindsEvent word.End rest.now result }
 {
     let (action, more) = match numbered(rest) {
         Ok(both) => both,
@@ -140,7 +140,7 @@ fn end(alloc: Global, rest: &[u8]) -> Result<Event, EntryFault>
 /// `mark closing N` or `mark doomed N`, behind its word.
 fn mark(rest: &[u8]) -> Result<Event, EntryFault>
     ensures legible { IfOk result IsLegible }
-    ensures finds { Finds word.Mark rest.now result }
+    ensures finds { FindsEvent word.Mark rest.now result }
 {
     let (first, more) = cut(rest, b' ');
     let Some(more) = more else {
@@ -159,7 +159,7 @@ fn mark(rest: &[u8]) -> Result<Event, EntryFault>
 /// `tail N FROM`, behind its word.
 fn tail(rest: &[u8]) -> Result<Event, EntryFault>
     ensures legible { IfOk result IsLegible }
-    ensures finds { Finds word.Tail rest.now result }
+    ensures finds { FindsEvent word.Tail rest.now result }
 {
     let (inc, more) = match numbered(rest) {
         Ok(both) => both,
@@ -212,7 +212,7 @@ fn created(
 /// before the number.
 fn create(alloc: Global, rest: &[u8]) -> Result<Event, EntryFault>
     ensures legible { IfOk result IsLegible }
-    ensures finds { Finds word.Create rest.now result }
+    ensures finds { FindsEvent word.Create rest.now result }
 {
     let command = match created_by(alloc, rest) {
         Ok(command) => command,
@@ -236,7 +236,7 @@ fn create(alloc: Global, rest: &[u8]) -> Result<Event, EntryFault>
 /// `route N PATH`, behind its word.
 fn route(alloc: Global, rest: &[u8]) -> Result<Event, EntryFault>
     ensures legible { IfOk result IsLegible }
-    ensures finds { Finds word.Route rest.now result }
+    ensures finds { FindsEvent word.Route rest.now result }
 {
     let (inc, path) = numbered_path(alloc, rest)?;
     Ok(Event::Route(inc, path))
@@ -245,7 +245,7 @@ fn route(alloc: Global, rest: &[u8]) -> Result<Event, EntryFault>
 /// `open N PATH`, behind its word.
 fn open_use(alloc: Global, rest: &[u8]) -> Result<Event, EntryFault>
     ensures legible { IfOk result IsLegible }
-    ensures finds { Finds word.Open rest.now result }
+    ensures finds { FindsEvent word.Open rest.now result }
 {
     let (inc, path) = numbered_path(alloc, rest)?;
     Ok(Event::OpenUse(inc, path))
@@ -254,7 +254,7 @@ fn open_use(alloc: Global, rest: &[u8]) -> Result<Event, EntryFault>
 /// `open-exposed N NAME`, behind its word.
 fn open_exposed(alloc: Global, rest: &[u8]) -> Result<Event, EntryFault>
     ensures legible { IfOk result IsLegible }
-    ensures finds { Finds word.OpenExposed rest.now result }
+    ensures finds { FindsEvent word.OpenExposed rest.now result }
 {
     let (inc, name) = numbered_name(alloc, rest)?;
     Ok(Event::OpenExposed(inc, name))
@@ -263,7 +263,7 @@ fn open_exposed(alloc: Global, rest: &[u8]) -> Result<Event, EntryFault>
 /// `list N COLLECTION`, behind its word.
 fn list(alloc: Global, rest: &[u8]) -> Result<Event, EntryFault>
     ensures legible { IfOk result IsLegible }
-    ensures finds { Finds word.List rest.now result }
+    ensures finds { FindsEvent word.List rest.now result }
 {
     let (inc, coll) = numbered_name(alloc, rest)?;
     Ok(Event::Listing(inc, coll))
@@ -272,7 +272,7 @@ fn list(alloc: Global, rest: &[u8]) -> Result<Event, EntryFault>
 /// The event of that word, behind it.
 fn behind(alloc: Global, first: EventWord, rest: &[u8]) -> Result<Event, EntryFault>
     ensures legible { IfOk result IsLegible }
-    ensures finds { Finds first rest.now result }
+    ensures finds { FindsEvent first rest.now result }
 {
     match first {
         EventWord::Find => find(alloc, rest),
@@ -311,7 +311,7 @@ fn event(alloc: Global, text: &[u8]) -> Result<Event, EntryFault>
 }
 
 /// The number, the caller and the event that the text may be of.
-pub fn read_front(alloc: Global, text: &[u8]) -> Result<Asked, EntryFault>
+pub fn read_prefix(alloc: Global, text: &[u8]) -> Result<Asked, EntryFault>
     ensures askable { IfOk result IsAskable }
     ensures finds { FindsAsked text.now result }
 {

@@ -1,12 +1,13 @@
 //! The texts of refusals.
 
 ghost use Rattle.std.specs.Prelude.{◌++◌, codes, decimal, OnOk};
-ghost use Rattle.cm_reply.specs.Lists.{Gains, each_behind};
+ghost use Rattle.cm_reply.specs.Lists.{each_behind};
+ghost use Rattle.cm_reply.specs.ListsInside.{GainsText};
 ghost use Rattle.cm_decl.specs.Words.{node_text};
 ghost use Rattle.cm_reply.specs.States as states;
 ghost use Rattle.cm_reply.specs.Refusals as spec;
 
-use crate::lists::{Item, push, push_each, push_moniker, push_value};
+use crate::lists::{ListItem, push, push_each, push_moniker, push_value};
 use crate::routes::push_failure;
 use crate::states::push_outcome;
 use crate::words::push_number;
@@ -15,7 +16,7 @@ use cm_names::Memory;
 use cm_world::{Outcome, Refusal};
 
 /// It is written as `self` or as the child's name.
-impl Item for Node {
+impl ListItem for Node {
     ghost use Rattle.cm_decl.specs.Words.{node_text};
 
     ghost written = { node_text };
@@ -27,19 +28,19 @@ impl Item for Node {
 
 /// Puts a word and each node behind a space at the end. `Err` where memory runs out.
 pub fn push_cycle(text: &mut String, word: &str, nodes: &[Node]) -> Result<(), Memory>
-    ensures { OnOk result (Gains text.old text.new
+    ensures { OnOk result (GainsText text.old text.new
         (word.now ++ each_behind (codes " ") node_text nodes.now)) }
 {
     push(text, word)?;
     push_each(text, " ", nodes)
 }
 
-/// Puts at the end why a command was refused: `refused NUMBER WORD` and what belongs to it. Want of
+/// Puts at the end why a command was refused: `refused NUMBER WORD` and what belongs to it. Lack of
 /// memory has no number.
 ///
 /// `Err` where memory runs out.
 pub fn push_refusal(text: &mut String, refusal: &Refusal) -> Result<(), Memory>
-    ensures { OnOk result (Gains text.old text.new (spec.refusal_text refusal.now)) }
+    ensures { OnOk result (GainsText text.old text.new (spec.refusal_text refusal.now)) }
 {
     push(text, "refused ")?;
     push_refused(text, refusal)
@@ -47,7 +48,7 @@ pub fn push_refusal(text: &mut String, refusal: &Refusal) -> Result<(), Memory>
 
 /// Puts the number and the word of a refusal at the end, and what belongs to it.
 fn push_refused(text: &mut String, refusal: &Refusal) -> Result<(), Memory>
-    ensures { OnOk result (Gains text.old text.new (spec.refusal_words refusal.now)) }
+    ensures { OnOk result (GainsText text.old text.new (spec.refusal_words refusal.now)) }
 {
     match refusal {
         Refusal::CollectionNotFound => push(text, "60 collection-not-found"),
@@ -88,7 +89,7 @@ fn push_refused(text: &mut String, refusal: &Refusal) -> Result<(), Memory>
 
 /// Puts at the end which offer is bad, and the number of its fault.
 fn push_bad_offer(text: &mut String, index: u32, number: u8) -> Result<(), Memory>
-    ensures { OnOk result (Gains text.old text.new (codes "63 bad-offer " ++ (decimal index
+    ensures { OnOk result (GainsText text.old text.new (codes "63 bad-offer " ++ (decimal index
         ++ (codes " " ++ decimal number)))) }
 {
     push_value(text, format_args!("63 bad-offer {index} {number}"))
@@ -96,7 +97,7 @@ fn push_bad_offer(text: &mut String, index: u32, number: u8) -> Result<(), Memor
 
 /// Puts the words, the number of an action, and how it came out at the end.
 fn push_ended(text: &mut String, words: &str, action: u64, outcome: Outcome) -> Result<(), Memory>
-    ensures { OnOk result (Gains text.old text.new (words.now ++ (codes " " ++ (decimal action
+    ensures { OnOk result (GainsText text.old text.new (words.now ++ (codes " " ++ (decimal action
         ++ (codes " " ++ states.outcome_text outcome))))) }
 {
     push_number(text, words, action)?;

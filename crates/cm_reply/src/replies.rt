@@ -1,10 +1,11 @@
 //! The texts of replies to events.
 
 ghost use Rattle.std.specs.Prelude.{◌≡◌, ◌++◌, length, codes, decimal, IfOk, OnOk};
-ghost use Rattle.cm_reply.specs.Lists.{Gains, bracketed};
+ghost use Rattle.cm_reply.specs.Lists.{bracketed};
+ghost use Rattle.cm_reply.specs.ListsInside.{GainsText};
 ghost use Rattle.cm_reply.specs.Replies as spec;
 
-use crate::lists::{Item, push, push_bracketed, push_each, push_moniker, push_value, roomy};
+use crate::lists::{ListItem, push, push_bracketed, push_each, push_moniker, push_value, roomy};
 use crate::refusals::push_cycle;
 use crate::routes::{push_failure, push_route};
 use crate::states::{push_look, push_outcome};
@@ -25,7 +26,7 @@ pub fn replied_text(alloc: Global, reply: &Reply) -> Result<Text, Memory>
 
 /// Puts the reply at the end as a journal has it. `Err` where memory runs out.
 pub fn push_replied(text: &mut String, reply: &Reply) -> Result<(), Memory>
-    ensures { OnOk result (Gains text.old text.new (spec.replied_text reply.now)) }
+    ensures { OnOk result (GainsText text.old text.new (spec.replied_text reply.now)) }
 {
     match reply {
         Reply::Found(inc) => push_number(text, "found", *inc),
@@ -68,7 +69,7 @@ pub fn push_replied(text: &mut String, reply: &Reply) -> Result<(), Memory>
 }
 
 /// The number of an instance is written in decimal.
-impl Item for u64 {
+impl ListItem for u64 {
     ghost use Rattle.std.specs.Prelude.{decimal};
 
     ghost written = { decimal };
@@ -81,7 +82,7 @@ impl Item for u64 {
 /// Puts the reply at the end, where it is one that tells of routes, of lists and looks, of programs
 /// that have ended, or of what is left to be removed.
 fn push_other(text: &mut String, reply: &Reply) -> Result<(), Memory>
-    ensures { OnOk result (Gains text.old text.new (spec.other_text reply.now)) }
+    ensures { OnOk result (GainsText text.old text.new (spec.other_text reply.now)) }
 {
     match reply {
         Reply::NoSuchUse => push(text, "no-such-use"),
@@ -121,8 +122,8 @@ fn push_other(text: &mut String, reply: &Reply) -> Result<(), Memory>
 }
 
 /// Puts the word, how many items there are, and each between brackets at the end.
-fn push_listed<T: Item>(text: &mut String, word: &str, items: &[T]) -> Result<(), Memory>
-    ensures { OnOk result (Gains text.old text.new (word.now ++ (codes " "
+fn push_listed<T: ListItem>(text: &mut String, word: &str, items: &[T]) -> Result<(), Memory>
+    ensures { OnOk result (GainsText text.old text.new (word.now ++ (codes " "
         ++ (decimal (length items.now) ++ bracketed T.written items.now)))) }
 {
     let count = items.len();

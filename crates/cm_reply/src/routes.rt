@@ -1,10 +1,11 @@
 //! The texts of routes.
 
 ghost use Rattle.std.specs.Prelude.{◌≡◌, codes, OnOk};
-ghost use Rattle.cm_reply.specs.Lists.{Gains, joined_by, when_some};
+ghost use Rattle.cm_reply.specs.Lists.{joined_by, when_some};
+ghost use Rattle.cm_reply.specs.ListsInside.{GainsText};
 ghost use Rattle.cm_reply.specs.Routes as spec;
 
-use crate::lists::{Item, push, push_each, push_moniker};
+use crate::lists::{ListItem, push, push_each, push_moniker};
 use crate::words::push_incarnation;
 use cm_names::{Memory, Rights};
 use cm_world::{Hop, Provider, Route, StepKind, Why};
@@ -38,7 +39,7 @@ fn why_word(why: Why) -> &'static str
 }
 
 /// It is written as its word and where its instance stands, as `offer core`.
-impl Item for Hop {
+impl ListItem for Hop {
     ghost use Rattle.cm_reply.specs.Routes.{hop_text};
 
     ghost written = { hop_text };
@@ -52,7 +53,7 @@ impl Item for Hop {
 
 /// Puts the hops at the end, with commas between them.
 fn push_hops(text: &mut String, hops: &[Hop]) -> Result<(), Memory>
-    ensures { OnOk result (Gains text.old text.new (joined_by (codes ", ") spec.hop_text hops.now)) }
+    ensures { OnOk result (GainsText text.old text.new (joined_by (codes ", ") spec.hop_text hops.now)) }
 {
     let [first, others @ ..] = hops else {
         return Ok(());
@@ -63,7 +64,7 @@ fn push_hops(text: &mut String, hops: &[Hop]) -> Result<(), Memory>
 
 /// Puts who provides the capability at the end. `Err` where memory runs out.
 pub fn push_source(text: &mut String, provider: &Provider) -> Result<(), Memory>
-    ensures { OnOk result (Gains text.old text.new (spec.source_text provider.now)) }
+    ensures { OnOk result (GainsText text.old text.new (spec.source_text provider.now)) }
 {
     match provider {
         Provider::Instance(inc, moniker) => {
@@ -78,7 +79,7 @@ pub fn push_source(text: &mut String, provider: &Provider) -> Result<(), Memory>
 /// Puts the rights that a directory is opened with at the end, behind ` rights `; nothing for a
 /// protocol.
 fn push_rights(text: &mut String, rights: Option<Rights>) -> Result<(), Memory>
-    ensures { OnOk result (Gains text.old text.new (when_some spec.rights_words rights)) }
+    ensures { OnOk result (GainsText text.old text.new (when_some spec.rights_words rights)) }
 {
     match rights {
         None => Ok(()),
@@ -93,7 +94,7 @@ fn push_rights(text: &mut String, rights: Option<Rights>) -> Result<(), Memory>
 /// Puts at the end where the route leads: `PATH at SOURCE`, with ` rights RIGHTS` for a directory.
 /// `Err` where memory runs out.
 pub fn push_place(text: &mut String, route: &Route) -> Result<(), Memory>
-    ensures { OnOk result (Gains text.old text.new (spec.place_text route.now)) }
+    ensures { OnOk result (GainsText text.old text.new (spec.place_text route.now)) }
 {
     push(text, route.path.as_str())?;
     push(text, " at ")?;
@@ -104,7 +105,7 @@ pub fn push_place(text: &mut String, route: &Route) -> Result<(), Memory>
 /// Puts at the end where the route leads, then ` through ` and its hops, with commas between them.
 /// `Err` where memory runs out.
 pub fn push_route(text: &mut String, route: &Route) -> Result<(), Memory>
-    ensures { OnOk result (Gains text.old text.new (spec.route_text route.now)) }
+    ensures { OnOk result (GainsText text.old text.new (spec.route_text route.now)) }
 {
     push_place(text, route)?;
     push(text, " through ")?;
@@ -114,7 +115,7 @@ pub fn push_route(text: &mut String, route: &Route) -> Result<(), Memory>
 /// Puts at the end why there is no route: `WHY at HOP`, with the hop that fails. `Err` where memory
 /// runs out.
 pub fn push_failure(text: &mut String, hop: &Hop, why: Why) -> Result<(), Memory>
-    ensures { OnOk result (Gains text.old text.new (spec.failure_text hop.now why)) }
+    ensures { OnOk result (GainsText text.old text.new (spec.failure_text hop.now why)) }
 {
     push(text, why_word(why))?;
     push(text, " at ")?;

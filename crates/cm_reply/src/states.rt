@@ -1,10 +1,11 @@
 //! The texts of actions and of the states of instances.
 
 ghost use Rattle.std.specs.Prelude.{◌≡◌, ◌++◌, codes, OnOk};
-ghost use Rattle.cm_reply.specs.Lists.{Gains, when, when_some};
+ghost use Rattle.cm_reply.specs.Lists.{when, when_some};
+ghost use Rattle.cm_reply.specs.ListsInside.{GainsText};
 ghost use Rattle.cm_reply.specs.States as spec;
 
-use crate::lists::{Item, push, push_moniker, push_value};
+use crate::lists::{ListItem, push, push_moniker, push_value};
 use crate::words::push_incarnation;
 use cm_names::{Memory, Text};
 use cm_read::ReadFault;
@@ -23,7 +24,7 @@ pub fn act_word(kind: ActKind) -> &'static str
 
 /// Puts the fault of a manifest at the end, as `invalid 51 offer 0`.
 fn push_note(text: &mut String, note: FaultNote) -> Result<(), Memory>
-    ensures { OnOk result (Gains text.old text.new (spec.note_text note)) }
+    ensures { OnOk result (GainsText text.old text.new (spec.note_text note)) }
 {
     let fault = ReadFault::Bad {
         number: note.number,
@@ -37,7 +38,7 @@ fn push_note(text: &mut String, note: FaultNote) -> Result<(), Memory>
 /// Puts at the end what became of an action: a word, and for a manifest that isn't valid its fault.
 /// `Err` where memory runs out.
 pub fn push_outcome(text: &mut String, outcome: Outcome) -> Result<(), Memory>
-    ensures { OnOk result (Gains text.old text.new (spec.outcome_text outcome)) }
+    ensures { OnOk result (GainsText text.old text.new (spec.outcome_text outcome)) }
 {
     match outcome {
         Outcome::Resolved => push(text, "resolved"),
@@ -75,7 +76,7 @@ pub fn when(holds: bool, text: &'static str) -> &'static str
 
 /// Puts the action that hasn't ended at the end, behind ` pending `; nothing where there is none.
 fn push_pending(text: &mut String, pending: Option<ActKind>) -> Result<(), Memory>
-    ensures { OnOk result (Gains text.old text.new (when_some spec.pending_words pending)) }
+    ensures { OnOk result (GainsText text.old text.new (when_some spec.pending_words pending)) }
 {
     match pending {
         None => Ok(()),
@@ -89,7 +90,7 @@ fn push_pending(text: &mut String, pending: Option<ActKind>) -> Result<(), Memor
 /// Puts at the end how an instance is, as `resolved on closing pending stop`. `Err` where memory
 /// runs out.
 pub fn push_look(text: &mut String, look: &Look) -> Result<(), Memory>
-    ensures { OnOk result (Gains text.old text.new (spec.look_text look.now)) }
+    ensures { OnOk result (GainsText text.old text.new (spec.look_text look.now)) }
 {
     push(text, resolved_word(look.resolved))?;
     push(text, on_word(look.on))?;
@@ -100,7 +101,7 @@ pub fn push_look(text: &mut String, look: &Look) -> Result<(), Memory>
 
 /// Puts at the end how an instance of a survey is.
 fn push_state(text: &mut String, row: &SurveyRow) -> Result<(), Memory>
-    ensures { OnOk result (Gains text.old text.new (spec.resolved_word row.now.resolved
+    ensures { OnOk result (GainsText text.old text.new (spec.resolved_word row.now.resolved
         ++ (spec.on_word row.now.on ++ when row.now.shut (codes " shut")))) }
 {
     push(text, resolved_word(row.resolved))?;
@@ -109,7 +110,7 @@ fn push_state(text: &mut String, row: &SurveyRow) -> Result<(), Memory>
 }
 
 /// It is written as `MONIKER incarnation N` and how it is.
-impl Item for SurveyRow {
+impl ListItem for SurveyRow {
     ghost use Rattle.cm_reply.specs.States.{survey_text};
 
     ghost written = { survey_text };
@@ -135,7 +136,7 @@ fn happen_word(kind: HappenKind) -> &'static str
 }
 
 /// It is written as `NUMBER KIND MONIKER incarnation N`.
-impl Item for Happening {
+impl ListItem for Happening {
     ghost use Rattle.cm_reply.specs.States.{happening_text};
 
     ghost written = { happening_text };
@@ -149,7 +150,7 @@ impl Item for Happening {
 }
 
 /// It is written as `NAME incarnation N`.
-impl Item for Kid {
+impl ListItem for Kid {
     ghost use Rattle.cm_reply.specs.States.{kid_text};
 
     ghost written = { kid_text };

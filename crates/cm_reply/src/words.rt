@@ -1,7 +1,7 @@
 //! Words, and what belongs to them.
 
 ghost use Rattle.std.specs.Prelude.{◌++◌, codes, decimal, OnOk};
-ghost use Rattle.cm_reply.specs.Lists.{Gains};
+ghost use Rattle.cm_reply.specs.ListsInside.{GainsText};
 ghost use Rattle.cm_reply.specs.States.{incarnation_text};
 
 use crate::lists::push_value;
@@ -9,14 +9,14 @@ use cm_names::Memory;
 
 /// Puts the words and the number at the end. `Err` where memory runs out.
 pub fn push_number(text: &mut String, words: &str, number: u64) -> Result<(), Memory>
-    ensures { OnOk result (Gains text.old text.new (words.now ++ (codes " " ++ decimal number))) }
+    ensures { OnOk result (GainsText text.old text.new (words.now ++ (codes " " ++ decimal number))) }
 {
     push_value(text, format_args!("{words} {number}"))
 }
 
 /// Puts the words and two numbers at the end. `Err` where memory runs out.
 pub fn push_numbers(text: &mut String, words: &str, first: u64, second: u64) -> Result<(), Memory>
-    ensures { OnOk result (Gains text.old text.new (words.now ++ (codes " " ++ (decimal first
+    ensures { OnOk result (GainsText text.old text.new (words.now ++ (codes " " ++ (decimal first
         ++ (codes " " ++ decimal second))))) }
 {
     push_value(text, format_args!("{words} {first} {second}"))
@@ -24,7 +24,7 @@ pub fn push_numbers(text: &mut String, words: &str, first: u64, second: u64) -> 
 
 /// Puts the words, a number and further words at the end. `Err` where memory runs out.
 pub fn push_noted(text: &mut String, words: &str, number: u64, note: &str) -> Result<(), Memory>
-    ensures { OnOk result (Gains text.old text.new (words.now ++ (codes " " ++ (decimal number
+    ensures { OnOk result (GainsText text.old text.new (words.now ++ (codes " " ++ (decimal number
         ++ (codes " " ++ note.now))))) }
 {
     push_value(text, format_args!("{words} {number} {note}"))
@@ -32,7 +32,7 @@ pub fn push_noted(text: &mut String, words: &str, number: u64, note: &str) -> Re
 
 /// Puts the number of an instance at the end. `Err` where memory runs out.
 pub fn push_incarnation(text: &mut String, inc: u64) -> Result<(), Memory>
-    ensures { OnOk result (Gains text.old text.new (incarnation_text inc)) }
+    ensures { OnOk result (GainsText text.old text.new (incarnation_text inc)) }
 {
     push_value(text, format_args!(" incarnation {inc}"))
 }

@@ -12,7 +12,8 @@ use Rattle.std.proofs.lemmas.Slice.Eq.{bytes_eq-Decides}
 use Rattle.indexmap.specs.IndexMap.{IndexMap, insert_entry}
 use Rattle.indexmap.proofs.CallerLemmas.{insert_entry-new}
 use Rattle.cm_names.specs.Steps.{◌>>=◌}
-use Rattle.cm_repo.specs.Blocks.{Blocks, blocks_of, block_at, put, added, repo_fault, FindsAlso}
+use Rattle.cm_repo.specs.Blocks.{Blocks, blocks_of, block_at, put, added, repo_fault}
+use Rattle.cm_repo.specs.BlocksInside.{FindsAlso}
 use Rattle.cm_repo.specs.Urls.{key_of}
 use Rattle.cm_repo.specs.declared.fault.RepoFault.TheVariants.{Repeated}
 

@@ -1,11 +1,12 @@
+-- Inside.
 -- Calls that may run out of memory, or be refused as is expected.
 use Rattle.std.specs.Prelude.{◌≡◌, ◌⊎◌, Result, Ok, Err, MatchResult}
 
--- the fault is want of memory, or the expected refusal
-abbrev pub IsRefusal : {A E : Type 0} → E → E → Result A E → Type 0
-IsRefusal memory fault expected = (expected ≡ Err fault) ⊎ (fault ≡ memory)
+-- the fault is out of memory, or the expected refusal
+abbrev pub IsRepoRefusal : {A E : Type 0} → E → E → Result A E → Type 0
+IsRepoRefusal memory fault expected = (expected ≡ Err fault) ⊎ (fault ≡ memory)
 
 -- the result is the expected one, unless memory ran out
 abbrev pub GivesUnless : {A E : Type 0} → E → Result A E → Result A E → Type 0
 GivesUnless memory result expected =
-    MatchResult result (λ x. expected ≡ Ok x) (λ fault. IsRefusal memory fault expected)
+    MatchResult result (λ x. expected ≡ Ok x) (λ fault. IsRepoRefusal memory fault expected)

@@ -1,5 +1,6 @@
+-- Promised.
 -- A repository as the list of its blocks, each a key and the bytes under it.
-use Rattle.std.specs.Prelude.{◌≡◌, ◌≢◌, ℕ, List, [], ◌∷◌, ◌++◌, map, Option, Some, Result, Ok, Err, is_some}
+use Rattle.std.specs.Prelude.{ℕ, List, [], ◌∷◌, ◌++◌, map, Option, Result, Ok, Err, is_some}
 use Rattle.std.specs.Prelude.{String, string_bytes, if◌then◌else◌}
 use Rattle.std.specs.Map.{lookup}
 use Rattle.std.specs.Result.{result_map_both}
@@ -37,8 +38,3 @@ put blocks bytes key =
 -- the blocks with one more, whose key is the text of its URL
 abbrev pub added : Blocks → List ℕ → List ℕ → Result Blocks RepoFault
 added blocks url bytes = result_map_both (λ key. key) repo_fault (key_of url) >>= put blocks bytes
-
--- the bytes are found under the key of this URL, and under any other key what was found before
-pub record FindsAlso (old new : Blocks) (url bytes : List ℕ) : Type 0 where
-  pub found : (key : List ℕ) → key_of url ≡ Ok key → block_at new key ≡ Some bytes
-  pub others : (key : List ℕ) → key_of url ≢ Ok key → block_at new key ≡ block_at old key

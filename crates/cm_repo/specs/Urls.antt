@@ -1,3 +1,4 @@
+-- Promised.
 -- Which text a URL has, alone and on a base. How a URL is read and written is the URL Standard's.
 use Rattle.std.specs.Prelude.{ℕ, Bool, true, false, List, [], ◌∷◌, Option, Some, None}
 use Rattle.std.specs.Prelude.{Result, Ok, Err, ◌==◌, if◌then◌else◌}

@@ -2,8 +2,9 @@
 
 ghost use Rattle.std.specs.Prelude.{◌≡◌, [], Ok, OnOk, OnErr, IfOk, IfErr, string_bytes};
 ghost use Rattle.std.specs.Option.{option_copied};
-ghost use Rattle.cm_repo.specs.Answers.{IsRefusal};
-ghost use Rattle.cm_repo.specs.Blocks.{added, block_at, FindsAlso};
+ghost use Rattle.cm_repo.specs.Answers.{IsRepoRefusal};
+ghost use Rattle.cm_repo.specs.Blocks.{added, block_at};
+ghost use Rattle.cm_repo.specs.BlocksInside.{FindsAlso};
 ghost use Rattle.cm_repo.specs.declared.fault.RepoFault.TheVariants.{Memory};
 
 use crate::RepoFault;
@@ -64,7 +65,7 @@ impl Repository {
         ensures ok { OnOk result (added self.old url.now bytes ≡ Ok self.new) }
         ensures found { OnOk result (FindsAlso self.old self.new url.now bytes) }
         ensures refused { IfErr result (λ fault.
-            IsRefusal Memory fault (added self.old url.now bytes)) }
+            IsRepoRefusal Memory fault (added self.old url.now bytes)) }
         ensures unchanged { OnErr result (self.new ≡ self.old) }
     {
         let key = key(self.alloc, url)?;

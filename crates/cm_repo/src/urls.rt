@@ -14,7 +14,7 @@ use cm_names::url::is_url_text;
 use std::alloc::Global;
 use url::{ParseError, ParseResult, Url};
 
-/// The URL that was read, or why there is none: a URL of 4 GB counts as want of memory.
+/// The URL that was read, or why there is none: a URL of 4 GB counts as out of memory.
 fn accepted(given: ParseResult<Url>) -> Result<Url, UrlFault>
     ensures { (expected : Parsed Parts) → url.Gives given expected →
         GivesUnless Memory result (accepted expected) }

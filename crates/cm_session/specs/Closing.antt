@@ -1,8 +1,9 @@
+-- Inside.
 -- How the turn at a door is closed, and all links are put together.
 use Rattle.std.specs.Prelude.{◌≡◌, ℕ, ◌+◌, ◌<◌, ◌≤◌, Bool, true, false, List, [], ◌∷◌, ◌++◌, All, map}
 use Rattle.std.specs.Prelude.{length, Some}
 use Rattle.std.specs.Prelude.{slice_get}
-use Rattle.cm_io.specs.Doors.{Place}
+use Rattle.cm_io.specs.Doors.{DoorPlace}
 use Rattle.cm_io.specs.declared.door.DoorCounts.{DoorCounts}
 use Rattle.cm_turn.specs.History.{StartsWith}
 use Rattle.cm_session.specs.declared.doorway.Accepted.{Accepted}
@@ -11,7 +12,7 @@ use Rattle.cm_session.specs.declared.served.Back.{Back}
 use Rattle.cm_session.specs.declared.served.Cause.{Cause}
 use Rattle.cm_session.specs.declared.served.Cause.TheVariants as cause
 use Rattle.cm_session.specs.Doorway.{DoorPass, IsCounted, failures_of, links_of, sessions_of}
-use Rattle.cm_session.specs.Parts.{Links}
+use Rattle.cm_session.specs.PoolParts.{Links}
 
 module _ {L : Type 0} where
   -- the links of one worker, with its number
@@ -39,9 +40,10 @@ cause_of true failed = cause.Memory
 cause_of false true = cause.DoorFault
 cause_of false false = cause.Done
 
--- the door was opened so, and comes back with these accepts: it counted them, the passes have seen fronts of
+-- the door was opened so, and comes back with these accepts: it counted them, the passes have seen prefixes
+-- of
 -- them, the links that come back are as many, and peers may come where they could
-pub record ClosesDoor (passes : List DoorPass) (now : DoorCounts) (place_now : Place) (links : ℕ)
+pub record ClosesDoor (passes : List DoorPass) (now : DoorCounts) (place_now : DoorPlace) (links : ℕ)
     (lost : Bool) (why : Cause) : Type 0 where
   pub opening : Opening
   pub entries : List Accepted

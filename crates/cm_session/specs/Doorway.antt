@@ -1,3 +1,4 @@
+-- Inside.
 -- A door that workers share by turns: one entry for each accept.
 use Rattle.std.specs.Prelude.{◌≡◌, ◌⊎◌, ℕ, ◌+◌, ◌<◌, ◌≤◌, Bool, true, false, List, ◌∷◌, [], ◌++◌, filter}
 use Rattle.std.specs.Prelude.{length, ⊤, Option, Some, None}
@@ -8,8 +9,8 @@ use Rattle.cm_io.specs.declared.door.Accept.TheVariants as accept
 use Rattle.cm_io.specs.declared.door.DoorCounts.{DoorCounts}
 use Rattle.cm_turn.specs.Passes.{PassView}
 use Rattle.cm_session.specs.declared.doorway.Accepted.{Accepted}
-use Rattle.cm_session.specs.declared.doorway.Came.{Came}
-use Rattle.cm_session.specs.declared.doorway.Came.TheVariants as came
+use Rattle.cm_session.specs.declared.doorway.Accepting.{Accepting}
+use Rattle.cm_session.specs.declared.doorway.Accepting.TheVariants as came
 use Rattle.cm_session.specs.declared.doorway.Opening.{Opening}
 
 -- the door gave a link
@@ -45,8 +46,8 @@ pub record IsCounted (first now : DoorCounts) (entries : List Accepted) : Type 0
   pub closings : 0 < closings_of entries → Rose first.closings now.closings
 
 -- no further accept is due: as many links came as were asked for, or a closing, or a failure
-abbrev pub IsOver : ℕ → List Accepted → Type 0
-IsOver sessions entries =
+abbrev pub IsDoorDone : ℕ → List Accepted → Type 0
+IsDoorDone sessions entries =
     (sessions ≤ links_of entries) ⊎ ((0 < closings_of entries) ⊎ (0 < failures_of entries))
 
 -- a door with the accepts that were made at it, and how it was opened
@@ -60,7 +61,7 @@ abbrev pub DoorPass : Type 0
 DoorPass = PassView Accepted Opening
 
 -- what an accept came to
-abbrev pub came_of : {L : Type 0} → Accept L → Came
+abbrev pub came_of : {L : Type 0} → Accept L → Accepting
 came_of (accept.Link l) = came.Link
 came_of accept.Closed = came.Closed
 came_of accept.Failed = came.Failed
@@ -68,7 +69,7 @@ came_of accept.Failed = came.Failed
 -- what a turn of this worker adds to the entries: one for an accept, or nothing where none is due
 abbrev pub TurnedBy : {L : Type 0} → ℕ → ℕ → List Accepted → List Accepted → Option (Accept L) → Type 0
 TurnedBy worker sessions old new (Some a) = new ≡ old ++ record { worker = worker; came = came_of a } ∷ []
-TurnedBy worker sessions old new None = (new ≡ old) × IsOver sessions old
+TurnedBy worker sessions old new None = (new ≡ old) × IsDoorDone sessions old
 
 -- a fact of the link that was given
 abbrev pub OnGiven : {L : Type 0} → Option (Accept L) → (L → Type 0) → Type 0
@@ -101,4 +102,4 @@ pub record TakesTurn {L : Type 0} (p q : DoorPass) (turned : Option (Accept L)) 
   pub same : IsLater p q
   pub made : q.mine ≡ p.mine ++ accepted_by p.caller turned
   pub few : links_of q.mine ≤ sessions_of q
-  pub over : turned ≡ None → IsOver (sessions_of q) q.seen
+  pub over : turned ≡ None → IsDoorDone (sessions_of q) q.seen

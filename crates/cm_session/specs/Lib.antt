@@ -1,9 +1,10 @@
 pub mod Links
-pub mod Told
+pub mod LinksInside
+pub mod LineOutcome
 pub mod Session
 pub mod Steps
 pub mod Doorway
 pub mod Serving
-pub mod Crew
-pub mod Parts
+pub mod Pool
+pub mod PoolParts
 pub mod Closing

@@ -1,23 +1,17 @@
--- What contracts see of a link, and fronts of what it gave and of what was written to it.
-use Rattle.std.specs.Prelude.{◌≡◌, ℕ, List, [], ◌∷◌, ◌++◌, cond, nat_eq, take, Option}
-use Rattle.std.specs.Io.KnownBytes.{Appends}
+-- Promised.
+-- What contracts see of a link, and prefixes of what it gave and of what was written to it.
+use Rattle.std.specs.Prelude.{◌≡◌, ℕ, List, [], ◌∷◌, ◌++◌, cond, nat_eq, Option}
 use Rattle.cm_io.specs.Orders.{Move}
 use Rattle.cm_io.specs.Outside.{AsSink, AsSource}
 use Rattle.cm_io.specs.declared.sink.Sink as sink
 use Rattle.cm_io.specs.declared.source.Source as source
-use Rattle.cm_reply.specs.Lists.{Text}
+use Rattle.cm_reply.specs.Lists.{TextBytes}
 
 -- a link as contracts see it: what it tells as a source, what it tells as a sink, and in which order it was
 -- read, written and hung up on, where it tells that
 pub record LinkView : Type 0 where
   pub source : AsSource
   pub sink : AsSink
-  pub order : Option (List Move)
-
--- what a link tells of what is written to it: the bytes, how often a write failed, and the order
-pub record Side : Type 0 where
-  pub written : Option Text
-  pub faults : ℕ
   pub order : Option (List Move)
 
 -- what a link tells as a source
@@ -40,33 +34,17 @@ view_of as_source as_sink l = record {
   order = as_source.order l;
 }
 
--- what it tells of what is written to it, where its order was this
-abbrev pub side_with : LinkView → Option (List Move) → Side
-side_with l order = record { written = l.sink.written; faults = l.sink.faults; order = order }
+-- the second list is a prefix of the first
+abbrev pub BeginsWithBytes : {A : Type 0} → List A → List A → Type 0
+BeginsWithBytes all prefix = (rest : List _) × (all ≡ prefix ++ rest)
 
--- what it tells of what is written to it
-abbrev pub side_of : LinkView → Side
-side_of l = side_with l l.order
-
--- the same of a link itself
-abbrev pub side_view : {L : Type 0} → source.Ghosts L → sink.Ghosts L → L → Side
-side_view as_source as_sink l = side_of (view_of as_source as_sink l)
-
--- the second list is a front of the first
-abbrev pub Begins : {A : Type 0} → List A → List A → Type 0
-Begins all front = (rest : List _) × (all ≡ front ++ rest)
-
--- known bytes grew by a front of this text
-abbrev pub GrowsByFront : Option Text → Option Text → Text → Type 0
-GrowsByFront old new text = (n : ℕ) × Appends old new (take n text)
-
--- a byte in front of the first line, if there is one
-abbrev pub in_front_of_some : ℕ → List Text → List Text
-in_front_of_some byte [] = []
-in_front_of_some byte (line ∷ others) = (byte ∷ line) ∷ others
+-- a byte before the first line, if there is one
+abbrev pub in_prefix_of_some : ℕ → List TextBytes → List TextBytes
+in_prefix_of_some byte [] = []
+in_prefix_of_some byte (line ∷ others) = (byte ∷ line) ∷ others
 
 -- the lines of bytes that 0x0A ends: what is left behind the last of them counts as none
-unfoldable pub whole_lines : Text → List Text
+unfoldable pub whole_lines : TextBytes → List TextBytes
 whole_lines [] = []
 whole_lines (byte ∷ bytes) =
-    cond (nat_eq byte 10) ([] ∷ whole_lines bytes) (in_front_of_some byte (whole_lines bytes))
+    cond (nat_eq byte 10) ([] ∷ whole_lines bytes) (in_prefix_of_some byte (whole_lines bytes))

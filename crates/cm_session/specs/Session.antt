@@ -1,26 +1,27 @@
+-- Promised.
 -- One session over a link, by its end.
 use Rattle.std.specs.Prelude.{◌≡◌, ◌≢◌, ◌⊎◌, ◌<◌, ◌≤◌, ℕ, List, [], ◌∷◌, ◌++◌, All, length, map, take, codes}
 use Rattle.std.specs.Prelude.{Option}
 use Rattle.std.specs.List.{AllZip}
 use Rattle.std.specs.Io.KnownBytes.{Appends, IsAtEnd}
 use Rattle.cm_io.specs.Lines.{lines, Moves}
-use Rattle.cm_io.specs.Orders.{Came, InStep, Move, given_in, hung_up}
+use Rattle.cm_io.specs.Orders.{MovesCame, InStep, Move, given_in, hung_up}
 use Rattle.cm_io.specs.Outside.{AsSink, Rose}
-use Rattle.cm_gate.specs.declared.asked.Asked.{Asked}
-use Rattle.cm_reply.specs.Lists.{Text}
-use Rattle.cm_manager.specs.Done.{Follows}
+use Rattle.cm_gate.specs.declared.asked.GateCall.{GateCall}
+use Rattle.cm_reply.specs.Lists.{TextBytes}
+use Rattle.cm_manager.specs.Done.{PerformsCommands}
 use Rattle.cm_manager.specs.Asking.{frame_of}
 use Rattle.cm_manager.specs.Gated.{gates_view}
-use Rattle.cm_manager.specs.Kept.{Keeps}
-use Rattle.cm_manager.specs.Work.{Shelf}
+use Rattle.cm_manager.specs.Kept.{KeepsPass}
+use Rattle.cm_manager.specs.Work.{Manifests}
 use Rattle.cm_manager.specs.Contract.{RealmPass, GatesView}
 use Rattle.cm_session.specs.declared.ended.Ended.{Ended}
 use Rattle.cm_session.specs.declared.ended.Ended.TheVariants as ended
-use Rattle.cm_session.specs.Links.{Begins, LinkView, whole_lines}
-use Rattle.cm_session.specs.Told.{Told, Reads, reply_line, replies, done_of, IsNoWant}
+use Rattle.cm_session.specs.Links.{BeginsWithBytes, LinkView, whole_lines}
+use Rattle.cm_session.specs.LineOutcome.{LineOutcome, ReadsLine, reply_line, replies, done_of, HadMemory}
 
 -- the line that ends a session
-abbrev pub quit : Text
+abbrev pub quit : TextBytes
 quit = codes "quit"
 
 -- the most lines of a session
@@ -28,90 +29,91 @@ abbrev pub most_lines : ℕ
 most_lines = 1048576
 
 -- these are first lines of the bytes, each of which a line feed ended; or nothing is left behind the bytes
-abbrev pub AreEnded : Text → List Text → Option Text → Type 0
-AreEnded bytes first left = Begins (whole_lines bytes) first ⊎ IsAtEnd left
+abbrev pub AreEnded : TextBytes → List TextBytes → Option TextBytes → Type 0
+AreEnded bytes first left = BeginsWithBytes (whole_lines bytes) first ⊎ IsAtEnd left
 
 -- which lines of these bytes were served, by the end of the session
-abbrev pub Served : Ended → Text → List Text → Option Text → Type 0
+abbrev pub Served : Ended → TextBytes → List TextBytes → Option TextBytes → Type 0
 Served ended.End bytes done left = (lines bytes ≡ done) × (length done < most_lines) × IsAtEnd left
 Served ended.Quit bytes done left =
-    (rest : List Text) × (lines bytes ≡ done ++ quit ∷ rest) × (length done < most_lines)
+    (rest : List TextBytes) × (lines bytes ≡ done ++ quit ∷ rest) × (length done < most_lines)
     × AreEnded bytes (done ++ quit ∷ []) left
-Served ended.LinesSpent bytes done left = Begins (lines bytes) done × (length done ≡ most_lines)
-Served ended.ReadFault bytes done left = Begins (lines bytes) done × Begins done (whole_lines bytes)
-Served ended.WriteFault bytes done left = Begins (lines bytes) done
-Served ended.Memory bytes done left = Begins (lines bytes) done
+Served ended.LinesSpent bytes done left = BeginsWithBytes (lines bytes) done × (length done ≡ most_lines)
+Served ended.ReadFault bytes done left = BeginsWithBytes (lines bytes) done
+    × BeginsWithBytes done (whole_lines bytes)
+Served ended.WriteFault bytes done left = BeginsWithBytes (lines bytes) done
+Served ended.Memory bytes done left = BeginsWithBytes (lines bytes) done
 
--- the replies to all lines but the last were written whole, and of that one a front
-pub record BreaksOff (old new : Option Text) (told : List Told) : Type 0 where
-  pub before : List Told
-  pub last : Told
+-- the replies to all lines but the last were written whole, and of that one a prefix
+pub record BreaksOff (old new : Option TextBytes) (told : List LineOutcome) : Type 0 where
+  pub before : List LineOutcome
+  pub last : LineOutcome
   pub all : told ≡ before ++ last ∷ []
   pub count : ℕ
   pub wrote : Appends old new (replies before ++ take count (reply_line last))
 
 -- all replies were written, or they break off in the last one
-abbrev pub WroteFront : Option Text → Option Text → List Told → Type 0
-WroteFront old new told = Appends old new (replies told) ⊎ BreaksOff old new told
+abbrev pub WrotePrefix : Option TextBytes → Option TextBytes → List LineOutcome → Type 0
+WrotePrefix old new told = Appends old new (replies told) ⊎ BreaksOff old new told
 
 -- what was written of the replies, by the end of the session
-abbrev pub Wrote : Ended → AsSink → AsSink → List Told → Type 0
+abbrev pub Wrote : Ended → AsSink → AsSink → List LineOutcome → Type 0
 Wrote ended.WriteFault old new told = BreaksOff old.written new.written told × Rose old.faults new.faults
-Wrote ended.Memory old new told = WroteFront old.written new.written told
+Wrote ended.Memory old new told = WrotePrefix old.written new.written told
 Wrote end old new told = Appends old.written new.written (replies told)
 
 -- the pass and the gates are as they were; or the pass is the same one, its entries are its caller's in what
 -- it has seen, and its new entries are whole calls, with the work of its gates
-abbrev pub KeepsOrNot : Shelf → RealmPass → RealmPass → GatesView → GatesView → Type 0
-KeepsOrNot shelf p q g h = ((q ≡ p) × (h ≡ g)) ⊎ Keeps shelf p q g h
+abbrev pub KeepsOrNot : Manifests → RealmPass → RealmPass → GatesView → GatesView → Type 0
+KeepsOrNot manifests p q g h = ((q ≡ p) × (h ≡ g)) ⊎ KeepsPass manifests p q g h
 
--- no line but the last of these was answered for want of memory: a session ends with such an answer
-pub record WantsLast (told : List Told) : Type 0 where
-  pub before : List Told
-  pub last : List Told
+-- no line but the last of these was answered for lack of memory: a session ends with such an answer
+pub record OutOfMemoryLast (told : List LineOutcome) : Type 0 where
+  pub before : List LineOutcome
+  pub last : List LineOutcome
   pub told_are : told ≡ before ++ last
   pub one : length last ≤ 1
-  pub no_want : All IsNoWant before
+  pub had_memory : All HadMemory before
 
 -- the lines of a link were served, by what the pass, the gates and the link were and are; behind that came
 -- the moves `closing`, and no bytes
-pub record SessionClosedBy (closing : List Move) (shelf : Shelf) (p q : RealmPass) (g h : GatesView)
+pub record SessionClosedBy (closing : List Move) (manifests : Manifests) (p q : RealmPass) (g h : GatesView)
     (old new : LinkView) (end : Ended) : Type 0 where
-  pub keeps : KeepsOrNot shelf p q g h
+  pub keeps : KeepsOrNot manifests p q g h
   -- the bytes that the link gave
-  pub bytes : Text
+  pub bytes : TextBytes
   pub gave : Moves old.source new.source bytes
   -- the lines that were served, and what was made of each
-  pub lines_done : List Text
+  pub lines_done : List TextBytes
   pub few : length lines_done ≤ most_lines
-  pub told : List Told
-  pub reads : AllZip Reads lines_done told
+  pub told : List LineOutcome
+  pub reads : AllZip ReadsLine lines_done told
   pub no_quit : All (λ t. t ≢ quit) lines_done
   pub served : Served end bytes lines_done new.source.left
   -- a line that no line feed ended was served only where the link is at its end
   pub ended_lines : AreEnded bytes lines_done new.source.left
   -- what the caller performed: the commands among them, in their order, and nothing else
-  pub follows : Follows (frame_of p) p.caller (done_of told) p.seen q.seen
+  pub follows : PerformsCommands (frame_of p) p.caller (done_of told) p.seen q.seen
   -- what was written of the replies, and why the session ended
   pub wrote : Wrote end old.sink new.sink told
-  pub no_want : end ≢ ended.Memory → All IsNoWant told
-  pub wants_last : WantsLast told
+  pub had_memory : end ≢ ended.Memory → All HadMemory told
+  pub out_of_memory_last : OutOfMemoryLast told
   pub read_fault : end ≡ ended.ReadFault → Rose old.source.faults new.source.faults
   -- the order, where the link tells it: reads, which gave these bytes, and writes, so that each reply was
   -- written before it was read on behind its line; and behind them the closing alone
   pub moves : List Move
   pub in_step : InStep (map reply_line told) moves
   pub reads_are : given_in moves ≡ bytes
-  pub came : Came old.order new.order (moves ++ closing)
+  pub came : MovesCame old.order new.order (moves ++ closing)
 
 -- a session over a link: `InStep` has reads and writes alone, so it was hung up on once, behind all of them
-abbrev pub Session : Shelf → RealmPass → RealmPass → GatesView → GatesView → LinkView → LinkView → Ended
+abbrev pub Session : Manifests → RealmPass → RealmPass → GatesView → GatesView → LinkView → LinkView → Ended
     → Type 0
-Session shelf p q g h old new end = SessionClosedBy (hung_up ∷ []) shelf p q g h old new end
+Session manifests p q g h old new end = SessionClosedBy (hung_up ∷ []) manifests p q g h old new end
 
-module _ {G L : Type 0} (log_of : G → Option (List Asked)) (faults_of : G → ℕ) (view : L → LinkView) where
+module _ {G L : Type 0} (log_of : G → Option (List GateCall)) (faults_of : G → ℕ) (view : L → LinkView) where
   -- the lines of this link were served, with these gates, and `closing` came behind that
-  abbrev pub SessionWith : List Move → Shelf → RealmPass → RealmPass → G → G → L → L → Ended → Type 0
-  SessionWith closing shelf p q gates₀ gates₁ old new end =
-      SessionClosedBy closing shelf p q (gates_view log_of faults_of gates₀)
+  abbrev pub SessionWith : List Move → Manifests → RealmPass → RealmPass → G → G → L → L → Ended → Type 0
+  SessionWith closing manifests p q gates₀ gates₁ old new end =
+      SessionClosedBy closing manifests p q (gates_view log_of faults_of gates₀)
       (gates_view log_of faults_of gates₁) (view old) (view new) end

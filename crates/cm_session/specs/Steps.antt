@@ -1,9 +1,12 @@
+-- Inside.
 -- What a session has in hand, from line to line.
 use Rattle.std.specs.Prelude.{◌≡◌, ◌≢◌, ◌⊎◌, ◌≤◌, ℕ, List, [], ◌++◌, map, true, Option, Some, None, Result}
 use Rattle.std.specs.Prelude.{Err}
 use Rattle.std.specs.Io.KnownBytes.{Appends}
-use Rattle.cm_io.specs.Lines.{EndsOnce, IsFirstLine, IsUnbroken, Moves, Reader}
-use Rattle.cm_io.specs.Orders.{Came, Move, Pulled, joined, wrote as wrote_move}
+use Rattle.cm_io.specs.Lines.{Moves}
+use Rattle.cm_io.specs.LinesInside.{EndsOnce, IsFirstLine, IsUnbroken, Reader}
+use Rattle.cm_io.specs.Orders.{MovesCame, Move, joined, wrote as wrote_move}
+use Rattle.cm_io.specs.OrdersInside.{Pulled}
 use Rattle.cm_io.specs.Outside.{Rose}
 use Rattle.cm_world.specs.declared.frame.Frame.{Frame}
 use Rattle.cm_world.specs.declared.reply.Entry.{Entry}
@@ -11,59 +14,63 @@ use Rattle.cm_world.specs.declared.answer.Answer.{Answer}
 use Rattle.cm_world.specs.declared.answer.Refusal.{Refusal}
 use Rattle.cm_world.specs.declared.answer.Refusal.TheVariants as refusal
 use Rattle.cm_command.specs.declared.command.Command.{Command}
-use Rattle.cm_reply.specs.Lists.{Text}
+use Rattle.cm_reply.specs.Lists.{TextBytes}
 use Rattle.cm_reply.specs.Answers.{reply_text}
 use Rattle.cm_reply.specs.Journal.{line}
-use Rattle.cm_manager.specs.Calls.{Goes}
+use Rattle.cm_manager.specs.Calls.{RunsOrLoses}
 use Rattle.cm_manager.specs.Asking.{frame_of}
-use Rattle.cm_manager.specs.Kept.{Keeps}
-use Rattle.cm_manager.specs.Work.{Shelf}
+use Rattle.cm_manager.specs.Kept.{KeepsPass}
+use Rattle.cm_manager.specs.Work.{Manifests}
 use Rattle.cm_manager.specs.Contract.{RealmPass, GatesView}
 use Rattle.cm_session.specs.declared.ended.Ended.{Ended}
 use Rattle.cm_session.specs.declared.ended.Ended.TheVariants as ended
-use Rattle.cm_session.specs.Links.{GrowsByFront, LinkView, Side, side_of, side_with}
-use Rattle.cm_session.specs.Told.{Told, performed, bad, too_long, Reads, reply_line, IsNoWant}
+use Rattle.cm_session.specs.Links.{LinkView}
+use Rattle.cm_session.specs.LinksInside.{GrowsByPrefix, Side, side_of, side_with}
+use Rattle.cm_session.specs.LineOutcome.{LineOutcome, performed, bad, too_long, ReadsLine}
+use Rattle.cm_session.specs.LineOutcome.{reply_line, HadMemory}
 use Rattle.cm_session.specs.Session.{quit, KeepsOrNot}
 
--- what was written of one reply, and whether the session ends for it; it goes on only without want of memory
-abbrev pub LineWrote : Option Ended → Side → Side → Text → Type 0 → Type 0
+-- what was written of one reply, and whether the session ends for it; it goes on only without lack of memory
+abbrev pub LineWrote : Option Ended → Side → Side → TextBytes → Type 0 → Type 0
 LineWrote None old new text NoWant = Appends old.written new.written text × (new.faults ≡ old.faults) × NoWant
 LineWrote (Some ended.WriteFault) old new text NoWant =
-    GrowsByFront old.written new.written text × Rose old.faults new.faults × NoWant
-LineWrote (Some ended.Memory) old new text NoWant = GrowsByFront old.written new.written text
+    GrowsByPrefix old.written new.written text × Rose old.faults new.faults × NoWant
+LineWrote (Some ended.Memory) old new text NoWant = GrowsByPrefix old.written new.written text
 LineWrote (Some ended.End) old new text NoWant = ⊥
 LineWrote (Some ended.Quit) old new text NoWant = ⊥
 LineWrote (Some ended.ReadFault) old new text NoWant = ⊥
 LineWrote (Some ended.LinesSpent) old new text NoWant = ⊥
 
 -- of a reply these pieces were written, and nothing else came; they are all of it where the session goes on
-pub record RepliesInOrder (end : Option Ended) (old new : Option (List Move)) (text : Text) : Type 0 where
-  pub pieces : List Text
-  pub came : Came old new (map wrote_move pieces)
+pub record RepliesInOrder (end : Option Ended) (old new : Option (List Move))
+    (text : TextBytes) : Type 0 where
+  pub pieces : List TextBytes
+  pub came : MovesCame old new (map wrote_move pieces)
   pub whole : end ≡ None → joined pieces ≡ text
 
 -- what a caller does for a line: it performs its command, or nothing
-abbrev pub Does : Frame → ℕ → Told → List Entry → List Entry → Type 0
-Does f c (performed d) h₀ h₁ = Goes f c d.command h₀ h₁ d.result
-Does f c (bad at) h₀ h₁ = h₁ ≡ h₀
-Does f c too_long h₀ h₁ = h₁ ≡ h₀
+abbrev pub DoesLine : Frame → ℕ → LineOutcome → List Entry → List Entry → Type 0
+DoesLine f c (performed d) h₀ h₁ = RunsOrLoses f c d.command h₀ h₁ d.result
+DoesLine f c (bad at) h₀ h₁ = h₁ ≡ h₀
+DoesLine f c too_long h₀ h₁ = h₁ ≡ h₀
 
 -- a line was served, with its reply
-pub record ServedLine (shelf : Shelf) (p q : RealmPass) (g h : GatesView) (line : Text) (old new : Side)
+pub record ServedLine (manifests : Manifests) (p q : RealmPass) (g h : GatesView) (line : TextBytes)
+    (old new : Side)
     (end : Option Ended) : Type 0 where
-  pub told : Told
-  pub reads : Reads line told
-  pub keeps : KeepsOrNot shelf p q g h
-  pub does : Does (frame_of p) p.caller told p.seen q.seen
-  pub wrote : LineWrote end old new (reply_line told) (IsNoWant told)
+  pub told : LineOutcome
+  pub reads : ReadsLine line told
+  pub keeps : KeepsOrNot manifests p q g h
+  pub does : DoesLine (frame_of p) p.caller told p.seen q.seen
+  pub wrote : LineWrote end old new (reply_line told) (HadMemory told)
   pub ordered : RepliesInOrder end old.order new.order (reply_line told)
 
--- a command was performed, with its reply; its answer may be lost for want of memory
-pub record ServedCommand (shelf : Shelf) (p q : RealmPass) (g h : GatesView) (command : Command)
+-- a command was performed, with its reply; its answer may be lost for lack of memory
+pub record ServedCommand (manifests : Manifests) (p q : RealmPass) (g h : GatesView) (command : Command)
     (old new : Side) (end : Option Ended) : Type 0 where
   pub answer : Result Answer Refusal
-  pub keeps : Keeps shelf p q g h
-  pub goes : Goes (frame_of p) p.caller command p.seen q.seen answer
+  pub keeps : KeepsPass manifests p q g h
+  pub goes : RunsOrLoses (frame_of p) p.caller command p.seen q.seen answer
   pub wrote : LineWrote end old new (line (reply_text command answer)) (answer ≢ Err refusal.Memory)
   pub ordered : RepliesInOrder end old.order new.order (line (reply_text command answer))
 
@@ -74,26 +81,27 @@ pub record IsSilent (p q : RealmPass) (g h : GatesView) (old new : Side) : Type 
   pub sink : new ≡ old
 
 -- a line was served, or the session ends before, since memory ran out
-abbrev pub ServedOrNot : Shelf → RealmPass → RealmPass → GatesView → GatesView → Text → Side → Side
+abbrev pub ServedOrNot : Manifests → RealmPass → RealmPass → GatesView → GatesView → TextBytes → Side → Side
     → Option Ended → Type 0
-ServedOrNot shelf p q g h line old new end =
-    ServedLine shelf p q g h line old new end ⊎ ((end ≡ Some ended.Memory) × IsSilent p q g h old new)
+ServedOrNot manifests p q g h line old new end =
+    ServedLine manifests p q g h line old new end ⊎ ((end ≡ Some ended.Memory) × IsSilent p q g h old new)
 
 -- the next line was taken and served
-pub record LineDone (shelf : Shelf) (p q : RealmPass) (g h : GatesView) (taken : Text) (reader : Reader)
+pub record LineDone (manifests : Manifests) (p q : RealmPass) (g h : GatesView) (taken : TextBytes)
+    (reader : Reader)
     (old new : Side) (end : Option Ended) : Type 0 where
-  pub line : Text
+  pub line : TextBytes
   pub first : IsFirstLine taken reader line
   pub other : line ≢ quit
-  pub served : ServedLine shelf p q g h line old new end
+  pub served : ServedLine manifests p q g h line old new end
 
 -- what was made of the bytes `taken`: the link was as `old` before they were read, its order was `mid` behind
 -- the reads, and it is as `new` now
-module _ (shelf : Shelf) (p q : RealmPass) (g h : GatesView) (taken : Text) (reader : Reader)
+module _ (manifests : Manifests) (p q : RealmPass) (g h : GatesView) (taken : TextBytes) (reader : Reader)
     (old : LinkView) (mid : Option (List Move)) (new : LinkView) where
   -- one line was taken and served
   abbrev pub LineIsDone : Option Ended → Type 0
-  LineIsDone end = LineDone shelf p q g h taken reader (side_with old mid) (side_of new) end
+  LineIsDone end = LineDone manifests p q g h taken reader (side_with old mid) (side_of new) end
 
   -- nothing was performed or written behind the reads
   abbrev pub WasSilent : Type 0
@@ -110,9 +118,9 @@ module _ (shelf : Shelf) (p q : RealmPass) (g h : GatesView) (taken : Text) (rea
   StepBy (Some ended.LinesSpent) = ⊥
 
 -- one call of the line reader, and what was made of what it told
-pub record Stepped (shelf : Shelf) (p q : RealmPass) (g h : GatesView) (before after : Reader)
+pub record Stepped (manifests : Manifests) (p q : RealmPass) (g h : GatesView) (before after : Reader)
     (old new : LinkView) (end : Option Ended) : Type 0 where
-  pub given : Text
+  pub given : TextBytes
   pub gave : Moves old.source new.source given
   pub later : old.source.faults ≤ new.source.faults
   pub once : EndsOnce before after old.source new.source given
@@ -120,4 +128,4 @@ pub record Stepped (shelf : Shelf) (p q : RealmPass) (g h : GatesView) (before a
   pub mid : Option (List Move)
   pub pulled : Pulled old.order mid before.held given
   pub still : before.over ≡ true → mid ≡ old.order
-  pub by : StepBy shelf p q g h (before.held ++ given) after old mid new end
+  pub by : StepBy manifests p q g h (before.held ++ given) after old mid new end

@@ -17,7 +17,7 @@ use std::thread::Threads;
 
 /// What an accept came to.
 #[derive(Debug, Clone, Copy, PartialEq, Eq)]
-pub enum Came {
+pub enum Accepting {
     Link,
     Closed,
     Failed,
@@ -27,16 +27,16 @@ pub enum Came {
 #[derive(Debug, Drop)]
 pub struct Accepted {
     pub worker: u32,
-    pub came: Came,
+    pub came: Accepting,
 }
 
 /// A place as contracts see it, of which nothing is there at run time.
 pub struct Whereabouts;
 
 impl Model for Whereabouts {
-    ghost use Rattle.cm_io.specs.Doors.{Place, untold};
+    ghost use Rattle.cm_io.specs.Doors.{DoorPlace, untold};
 
-    ghost Value = { Place };
+    ghost Value = { DoorPlace };
 
     ghost view = { λ _. untold };
 }
@@ -105,13 +105,13 @@ impl<D: Door> Storied for Doorway<D> {
 }
 
 /// What the accept came to.
-fn came_of<L>(accept: &Accept<L>) -> Came
+fn came_of<L>(accept: &Accept<L>) -> Accepting
     ensures { result ≡ came_of accept.now }
 {
     match accept {
-        Accept::Link(_) => Came::Link,
-        Accept::Closed => Came::Closed,
-        Accept::Failed => Came::Failed,
+        Accept::Link(_) => Accepting::Link,
+        Accept::Closed => Accepting::Closed,
+        Accept::Failed => Accepting::Failed,
     }
 }
 
@@ -161,9 +161,9 @@ impl<D: Door> Doorway<D> {
         let came = came_of(&accept);
         self.entries.push_reserved(Accepted { worker, came });
         match came {
-            Came::Link => self.links += 1,
-            Came::Closed => self.closings += 1,
-            Came::Failed => self.failures += 1,
+            Accepting::Link => self.links += 1,
+            Accepting::Closed => self.closings += 1,
+            Accepting::Failed => self.failures += 1,
         }
         Some(accept)
     }

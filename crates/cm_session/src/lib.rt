@@ -8,19 +8,19 @@
 //!
 //! | file of `specs/` | says |
 //! |---|---|
-//! | `Links` | what contracts see of a link, and fronts of what was given and written |
-//! | `Told` | what is made of a line, and how the reply is written |
+//! | `Links` | what contracts see of a link, and prefixes of what was given and written |
+//! | `LineOutcome` | what is made of a line, and how the reply is written |
 //! | `Session` | which lines are served, what is written, and why a session ends |
 //! | `Steps` | what a session has in hand, from line to line |
 //! | `Doorway` | the accepts at a door that workers share by turns, and what they count |
 //! | `Serving` | what comes back of serving all links of a door |
-//! | `Crew`, `Parts`, `Closing` | what the workers have in hand, from step to step |
+//! | `Pool`, `PoolParts`, `Closing` | what the workers have in hand, from step to step |
 #![tactic(auto)]
 
-mod crew;
 pub mod doorway;
 pub mod ended;
 pub mod lines;
+mod pool;
 pub mod served;
 pub mod serving;
 mod workers;

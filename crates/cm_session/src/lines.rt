@@ -6,7 +6,8 @@ ghost use Rattle.cm_reply.specs.Journal.{line as line_of};
 ghost use Rattle.cm_reply.specs.Answers as answers;
 ghost use Rattle.cm_manager.specs.Gated.{gates_view};
 ghost use Rattle.cm_io.specs.Orders.{hung_up};
-ghost use Rattle.cm_session.specs.Links.{side_view, source_view, view_of};
+ghost use Rattle.cm_session.specs.Links.{source_view, view_of};
+ghost use Rattle.cm_session.specs.LinksInside.{side_view};
 ghost use Rattle.cm_session.specs.Session.{SessionWith};
 ghost use Rattle.cm_session.specs.Steps.{LineWrote, RepliesInOrder, ServedCommand, ServedOrNot, Stepped};
 
@@ -36,7 +37,7 @@ const TOO_LONG: &[u8] = b"refused 75 line-too-long\n";
 const WANTING: &[u8] = b"refused want-of-memory\n";
 
 /// Whether a command was answered so because memory ran out.
-fn is_wanting(answer: &Result<Answer, Refusal>) -> bool
+fn is_out_of_memory(answer: &Result<Answer, Refusal>) -> bool
     ensures told { result ≡ false → answer.now ≢ Err Refusal.Memory }
     ensures wanting { result ≡ true → answer.now ≡ Err Refusal.Memory }
 {
@@ -117,13 +118,13 @@ fn serve_command<R: Threads + Wait + Sync, G: Gates, L: Link>(
     command: &Command,
 ) -> (Pass<Entry, Frame>, Option<Ended>)
     requires lock { pass.lock ≡ manager.now.turn.lock }
-    ensures served { ServedCommand manager.now.shelf pass result.0
+    ensures served { ServedCommand manager.now.manifests pass result.0
         (gates_view G.log G.faults gates.old) (gates_view G.log G.faults gates.new)
         command.now (side_view L.Source L.Sink link.old) (side_view L.Source L.Sink link.new) result.1 }
     ensures source { source_view L.Source link.new ≡ source_view L.Source link.old }
 {
     let (pass, answer) = manager.perform(rt, alloc, pass, gates, command);
-    let wanting = is_wanting(&answer);
+    let wanting = is_out_of_memory(&answer);
     let ended = match answer_line(alloc, command, &answer) {
         Ok(text) => put_reply(rt, link, text.as_str().as_bytes(), wanting),
         Err(Memory) => put_reply(rt, link, WANTING, true),
@@ -144,7 +145,7 @@ fn serve_line<R: Threads + Wait + Sync, G: Gates, L: Link>(
 ) -> (Pass<Entry, Frame>, Option<Ended>)
     requires lock { pass.lock ≡ manager.now.turn.lock }
     requires short { length line.now ≤ 65536 }
-    ensures served { ServedOrNot manager.now.shelf pass result.0
+    ensures served { ServedOrNot manager.now.manifests pass result.0
         (gates_view G.log G.faults gates.old) (gates_view G.log G.faults gates.new)
         line.now (side_view L.Source L.Sink link.old) (side_view L.Source L.Sink link.new) result.1 }
     ensures source { source_view L.Source link.new ≡ source_view L.Source link.old }
@@ -174,7 +175,7 @@ fn serve_next<R: Threads + Wait + Sync, G: Gates, L: Link>(
     reader: &mut LineReader,
 ) -> (Pass<Entry, Frame>, Option<Ended>)
     requires lock { pass.lock ≡ manager.now.turn.lock }
-    ensures stepped { Stepped manager.now.shelf pass result.0
+    ensures stepped { Stepped manager.now.manifests pass result.0
         (gates_view G.log G.faults gates.old) (gates_view G.log G.faults gates.new)
         reader.old reader.new
         (view_of L.Source L.Sink link.old) (view_of L.Source L.Sink link.new) result.1 }
@@ -208,7 +209,7 @@ fn serve_lines<R: Threads + Wait + Sync, G: Gates, L: Link>(
 ) -> (Pass<Entry, Frame>, Ended)
     requires lock { pass.lock ≡ manager.now.turn.lock }
     requires fresh { reader.old ≡ record { held = []; over = false } }
-    ensures session { SessionWith G.log G.faults (view_of L.Source L.Sink) [] manager.now.shelf
+    ensures session { SessionWith G.log G.faults (view_of L.Source L.Sink) [] manager.now.manifests
         pass result.0 gates.old gates.new link.old link.new result.1 }
 {
     let mut pass = pass;
@@ -228,7 +229,7 @@ fn serve_lines<R: Threads + Wait + Sync, G: Gates, L: Link>(
 /// The lines that the link gives are served in order, each with its reply and a line feed before
 /// the next one is read. A line that is a command is performed with this pass and these gates, and
 /// its reply is the answer's text. A line that is none is answered by `refused 70 bad-command at K`,
-/// where its first K bytes are the longest front of it that some command begins with; one of more
+/// where its first K bytes are the longest prefix of it that some command begins with; one of more
 /// than 65,536 bytes by `refused 75 line-too-long`. A line `quit` ends the session without a reply.
 ///
 /// The end is `ReadFault` only if a failed read of this link was counted meanwhile, and `WriteFault`
@@ -244,8 +245,8 @@ pub fn session<R: Threads + Wait + Sync, G: Gates, L: Link>(
     link: &mut L,
 ) -> (Pass<Entry, Frame>, Ended)
     requires lock { pass.lock ≡ manager.now.turn.lock }
-    ensures session { SessionWith G.log G.faults (view_of L.Source L.Sink) (hung_up ∷ []) manager.now.shelf
-        pass result.0 gates.old gates.new link.old link.new result.1 }
+    ensures session { SessionWith G.log G.faults (view_of L.Source L.Sink) (hung_up ∷ [])
+        manager.now.manifests pass result.0 gates.old gates.new link.old link.new result.1 }
 {
     let (pass, ended) = match LineReader::new(alloc) {
         Ok(mut reader) => serve_lines(rt, alloc, manager, pass, gates, link, &mut reader),

@@ -18,7 +18,7 @@ pub enum Cause {
     Done,
     /// The door failed; its count of faults rose.
     DoorFault,
-    /// A session ended for want of memory, or there was none to begin with.
+    /// A session ended for lack of memory, or there was none to begin with.
     Memory,
 }
 

@@ -12,8 +12,8 @@ ghost use Rattle.cm_session.specs.Serving.{IsUnserved, ServedOrNot};
 ghost use Rattle.cm_session.specs.declared.served.Cause.TheVariants as cause;
 ghost use Rattle.cm_turn.specs.Passes.{AreAll, new_passes};
 
-use crate::crew::{Parts, Room, make_crew, room_for, take_apart};
 use crate::doorway::{Accepted, Doorway, Opening};
+use crate::pool::{PoolParts, PoolRoom, make_pool, room_for, take_apart};
 use crate::served::{Back, Cause, Served};
 use crate::workers::run_all;
 use cm_gate::Gates;
@@ -27,10 +27,10 @@ use std::sync::Wait;
 use std::thread::Threads;
 
 /// Serves all links that come at a door, until as many came as are asked for, or the door closes or
-/// fails, or a session ends for want of memory.
+/// fails, or a session ends for lack of memory.
 ///
 /// So many workers, side by side, accept links by turns, and serve each by a session before they
-/// accept the next; one whose session ended for want of memory accepts no further link. A worker uses
+/// accept the next; one whose session ended for lack of memory accepts no further link. A worker uses
 /// the pass and the gates of its number, one session after another.
 /// While it waits for a link, reads or writes, it holds up no other's session.
 ///
@@ -40,7 +40,7 @@ use std::thread::Threads;
 /// are handed back with their workers' numbers, worker by worker, and each worker's as its sessions
 /// followed one another. A link that fails ends the session over it and no other.
 ///
-/// The cause is the first of these that applies: `Memory` where a session ended for want of memory,
+/// The cause is the first of these that applies: `Memory` where a session ended for lack of memory,
 /// or there was too little to begin with, and then nothing was done; `DoorFault` where the door
 /// failed; `Done` where as many links came as were asked for, or the door closed, and it never failed.
 pub fn serve_sessions<R: Threads + Wait + Sync, G: Gates + Send + Drop, D: Door + Send>(
@@ -61,11 +61,11 @@ where
     requires workers { (0 < workers) × (workers ≤ 16) }
     requires listening { IsOpen (D.place door) }
     ensures served { ServedOrNot G.log G.faults (view_of D.Link.Source D.Link.Sink)
-        manager.now.shelf workers passes gates door result }
+        manager.now.manifests workers passes gates door result }
     ensures passes { AreSixteen manager.now.turn result.passes }
     ensures gates { length result.gates ≡ 16 }
     ensures kept { All IsOwnPass passes →
-        KeepsEach G.log G.faults manager.now.shelf passes result.passes gates result.gates }
+        KeepsEach G.log G.faults manager.now.manifests passes result.passes gates result.gates }
     ensures ended { All (λ p. HasEnds p.mine) passes → All (λ p. HasEnds p.mine) result.passes }
     ensures links { (D.counts result.door).links ≡ (D.counts door).links + length result.links }
     ensures place { D.place result.door ≡ D.place door }
@@ -84,19 +84,19 @@ where
         Ok(opened) => opened,
         Err(door) => return unserved(alloc, passes, gates, door),
     };
-    let Room {
-        crew,
+    let PoolRoom {
+        pool,
         links,
         parts,
         back,
     } = room;
-    let crew = make_crew(crew, passes, at_door, gates, links);
-    let crew = run_all(rt, alloc, manager, &turn, workers, crew);
-    let parts = take_apart(crew, parts);
+    let pool = make_pool(pool, passes, at_door, gates, links);
+    let pool = run_all(rt, alloc, manager, &turn, workers, pool);
+    let parts = take_apart(pool, parts);
     hand_back(turn, parts, back)
 }
 
-/// What comes back where nothing was done, for want of memory.
+/// What comes back where nothing was done, for lack of memory.
 fn unserved<D, L, G>(
     alloc: Global,
     passes: List<Pass<Entry, Frame>>,
@@ -180,7 +180,7 @@ fn cause_of(lost: bool, failed: bool) -> Cause
 /// Closes the door's turn, and hands all back.
 fn hand_back<G: Drop, D: Door>(
     turn: Turn<Doorway<D>>,
-    parts: Parts<G, D::Link>,
+    parts: PoolParts<G, D::Link>,
     back: Vec<Back<D::Link>>,
 ) -> Served<D, D::Link, G>
     requires all { AreAll turn parts.at_door.items }
@@ -192,7 +192,7 @@ fn hand_back<G: Drop, D: Door>(
     ensures closed { ClosesDoor parts.at_door.items (D.counts result.door) (D.place result.door)
         (length result.links) parts.lost result.cause }
 {
-    let Parts {
+    let PoolParts {
         passes,
         at_door,
         gates,

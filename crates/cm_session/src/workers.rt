@@ -4,7 +4,7 @@ ghost use Rattle.std.specs.Prelude.{◌≡◌, ◌≢◌, ◌<◌, ◌≤◌, �
 ghost use Rattle.std.specs.Prelude.{vec_capacity};
 ghost use Rattle.cm_manager.specs.Gated.{gates_view};
 ghost use Rattle.cm_session.specs.declared.workers.Worker.{Worker as WorkerOf};
-ghost use Rattle.cm_session.specs.Crew.{CrewWorked, DidWork, IsReady, ServesLink, ServesLinks};
+ghost use Rattle.cm_session.specs.Pool.{PoolWorked, DidWork, IsReadyWorker, ServesLink, ServesLinks};
 ghost use Rattle.cm_session.specs.Doorway.{OnGiven, TakesTurn, sessions_of};
 ghost use Rattle.cm_session.specs.Links.{view_of};
 ghost use Rattle.cm_session.specs.Serving.{IsNewLink};
@@ -35,7 +35,7 @@ pub(crate) struct Worker<G, L> {
     pub(crate) gates: G,
     /// The links that it serves, in the order in which they came.
     pub(crate) links: Vec<L>,
-    /// Whether a session of its ended for want of memory.
+    /// Whether a session of its ended for lack of memory.
     pub(crate) lost: bool,
 }
 
@@ -67,7 +67,7 @@ fn serve_link<R: Threads + Wait + Sync, G: Gates, L: Link>(
 ) -> (Pass<Entry, Frame>, Ended)
     requires lock { pass.lock ≡ manager.now.turn.lock }
     requires room { length links.old.items < vec_capacity links.old }
-    ensures served { ServesLink (view_of L.Source L.Sink) manager.now.shelf pass result.0
+    ensures served { ServesLink (view_of L.Source L.Sink) manager.now.manifests pass result.0
         (gates_view G.log G.faults gates.old) (gates_view G.log G.faults gates.new)
         link links.old.items links.new.items result.1 }
     ensures room { vec_capacity links.new ≡ vec_capacity links.old }
@@ -77,7 +77,7 @@ fn serve_link<R: Threads + Wait + Sync, G: Gates, L: Link>(
     session(rt, alloc, manager, pass, gates, &mut links[last])
 }
 
-/// Whether a session ended for want of memory.
+/// Whether a session ended for lack of memory.
 fn is_lost(ended: Ended) -> bool
     ensures lost { result ≡ true → ended ≡ Ended.Memory }
     ensures well { result ≡ false → ended ≢ Ended.Memory }
@@ -89,7 +89,7 @@ fn is_lost(ended: Ended) -> bool
     }
 }
 
-/// Accepts links and serves each, until no further accept is due, or a session ended for want of
+/// Accepts links and serves each, until no further accept is due, or a session ended for lack of
 /// memory. The answer says which.
 fn serve_links<R: Threads + Wait + Sync, G: Gates, D: Door>(
     rt: &R,
@@ -106,7 +106,7 @@ fn serve_links<R: Threads + Wait + Sync, G: Gates, D: Door>(
     requires new { at_door.mine ≡ [] }
     requires none { links.old.items ≡ [] }
     requires room { sessions_of at_door ≤ vec_capacity links.old }
-    ensures served { ServesLinks (view_of D.Link.Source D.Link.Sink) manager.now.shelf pass result.0
+    ensures served { ServesLinks (view_of D.Link.Source D.Link.Sink) manager.now.manifests pass result.0
         (gates_view G.log G.faults gates.old) (gates_view G.log G.faults gates.new)
         at_door result.1 links.new.items result.2 }
 {
@@ -151,9 +151,9 @@ fn work<R: Threads + Wait + Sync, G: Gates, D: Door>(
     workers: u32,
     worker: &mut Worker<G, D::Link>,
 )
-    requires ready { IsReady manager.now.turn door.now workers worker.old }
+    requires ready { IsReadyWorker manager.now.turn door.now workers worker.old }
     ensures worked { DidWork G.log G.faults (view_of D.Link.Source D.Link.Sink)
-        manager.now.shelf workers worker.old worker.new }
+        manager.now.manifests workers worker.old worker.new }
 {
     let Some(at_door) = worker.at_door.take() else {
         unreachable!()
@@ -187,21 +187,21 @@ fn work_all<R: Threads + Wait + Sync, G: Gates + Send, D: Door + Send>(
     manager: &Manager,
     door: &Turn<Doorway<D>>,
     workers: u32,
-    crew: &mut [Worker<G, D::Link>],
+    pool: &mut [Worker<G, D::Link>],
 )
 where
     D::Link: Send,
-    requires ready { All (IsReady manager.now.turn door.now workers) crew.old }
-    ensures worked { (k : ℕ) (d : WorkerOf G D.Link) → k < length crew.old →
+    requires ready { All (IsReadyWorker manager.now.turn door.now workers) pool.old }
+    ensures worked { (k : ℕ) (d : WorkerOf G D.Link) → k < length pool.old →
         DidWork G.log G.faults (view_of D.Link.Source D.Link.Sink)
-        manager.now.shelf workers (slice_index_or crew.old k d) (slice_index_or crew.new k d) }
+        manager.now.manifests workers (slice_index_or pool.old k d) (slice_index_or pool.new k d) }
 {
     thread::for_each_mut(
         rt,
-        crew,
+        pool,
         WORKERS,
         &|_, worker: &mut Worker<G, D::Link>|
-            requires { IsReady manager.now.turn door.now workers worker.now }
+            requires { IsReadyWorker manager.now.turn door.now workers worker.now }
         { work(rt, alloc, manager, door, workers, worker) },
     );
 }
@@ -213,15 +213,15 @@ pub(crate) fn run_all<R: Threads + Wait + Sync, G: Gates + Send, D: Door + Send>
     manager: &Manager,
     door: &Turn<Doorway<D>>,
     workers: u32,
-    crew: Vec<Worker<G, D::Link>>,
+    pool: Vec<Worker<G, D::Link>>,
 ) -> Vec<Worker<G, D::Link>>
 where
     D::Link: Send,
-    requires ready { All (IsReady manager.now.turn door.now workers) crew.items }
-    ensures worked { CrewWorked G.log G.faults (view_of D.Link.Source D.Link.Sink)
-        manager.now.shelf workers crew.items result.items }
+    requires ready { All (IsReadyWorker manager.now.turn door.now workers) pool.items }
+    ensures worked { PoolWorked G.log G.faults (view_of D.Link.Source D.Link.Sink)
+        manager.now.manifests workers pool.items result.items }
 {
-    let mut crew = crew;
-    work_all(rt, alloc, manager, door, workers, crew.as_mut_slice());
-    crew
+    let mut pool = pool;
+    work_all(rt, alloc, manager, door, workers, pool.as_mut_slice());
+    pool
 }

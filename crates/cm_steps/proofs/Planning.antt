@@ -11,11 +11,12 @@ use Rattle.cm_decl.specs.declared.decl.Decl.{Decl}
 use Rattle.cm_decl.specs.declared.origin.Origin.{Origin}
 use Rattle.cm_decl.specs.declared.origin.Origin.TheVariants as origin
 use Rattle.cm_decl.specs.Graph.{own_sources}
-use Rattle.cm_decl.specs.Reach.{Way, Reaches}
+use Rattle.cm_decl.specs.Reach.{DependencyPath, Reaches}
 use Rattle.cm_world.specs.declared.row.Row.{Row}
 use Rattle.cm_world.specs.declared.reply.Entry.{Entry}
 use Rattle.cm_world.specs.Rows.{row_of, is_live, decl_of, has_parent, at_or_above, is_below, is_shut, is_subtree_shut}
-use Rattle.cm_world.specs.Level.{is_child_row, is_level_node, row_sources, child_row_sources, level_sources, is_from_row, level_edge, LevelStrong, LevelOn}
+use Rattle.cm_world.specs.Level.{is_child_row, is_level_node, row_sources, child_row_sources, level_sources, is_from_row, level_edge, LevelStrong}
+use Rattle.cm_world.specs.LevelInside.{LevelOn}
 use Rattle.cm_world.specs.Sound.{IsOrderly}
 use Rattle.cm_world.specs.Stopping.{is_wholly_shut, IsFree}
 use Rattle.cm_world.specs.World.{World}
@@ -23,17 +24,17 @@ use Rattle.cm_world.specs.After.{after}
 use Rattle.cm_world.specs.Legal.{IsStep}
 use Rattle.cm_world.proofs.trees.Finding.{none_some, some_same}
 use Rattle.cm_decl.proofs.Sameness.{never}
-use Rattle.cm_order.specs.declared.plan.Plan.{Plan}
+use Rattle.cm_order.specs.declared.plan.DescentPlan.{DescentPlan}
 use Rattle.cm_order.specs.declared.stand.Stand.{Stand}
 use Rattle.cm_order.specs.Kids.{IsKid}
 use Rattle.cm_order.specs.Glances.{HasBound}
-use Rattle.cm_order.specs.Plans.{IsReached, IsKnown, AreShutSoFar, IsWay, IsPlan, KnowsNone}
+use Rattle.cm_order.specs.Plans.{IsFreeOnTheWay, IsKnownLevel, AreShutSoFar, IsDescent, IsPlan, KnowsNone}
 use Rattle.cm_order.proofs.searches.Reaching.{plan_none}
 use Rattle.cm_order.proofs.trees.Trees.{below_lives, shut_each, shut_all, not_true, true_not_false}
 use Rattle.cm_order.proofs.names.Listing.{any_same}
 use Rattle.cm_cache.specs.Right.{bare}
 use Rattle.cm_cache.specs.Keeping.{forgets}
-use Rattle.cm_cache.specs.Beside.{is_emptied, IsTold}
+use Rattle.cm_cache.specs.Beside.{is_emptied, IsReported}
 use Rattle.cm_cache.proofs.trees.Reading.{ReadsSame, reads_same}
 use Rattle.cm_cache.proofs.trees.Staying.{bare_rows_stay}
 use Rattle.cm_laws.proofs.sound.Rows.{Follows}
@@ -41,7 +42,7 @@ use Rattle.cm_laws.proofs.sound.Healthy.{IsHealthy, Leads, leads_after}
 use Rattle.cm_laws.proofs.lasting.MarksLast.{Goes, goes_after, healthy_of}
 use Rattle.cm_steps.specs.declared.realm.Realm.TheInside.{Inside}
 use Rattle.cm_steps.specs.Planned.{IsPlannedBy}
-use Rattle.cm_steps.specs.Inside.{story_of, world_in, Stands}
+use Rattle.cm_steps.specs.Inside.{story_of, world_in, LeavesTree}
 
 -- ---- what is read of a row is read of the bare row
 
@@ -112,7 +113,7 @@ module _ (a b : List Row) (reads : ReadsSame a b) (p : ℕ) where
 
 -- ---- ways that are the same
 
-way_on : (On Along : ℕ → ℕ → Type 0) → ((x y : ℕ) → On x y → Along x y) → (x : ℕ) (xs : List ℕ) (y : ℕ) → Way On x xs y → Way Along x xs y
+way_on : (On Along : ℕ → ℕ → Type 0) → ((x y : ℕ) → On x y → Along x y) → (x : ℕ) (xs : List ℕ) (y : ℕ) → DependencyPath On x xs y → DependencyPath Along x xs y
 way_on On Along f x [] y on = f x y on
 way_on On Along f x (z ∷ zs) y way = (f x z way.0, way_on On Along f z zs y way.1)
 
@@ -214,7 +215,7 @@ module _ (old new : List Row) (next n m : ℕ) (was : IsOrderly old next) (is : 
   below_was top i below = below_same old new (reads_same old new bares) top long i ∙ below
 
   -- so a way down goes on to be one
-  reached_stays : (top i : ℕ) → IsReached old top i → IsReached new top i
+  reached_stays : (top i : ℕ) → IsFreeOnTheWay old top i → IsFreeOnTheWay new top i
   reached_stays top i it = record {
     below = sym (below_same old new (reads_same old new bares) top long i) ∙ it.below;
     free = λ p c kid upper lower. free_stays p c (it.free p c (kid_was old new p c kid ((reads_same old new bares).rows c)) (below_was top p upper) (below_was c i lower));
@@ -233,48 +234,48 @@ module _ (old new : List Row) (next n m : ℕ) (was : IsOrderly old next) (is : 
     | inr shut ↦ inr (below_stays c shut)
   ]
 
-  known_stays : (s : Stand) → IsKnown old s → IsKnown new s
+  known_stays : (s : Stand) → IsKnownLevel old s → IsKnownLevel new s
   known_stays s it = record {
     named = named_stays s.inc s.named it.named;
     done = done_stays s.inc s.done it.done;
     below = λ yes c kid. below_stays c (it.below yes c (kid_before s.inc c kid));
   }
 
-  way_stays : (top : ℕ) (stands : List Stand) → IsWay old top stands → IsWay new top stands
+  way_stays : (top : ℕ) (stands : List Stand) → IsDescent old top stands → IsDescent new top stands
   way_stays top [] all = tt
   way_stays top (s ∷ ss) all = (
     record { reached = reached_stays top s.inc all.0.reached; known = known_stays s all.0.known },
     way_stays top ss all.1,
   )
 
-  plan_stays : (plan : Plan) → IsPlan old plan → IsPlan new plan
+  plan_stays : (plan : DescentPlan) → IsPlan old plan → IsPlan new plan
   plan_stays plan it = record {
     way = way_stays plan.top plan.way.items it.way;
-    others = λ top. if_some (λ way. IsWay old top way.items) (λ way. IsWay new top way.items) (get nat_cmp plan.others top) (λ way. way_stays top way.items) (it.others top);
+    others = λ top. if_some (λ way. IsDescent old top way.items) (λ way. IsDescent new top way.items) (get nat_cmp plan.others top) (λ way. way_stays top way.items) (it.others top);
   }
 
 -- ---- entries
 
 -- a plan that knows of no level holds anywhere
-pub planned_none : (rows : List Row) (plan : Plan) → KnowsNone plan → IsPlan rows plan
+pub planned_none : (rows : List Row) (plan : DescentPlan) → KnowsNone plan → IsPlan rows plan
 planned_none rows plan none = plan_none rows plan none
 
 -- behind an entry that leaves the rows as they are
-pub planned_same : (rows : List Row) (emptied : Bool) (old new : Plan) → IsPlan rows old → IsPlannedBy emptied old new → IsPlan rows new
+pub planned_same : (rows : List Row) (emptied : Bool) (old new : DescentPlan) → IsPlan rows old → IsPlannedBy emptied old new → IsPlan rows new
 planned_same rows true old new it by = planned_none rows new by
 planned_same rows false old new it by = subst (IsPlan rows) (sym by) it
 
-planned_by : (w : World) (e : Entry) (emptied : Bool) (old new : Plan) → IsHealthy w → IsStep w e → emptied ≡ forgets w e → IsPlan w.rows old → IsPlannedBy emptied old new → IsPlan (after w e).rows new
+planned_by : (w : World) (e : Entry) (emptied : Bool) (old new : DescentPlan) → IsHealthy w → IsStep w e → emptied ≡ forgets w e → IsPlan w.rows old → IsPlannedBy emptied old new → IsPlan (after w e).rows new
 planned_by w e true old new healthy step told it by = planned_none (after w e).rows new by
 planned_by w e false old new healthy step told it by =
     let goes : Goes w (after w e) = goes_after w e step in
     let leads : Leads w (after w e) = leads_after w e healthy step in
     subst (IsPlan (after w e).rows) (sym by)
     (plan_stays w.rows (after w e).rows w.next_inc (after w e).next_inc w.next_inc healthy.sound.orderly leads.sound.orderly
-    (sym (bare_rows_stay w e healthy.sound.orderly.rising (sym told))) goes.follows old it)
+    (sym (bare_rows_stay w e healthy.sound.orderly.increasing (sym told))) goes.follows old it)
 
 -- behind any entry that the tree allows
-pub planned_after : (a : Inside) (e : Entry) (doomed : Bool) (rows : List Row) (plan : Plan) → Stands (story_of a) (world_in a) → IsStep (world_in a) e → (after (world_in a) e).rows ≡ rows → IsTold (world_in a) e doomed → IsPlan a.table.rows a.records.plan → IsPlannedBy (is_emptied e.event e.reply doomed) a.records.plan plan → IsPlan rows plan
+pub planned_after : (a : Inside) (e : Entry) (doomed : Bool) (rows : List Row) (plan : DescentPlan) → LeavesTree (story_of a) (world_in a) → IsStep (world_in a) e → (after (world_in a) e).rows ≡ rows → IsReported (world_in a) e doomed → IsPlan a.table.rows a.records.plan → IsPlannedBy (is_emptied e.event e.reply doomed) a.records.plan plan → IsPlan rows plan
 planned_after a e doomed rows plan stands step moves told it by =
     subst (λ rs. IsPlan rs plan) moves
     (planned_by (world_in a) e (is_emptied e.event e.reply doomed) a.records.plan plan (subst IsHealthy stands.world (healthy_of (story_of a) stands.legal)) step told it by)

@@ -1,3 +1,4 @@
+-- Inside.
 -- What the answers to a begin, to an exit, and to the steps of creations and shutdowns say.
 use Rattle.std.specs.Prelude.{◌≡◌, ℕ, List, Bool, false, Some, None, map, IsTrue}
 use Rattle.cm_decl.specs.declared.rows.Give.{Give}
@@ -14,13 +15,13 @@ use Rattle.cm_world.specs.Marks.{lost_of, mark_reply}
 use Rattle.cm_world.specs.Expiring.{reaped}
 use Rattle.cm_world.specs.Step.{PicksOn, PicksOff}
 use Rattle.cm_world.specs.World.{World}
-use Rattle.cm_world.specs.After.{moves}
-use Rattle.cm_order.specs.Picking.{WaitsFor}
-use Rattle.cm_dynamic.specs.Laws.{CanTake}
+use Rattle.cm_world.specs.AfterInside.{moves}
+use Rattle.cm_order.specs.Picking.{PickWaitsFor}
+use Rattle.cm_dynamic.specs.Laws.{CanTakeChild}
 use Rattle.cm_dynamic.specs.declared.create.MayCreate.{MayCreate}
 use Rattle.cm_dynamic.specs.declared.create.MayCreate.TheVariants.{Yes}
 use Rattle.cm_dynamic.specs.Replies.{create_reply}
-use Rattle.cm_steps.specs.Tasks.{IsAt}
+use Rattle.cm_steps.specs.Tasks.{IsPendingAs}
 use Rattle.cm_steps.specs.Steps.{WaitsToBegin, WaitsToExit, WaitsToPick}
 use Rattle.cm_steps.specs.declared.replies.beginning.BeginAnswer.{BeginAnswer}
 use Rattle.cm_steps.specs.declared.replies.beginning.BeginAnswer.TheVariants as begin
@@ -37,7 +38,7 @@ use Rattle.cm_steps.specs.declared.replies.picking.PickAnswer.TheVariants as pic
 
 -- an answer to a begin: no reply while the action is pending, or the reply of the definition
 abbrev pub AnswersBegin : List Row → ℕ → ActKind → ℕ → BeginAnswer → Type 0
-AnswersBegin rows next kind i (begin.Busy a) = (begin_reply rows next kind i ≡ None) × IsAt rows i a
+AnswersBegin rows next kind i (begin.Busy a) = (begin_reply rows next kind i ≡ None) × IsPendingAs rows i a
 AnswersBegin rows next kind i (begin.Quiet r) =
     (begin_reply rows next kind i ≡ Some r) × (moves (Begin kind i) r ≡ false)
 AnswersBegin rows next kind i (begin.Joins a) = begin_reply rows next kind i ≡ Some (reply.Joined a)
@@ -52,17 +53,17 @@ AnswersIdle rows next kind r _ = ⊥
 
 -- an answer to an exit: no reply while an action is pending, or the reply of the definition
 abbrev pub AnswersExit : List Row → ℕ → ExitAnswer → Type 0
-AnswersExit rows i (exit.Busy a) = (exit_reply rows i ≡ None) × IsAt rows i a
+AnswersExit rows i (exit.Busy a) = (exit_reply rows i ≡ None) × IsPendingAs rows i a
 AnswersExit rows i (exit.Quiet r) = (exit_reply rows i ≡ Some r) × (moves (Exited i) r ≡ false)
 AnswersExit rows i (exit.Leaves m) = exit_reply rows i ≡ Some (reply.Left m)
 
 -- what a begin comes to in a world: it waits for a pending action, or has the reply of the definition
-abbrev pub BeginsBy : World → ActKind → ℕ → BeginAnswer → Type 0
-BeginsBy w kind i (begin.Busy a) = WaitsToBegin w kind i a
-BeginsBy w kind i (begin.Quiet r) =
+abbrev pub BeginsOrWaits : World → ActKind → ℕ → BeginAnswer → Type 0
+BeginsOrWaits w kind i (begin.Busy a) = WaitsToBegin w kind i a
+BeginsOrWaits w kind i (begin.Quiet r) =
     (begin_reply w.rows w.next_action kind i ≡ Some r) × (moves (Begin kind i) r ≡ false)
-BeginsBy w kind i (begin.Joins a) = begin_reply w.rows w.next_action kind i ≡ Some (reply.Joined a)
-BeginsBy w kind i (begin.Begins work) = begin_reply w.rows w.next_action kind i ≡ Some (reply.Begun work)
+BeginsOrWaits w kind i (begin.Joins a) = begin_reply w.rows w.next_action kind i ≡ Some (reply.Joined a)
+BeginsOrWaits w kind i (begin.Begins work) = begin_reply w.rows w.next_action kind i ≡ Some (reply.Begun work)
 
 -- and an exit
 abbrev pub ExitsBy : World → ℕ → ExitAnswer → Type 0
@@ -86,7 +87,7 @@ IsAnswerOf may (create.Quiet r) = ((next : ℕ) → create_reply next may ≡ r)
 -- reply of the definition
 abbrev pub CreatesBy : ℕ → List Row → ℕ → ℕ → List ℕ → List ℕ → List Give → CreateAnswer → Type 0
 CreatesBy limit rows next p coll name gives create.Creates =
-    IsCreateReply limit rows next p coll name gives (reply.Created next) × CanTake rows p coll name
+    IsCreateReply limit rows next p coll name gives (reply.Created next) × CanTakeChild rows p coll name
 CreatesBy limit rows next p coll name gives (create.Quiet r) =
     IsCreateReply limit rows next p coll name gives r × IsQuietCreate r
 
@@ -111,14 +112,14 @@ IsReaped rows i incs = incs ≡ reaped rows i
 
 -- an answer to a pick: what is waited for, or the reply of the definition
 abbrev pub AnswersPick : List Row → ℕ → ℕ → PickAnswer → Type 0
-AnswersPick rows next target (pick.Busy a) = WaitsFor rows target a
+AnswersPick rows next target (pick.Busy a) = PickWaitsFor rows target a
 AnswersPick rows next target pick.Done = IsTrue (is_subtree_shut rows target)
 AnswersPick rows next target (pick.Shuts i) = PicksOff rows target i
 AnswersPick rows next target (pick.Stops work) = PicksOn rows next target work
 
 -- what a pick comes to in a world
-abbrev pub PicksBy : World → ℕ → PickAnswer → Type 0
-PicksBy w target (pick.Busy a) = WaitsToPick w target a
-PicksBy w target pick.Done = IsTrue (is_subtree_shut w.rows target)
-PicksBy w target (pick.Shuts i) = PicksOff w.rows target i
-PicksBy w target (pick.Stops work) = PicksOn w.rows w.next_action target work
+abbrev pub PicksOrWaits : World → ℕ → PickAnswer → Type 0
+PicksOrWaits w target (pick.Busy a) = WaitsToPick w target a
+PicksOrWaits w target pick.Done = IsTrue (is_subtree_shut w.rows target)
+PicksOrWaits w target (pick.Shuts i) = PicksOff w.rows target i
+PicksOrWaits w target (pick.Stops work) = PicksOn w.rows w.next_action target work

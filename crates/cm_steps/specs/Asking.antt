@@ -1,3 +1,4 @@
+-- Inside.
 -- Who asks for a use of an instance, and what is answered.
 use Rattle.std.specs.Prelude.{◌≡◌, ℕ, List, Bool, not, ◌&&◌, Option, Some}
 use Rattle.cm_world.specs.declared.event.Event.{Event}
@@ -10,8 +11,8 @@ use Rattle.cm_world.specs.declared.row.Row.{Row}
 use Rattle.cm_world.specs.Openings.{unready, unopened, routed, opened}
 use Rattle.cm_world.specs.Route.{IsWalked}
 use Rattle.cm_world.specs.Rows.{is_gone, is_resolved, is_on}
-use Rattle.cm_cache.specs.declared.answer.Answer.{Answer}
-use Rattle.cm_cache.specs.Answers.{kept_at}
+use Rattle.cm_cache.specs.declared.answer.CachedAnswer.{CachedAnswer}
+use Rattle.cm_cache.specs.AnswersInside.{kept_at}
 use Rattle.cm_steps.specs.declared.asking.Asking.{Asking}
 use Rattle.cm_steps.specs.declared.asking.Asking.TheVariants as asking
 
@@ -40,6 +41,6 @@ reply_of asking.Route rows v = routed rows v
 reply_of asking.Opening rows v = opened rows v
 
 -- the answer that is kept for a use, if one is, is what its walk comes to
-abbrev pub IsRightAt : List Row → List Builtin → List Answer → ℕ → List ℕ → Type 0
+abbrev pub IsRightAt : List Row → List Builtin → List CachedAnswer → ℕ → List ℕ → Type 0
 IsRightAt rows builtins answers i path =
     (v : Walked) → kept_at answers i path ≡ Some v → IsWalked rows builtins (UseAt i path) v

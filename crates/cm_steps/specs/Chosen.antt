@@ -1,9 +1,10 @@
+-- Inside.
 -- A pick of an instance that is given.
 use Rattle.std.specs.Prelude.{◌≡◌, ℕ, List, Some}
 use Rattle.cm_world.specs.declared.row.Row.{Row}
 use Rattle.cm_world.specs.declared.reply.Reply.{Reply}
 use Rattle.cm_world.specs.declared.event.Event.TheVariants.{Pick}
-use Rattle.cm_laws.specs.Story.{Story, Tells}
+use Rattle.cm_laws.specs.Story.{Story, AddsEntry}
 use Rattle.cm_laws.specs.Clients.{picked_by}
 use Rattle.cm_steps.specs.Answers.{AnswersPick}
 use Rattle.cm_steps.specs.declared.replies.picking.PickAnswer.{PickAnswer}
@@ -22,5 +23,5 @@ pub record AnswersThis (rows : List Row) (next target i : ℕ) (answer : PickAns
 
 -- a step that picks this row: one more entry, whose reply picks it
 pub record PicksThis (old new : Story) (caller target inc : ℕ) (reply : Reply) : Type 0 where
-  pub step : Tells old new caller (Pick target) reply
+  pub step : AddsEntry old new caller (Pick target) reply
   pub this : picked_by (Pick target) reply ≡ Some inc

@@ -1,3 +1,4 @@
+-- Inside.
 -- What the work of an action takes from the tree.
 use Rattle.std.specs.Prelude.{ℕ, List, [], filter, filter_map, if◌then◌else◌}
 use Rattle.std.specs.Prelude.{Option, Some, None, option_and_then}

@@ -1,3 +1,4 @@
+-- Inside.
 -- Which events are enabled, but for the validity of a declaration that an end brings.
 use Rattle.std.specs.Prelude.{◌≡◌, ◌↔◌, ℕ, List, Bool, true, Option, None, Some, IsTrue}
 use Rattle.cm_world.specs.declared.action.Act.{Act}

@@ -1,3 +1,4 @@
+-- Inside.
 -- What is read of actions, and of their ends.
 use Rattle.std.specs.Prelude.{◌≡◌, ℕ, ◌<◌, List, None, IsTrue}
 use Rattle.std.specs.Option.{option_map_or}
@@ -31,6 +32,6 @@ pub record IsOpenRow (t : Tree) (i : ℕ) : Type 0 where
   pub spare : 0 < t.spare
 
 -- whether a row can take an end
-abbrev pub CanTake : Tree → ℕ → Ending → Type 0
-CanTake t i (ending.Resolved p) = IsOpenRow t i
-CanTake t i (ending.Other o) = Unit {0}
+abbrev pub CanTakeEnd : Tree → ℕ → Ending → Type 0
+CanTakeEnd t i (ending.Resolved p) = IsOpenRow t i
+CanTakeEnd t i (ending.Other o) = Unit {0}

@@ -1,3 +1,4 @@
+-- Inside.
 -- Rows that go with one that stops, as they are found one after another.
 use Rattle.std.specs.Prelude.{ℕ, List, not, ◌&&◌, map, if◌then◌else◌}
 use Rattle.cm_world.specs.declared.row.Row.{Row}

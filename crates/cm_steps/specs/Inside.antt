@@ -1,3 +1,4 @@
+-- Inside.
 -- How a realm keeps its history and its tree.
 use Rattle.std.specs.Prelude.{◌≡◌, ◌+◌, ◌≤◌, length, count_by}
 use Rattle.cm_world.specs.World.{World, owed}
@@ -25,15 +26,15 @@ world_in a = record {
 }
 
 -- the history is legal, and leaves this tree
-pub record Stands (s : Story) (w : World) : Type 0 where
+pub record LeavesTree (s : Story) (w : World) : Type 0 where
   pub legal : IsLegal s
   pub world : world_of s ≡ w
 
 -- the fields are the tree that the book leaves; open resolves are counted, and room is kept for each of them
 -- and for the entries that are owed; the keeper's answers are those of the book's history; what is known of
 -- ways down holds in this tree
-pub record IsKept (a : Inside) : Type 0 where
-  pub stands : Stands (story_of a) (world_in a)
+pub record IsRealmInvariant (a : Inside) : Type 0 where
+  pub stands : LeavesTree (story_of a) (world_in a)
   pub owes : a.records.book.reserved ≡ owed a.acts.items a.joins.items
   pub counted : a.resolves ≡ count_by is_open_resolve a.acts.items
   pub spare : count_by is_open_resolve a.acts.items ≤ a.table.spare

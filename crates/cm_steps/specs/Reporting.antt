@@ -1,3 +1,4 @@
+-- Inside.
 -- What a list of children, a survey and a purge take from one row.
 use Rattle.std.specs.Prelude.{ℕ, List, [], map, Bool, not, ◌&&◌, if◌then◌else◌}
 use Rattle.std.specs.Prelude.{Option, Some, None, option_and_then}

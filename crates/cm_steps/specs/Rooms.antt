@@ -1,3 +1,4 @@
+-- Inside.
 -- Refusals of a book as refusals of a step.
 use Rattle.std.specs.Prelude.{◌≡◌, ℕ, ◌+◌, ◌<◌, length}
 use Rattle.cm_book.specs.History.{History}

@@ -1,3 +1,4 @@
+-- Inside.
 -- When a step is refused.
 use Rattle.std.specs.Prelude.{◌≡◌, ℕ, ◌+◌, ◌<◌, ◌≤◌, false, length, None}
 use Rattle.cm_world.specs.declared.action.ActKind.{ActKind}
@@ -10,15 +11,15 @@ use Rattle.cm_world.specs.Reports.{exit_reply}
 use Rattle.cm_order.specs.Picking.{BlockedBy}
 use Rattle.cm_laws.specs.Story.{Story, world_of}
 use Rattle.cm_laws.specs.Tasks.{IsPendingAt}
-use Rattle.cm_steps.specs.Tasks.{IsAt}
+use Rattle.cm_steps.specs.Tasks.{IsPendingAs}
 use Rattle.cm_steps.specs.declared.nostep.NoStep.{NoStep}
 use Rattle.cm_steps.specs.declared.nostep.NoStep.TheVariants.{Busy, HistoryFull, Memory}
 
 -- ---- room
 
 -- the entries, those that are owed and so many more are within the limit
-abbrev pub HasRoom : Story → ℕ → Type 0
-HasRoom s need = length s.entries + owed_by (world_of s) + need ≤ s.frame.limits.entries
+abbrev pub RealmHasRoom : Story → ℕ → Type 0
+RealmHasRoom s need = length s.entries + owed_by (world_of s) + need ≤ s.frame.limits.entries
 
 abbrev pub LacksRoom : Story → ℕ → Type 0
 LacksRoom s need = s.frame.limits.entries < length s.entries + owed_by (world_of s) + need
@@ -26,25 +27,25 @@ LacksRoom s need = s.frame.limits.entries < length s.entries + owed_by (world_of
 -- ---- refusals
 
 -- of an event that needs room for so many entries and waits for an action of which this holds; memory is free
-abbrev pub Refuses : Story → ℕ → (ℕ → Type 0) → NoStep → Type 0
-Refuses s need Waits (Busy a) = HasRoom s need × Waits a
-Refuses s need Waits HistoryFull = LacksRoom s need
-Refuses s need Waits Memory = Unit {0}
+abbrev pub RefusesStep : Story → ℕ → (ℕ → Type 0) → NoStep → Type 0
+RefusesStep s need Waits (Busy a) = RealmHasRoom s need × Waits a
+RefusesStep s need Waits HistoryFull = LacksRoom s need
+RefusesStep s need Waits Memory = Unit {0}
 
 -- of an event that never has to wait
 abbrev pub RefusesQuiet : Story → NoStep → Type 0
-RefusesQuiet s = Refuses s 1 (λ a. ⊥)
+RefusesQuiet s = RefusesStep s 1 (λ a. ⊥)
 
 -- a begin has no reply while an action of another kind is pending at that very row: this one
 pub record WaitsToBegin (w : World) (kind : ActKind) (i a : ℕ) : Type 0 where
   pub unanswered : begin_reply w.rows w.next_action kind i ≡ None
-  pub at : IsAt w.rows i a
+  pub at : IsPendingAs w.rows i a
   pub pending : IsPendingAt w.acts i a
 
 -- an exit has no reply while an action is pending at that very row: this one
 pub record WaitsToExit (w : World) (i a : ℕ) : Type 0 where
   pub unanswered : exit_reply w.rows i ≡ None
-  pub at : IsAt w.rows i a
+  pub at : IsPendingAs w.rows i a
   pub pending : IsPendingAt w.acts i a
 
 -- a pick has no reply while not all is shut and no row may be picked: then this action is pending at a row

@@ -1,3 +1,4 @@
+-- Inside.
 -- Where an action may begin, and which action is waited for.
 use Rattle.std.specs.Prelude.{◌≡◌, ℕ, List, Bool, Some, None, ◌&&◌}
 use Rattle.cm_world.specs.declared.row.Row.{Row}
@@ -20,7 +21,7 @@ pub record IsIdleAt (rows : List Row) (kind : ActKind) (i : ℕ) : Type 0 where
   pub unresolved : kind ≡ Resolve → row.decl ≡ None
 
 -- an action of some kind is pending at a row
-pub record IsAt (rows : List Row) (i a : ℕ) : Type 0 where
+pub record IsPendingAs (rows : List Row) (i a : ℕ) : Type 0 where
   pub row : Row
   pub lives : row_of rows i ≡ Some row
   pub kind : ActKind

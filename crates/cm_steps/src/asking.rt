@@ -2,7 +2,7 @@
 //! walk, whose answer is kept then, if it lasts.
 
 ghost use Rattle.std.specs.Prelude.{◌≡◌, ◌≤◌, ◌++◌, ◌∷◌, [], length, IfOk, IfErr, OnOk, OnErr};
-ghost use Rattle.cm_book.specs.Refusal.{Fits};
+ghost use Rattle.cm_book.specs.Refusal.{FitsLimit};
 ghost use Rattle.cm_cache.specs.Beside.{asked_for, finding, found_by};
 ghost use Rattle.cm_laws.specs.Story.{entry_of};
 ghost use Rattle.cm_world.specs.Openings.{WalksUnless};
@@ -14,7 +14,7 @@ use crate::nostep::NoStep;
 use crate::replies::opening::{opened, routed, unopened, unready, walk_use};
 use crate::rooms::copy_in_room;
 use cm_book::Book;
-use cm_cache::{Found, Keeper, found_by_walk};
+use cm_cache::{CacheLookup, Keeper, found_by_walk};
 use cm_names::{CapPath, Memory};
 use cm_walk::above::{is_gone, is_on, is_resolved};
 use cm_world::{Entry, Event, Reply, Start, View, Walked};
@@ -31,9 +31,9 @@ pub(crate) enum Asking {
 
 /// What the walk from a use comes to, and what becomes of the answers that are kept.
 #[derive(Drop)]
-pub(crate) struct Answered {
+pub(crate) struct RouteAnswer {
     pub walked: Walked,
-    pub found: Found,
+    pub found: CacheLookup,
 }
 
 /// Whether one who asks is answered by what the walk comes to: the instance lives, neither it nor
@@ -106,7 +106,7 @@ pub(crate) fn answer<V: View>(
     keeper: &Keeper,
     inc: u64,
     path: &CapPath,
-) -> Result<Answered, Memory>
+) -> Result<RouteAnswer, Memory>
     requires { let rows = V.rows view.now in
         spec.IsRightAt rows (V.builtins view.now) keeper.now.answers inc path.now }
     ensures walked { let rows = V.rows view.now in
@@ -115,9 +115,9 @@ pub(crate) fn answer<V: View>(
         IfOk result (λ a. found_by a.found held ≡ asked_for inc path.now a.walked held) }
 {
     match keeper.recall(inc, path)? {
-        Some(walked) => Ok(Answered {
+        Some(walked) => Ok(RouteAnswer {
             walked,
-            found: Found::Again,
+            found: CacheLookup::Again,
         }),
         None => answer_anew(alloc, view, inc, path),
     }
@@ -129,14 +129,14 @@ fn answer_anew<V: View>(
     view: &V,
     inc: u64,
     path: &CapPath,
-) -> Result<Answered, Memory>
+) -> Result<RouteAnswer, Memory>
     ensures walked { let rows = V.rows view.now in
         IfOk result (λ a. IsWalked rows (V.builtins view.now) (Start.UseAt inc path.now) a.walked) }
     ensures found { IfOk result (λ a. a.found ≡ finding inc path.now a.walked) }
 {
     let walked = walk_use(alloc, view, inc, path)?;
     match found_by_walk(inc, path, &walked) {
-        Ok(found) => Ok(Answered { walked, found }),
+        Ok(found) => Ok(RouteAnswer { walked, found }),
         Err(Memory) => {
             drop(walked);
             Err(Memory)
@@ -152,14 +152,14 @@ pub(crate) fn tell_found(
     caller: u32,
     event: Event,
     reply: Reply,
-    found: Found,
+    found: CacheLookup,
 ) -> Result<Reply, NoStep>
     requires { keeper.old.number ≤ length book.old.entries }
     ensures told { IfOk result (λ told. told ≡ reply) }
     ensures book { let entries = book.old.entries ++ entry_of caller event reply ∷ [] in
         OnOk result (book.new ≡ record book.old { entries = entries }) }
     ensures keeper { OnOk result (keeper.new ≡ found_by found keeper.old) }
-    ensures fits { OnOk result (Fits book.old 1) }
+    ensures fits { OnOk result (FitsLimit book.old 1) }
     ensures err { OnErr result (book.new ≡ book.old) }
     ensures same { OnErr result (keeper.new ≡ keeper.old) }
     ensures refused { IfErr result (Lacks book.old 1) }

@@ -3,7 +3,7 @@
 ghost use Rattle.std.specs.Prelude.{◌≡◌, ◌≤◌, ◌+◌};
 ghost use Rattle.cm_world.specs.End.{outcome_by, rows_by};
 ghost use Rattle.cm_table.specs.Change.{next_by};
-ghost use Rattle.cm_steps.specs.Ends.{finish_of, takes_of, CanTake};
+ghost use Rattle.cm_steps.specs.Ends.{finish_of, takes_of, CanTakeEnd};
 
 use cm_table::{Prepared, Settled, Table};
 use cm_world::{Finish, Outcome};
@@ -19,7 +19,7 @@ pub enum Ending {
 
 /// Ends the action of an instance, and answers how the history keeps that. It takes no memory.
 pub(crate) fn end_at(table: &mut Table, inc: u64, ending: Ending) -> Settled
-    requires { CanTake table.old inc ending }
+    requires { CanTakeEnd table.old inc ending }
     ensures finish { result.finish ≡ finish_of ending }
     ensures outcome { let old = table.old in
         result.outcome ≡ outcome_by old.limit old.rows old.next_inc (finish_of ending) }

@@ -5,15 +5,16 @@ ghost use Rattle.cm_world.specs.World.{start};
 ghost use Rattle.cm_world.specs.Begin.{begin_reply};
 ghost use Rattle.cm_world.specs.Reports.{exit_reply};
 ghost use Rattle.cm_world.specs.Legal.{Legal, IsStep, owed_by};
-ghost use Rattle.cm_world.specs.After.{moves, moved, with_action};
+ghost use Rattle.cm_world.specs.After.{moved, with_action};
+ghost use Rattle.cm_world.specs.AfterInside.{moves};
 ghost use Rattle.cm_cache.specs.Keeping.{IsKeptNumber, asked_by};
 ghost use Rattle.cm_cache.specs.Steps.{may_doom};
 ghost use Rattle.cm_table.specs.Tree.{first_tree};
-ghost use Rattle.cm_laws.specs.Story.{world_of, Tells, entry_of};
+ghost use Rattle.cm_laws.specs.Story.{world_of, AddsEntry, entry_of};
 ghost use Rattle.cm_steps.specs.Asking.{may_ask, event_of as event_by};
 ghost use Rattle.cm_steps.specs.Tasks.{IsIdleAt};
-ghost use Rattle.cm_steps.specs.Answers.{BeginsBy, ExitsBy};
-ghost use Rattle.cm_steps.specs.Steps.{HasRoom, LacksRoom, Refuses, RefusesQuiet};
+ghost use Rattle.cm_steps.specs.Answers.{BeginsOrWaits, ExitsBy};
+ghost use Rattle.cm_steps.specs.Steps.{RealmHasRoom, LacksRoom, RefusesStep, RefusesQuiet};
 ghost use Rattle.cm_steps.specs.Steps.{WaitsToBegin, WaitsToExit};
 
 mod creating;
@@ -22,11 +23,11 @@ mod ends;
 mod marks;
 mod picking;
 
-use crate::asking::{Answered, Asking, answer, asks, event_of, reply_of, tell_found, use_reply};
+use crate::asking::{Asking, RouteAnswer, answer, asks, event_of, reply_of, tell_found, use_reply};
 use crate::copies::copied;
 use crate::expiring::expire;
 use crate::nostep::NoStep;
-use crate::records::Records;
+use crate::records::Recorded;
 use crate::replies::beginning::{BeginAnswer, begin_answer};
 use crate::replies::finding::found;
 use crate::replies::listing::listed;
@@ -38,7 +39,7 @@ use cm_book::Book;
 use cm_cache::Keeper;
 use cm_laws::trees_stay_sound;
 use cm_names::{Boxed, CapPath, List, Memory, Moniker, Name, Text};
-use cm_order::Plan;
+use cm_order::DescentPlan;
 use cm_table::Table;
 use cm_turn::Storied;
 use cm_world::{Act, ActKind, Builtin, Entry, Event, Frame, Join, Limits, Reply};
@@ -53,7 +54,7 @@ pub struct Realm {
     acts: Vec<Act>,
     resolves: u32,
     joins: Vec<Join>,
-    records: Records,
+    records: Recorded,
 }
 
 impl Drop for Realm {
@@ -74,11 +75,11 @@ impl Model for Realm {
 
     ghost Value = { Story };
 
-    ghost use Rattle.cm_steps.specs.Inside.{story_of, IsKept};
+    ghost use Rattle.cm_steps.specs.Inside.{story_of, IsRealmInvariant};
 
     ghost view = { story_of };
 
-    ghost invariant = { IsKept };
+    ghost invariant = { IsRealmInvariant };
 }
 
 impl Storied for Realm {
@@ -123,10 +124,10 @@ impl Realm {
             acts: Vec::new(alloc),
             resolves: 0,
             joins: Vec::new(alloc),
-            records: Records {
+            records: Recorded {
                 book: Book::new(alloc, limits.entries),
                 keeper,
-                plan: Plan::new(alloc),
+                plan: DescentPlan::new(alloc),
             },
         })
     }
@@ -164,7 +165,7 @@ impl Realm {
             joins: _,
             records,
         } = self;
-        let Records {
+        let Recorded {
             book,
             keeper: _,
             plan: _,
@@ -185,7 +186,7 @@ impl Realm {
 
     /// Whether the history takes so many entries more, besides those that are owed.
     fn has_room(&self, need: u32) -> bool
-        ensures { IsTrue result ↔ HasRoom self.now need }
+        ensures { IsTrue result ↔ RealmHasRoom self.now need }
     {
         let _acts = &self.acts;
         self.records.book.fits(need)
@@ -198,8 +199,8 @@ impl Realm {
         requires quiet { moves event reply ≡ false }
         requires unasked { asked_by (world_of self.old) event ≡ None }
         requires step { IsStep (world_of self.old) (entry_of caller event reply) }
-        ensures step { IfOk result (λ told. Tells self.old self.new caller event told) }
-        ensures room { OnOk result (HasRoom self.old 1) }
+        ensures step { IfOk result (λ told. AddsEntry self.old self.new caller event told) }
+        ensures room { OnOk result (RealmHasRoom self.old 1) }
         ensures refused { IfErr result (RefusesQuiet self.old) }
         ensures err { OnErr result (self.new ≡ self.old) }
     {
@@ -227,8 +228,8 @@ impl Realm {
         path: CapPath,
     ) -> Result<Reply, NoStep>
         ensures step { IfOk result (λ reply.
-            Tells self.old self.new caller (event_by asking inc path) reply) }
-        ensures room { OnOk result (HasRoom self.old 1) }
+            AddsEntry self.old self.new caller (event_by asking inc path) reply) }
+        ensures room { OnOk result (RealmHasRoom self.old 1) }
         ensures refused { IfErr result (RefusesQuiet self.old) }
         ensures err { OnErr result (self.new ≡ self.old) }
     {
@@ -252,13 +253,13 @@ impl Realm {
     ) -> Result<Reply, NoStep>
         requires { IsTrue (may_ask asking (world_of self.old).rows inc) }
         ensures step { IfOk result (λ reply.
-            Tells self.old self.new caller (event_by asking inc path) reply) }
-        ensures room { OnOk result (HasRoom self.old 1) }
+            AddsEntry self.old self.new caller (event_by asking inc path) reply) }
+        ensures room { OnOk result (RealmHasRoom self.old 1) }
         ensures refused { IfErr result (RefusesQuiet self.old) }
         ensures err { OnErr result (self.new ≡ self.old) }
     {
         let answered = answer(alloc, &self.table, &self.records.keeper, inc, &path)?;
-        let Answered { walked, found } = answered;
+        let RouteAnswer { walked, found } = answered;
         let reply = reply_of(&self.table, asking, walked);
         let event = event_of(asking, inc, path);
         let told = tell_found(
@@ -280,8 +281,8 @@ impl Realm {
     /// - `Memory` where memory runs out.
     pub fn find(&mut self, alloc: Global, caller: u32, moniker: Moniker) -> Result<Reply, NoStep>
         ensures step { IfOk result (λ reply.
-            Tells self.old self.new caller (Event.Find moniker) reply) }
-        ensures room { OnOk result (HasRoom self.old 1) }
+            AddsEntry self.old self.new caller (Event.Find moniker) reply) }
+        ensures room { OnOk result (RealmHasRoom self.old 1) }
         ensures refused { IfErr result (RefusesQuiet self.old) }
         ensures err { OnErr result (self.new ≡ self.old) }
     {
@@ -297,8 +298,8 @@ impl Realm {
     /// - `Memory` where memory runs out.
     pub fn show(&mut self, alloc: Global, caller: u32, inc: u64) -> Result<Reply, NoStep>
         ensures step { IfOk result (λ reply.
-            Tells self.old self.new caller (Event.Show inc) reply) }
-        ensures room { OnOk result (HasRoom self.old 1) }
+            AddsEntry self.old self.new caller (Event.Show inc) reply) }
+        ensures room { OnOk result (RealmHasRoom self.old 1) }
         ensures refused { IfErr result (RefusesQuiet self.old) }
         ensures err { OnErr result (self.new ≡ self.old) }
     {
@@ -321,8 +322,8 @@ impl Realm {
         coll: Name,
     ) -> Result<Reply, NoStep>
         ensures step { IfOk result (λ reply.
-            Tells self.old self.new caller (Event.Listing inc coll) reply) }
-        ensures room { OnOk result (HasRoom self.old 1) }
+            AddsEntry self.old self.new caller (Event.Listing inc coll) reply) }
+        ensures room { OnOk result (RealmHasRoom self.old 1) }
         ensures refused { IfErr result (RefusesQuiet self.old) }
         ensures err { OnErr result (self.new ≡ self.old) }
     {
@@ -338,8 +339,8 @@ impl Realm {
     /// - `Memory` where memory runs out.
     pub fn survey(&mut self, alloc: Global, caller: u32, inc: u64) -> Result<Reply, NoStep>
         ensures step { IfOk result (λ reply.
-            Tells self.old self.new caller (Event.Survey inc) reply) }
-        ensures room { OnOk result (HasRoom self.old 1) }
+            AddsEntry self.old self.new caller (Event.Survey inc) reply) }
+        ensures room { OnOk result (RealmHasRoom self.old 1) }
         ensures refused { IfErr result (RefusesQuiet self.old) }
         ensures err { OnErr result (self.new ≡ self.old) }
     {
@@ -354,8 +355,8 @@ impl Realm {
     /// - `Memory` where memory runs out.
     pub fn tail(&mut self, caller: u32, inc: u64, from: u64) -> Result<Reply, NoStep>
         ensures step { IfOk result (λ reply.
-            Tells self.old self.new caller (Event.Tail inc from) reply) }
-        ensures room { OnOk result (HasRoom self.old 1) }
+            AddsEntry self.old self.new caller (Event.Tail inc from) reply) }
+        ensures room { OnOk result (RealmHasRoom self.old 1) }
         ensures refused { IfErr result (RefusesQuiet self.old) }
         ensures err { OnErr result (self.new ≡ self.old) }
     {
@@ -378,8 +379,8 @@ impl Realm {
         path: CapPath,
     ) -> Result<Reply, NoStep>
         ensures step { IfOk result (λ reply.
-            Tells self.old self.new caller (Event.Route inc path) reply) }
-        ensures room { OnOk result (HasRoom self.old 1) }
+            AddsEntry self.old self.new caller (Event.Route inc path) reply) }
+        ensures room { OnOk result (RealmHasRoom self.old 1) }
         ensures refused { IfErr result (RefusesQuiet self.old) }
         ensures err { OnErr result (self.new ≡ self.old) }
     {
@@ -400,8 +401,8 @@ impl Realm {
         path: CapPath,
     ) -> Result<Reply, NoStep>
         ensures step { IfOk result (λ reply.
-            Tells self.old self.new caller (Event.OpenUse inc path) reply) }
-        ensures room { OnOk result (HasRoom self.old 1) }
+            AddsEntry self.old self.new caller (Event.OpenUse inc path) reply) }
+        ensures room { OnOk result (RealmHasRoom self.old 1) }
         ensures refused { IfErr result (RefusesQuiet self.old) }
         ensures err { OnErr result (self.new ≡ self.old) }
     {
@@ -421,8 +422,8 @@ impl Realm {
         name: Name,
     ) -> Result<Reply, NoStep>
         ensures step { IfOk result (λ reply.
-            Tells self.old self.new caller (Event.OpenExposed inc name) reply) }
-        ensures room { OnOk result (HasRoom self.old 1) }
+            AddsEntry self.old self.new caller (Event.OpenExposed inc name) reply) }
+        ensures room { OnOk result (RealmHasRoom self.old 1) }
         ensures refused { IfErr result (RefusesQuiet self.old) }
         ensures err { OnErr result (self.new ≡ self.old) }
     {
@@ -447,11 +448,11 @@ impl Realm {
         inc: u64,
     ) -> Result<Reply, NoStep>
         ensures step { IfOk result (λ reply.
-            Tells self.old self.new caller (Event.Begin kind inc) reply) }
-        ensures room { OnOk result (HasRoom self.old 2) }
+            AddsEntry self.old self.new caller (Event.Begin kind inc) reply) }
+        ensures room { OnOk result (RealmHasRoom self.old 2) }
         ensures full { LacksRoom self.old 2 → result ≡ Err NoStep.HistoryFull }
         ensures refused { let waits = WaitsToBegin (world_of self.old) kind inc in
-            IfErr result (Refuses self.old 2 waits) }
+            IfErr result (RefusesStep self.old 2 waits) }
         ensures err { OnErr result (self.new ≡ self.old) }
     {
         if !self.has_room(2) {
@@ -470,12 +471,12 @@ impl Realm {
         inc: u64,
         answer: BeginAnswer,
     ) -> Result<Reply, NoStep>
-        requires room { HasRoom self.old 2 }
-        requires answer { BeginsBy (world_of self.old) kind inc answer }
+        requires room { RealmHasRoom self.old 2 }
+        requires answer { BeginsOrWaits (world_of self.old) kind inc answer }
         ensures step { IfOk result (λ reply.
-            Tells self.old self.new caller (Event.Begin kind inc) reply) }
+            AddsEntry self.old self.new caller (Event.Begin kind inc) reply) }
         ensures refused { let waits = WaitsToBegin (world_of self.old) kind inc in
-            IfErr result (Refuses self.old 2 waits) }
+            IfErr result (RefusesStep self.old 2 waits) }
         ensures err { OnErr result (self.new ≡ self.old) }
     {
         match answer {
@@ -499,8 +500,8 @@ impl Realm {
         requires { let w = world_of self.old in
             begin_reply w.rows w.next_action kind inc ≡ Some (Reply.Joined action) }
         ensures step { IfOk result (λ reply.
-            Tells self.old self.new caller (Event.Begin kind inc) reply) }
-        ensures refused { IfErr result (Refuses self.old 2 (λ a. ⊥)) }
+            AddsEntry self.old self.new caller (Event.Begin kind inc) reply) }
+        ensures refused { IfErr result (RefusesStep self.old 2 (λ a. ⊥)) }
         ensures err { OnErr result (self.new ≡ self.old) }
     {
         add_join(&mut self.joins, &mut self.records.book, caller, action)?;
@@ -529,9 +530,9 @@ impl Realm {
         requires idle { IsIdleAt (world_of self.old).rows kind inc }
         requires unasked { asked_by (world_of self.old) event ≡ None }
         requires undoomed { may_doom event reply ≡ false }
-        ensures step { IfOk result (λ told. Tells self.old self.new caller event told) }
+        ensures step { IfOk result (λ told. AddsEntry self.old self.new caller event told) }
         ensures same { IfOk result (λ told. told ≡ reply) }
-        ensures refused { IfErr result (Refuses self.old 2 (λ a. ⊥)) }
+        ensures refused { IfErr result (RefusesStep self.old 2 (λ a. ⊥)) }
         ensures err { OnErr result (self.new ≡ self.old) }
     {
         let Ok(kept) = copied(&reply) else {
@@ -580,11 +581,11 @@ impl Realm {
     /// - `Memory` where memory runs out.
     pub fn exited(&mut self, alloc: Global, caller: u32, inc: u64) -> Result<Reply, NoStep>
         ensures step { IfOk result (λ reply.
-            Tells self.old self.new caller (Event.Exited inc) reply) }
-        ensures room { OnOk result (HasRoom self.old 1) }
+            AddsEntry self.old self.new caller (Event.Exited inc) reply) }
+        ensures room { OnOk result (RealmHasRoom self.old 1) }
         ensures full { LacksRoom self.old 1 → result ≡ Err NoStep.HistoryFull }
         ensures refused { let waits = WaitsToExit (world_of self.old) inc in
-            IfErr result (Refuses self.old 1 waits) }
+            IfErr result (RefusesStep self.old 1 waits) }
         ensures err { OnErr result (self.new ≡ self.old) }
     {
         if !self.has_room(1) {
@@ -596,12 +597,12 @@ impl Realm {
 
     /// Takes the step that an exit comes to, where there is room.
     fn exit_by(&mut self, caller: u32, inc: u64, answer: ExitAnswer) -> Result<Reply, NoStep>
-        requires room { HasRoom self.old 1 }
+        requires room { RealmHasRoom self.old 1 }
         requires answer { ExitsBy (world_of self.old) inc answer }
         ensures step { IfOk result (λ reply.
-            Tells self.old self.new caller (Event.Exited inc) reply) }
+            AddsEntry self.old self.new caller (Event.Exited inc) reply) }
         ensures refused { let waits = WaitsToExit (world_of self.old) inc in
-            IfErr result (Refuses self.old 1 waits) }
+            IfErr result (RefusesStep self.old 1 waits) }
         ensures err { OnErr result (self.new ≡ self.old) }
     {
         match answer {
@@ -616,7 +617,7 @@ impl Realm {
     fn leave(&mut self, caller: u32, inc: u64, moniker: Moniker) -> Result<Reply, NoStep>
         requires { exit_reply (world_of self.old).rows inc ≡ Some (Reply.Left moniker) }
         ensures step { IfOk result (λ reply.
-            Tells self.old self.new caller (Event.Exited inc) reply) }
+            AddsEntry self.old self.new caller (Event.Exited inc) reply) }
         ensures refused { IfErr result (RefusesQuiet self.old) }
         ensures err { OnErr result (self.new ≡ self.old) }
     {

@@ -7,21 +7,21 @@ ghost use Rattle.cm_steps.specs.Planned.{IsPlannedBy};
 
 use cm_book::Book;
 use cm_cache::Keeper;
-use cm_order::Plan;
+use cm_order::DescentPlan;
 use cm_world::{Entry, Event, Reply};
 
 /// The history, and what goes on with each of its entries.
 #[derive(Drop)]
-pub(crate) struct Records {
+pub(crate) struct Recorded {
     /// The history.
     pub book: Book,
     /// The answers of walks that are kept.
     pub keeper: Keeper,
     /// What is known of ways down for the next pick.
-    pub plan: Plan,
+    pub plan: DescentPlan,
 }
 
-impl Records {
+impl Recorded {
     /// Puts down an event that asks for no use with its reply, in room that is reserved. Forgets the
     /// answers that are kept, and what is known of ways down, where that changes what walks read;
     /// whether it dooms an instance is told.

@@ -13,10 +13,10 @@ ghost use Rattle.cm_laws.specs.Tasks.{IsNumbered};
 ghost use Rattle.cm_world.specs.Begin.{same_act};
 ghost use Rattle.cm_world.specs.Step as step;
 ghost use Rattle.cm_world.specs.After.{joined};
-ghost use Rattle.cm_book.specs.Refusal.{Fits};
+ghost use Rattle.cm_book.specs.Refusal.{FitsLimit};
 ghost use Rattle.cm_table.specs.Change.{with_row};
 ghost use Rattle.cm_table.specs.Tree.{fit};
-ghost use Rattle.cm_dynamic.specs.Laws.{CanTake};
+ghost use Rattle.cm_dynamic.specs.Laws.{CanTakeChild};
 ghost use Rattle.cm_steps.specs.Tasks as tasks;
 ghost use Rattle.cm_steps.specs.Rooms.{Lacks};
 
@@ -43,7 +43,7 @@ pub fn copy_in_room<T: Plain>(book: &mut Book, value: &T) -> Result<T, NoStep>
     ensures copy { IfOk result (λ copy. copy ≡ value.now) }
     ensures book { let reserved = book.old.reserved + 1 in
         OnOk result (book.new ≡ record book.old { reserved = reserved }) }
-    ensures fits { OnOk result (Fits book.old 1) }
+    ensures fits { OnOk result (FitsLimit book.old 1) }
     ensures bound { OnOk result (book.old.limit < 2 ^ 64) }
     ensures err { OnErr result (book.new ≡ book.old) }
     ensures refused { IfErr result (Lacks book.old 1) }
@@ -186,7 +186,7 @@ pub fn add_row(
     url: &Text,
     gives: &List<Give>,
 ) -> Result<u64, NoStep>
-    requires takes { CanTake table.old.rows parent coll.now name.now }
+    requires takes { CanTakeChild table.old.rows parent coll.now name.now }
     requires room { IsTrue (fit table.old 1) }
     ensures inc { IfOk result (λ inc. inc ≡ table.old.next_inc) }
     ensures table { let t = table.old in
@@ -194,7 +194,7 @@ pub fn add_row(
         OnOk result (table.new ≡ with_row row t) }
     ensures book { let reserved = book.old.reserved + 1 in
         OnOk result (book.new ≡ record book.old { reserved = reserved }) }
-    ensures fits { OnOk result (Fits book.old 1) }
+    ensures fits { OnOk result (FitsLimit book.old 1) }
     ensures same { OnErr result (table.new ≡ table.old) }
     ensures err { OnErr result (book.new ≡ book.old) }
     ensures refused { IfErr result (Lacks book.old 1) }
@@ -220,7 +220,7 @@ fn put_row(
     url: &Text,
     gives: &List<Give>,
 ) -> Result<u64, Memory>
-    requires takes { CanTake table.old.rows parent coll.now name.now }
+    requires takes { CanTakeChild table.old.rows parent coll.now name.now }
     requires room { IsTrue (fit table.old 1) }
     ensures inc { IfOk result (λ inc. inc ≡ table.old.next_inc) }
     ensures table { let t = table.old in

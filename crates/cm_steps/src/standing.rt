@@ -1,7 +1,8 @@
 //! How an instance stands: what it is itself, and what it takes from those above it.
 
 ghost use Rattle.std.specs.Prelude.{◌≡◌, ◌||◌, length, option_map};
-ghost use Rattle.cm_world.specs.Rows.{row_of, facts_of, at_or_above, is_gone, is_closed};
+ghost use Rattle.cm_world.specs.Rows.{row_of, at_or_above, is_gone, is_closed};
+ghost use Rattle.cm_world.specs.RowsInside.{facts_of};
 
 use cm_world::{Facts, View};
 

@@ -4,7 +4,7 @@ use Rattle.std.proofs.Math.Seq.{drop-append_seam}
 use Rattle.std.proofs.lemmas.List.Elements.{All-drop}
 use Rattle.std.specs.Prelude.{All}
 use Rattle.cm_names.specs.declared.child.ChildName.{ChildName}
-use Rattle.cm_names.specs.Moniker.{IsChild}
+use Rattle.cm_names.specs.Moniker.{IsChildName}
 use Rattle.cm_decl.specs.declared.decl.Decl.{Decl}
 use Rattle.cm_decl.specs.declared.origin.Origin.{Origin}
 use Rattle.cm_decl.specs.declared.origin.Origin.TheVariants as origin
@@ -20,9 +20,10 @@ use Rattle.cm_world.proofs.trees.Finding.{some_same, none_some}
 use Rattle.cm_storage.specs.declared.places.Place.{Place}
 use Rattle.cm_storage.specs.declared.fault.StorageFault.{StorageFault}
 use Rattle.cm_storage.specs.declared.fault.StorageFault.TheVariants.{NoStorageOffer}
-use Rattle.cm_storage.specs.Parts.{names_below, parts_of, IsFrontOf}
+use Rattle.cm_storage.specs.Parts.{names_below, parts_of}
+use Rattle.cm_storage.specs.PartsInside.{IsPrefixOf}
 use Rattle.cm_storage.specs.Way.{Found, Onward, On, Ends, IsWay, ends, goes, onward, by_row, by_parent, by_offer, by_source, by_storage, storage_of, storage_offer_of}
-use Rattle.cm_storage.specs.declared.backing.Folder.{Folder}
+use Rattle.cm_storage.specs.declared.backing.BackingDirectory.{BackingDirectory}
 use Rattle.cm_storage.specs.Backing.{Backing}
 use Rattle.cm_storage.specs.Places.{Placed, IsPlaced, IsPlacedFrom, IsPlacedFor, IsPlacedBy, IsPlacedIn, are_enough, placed_by, place_in, use_of}
 use Rattle.cm_storage.specs.Laws.{AreNamed, AreApart, PlacesAreApart}
@@ -79,10 +80,10 @@ step_leads rows i q name e = by_row_leads rows i q name (row_of rows i) refl e
 -- ---- names
 
 -- the names down to a row are those down to another, then some, and one at the end
-record StandsBelow (rows : List Row) (o i : ℕ) : Type 0 where
-  before : List ChildName
-  last : ChildName
-  names : (moniker_of rows i).parts ≡ (moniker_of rows o).parts ++ (before ++ last ∷ [])
+pub record StandsBelow (rows : List Row) (o i : ℕ) : Type 0 where
+  pub before : List ChildName
+  pub last : ChildName
+  pub names : (moniker_of rows i).parts ≡ (moniker_of rows o).parts ++ (before ++ last ∷ [])
 
 append_assoc : {A : Type 0} (xs ys zs : List A) → (xs ++ ys) ++ zs ≡ xs ++ (ys ++ zs)
 append_assoc [] ys zs = refl
@@ -122,7 +123,7 @@ found_at (Ok found) o = found.0 ≡ o
 found_at (Err e) o = ⊥
 
 -- who uses a storage stands below its owner
-way_below : (rows : List Row) (next : ℕ) (orderly : IsOrderly rows next) (i : ℕ) (name : List ℕ) (o : ℕ) (s : Storage) (found : Found) → IsWay rows i name found → found ≡ Ok (o, s) → StandsBelow rows o i
+pub way_below : (rows : List Row) (next : ℕ) (orderly : IsOrderly rows next) (i : ℕ) (name : List ℕ) (o : ℕ) (s : Storage) (found : Found) → IsWay rows i name found → found ≡ Ok (o, s) → StandsBelow rows o i
 way_below rows next orderly i name o s found (ends e) same =
     below_parent rows next i o orderly (step_leads rows i o name (ap leads_to (e ∙ ap Ends same)))
 way_below rows next orderly i name o s found (goes {p = p} {other = other} e way) same =
@@ -142,7 +143,7 @@ is_ok : Placed → Bool
 is_ok (Ok a) = true
 is_ok (Err e) = false
 
-not_ok : (e : StorageFault) (a : Place) → Ok a ≡ Err e → ⊥
+pub not_ok : (e : StorageFault) (a : Place) → Ok a ≡ Err e → ⊥
 unfolding is_ok
 not_ok e a same = true≢false (ap is_ok same)
 
@@ -150,7 +151,7 @@ unwrap : Place → Placed → Place
 unwrap d (Ok a) = a
 unwrap d (Err e) = d
 
-ok_same : (a b : Place) → ◌≡◌ {A = Placed} (Ok a) (Ok b) → a ≡ b
+pub ok_same : (a b : Place) → ◌≡◌ {A = Placed} (Ok a) (Ok b) → a ≡ b
 unfolding unwrap
 ok_same a b e = ap (unwrap a) e
 
@@ -189,7 +190,7 @@ some_last (d ∷ ds) c e = absurd cc
 record HasNames (rows : List Row) (i : ℕ) (a : Place) : Type 0 where
   below : List ChildName
   some : below ≢ []
-  named : All IsChild below
+  named : All IsChildName below
   names : (moniker_of rows i).parts ≡ (moniker_of rows a.owner).parts ++ below
   parts : a.parts ≡ parts_of below
 
@@ -201,7 +202,7 @@ has_names rows next i a orderly named at =
     record {
       below = stands.before ++ stands.last ∷ [];
       some = some_last stands.before stands.last;
-      named = subst (All IsChild) below (All-drop IsChild (length (moniker_of rows a.owner).parts) (moniker_of rows i).parts named);
+      named = subst (All IsChildName) below (All-drop IsChildName (length (moniker_of rows a.owner).parts) (moniker_of rows i).parts named);
       names = stands.names;
       parts = at.parts ∙ ap parts_of below;
     }
@@ -212,17 +213,17 @@ same_moniker rows i j e = ap (λ ps. record { parts = ps }) e
 -- the names below one owner are the same where the monikers are
 same_below : (rows : List Row) (i j : ℕ) (a b : Place) (m : HasNames rows i a) (n : HasNames rows j b) → a.owner ≡ b.owner → moniker_of rows i ≡ moniker_of rows j → m.below ≡ n.below
 same_below rows i j a b m n owner e =
-    let front : (moniker_of rows a.owner).parts ≡ (moniker_of rows b.owner).parts = ap (λ o. (moniker_of rows o).parts) owner in
+    let prefix : (moniker_of rows a.owner).parts ≡ (moniker_of rows b.owner).parts = ap (λ o. (moniker_of rows o).parts) owner in
     let both : (moniker_of rows a.owner).parts ++ m.below ≡ (moniker_of rows a.owner).parts ++ n.below =
-    sym m.names ∙ ap (λ k. k.parts) e ∙ n.names ∙ ap (λ ps. ps ++ n.below) (sym front) in
+    sym m.names ∙ ap (λ k. k.parts) e ∙ n.names ∙ ap (λ ps. ps ++ n.below) (sym prefix) in
     sym (drop-append_seam (moniker_of rows a.owner).parts m.below)
     ∙ ap (drop (length (moniker_of rows a.owner).parts)) both
     ∙ drop-append_seam (moniker_of rows a.owner).parts n.below
 
 -- a place that begins another is that of the same moniker
-front_same : (rows : List Row) (i j : ℕ) (a b : Place) → HasNames rows i a → HasNames rows j b → a.owner ≡ b.owner → IsFrontOf a.parts b.parts → moniker_of rows i ≡ moniker_of rows j
-front_same rows i j a b m n owner front =
-    let below : m.below ≡ n.below = parts_apart m.below n.below m.some n.some m.named n.named (front.0, sym n.parts ∙ front.1 ∙ ap (λ ps. ps ++ front.0) m.parts) in
+prefix_same : (rows : List Row) (i j : ℕ) (a b : Place) → HasNames rows i a → HasNames rows j b → a.owner ≡ b.owner → IsPrefixOf a.parts b.parts → moniker_of rows i ≡ moniker_of rows j
+prefix_same rows i j a b m n owner prefix =
+    let below : m.below ≡ n.below = parts_apart m.below n.below m.some n.some m.named n.named (prefix.0, sym n.parts ∙ prefix.1 ∙ ap (λ ps. ps ++ prefix.0) m.parts) in
     same_moniker rows i j
     (m.names ∙ ap (λ o. (moniker_of rows o).parts ++ m.below) owner ∙ ap (λ ps. (moniker_of rows b.owner).parts ++ ps) below ∙ sym n.names)
 
@@ -232,6 +233,6 @@ places_apart rows next builtins i j p q a b orderly named named_too first second
     let n : HasNames rows j b = has_names rows next j b orderly named_too (placed_stands rows builtins j q b second) in
     record {
       same = λ e. m.parts ∙ ap parts_of (same_below rows i j a b m n owner e) ∙ sym n.parts;
-      first = λ front. front_same rows i j a b m n owner front;
-      second = λ front. sym (front_same rows j i b a n m (sym owner) front);
+      first = λ prefix. prefix_same rows i j a b m n owner prefix;
+      second = λ prefix. sym (prefix_same rows j i b a n m (sym owner) prefix);
     }

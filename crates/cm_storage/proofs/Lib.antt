@@ -7,3 +7,8 @@ pub mod Telling
 pub mod Once
 pub mod Whole
 pub mod Named
+pub mod Prefixes
+pub mod Knowing
+pub mod Laid
+pub mod Lines
+pub mod Inheriting

@@ -1,13 +1,15 @@
+-- Inside.
 -- Laws of places, as statements. Functions of this crate promise them, and nothing is assumed.
 use Rattle.std.specs.Prelude.{◌≡◌, ◌≢◌, ℕ, List, [], Ok, All}
 use Rattle.cm_names.specs.declared.child.ChildName.{ChildName}
-use Rattle.cm_names.specs.Moniker.{IsChild}
+use Rattle.cm_names.specs.Moniker.{IsChildName}
 use Rattle.cm_world.specs.declared.row.Row.{Row}
 use Rattle.cm_world.specs.declared.frame.Builtin.{Builtin}
 use Rattle.cm_world.specs.Rows.{moniker_of}
 use Rattle.cm_world.specs.Sound.{IsOrderly}
 use Rattle.cm_storage.specs.declared.places.Place.{Place}
-use Rattle.cm_storage.specs.Parts.{parts_of, IsFrontOf}
+use Rattle.cm_storage.specs.Parts.{parts_of}
+use Rattle.cm_storage.specs.PartsInside.{IsPrefixOf}
 use Rattle.cm_storage.specs.Places.{Placed, IsPlaced}
 use Rattle.cm_storage.specs.Report.{IsStorageReport}
 
@@ -35,23 +37,23 @@ ReportsEnd =
     (rows : List Row) (next : ℕ) (builtins : List Builtin) → IsOrderly rows next
     → (text : List ℕ) × IsStorageReport rows builtins text
 
--- folders of one list of names, and of no other: neither is the other's front
+-- folders of one list of names, and of no other: neither is the other's prefix
 abbrev pub PartsAreApart : Type 0
 PartsAreApart =
-    (cs ds : List ChildName) → cs ≢ [] → ds ≢ [] → All IsChild cs → All IsChild ds
-    → IsFrontOf (parts_of cs) (parts_of ds)
+    (cs ds : List ChildName) → cs ≢ [] → ds ≢ [] → All IsChildName cs → All IsChildName ds
+    → IsPrefixOf (parts_of cs) (parts_of ds)
     → cs ≡ ds
 
 -- the names from the root down to a row are names
 abbrev pub AreNamed : List Row → ℕ → Type 0
-AreNamed rows i = All IsChild (moniker_of rows i).parts
+AreNamed rows i = All IsChildName (moniker_of rows i).parts
 
 -- two rows with places of one owner: their folders are the same exactly where they stand at one moniker, and
 -- else neither place lies inside the other
 pub record AreApart (rows : List Row) (i j : ℕ) (a b : Place) : Type 0 where
   pub same : moniker_of rows i ≡ moniker_of rows j → a.parts ≡ b.parts
-  pub first : IsFrontOf a.parts b.parts → moniker_of rows i ≡ moniker_of rows j
-  pub second : IsFrontOf b.parts a.parts → moniker_of rows i ≡ moniker_of rows j
+  pub first : IsPrefixOf a.parts b.parts → moniker_of rows i ≡ moniker_of rows j
+  pub second : IsPrefixOf b.parts a.parts → moniker_of rows i ≡ moniker_of rows j
 
 abbrev pub PlacesAreApart : Type 0
 PlacesAreApart =

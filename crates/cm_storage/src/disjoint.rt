@@ -1,6 +1,6 @@
 //! That two instances of a tree have places apart.
 
-ghost use Rattle.cm_names.specs.Moniker.{IsChild};
+ghost use Rattle.cm_names.specs.Moniker.{IsChildName};
 ghost use Rattle.cm_world.specs.Sound.{IsOrderly};
 ghost use Rattle.cm_storage.specs.Laws as laws;
 
@@ -36,7 +36,7 @@ fn read_names<V: View>(view: &V, inc: u64)
 
 /// The name of a child is one.
 fn read_name(child: &ChildName)
-    ensures { IsChild child.now }
+    ensures { IsChildName child.now }
 {
     let _name = child.name.as_str();
     if let Some(coll) = &child.coll {

@@ -1,4 +1,4 @@
--- Offers found by halves.
+-- Offers found by binary search.
 use Rattle.std.proofs.Common.{◌≡◌, ℕ, ◌+◌, ◌<◌, ◌≤◌, List, [], ◌∷◌, length, Bool, true, false, cond, ◌&&◌, true≢false, Option, Some, None, refl, sym, ap, ap₂, ◌∙◌, subst, arith, get_or, nat_cmp, Ordering, Less, Equal, Greater, is_eq, bytes_eq}
 use Rattle.std.specs.Prelude.{slice_get, position, nat_lt}
 use Rattle.std.specs.List.{Contains, position_or_len, range_with_len}
@@ -21,7 +21,7 @@ use Rattle.cm_decl.specs.declared.kind.Kind.TheVariants.{Protocol, Directory}
 use Rattle.cm_decl.specs.declared.rows.Offer.{Offer}
 use Rattle.cm_decl.specs.Graph.{target_of}
 use Rattle.cm_decl.specs.Same.{same_kind}
-use Rattle.cm_world.specs.Next.{is_offer_to}
+use Rattle.cm_world.specs.NextStation.{is_offer_to}
 use Rattle.cm_world.proofs.trees.Finding.{none_some}
 use Rattle.cm_table.specs.Offers.{OfferKey, key_by, key_at, key_cmp, place_cmp, kind_rank, wanted, is_before, IsSplit, IsOfferOrder}
 
@@ -58,7 +58,7 @@ squeeze a Greater n back low high = absurd (true≢false (ap (λ o. is_lt (order
 at_most : (m k : ℕ) → is_lt (nat_cmp k m) ≡ false → m ≤ k
 at_most m k h = grind (arith, nat_tests)
 
--- ---- places by halves
+-- ---- places by binary search
 
 module _ (offers : List Offer) (places : List ℕ) (o : IsOfferOrder offers places) (w : OfferKey) where
   lower_before : (x y : Bool) → x ≡ true → (y ≡ false → x ≡ false) → y ≡ true

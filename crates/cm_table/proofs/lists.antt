@@ -1,7 +1,7 @@
 pub mod Behind
 pub mod Drops
-pub mod Each
+pub mod EachItem
 pub mod Edits
 pub mod Editing
 pub mod Fitting
-pub mod Halves
+pub mod BinarySearch

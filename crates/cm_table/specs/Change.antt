@@ -1,3 +1,4 @@
+-- Inside.
 -- The changes of a table.
 use Rattle.std.specs.Prelude.{ℕ, ◌+◌, ◌-◌, [], ◌∷◌, ◌++◌, None, length}
 use Rattle.cm_decl.specs.Valid.{IsValid}

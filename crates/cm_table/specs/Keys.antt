@@ -1,11 +1,12 @@
--- Items that have rising keys, in a list or in a list of parts.
+-- Inside.
+-- Items that have increasing keys, in a list or in a list of parts.
 use Rattle.std.specs.Prelude.{◌≡◌, ℕ, zero, suc, ◌<◌, ◌≤◌, ◌==◌, List, [], ◌∷◌, Option, Some, None}
 use Rattle.std.specs.Prelude.{IsSome, find, length, get_or, Bool, false, nat_le}
 
 -- all items have a property
-abbrev pub Each : {A : Type 0} → (A → Type 0) → List A → Type 0
-Each P [] = Unit {0}
-Each P (x ∷ xs) = P x × Each P xs
+abbrev pub EachItem : {A : Type 0} → (A → Type 0) → List A → Type 0
+EachItem P [] = Unit {0}
+EachItem P (x ∷ xs) = P x × EachItem P xs
 
 -- the items of two lists are related one by one, and the lists are as long
 abbrev pub EachOf : {A : Type 0} → (A → A → Type 0) → List A → List A → Type 0
@@ -46,9 +47,9 @@ module _ {Y : Type 0} (key : Y → ℕ) where
   first_key (y ∷ ys) = key y
 
   -- keys rise along the list
-  abbrev pub Rising : List Y → Type 0
-  Rising [] = Unit {0}
-  Rising (y ∷ ys) = ((j : ℕ) → IsSome (item_of ys j) → key y < j) × Rising ys
+  abbrev pub Increasing : List Y → Type 0
+  Increasing [] = Unit {0}
+  Increasing (y ∷ ys) = ((j : ℕ) → IsSome (item_of ys j) → key y < j) × Increasing ys
 
 -- whether a part begins at i or below, where there is one
 abbrev pub reaches : {X Y : Type 0} → (Y → ℕ) → (X → List Y) → ℕ → Option X → Bool
@@ -62,7 +63,7 @@ pub record IsPlace {X Y : Type 0} (key : Y → ℕ) (f : X → List Y) (xs : Lis
   pub high : (j : ℕ) (d : X) → k ≤ j → j < length xs → i < first_key key (f (get_or xs j d))
 
 -- the item of key i stands at place k
-pub record IsAt {Y : Type 0} (key : Y → ℕ) (ys : List Y) (i k : ℕ) : Type 0 where
+pub record IsItemAt {Y : Type 0} (key : Y → ℕ) (ys : List Y) (i k : ℕ) : Type 0 where
   pub bound : k < length ys
   pub own : (d : Y) → key (get_or ys k d) ≡ i
   pub found : (d : Y) → item_of key ys i ≡ Some (get_or ys k d)

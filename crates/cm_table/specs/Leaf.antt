@@ -1,7 +1,9 @@
+-- Inside.
 -- What may be removed before the rows above it.
 use Rattle.std.specs.Prelude.{◌≡◌, ℕ, List, Option, Some, None, IsTrue}
 use Rattle.cm_world.specs.declared.row.Row.{Row}
-use Rattle.cm_world.specs.Rows.{row_of, is_live, is_below, child_behind}
+use Rattle.cm_world.specs.Rows.{row_of, is_live, is_below}
+use Rattle.cm_world.specs.RowsInside.{child_behind}
 use Rattle.cm_world.specs.After.{others_than}
 use Rattle.cm_table.specs.Tree.{Tree}
 

@@ -1,3 +1,4 @@
+-- Inside.
 -- Changes of the indexes, slot by slot.
 use Rattle.std.specs.Prelude.{◌≡◌, ℕ, ◌==◌, ◌&&◌, [], ◌∷◌, ◌++◌, Bool, Option, Some, None}
 use Rattle.std.specs.Prelude.{if◌then◌else◌}
@@ -5,8 +6,8 @@ use Rattle.cm_names.specs.declared.child.ChildName.{ChildName}
 use Rattle.cm_decl.specs.Same.{same_child}
 use Rattle.cm_world.specs.Edits.{drop_first}
 use Rattle.cm_table.specs.declared.slot.Slot.{Slot}
-use Rattle.cm_table.specs.declared.slot.Index.{Index}
-use Rattle.cm_table.specs.Keys.{Rising}
+use Rattle.cm_table.specs.declared.slot.ChildIndex.{ChildIndex}
+use Rattle.cm_table.specs.Keys.{Increasing}
 use Rattle.cm_table.specs.Slots.{kids_of, named_in, base_of}
 
 -- none in place of this number
@@ -15,9 +16,9 @@ unless i None = None
 unless i (Some k) = if k == i then None else Some k
 
 -- the children rise
-abbrev pub Rises : Option Index → Type 0
+abbrev pub Rises : Option ChildIndex → Type 0
 Rises None = Unit {0}
-Rises (Some x) = Rising (λ k. k) x.kids.items
+Rises (Some x) = Increasing (λ k. k) x.kids.items
 
 -- the same row, and an index that says the same
 pub record IsSame (s t : Slot) : Type 0 where

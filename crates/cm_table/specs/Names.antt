@@ -1,3 +1,4 @@
+-- Inside.
 -- The order of children's names.
 use Rattle.std.specs.Ordering.{nat_cmp, ordering_then}
 use Rattle.std.specs.declared.cmp.Ordering.{Ordering}

@@ -1,3 +1,4 @@
+-- Inside.
 -- The numbers of new rows.
 use Rattle.std.specs.Prelude.{◌≡◌, ℕ, ◌+◌, List, [], ◌∷◌, Some, None}
 use Rattle.cm_world.specs.declared.row.Row.{Row}
@@ -8,7 +9,7 @@ use Rattle.cm_table.specs.Slots.{with_row_by}
 abbrev pub placed : ℕ → ℕ → Row → Row
 placed parent inc r = record r { inc = inc; parent = Some parent }
 
--- the slots with one parent, and with rising incarnations from the first on
+-- the slots with one parent, and with increasing incarnations from the first on
 abbrev pub numbered : ℕ → ℕ → List Slot → List Slot
 numbered parent inc [] = []
 numbered parent inc (s ∷ ss) = with_row_by (placed parent inc) s ∷ numbered parent (inc + 1) ss

@@ -1,4 +1,5 @@
--- The order of offers, in which they are found by halves.
+-- Inside.
+-- The order of offers, in which they are found by binary search.
 use Rattle.std.specs.Prelude.{◌≡◌, ℕ, ◌<◌, List, [], Bool, true, false, Option, Some, None, length, slice_get}
 use Rattle.std.specs.List.{Contains}
 use Rattle.std.specs.List.Sorted.{IsSorted, IsPartitionPoint}
@@ -10,7 +11,7 @@ use Rattle.cm_decl.specs.declared.kind.Kind.TheVariants.{Protocol, Directory}
 use Rattle.cm_decl.specs.declared.decl.Decl.{Decl}
 use Rattle.cm_decl.specs.declared.rows.Offer.{Offer}
 use Rattle.cm_world.specs.declared.row.Row.{Row}
-use Rattle.cm_table.specs.declared.offers.Key.{Key}
+use Rattle.cm_table.specs.declared.offers.OfferLookup.{OfferLookup}
 
 -- what an offer is looked for by: its target, its name there, and the rank of its kind
 pub record OfferKey : Type 0 where
@@ -24,7 +25,7 @@ kind_rank Protocol = 0
 kind_rank Directory = 1
 
 -- the key that a value of the code stands for
-abbrev pub key_of : Key → OfferKey
+abbrev pub key_of : OfferLookup → OfferKey
 key_of s = record { to = s.to.now; name = s.name.now; kind = s.kind }
 
 -- that of an offer, and one of empty texts where there is none
@@ -66,5 +67,5 @@ pub record IsOfferOrder (offers : List Offer) (places : List ℕ) : Type 0 where
   pub sorted : IsSorted (place_cmp offers) places
 
 -- the places of all offers of a row's declaration, if it has one
-abbrev pub IsOrdered : Row → List ℕ → Type 0
-IsOrdered r places = (d : Decl) → r.decl ≡ Some d → IsOfferOrder d.offers places
+abbrev pub IsOfferIndex : Row → List ℕ → Type 0
+IsOfferIndex r places = (d : Decl) → r.decl ≡ Some d → IsOfferOrder d.offers places

@@ -1,3 +1,4 @@
+-- Inside.
 -- How a prepared declaration keeps what a resolve takes over.
 use Rattle.std.specs.Prelude.{◌≡◌, map}
 use Rattle.std.specs.BTreeMap.{get}
@@ -7,7 +8,7 @@ use Rattle.cm_world.specs.Rows.{child_of}
 use Rattle.cm_world.specs.End.{child_row, child_rows}
 use Rattle.cm_table.specs.Names.{child_cmp}
 use Rattle.cm_table.specs.Ready.{Ready}
-use Rattle.cm_table.specs.Keys.{Each}
+use Rattle.cm_table.specs.Keys.{EachItem}
 use Rattle.cm_table.specs.Slots.{rows_in}
 use Rattle.cm_table.specs.Numbering.{IsBare}
 use Rattle.cm_table.specs.declared.prepared.Prepared.TheInside.{Inside}
@@ -18,11 +19,11 @@ ready_of a = record { absolute = a.absolute; decl = a.decl }
 
 -- the declaration is valid, the second copies are copies, the rows of the children are there but
 -- for their numbers, and the index leads to them by the numbers 0, 1 and so on
-pub record IsReady (a : Inside) : Type 0 where
+pub record IsPrepared (a : Inside) : Type 0 where
   pub valid : IsValid a.decl
   pub absolute : a.kept_absolute ≡ a.absolute
   pub decl : a.kept_decl ≡ a.decl
   pub children : rows_in a.children.items ≡ map (child_row 0 0) a.decl.children
-  pub bare : Each IsBare a.children.items
+  pub bare : EachItem IsBare a.children.items
   pub kids : a.index.kids.items ≡ map (λ r. r.inc) (child_rows 0 0 a.decl.children)
   pub names : (c : ChildName) → get child_cmp a.index.names c ≡ child_of (child_rows 0 0 a.decl.children) 0 c

@@ -1,3 +1,4 @@
+-- Inside.
 -- Tests of single rows, and of builtins.
 use Rattle.std.specs.Prelude.{ℕ, List, Bool, not, ◌&&◌, Option}
 use Rattle.std.specs.Str.{bytes_eq}
@@ -6,7 +7,8 @@ use Rattle.cm_decl.specs.declared.kind.Kind.{Kind}
 use Rattle.cm_decl.specs.Same.{same_kind}
 use Rattle.cm_world.specs.declared.row.Row.{Row}
 use Rattle.cm_world.specs.declared.frame.Builtin.{Builtin}
-use Rattle.cm_world.specs.Rows.{has_parent, has_name, is_behind}
+use Rattle.cm_world.specs.Rows.{has_parent, has_name}
+use Rattle.cm_world.specs.RowsInside.{is_behind}
 
 -- the child of that name that isn't doomed
 abbrev pub is_there : ℕ → ChildName → Row → Bool

@@ -1,3 +1,4 @@
+-- Inside.
 -- What contracts see of a prepared declaration.
 use Rattle.std.specs.Prelude.{ℕ, List}
 use Rattle.cm_decl.specs.declared.decl.Decl.{Decl}

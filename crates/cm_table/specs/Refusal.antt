@@ -1,10 +1,11 @@
+-- Inside.
 -- When a table refuses a row.
 use Rattle.std.specs.Prelude.{◌≡◌, true, false}
 use Rattle.cm_table.specs.Tree.{Tree, fit}
 use Rattle.cm_table.specs.declared.table.TableFault.{TableFault}
 use Rattle.cm_table.specs.declared.table.TableFault.TheVariants.{Full, Memory}
 
--- Full where one row more doesn't fit; want of memory only where it does
+-- Full where one row more doesn't fit; lack of memory only where it does
 abbrev pub RefusesRow : Tree → TableFault → Type 0
 RefusesRow t Full = fit t 1 ≡ false
 RefusesRow t Memory = fit t 1 ≡ true

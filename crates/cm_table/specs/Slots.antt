@@ -1,3 +1,4 @@
+-- Inside.
 -- Rows in slots, in blocks, with the indexes of their children.
 use Rattle.std.specs.Prelude.{◌≡◌, ℕ, ◌≤◌, ◌+◌, ◌==◌, List, [], Option, Some, None, find, filter, map}
 use Rattle.std.specs.Prelude.{option_map}
@@ -8,21 +9,21 @@ use Rattle.cm_world.specs.declared.row.Row.{Row}
 use Rattle.cm_world.specs.Rows.{has_parent, child_of}
 use Rattle.cm_world.specs.Sound.{IsOrderly}
 use Rattle.cm_table.specs.declared.slot.Slot.{Slot}
-use Rattle.cm_table.specs.declared.slot.Index.{Index}
-use Rattle.cm_table.specs.declared.block.Block.{Block}
+use Rattle.cm_table.specs.declared.slot.ChildIndex.{ChildIndex}
+use Rattle.cm_table.specs.declared.block.RowBlock.{RowBlock}
 use Rattle.cm_table.specs.Names.{child_cmp}
-use Rattle.cm_table.specs.Keys.{Each}
+use Rattle.cm_table.specs.Keys.{EachItem}
 
 -- ---- slots
 
 abbrev pub inc_of : Slot → ℕ
 inc_of s = s.row.inc
 
-abbrev pub slots_in : Block → List Slot
+abbrev pub slots_in : RowBlock → List Slot
 slots_in b = b.slots.items
 
 -- the slots of all blocks, block after block
-abbrev pub flat : List Block → List Slot
+abbrev pub flat : List RowBlock → List Slot
 flat blocks = flat_map slots_in blocks
 
 abbrev pub rows_in : List Slot → List Row
@@ -33,7 +34,7 @@ abbrev pub slot_of : List Slot → ℕ → Option Slot
 slot_of slots i = find (λ s. s.row.inc == i) slots
 
 -- the same row with another index
-abbrev pub indexed_by : Option Index → Slot → Slot
+abbrev pub indexed_by : Option ChildIndex → Slot → Slot
 indexed_by x s = record s { index = x }
 
 -- the same index with another row
@@ -43,22 +44,22 @@ with_row_by f s = record s { row = f s.row }
 -- ---- indexes
 
 -- the incarnations of the children, in order
-abbrev pub kids_at : Index → List ℕ
+abbrev pub kids_at : ChildIndex → List ℕ
 kids_at x = map (λ k. x.base + k) x.kids.items
 
 -- that of the child of a name
-abbrev pub named_at : Index → ChildName → Option ℕ
+abbrev pub named_at : ChildIndex → ChildName → Option ℕ
 named_at x c = option_map (λ k. x.base + k) (get child_cmp x.names c)
 
-abbrev pub kids_of : Option Index → List ℕ
+abbrev pub kids_of : Option ChildIndex → List ℕ
 kids_of None = []
 kids_of (Some x) = kids_at x
 
-abbrev pub named_in : Option Index → ChildName → Option ℕ
+abbrev pub named_in : Option ChildIndex → ChildName → Option ℕ
 named_in None c = None
 named_in (Some x) c = named_at x c
 
-abbrev pub base_of : Option Index → ℕ
+abbrev pub base_of : Option ChildIndex → ℕ
 base_of None = 0
 base_of (Some x) = x.base
 
@@ -72,4 +73,4 @@ pub record IsIndexed (rows : List Row) (next : ℕ) (s : Slot) : Type 0 where
 pub record AreOrderly (slots : List Slot) : Type 0 where
   pub next : ℕ
   pub orderly : IsOrderly (rows_in slots) next
-  pub indexed : Each (IsIndexed (rows_in slots) next) slots
+  pub indexed : EachItem (IsIndexed (rows_in slots) next) slots

@@ -1,3 +1,4 @@
+-- Inside.
 -- What contracts see of a table.
 use Rattle.std.specs.Prelude.{ℕ, List, [], ◌∷◌, Bool}
 use Rattle.cm_world.specs.declared.row.Row.{Row}

@@ -6,18 +6,19 @@ ghost use Rattle.std.specs.Option.{option_copied};
 ghost use Rattle.std.specs.Vec.{vec_capacity};
 ghost use Rattle.cm_world.specs.Edits.{edit_first, drop_first};
 ghost use Rattle.cm_table.specs.Change.{change_row};
-ghost use Rattle.cm_table.specs.Keys.{IsAt, IsPlace, Filled, Rising, alone, first_key, reaches, AreFilledBut};
+ghost use Rattle.cm_table.specs.Keys.{IsItemAt, IsPlace, Filled, Increasing, alone, first_key};
+ghost use Rattle.cm_table.specs.Keys.{reaches, AreFilledBut};
 ghost use Rattle.cm_table.specs.Slots.{inc_of, slot_of, flat, slots_in, indexed_by, with_row_by};
 ghost use Rattle.cm_table.specs.declared.slot.Slot.{Slot as OneSlot};
 
 use crate::change::Change;
-use crate::slot::{Index, Slot};
+use crate::slot::{ChildIndex, Slot};
 use std::mem::swap;
 
 /// The root, one row that was added, or the children that one resolve brought.
 #[derive(Drop)]
-pub struct Block {
-    /// The slots, by rising incarnations.
+pub struct RowBlock {
+    /// The slots, by increasing incarnations.
     pub slots: Vec<Slot>,
 }
 
@@ -36,14 +37,14 @@ fn first_in(slots: &[Slot]) -> u64
 
 /// The incarnation of the first slot of the block, or 0.
 #[inline(always)]
-fn first_of(block: &Block) -> u64
+fn first_of(block: &RowBlock) -> u64
     ensures { result ≡ first_key inc_of block.now.slots.items }
 {
     first_in(block.slots.as_slice())
 }
 
 /// Whether a block stands at the place, and begins at that incarnation or below.
-fn begins_upto(blocks: &[Block], place: usize, inc: u64) -> bool
+fn begins_upto(blocks: &[RowBlock], place: usize, inc: u64) -> bool
     ensures { result ≡ reaches inc_of slots_in inc (slice_get blocks.now place) }
 {
     match blocks.get(place) {
@@ -53,9 +54,9 @@ fn begins_upto(blocks: &[Block], place: usize, inc: u64) -> bool
 }
 
 /// About where the block of that incarnation stands: exactly there where all blocks behind the first
-/// one have as many slots, and none was removed but in front of them or at the end.
+/// one have as many slots, and none was removed but before them or at the end.
 #[inline(always)]
-fn guess(blocks: &[Block], inc: u64) -> usize
+fn interpolated(blocks: &[RowBlock], inc: u64) -> usize
     ensures { result ≤ length blocks.now }
 {
     let count = blocks.len();
@@ -77,9 +78,9 @@ fn guess(blocks: &[Block], inc: u64) -> usize
 
 /// The place of the block that the slot of that incarnation stands in, where that is this place or
 /// the next one.
-fn near(blocks: &[Block], place: usize, inc: u64) -> Option<usize>
+fn near(blocks: &[RowBlock], place: usize, inc: u64) -> Option<usize>
     requires filled { Filled slots_in blocks.now }
-    requires rising { Rising inc_of (flat blocks.now) }
+    requires increasing { Increasing inc_of (flat blocks.now) }
     requires place { place ≤ length blocks.now }
     ensures { IfSome result (λ found. IsPlace inc_of slots_in blocks.now inc (suc found)) }
 {
@@ -100,9 +101,9 @@ fn near(blocks: &[Block], place: usize, inc: u64) -> Option<usize>
 }
 
 /// How many blocks begin at that incarnation or below.
-fn blocks_upto(blocks: &[Block], inc: u64) -> usize
+fn blocks_upto(blocks: &[RowBlock], inc: u64) -> usize
     requires filled { Filled slots_in blocks.now }
-    requires rising { Rising inc_of (flat blocks.now) }
+    requires increasing { Increasing inc_of (flat blocks.now) }
     ensures { IsPlace inc_of slots_in blocks.now inc result }
 {
     blocks.partition_point(|block| first_of(block) <= inc)
@@ -110,18 +111,18 @@ fn blocks_upto(blocks: &[Block], inc: u64) -> usize
 
 /// How many slots have that incarnation or a lower one.
 fn slots_upto(slots: &[Slot], inc: u64) -> usize
-    requires { Rising inc_of slots.now }
+    requires { Increasing inc_of slots.now }
     ensures { IsPlace inc_of alone slots.now inc result }
 {
     slots.partition_point(|slot| slot.inc() <= inc)
 }
 
-/// The place of the slot of that incarnation, among slots by rising ones, where each incarnation
+/// The place of the slot of that incarnation, among slots by increasing ones, where each incarnation
 /// from the first slot's up to that one has a slot.
 #[inline(always)]
 fn dense_at(slots: &[Slot], inc: u64) -> Option<usize>
-    requires { Rising inc_of slots.now }
-    ensures { IfSome result (λ place. IsAt inc_of slots.now inc place) }
+    requires { Increasing inc_of slots.now }
+    ensures { IfSome result (λ place. IsItemAt inc_of slots.now inc place) }
 {
     let first = first_in(slots);
     if inc < first {
@@ -137,11 +138,11 @@ fn dense_at(slots: &[Slot], inc: u64) -> Option<usize>
     None
 }
 
-/// The place of the slot of that incarnation, among slots by rising ones.
+/// The place of the slot of that incarnation, among slots by increasing ones.
 fn place_at(slots: &[Slot], inc: u64) -> Option<usize>
-    requires { Rising inc_of slots.now }
+    requires { Increasing inc_of slots.now }
     ensures { MatchOption result (slot_of slots.now inc ≡ None)
-        (λ place. IsAt inc_of slots.now inc place) }
+        (λ place. IsItemAt inc_of slots.now inc place) }
 {
     if let Some(place) = dense_at(slots, inc) {
         return Some(place);
@@ -158,13 +159,13 @@ fn place_at(slots: &[Slot], inc: u64) -> Option<usize>
 }
 
 /// The place of the block that the slot of that incarnation stands in, if there is one.
-fn place_in(blocks: &[Block], inc: u64) -> Option<usize>
+fn place_in(blocks: &[RowBlock], inc: u64) -> Option<usize>
     requires filled { Filled slots_in blocks.now }
-    requires rising { Rising inc_of (flat blocks.now) }
+    requires increasing { Increasing inc_of (flat blocks.now) }
     ensures { MatchOption result (slot_of (flat blocks.now) inc ≡ None)
         (λ place. IsPlace inc_of slots_in blocks.now inc (suc place)) }
 {
-    if let Some(place) = near(blocks, guess(blocks, inc), inc) {
+    if let Some(place) = near(blocks, interpolated(blocks, inc), inc) {
         return Some(place);
     }
     let count = blocks_upto(blocks, inc);
@@ -176,9 +177,9 @@ fn place_in(blocks: &[Block], inc: u64) -> Option<usize>
 
 // ---- look-ups
 
-/// The slot of that incarnation, among slots by rising ones.
+/// The slot of that incarnation, among slots by increasing ones.
 fn slot_at(slots: &[Slot], inc: u64) -> Option<&Slot>
-    requires { Rising inc_of slots.now }
+    requires { Increasing inc_of slots.now }
     ensures { option_copied result ≡ slot_of slots.now inc }
 {
     match place_at(slots, inc) {
@@ -190,8 +191,8 @@ fn slot_at(slots: &[Slot], inc: u64) -> Option<&Slot>
 /// The slot of that incarnation, where it stands in the block at this place, and each incarnation
 /// from the first slot's there up to that one has a slot. `None` says nothing.
 #[inline(always)]
-fn dense_in(blocks: &[Block], place: usize, inc: u64) -> Option<&Slot>
-    requires { Rising inc_of (flat blocks.now) }
+fn dense_in(blocks: &[RowBlock], place: usize, inc: u64) -> Option<&Slot>
+    requires { Increasing inc_of (flat blocks.now) }
     ensures { IfSome result (λ slot. slot_of (flat blocks.now) inc ≡ Some slot.now) }
 {
     if place >= blocks.len() {
@@ -207,9 +208,9 @@ fn dense_in(blocks: &[Block], place: usize, inc: u64) -> Option<&Slot>
 /// The slot of that incarnation, wherever it stands.
 #[cold]
 #[inline(never)]
-fn slot_anywhere(blocks: &[Block], inc: u64) -> Option<&Slot>
+fn slot_anywhere(blocks: &[RowBlock], inc: u64) -> Option<&Slot>
     requires filled { Filled slots_in blocks.now }
-    requires rising { Rising inc_of (flat blocks.now) }
+    requires increasing { Increasing inc_of (flat blocks.now) }
     ensures { option_copied result ≡ slot_of (flat blocks.now) inc }
 {
     match place_in(blocks, inc) {
@@ -220,12 +221,12 @@ fn slot_anywhere(blocks: &[Block], inc: u64) -> Option<&Slot>
 
 /// The slot of that incarnation.
 #[inline(always)]
-pub fn slot_in(blocks: &[Block], inc: u64) -> Option<&Slot>
+pub fn slot_in(blocks: &[RowBlock], inc: u64) -> Option<&Slot>
     requires filled { Filled slots_in blocks.now }
-    requires rising { Rising inc_of (flat blocks.now) }
+    requires increasing { Increasing inc_of (flat blocks.now) }
     ensures { option_copied result ≡ slot_of (flat blocks.now) inc }
 {
-    if let Some(slot) = dense_in(blocks, guess(blocks, inc), inc) {
+    if let Some(slot) = dense_in(blocks, interpolated(blocks, inc), inc) {
         return Some(slot);
     }
     slot_anywhere(blocks, inc)
@@ -241,10 +242,10 @@ fn change(slot: &mut Slot, change: Change)
     slot.row.apply(change);
 }
 
-/// Changes the row of that incarnation, among slots by rising ones.
+/// Changes the row of that incarnation, among slots by increasing ones.
 #[inline(always)]
-fn change_at(block: &mut Block, inc: u64, new: Change)
-    requires { Rising inc_of block.old.slots.items }
+fn change_at(block: &mut RowBlock, inc: u64, new: Change)
+    requires { Increasing inc_of block.old.slots.items }
     ensures { block.new.slots.items
         ≡ edit_first (λ (s : OneSlot). s.row.inc == inc) (with_row_by (change_row new))
         block.old.slots.items }
@@ -257,9 +258,9 @@ fn change_at(block: &mut Block, inc: u64, new: Change)
 
 /// Changes the row of that incarnation.
 #[inline(always)]
-pub fn change_in(blocks: &mut Vec<Block>, inc: u64, new: Change)
+pub fn change_in(blocks: &mut Vec<RowBlock>, inc: u64, new: Change)
     requires filled { Filled slots_in blocks.old.items }
-    requires rising { Rising inc_of (flat blocks.old.items) }
+    requires increasing { Increasing inc_of (flat blocks.old.items) }
     ensures slots { flat blocks.new.items
         ≡ edit_first (λ (s : OneSlot). s.row.inc == inc) (with_row_by (change_row new))
         (flat blocks.old.items) }
@@ -275,9 +276,9 @@ pub fn change_in(blocks: &mut Vec<Block>, inc: u64, new: Change)
 
 // ---- changes of indexes
 
-/// Swaps the index of the slot of that incarnation, if there is one, among slots by rising ones.
-fn swap_at(block: &mut Block, inc: u64, index: &mut Option<Index>)
-    requires { Rising inc_of block.old.slots.items }
+/// Swaps the index of the slot of that incarnation, if there is one, among slots by increasing ones.
+fn swap_at(block: &mut RowBlock, inc: u64, index: &mut Option<ChildIndex>)
+    requires { Increasing inc_of block.old.slots.items }
     ensures slots { block.new.slots.items
         ≡ edit_first (λ (s : OneSlot). s.row.inc == inc) (indexed_by index.old) block.old.slots.items }
     ensures index { (s : OneSlot) → slot_of block.old.slots.items inc ≡ Some s → index.new ≡ s.index }
@@ -289,9 +290,9 @@ fn swap_at(block: &mut Block, inc: u64, index: &mut Option<Index>)
 }
 
 /// Swaps the index of the slot of that incarnation, if there is one.
-pub fn swap_in(blocks: &mut Vec<Block>, inc: u64, index: &mut Option<Index>)
+pub fn swap_in(blocks: &mut Vec<RowBlock>, inc: u64, index: &mut Option<ChildIndex>)
     requires filled { Filled slots_in blocks.old.items }
-    requires rising { Rising inc_of (flat blocks.old.items) }
+    requires increasing { Increasing inc_of (flat blocks.old.items) }
     ensures slots { flat blocks.new.items
         ≡ edit_first (λ (s : OneSlot). s.row.inc == inc) (indexed_by index.old) (flat blocks.old.items) }
     ensures index { (s : OneSlot) → slot_of (flat blocks.old.items) inc ≡ Some s → index.new ≡ s.index }
@@ -308,7 +309,7 @@ pub fn swap_in(blocks: &mut Vec<Block>, inc: u64, index: &mut Option<Index>)
 // ---- slots that come and go
 
 /// Puts a block behind the others, unless it has no slot.
-pub fn push_block(blocks: &mut Vec<Block>, slots: Vec<Slot>)
+pub fn push_block(blocks: &mut Vec<RowBlock>, slots: Vec<Slot>)
     requires room { length blocks.old.items < vec_capacity blocks.old }
     requires filled { Filled slots_in blocks.old.items }
     ensures slots { flat blocks.new.items ≡ flat blocks.old.items ++ slots.items }
@@ -320,12 +321,12 @@ pub fn push_block(blocks: &mut Vec<Block>, slots: Vec<Slot>)
     if count == 0 {
         return;
     }
-    blocks.push_reserved(Block { slots });
+    blocks.push_reserved(RowBlock { slots });
 }
 
-/// Removes the slot of that incarnation, among slots by rising ones.
-fn remove_at(block: &mut Block, inc: u64)
-    requires { Rising inc_of block.old.slots.items }
+/// Removes the slot of that incarnation, among slots by increasing ones.
+fn remove_at(block: &mut RowBlock, inc: u64)
+    requires { Increasing inc_of block.old.slots.items }
     ensures { block.new.slots.items ≡ drop_first (λ (s : OneSlot). s.row.inc == inc) block.old.slots.items }
 {
     if let Some(place) = place_at(block.slots.as_slice(), inc) {
@@ -334,9 +335,9 @@ fn remove_at(block: &mut Block, inc: u64)
 }
 
 /// Removes the slot of that incarnation.
-pub fn remove_in(blocks: &mut Vec<Block>, inc: u64)
+pub fn remove_in(blocks: &mut Vec<RowBlock>, inc: u64)
     requires filled { Filled slots_in blocks.old.items }
-    requires rising { Rising inc_of (flat blocks.old.items) }
+    requires increasing { Increasing inc_of (flat blocks.old.items) }
     ensures slots { flat blocks.new.items
         ≡ drop_first (λ (s : OneSlot). s.row.inc == inc) (flat blocks.old.items) }
     ensures filled { Filled slots_in blocks.new.items }
@@ -350,7 +351,7 @@ pub fn remove_in(blocks: &mut Vec<Block>, inc: u64)
 }
 
 /// Removes the block at that place, if it has no slot.
-fn drop_empty(blocks: &mut Vec<Block>, place: usize)
+fn drop_empty(blocks: &mut Vec<RowBlock>, place: usize)
     requires place { place < length blocks.old.items }
     requires others { AreFilledBut slots_in place blocks.old.items }
     ensures slots { flat blocks.new.items ≡ flat blocks.old.items }

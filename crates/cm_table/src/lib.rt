@@ -10,8 +10,8 @@
 //! choice.
 //!
 //! A row is found by its incarnation in a logarithm of the number of rows, and so are a child by
-//! its name and the next child: rows stand in blocks by rising incarnations, which are searched by
-//! halves where a row isn't at the place that is tried first, and each row has an index of its
+//! its name and the next child: rows stand in blocks by increasing incarnations, which are searched by
+//! bisection where a row isn't at the place that is tried first, and each row has an index of its
 //! children beside it. An offer is found by its target, its
 //! name there and its kind in a logarithm of the number of offers, since an order of them is made
 //! with each declaration before it is taken over. A resolve takes no memory and goes

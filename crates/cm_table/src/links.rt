@@ -7,14 +7,14 @@ ghost use Rattle.std.specs.Vec.{vec_capacity};
 ghost use Rattle.cm_names.specs.declared.child.ChildName.{ChildName as Name};
 ghost use Rattle.cm_decl.specs.Same.{same_child};
 ghost use Rattle.cm_world.specs.Edits.{drop_first};
-ghost use Rattle.cm_table.specs.Keys.{Each, EachOf, Filled, Rising};
+ghost use Rattle.cm_table.specs.Keys.{EachItem, EachOf, Filled, Increasing};
 ghost use Rattle.cm_table.specs.Slots.{inc_of, slot_of, flat, slots_in, kids_at, named_at};
 ghost use Rattle.cm_table.specs.Slots.{kids_of, named_in, base_of, AreOrderly};
 ghost use Rattle.cm_table.specs.Links.{unless, Rises, IsSame, IsLinked, IsUnlinked};
 
-use crate::block::{Block, slot_in, swap_in};
+use crate::block::{RowBlock, slot_in, swap_in};
 use crate::change::put;
-use crate::slot::Index;
+use crate::slot::ChildIndex;
 use crate::view::name_of;
 use cm_names::{ChildName, Memory};
 use std::alloc::Global;
@@ -22,13 +22,13 @@ use std::alloc::Global;
 // ---- single indexes
 
 /// The index, or one of no children.
-fn or_new(alloc: Global, index: Option<Index>) -> Index
+fn or_new(alloc: Global, index: Option<ChildIndex>) -> ChildIndex
     ensures base { result.base ≡ base_of index }
     ensures kids { kids_at result ≡ kids_of index }
     ensures names { (c : Name) → named_at result c ≡ named_in index c }
 {
     match index {
-        None => Index::new(alloc),
+        None => ChildIndex::new(alloc),
         Some(index) => index,
     }
 }
@@ -36,7 +36,7 @@ fn or_new(alloc: Global, index: Option<Index>) -> Index
 /// Puts a child behind the others. `Err` where memory runs out: then it says what it said.
 fn put_child(
     alloc: Global,
-    index: &mut Option<Index>,
+    index: &mut Option<ChildIndex>,
     name: ChildName,
     inc: u64,
 ) -> Result<(), Memory>
@@ -56,7 +56,7 @@ fn put_child(
 }
 
 /// Forgets the name of a child, which is the one that leads to it, if one does.
-fn forget_child(index: &mut Option<Index>, name: Option<&ChildName>, inc: u64)
+fn forget_child(index: &mut Option<ChildIndex>, name: Option<&ChildName>, inc: u64)
     requires { (c : Name) → named_in index.old c ≡ Some inc →
         option_eq same_child (option_copied name) (Some c) ≡ true }
     ensures base { base_of index.new ≡ base_of index.old }
@@ -78,7 +78,7 @@ fn forget_child(index: &mut Option<Index>, name: Option<&ChildName>, inc: u64)
 }
 
 /// Removes a child.
-fn remove_child(index: &mut Option<Index>, inc: u64)
+fn remove_child(index: &mut Option<ChildIndex>, inc: u64)
     requires { Rises index.old }
     ensures base { base_of index.new ≡ base_of index.old }
     ensures kids { kids_of index.new ≡ drop_first (λ k. k == inc) (kids_of index.old) }
@@ -95,7 +95,7 @@ fn remove_child(index: &mut Option<Index>, inc: u64)
 }
 
 /// Forgets the name of a child, and where it is gone, removes it.
-fn take_out(index: &mut Option<Index>, name: Option<&ChildName>, inc: u64, gone: bool)
+fn take_out(index: &mut Option<ChildIndex>, name: Option<&ChildName>, inc: u64, gone: bool)
     requires name { (c : Name) → named_in index.old c ≡ Some inc →
         option_eq same_child (option_copied name) (Some c) ≡ true }
     requires rises { Rises index.old }
@@ -113,9 +113,9 @@ fn take_out(index: &mut Option<Index>, name: Option<&ChildName>, inc: u64, gone:
 // ---- among all slots
 
 /// The parent of the instance.
-pub fn parent_in(blocks: &[Block], inc: u64) -> Option<u64>
+pub fn parent_in(blocks: &[RowBlock], inc: u64) -> Option<u64>
     requires filled { Filled slots_in blocks.now }
-    requires rising { Rising inc_of (flat blocks.now) }
+    requires increasing { Increasing inc_of (flat blocks.now) }
     ensures { result ≡ option_and_then (λ s. s.row.parent) (slot_of (flat blocks.now) inc) }
 {
     match slot_in(blocks, inc) {
@@ -125,9 +125,9 @@ pub fn parent_in(blocks: &[Block], inc: u64) -> Option<u64>
 }
 
 /// The name of the instance.
-fn name_in(blocks: &[Block], inc: u64) -> Option<&ChildName>
+fn name_in(blocks: &[RowBlock], inc: u64) -> Option<&ChildName>
     requires filled { Filled slots_in blocks.now }
-    requires rising { Rising inc_of (flat blocks.now) }
+    requires increasing { Increasing inc_of (flat blocks.now) }
     ensures { option_copied result ≡ option_and_then (λ s. s.row.name) (slot_of (flat blocks.now) inc) }
 {
     match slot_in(blocks, inc) {
@@ -140,15 +140,15 @@ fn name_in(blocks: &[Block], inc: u64) -> Option<&ChildName>
 /// what they said.
 pub fn link(
     alloc: Global,
-    blocks: &mut Vec<Block>,
+    blocks: &mut Vec<RowBlock>,
     parent: u64,
     name: ChildName,
     inc: u64,
 ) -> Result<(), Memory>
     requires filled { Filled slots_in blocks.old.items }
-    requires rising { Rising inc_of (flat blocks.old.items) }
+    requires increasing { Increasing inc_of (flat blocks.old.items) }
     requires lives { IsSome (slot_of (flat blocks.old.items) parent) }
-    requires low { Each (λ s. base_of s.index ≤ inc) (flat blocks.old.items) }
+    requires low { EachItem (λ s. base_of s.index ≤ inc) (flat blocks.old.items) }
     ensures ok { OnOk result
         (EachOf (IsLinked parent name inc) (flat blocks.old.items) (flat blocks.new.items)) }
     ensures err { OnErr result (EachOf IsSame (flat blocks.old.items) (flat blocks.new.items)) }
@@ -166,7 +166,7 @@ pub fn link(
 
 /// Forgets the name of an instance at its parent, which then no longer finds it by that. Where it
 /// is gone, it is no longer one of its parent's children either.
-pub fn unlink(blocks: &mut Vec<Block>, inc: u64, gone: bool)
+pub fn unlink(blocks: &mut Vec<RowBlock>, inc: u64, gone: bool)
     requires filled { Filled slots_in blocks.old.items }
     requires orderly { AreOrderly (flat blocks.old.items) }
     ensures links { EachOf (IsUnlinked inc gone) (flat blocks.old.items) (flat blocks.new.items) }

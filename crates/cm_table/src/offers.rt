@@ -1,11 +1,11 @@
-//! The offers of a declaration, in an order in which they are found by halves.
+//! The offers of a declaration, in an order in which they are found by binary search.
 
 ghost use Rattle.std.specs.Prelude.{◌≡◌, false, position, slice_get, IfOk};
 ghost use Rattle.std.specs.List.{range_with_len};
 ghost use Rattle.std.specs.Option.{option_map_or};
 ghost use Rattle.std.specs.Ordering.{is_lt};
 ghost use Rattle.cm_decl.specs.Graph.{target_of};
-ghost use Rattle.cm_world.specs.Next as next;
+ghost use Rattle.cm_world.specs.NextStation as next;
 ghost use Rattle.cm_table.specs.Offers as spec;
 ghost use Rattle.cm_table.specs.Offers.{IsOfferOrder, IsSplit};
 
@@ -16,13 +16,13 @@ use std::cmp::Ordering;
 
 /// What an offer is looked for by: its target, its name there, and its kind.
 #[derive(Clone, Copy)]
-struct Key<'a> {
+struct OfferLookup<'a> {
     to: &'a str,
     name: &'a str,
     kind: u8,
 }
 
-/// The places of offers, by rising targets, names and kinds, and then by rising places.
+/// The places of offers, by increasing targets, names and kinds, and then by increasing places.
 pub fn order_of(alloc: Global, offers: &[Offer]) -> Result<Vec<usize>, Memory>
     ensures { IfOk result (λ made. IsOfferOrder offers.now made.items) }
 {
@@ -84,7 +84,7 @@ fn count_before(offers: &[Offer], places: &[usize], to: &Name, kind: Kind, name:
     requires { IsOfferOrder offers.now places.now }
     ensures { IsSplit offers.now places.now (spec.wanted to.now kind name.now) result }
 {
-    let wanted = Key {
+    let wanted = OfferLookup {
         to: to.as_str(),
         name: name.as_str(),
         kind: rank(kind),
@@ -93,16 +93,16 @@ fn count_before(offers: &[Offer], places: &[usize], to: &Name, kind: Kind, name:
 }
 
 /// What the offer at this place is looked for by; behind the last one nothing is.
-fn key_at(offers: &[Offer], place: usize) -> Key<'_>
+fn key_at(offers: &[Offer], place: usize) -> OfferLookup<'_>
     ensures { spec.key_of result ≡ spec.key_at offers.now place }
 {
     match offers.get(place) {
-        Some(offer) => Key {
+        Some(offer) => OfferLookup {
             to: offer.to.as_str(),
             name: offer.give.target_name.as_str(),
             kind: rank(offer.give.kind),
         },
-        None => Key {
+        None => OfferLookup {
             to: "",
             name: "",
             kind: 0,
@@ -111,7 +111,7 @@ fn key_at(offers: &[Offer], place: usize) -> Key<'_>
 }
 
 /// The order of keys.
-fn compare_keys(a: &Key<'_>, b: &Key<'_>) -> Ordering
+fn compare_keys(a: &OfferLookup<'_>, b: &OfferLookup<'_>) -> Ordering
     ensures { result ≡ spec.key_cmp (spec.key_of a.now) (spec.key_of b.now) }
 {
     a.to.cmp(b.to)
@@ -127,7 +127,7 @@ fn compare(offers: &[Offer], a: usize, b: usize) -> Ordering
 }
 
 /// Whether what the offer at this place is looked for by comes before what is wanted.
-fn is_before(offers: &[Offer], place: usize, wanted: &Key<'_>) -> bool
+fn is_before(offers: &[Offer], place: usize, wanted: &OfferLookup<'_>) -> bool
     ensures { result ≡ is_lt (spec.key_cmp (spec.key_at offers.now place) (spec.key_of wanted.now)) }
 {
     compare_keys(&key_at(offers, place), wanted).is_lt()

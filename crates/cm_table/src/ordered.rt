@@ -99,11 +99,11 @@ impl Model for OrderedRow {
 
     ghost Value = { Kept };
 
-    ghost use Rattle.cm_table.specs.Offers.{IsOrdered};
+    ghost use Rattle.cm_table.specs.Offers.{IsOfferIndex};
 
     ghost view = { λ a. a.row };
 
-    ghost invariant = { λ a. IsOrdered a.row a.places.items };
+    ghost invariant = { λ a. IsOfferIndex a.row a.places.items };
 }
 
 impl OrderedRow {

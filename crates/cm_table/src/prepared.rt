@@ -8,12 +8,12 @@ ghost use Rattle.cm_decl.specs.Valid.{IsValid};
 ghost use Rattle.cm_world.specs.Rows.{child_of};
 ghost use Rattle.cm_world.specs.End.{child_row, child_rows};
 ghost use Rattle.cm_table.specs.Names.{child_cmp};
-ghost use Rattle.cm_table.specs.Keys.{Each};
+ghost use Rattle.cm_table.specs.Keys.{EachItem};
 ghost use Rattle.cm_table.specs.Slots.{rows_in, kids_at, named_at, with_row_by};
 ghost use Rattle.cm_table.specs.Numbering.{placed, numbered, IsBare};
 
 use crate::ordered::{OrderedDecl, OrderedRow};
-use crate::slot::{Index, Slot};
+use crate::slot::{ChildIndex, Slot};
 use cm_decl::{Child, Decl};
 use cm_names::{ChildName, List, Memory, Shared, Text};
 use cm_world::{Finish, Row};
@@ -29,7 +29,7 @@ pub struct Prepared {
     decl: OrderedDecl,
     kept_absolute: Text,
     kept_decl: Shared<Decl>,
-    index: Index,
+    index: ChildIndex,
     children: Vec<Slot>,
 }
 
@@ -38,16 +38,16 @@ impl Model for Prepared {
 
     ghost Value = { Ready };
 
-    ghost use Rattle.cm_table.specs.Preparing.{ready_of, IsReady};
+    ghost use Rattle.cm_table.specs.Preparing.{ready_of, IsPrepared};
 
     ghost view = { ready_of };
 
-    ghost invariant = { IsReady };
+    ghost invariant = { IsPrepared };
 }
 
 /// What a resolve takes over.
 #[derive(Drop)]
-pub(crate) struct Parts {
+pub(crate) struct PreparedParts {
     /// The end of the resolve, as the history keeps it.
     pub finish: Finish,
     /// The absolute URL, for the row.
@@ -55,7 +55,7 @@ pub(crate) struct Parts {
     /// The declaration with the order of its offers, for the row.
     pub decl: OrderedDecl,
     /// The index of the children, for the slot.
-    pub index: Index,
+    pub index: ChildIndex,
     /// The slots of the children.
     pub children: Vec<Slot>,
 }
@@ -135,15 +135,15 @@ impl Prepared {
         self.decl.get().children.len()
     }
 
-    /// The parts, with the rows of the children under `parent`, by rising incarnations.
-    pub(crate) fn into_parts(self, parent: u64, first: u64) -> Parts
+    /// The parts, with the rows of the children under `parent`, by increasing incarnations.
+    pub(crate) fn into_parts(self, parent: u64, first: u64) -> PreparedParts
         requires { first + length self.decl.children < 2 ^ 64 }
         ensures finish { result.finish ≡ Finish.Resolved self.absolute self.decl }
         ensures absolute { result.absolute ≡ self.absolute }
         ensures decl { result.decl ≡ self.decl }
         ensures valid { IsValid self.decl }
         ensures rows { rows_in result.children.items ≡ child_rows parent first self.decl.children }
-        ensures bare { Each IsBare result.children.items }
+        ensures bare { EachItem IsBare result.children.items }
         ensures base { result.index.base ≡ first }
         ensures kids { kids_at result.index
             ≡ map (λ r. r.inc) (child_rows parent first self.decl.children) }
@@ -160,7 +160,7 @@ impl Prepared {
         } = self;
         number_all(&mut children, parent, first);
         index.base = first;
-        Parts {
+        PreparedParts {
             finish: Finish::Resolved(kept_absolute, kept_decl),
             absolute,
             decl,
@@ -175,7 +175,7 @@ impl Prepared {
 struct Made {
     kept_absolute: Text,
     kept_decl: Shared<Decl>,
-    index: Index,
+    index: ChildIndex,
     children: Vec<Slot>,
 }
 
@@ -191,7 +191,7 @@ fn made_for(alloc: Global, absolute: &Text, decl: &OrderedDecl) -> Result<Made, 
         ≡ child_of (child_rows 0 0 decl.now.children) 0 c) }
     ensures rows { IfOk result (λ made. rows_in made.children.items
         ≡ map (child_row 0 0) decl.now.children) }
-    ensures bare { IfOk result (λ made. Each IsBare made.children.items) }
+    ensures bare { IfOk result (λ made. EachItem IsBare made.children.items) }
 {
     let children = slots_of(alloc, decl.get().children.as_slice())?;
     let index = index_of(alloc, decl.get())?;
@@ -230,7 +230,7 @@ fn row_for(alloc: Global, child: &Child) -> Result<Row, Memory>
 /// The slots of declared children.
 fn slots_of(alloc: Global, children: &[Child]) -> Result<Vec<Slot>, Memory>
     ensures rows { IfOk result (λ slots. rows_in slots.items ≡ map (child_row 0 0) children.now) }
-    ensures bare { IfOk result (λ slots. Each IsBare slots.items) }
+    ensures bare { IfOk result (λ slots. EachItem IsBare slots.items) }
 {
     let mut slots = Vec::new(alloc);
     for child in children {
@@ -250,7 +250,7 @@ fn name_of(child: &Child) -> Result<ChildName, Memory>
 }
 
 /// The index of declared children, numbered from 0 on.
-fn index_of(alloc: Global, decl: &Decl) -> Result<Index, Memory>
+fn index_of(alloc: Global, decl: &Decl) -> Result<ChildIndex, Memory>
     requires { IsValid decl.now }
     ensures kids { IfOk result (λ made. made.kids.items
         ≡ map (λ r. r.inc) (child_rows 0 0 decl.now.children)) }
@@ -258,7 +258,7 @@ fn index_of(alloc: Global, decl: &Decl) -> Result<Index, Memory>
         ≡ child_of (child_rows 0 0 decl.now.children) 0 c) }
 {
     let children = decl.children.as_slice();
-    let mut index = Index::new(alloc);
+    let mut index = ChildIndex::new(alloc);
     let mut next = 0;
     for child in children {
         index.put(name_of(child)?, next)?;
@@ -274,7 +274,7 @@ fn place_row(slot: &mut Slot, parent: u64, inc: u64)
     slot.row.place(parent, inc);
 }
 
-/// Puts rows under their parent, by rising incarnations.
+/// Puts rows under their parent, by increasing incarnations.
 fn number_all(slots: &mut Vec<Slot>, parent: u64, first: u64)
     requires { first + length slots.old.items < 2 ^ 64 }
     ensures { slots.new.items ≡ numbered parent first slots.old.items }

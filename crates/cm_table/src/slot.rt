@@ -6,9 +6,9 @@ ghost use Rattle.std.specs.BTreeMap.{get};
 ghost use Rattle.cm_names.specs.declared.child.ChildName.{ChildName as Name};
 ghost use Rattle.cm_decl.specs.Same.{same_child};
 ghost use Rattle.cm_world.specs.Edits.{drop_first};
-ghost use Rattle.cm_world.specs.Rows.{is_behind};
+ghost use Rattle.cm_world.specs.RowsInside.{is_behind};
 ghost use Rattle.cm_table.specs.Names.{child_cmp};
-ghost use Rattle.cm_table.specs.Keys.{Each, IsPlace, Rising, alone, nth};
+ghost use Rattle.cm_table.specs.Keys.{EachItem, IsPlace, Increasing, alone, nth};
 ghost use Rattle.cm_table.specs.Slots.{kids_at, named_at, kids_of, named_in};
 ghost use Rattle.cm_table.specs.Links.{unless, Rises};
 
@@ -20,10 +20,10 @@ use std::collections::BTreeMap;
 /// The index of the children of a row. Their incarnations are told by how far they are above a
 /// base.
 #[derive(Drop)]
-pub struct Index {
+pub struct ChildIndex {
     /// No child has a lower incarnation.
     pub base: u64,
-    /// The children, by rising incarnations, those that are being destroyed too.
+    /// The children, by increasing incarnations, those that are being destroyed too.
     pub kids: Vec<u64>,
     /// Those that aren't being destroyed, by their names.
     pub names: BTreeMap<ChildName, u64>,
@@ -35,7 +35,7 @@ pub struct Slot {
     /// The row.
     pub row: OrderedRow,
     /// The index of its children.
-    pub index: Option<Index>,
+    pub index: Option<ChildIndex>,
 }
 
 impl Slot {
@@ -47,14 +47,14 @@ impl Slot {
     }
 }
 
-impl Index {
+impl ChildIndex {
     /// The index of no children.
-    pub fn new(alloc: Global) -> Index
+    pub fn new(alloc: Global) -> ChildIndex
         ensures base { result.base ≡ 0 }
         ensures kids { kids_at result ≡ [] }
         ensures names { (c : Name) → named_at result c ≡ None }
     {
-        Index {
+        ChildIndex {
             base: 0,
             kids: Vec::new(alloc),
             names: BTreeMap::new(alloc),
@@ -74,8 +74,8 @@ impl Index {
 
     /// The first child that was made after the given one.
     pub fn next(&self, after: Option<u64>) -> Option<u64>
-        requires rising { Rising (λ k. k) self.now.kids.items }
-        requires fits { Each (λ k. k < 2 ^ 64) (kids_at self.now) }
+        requires increasing { Increasing (λ k. k) self.now.kids.items }
+        requires fits { EachItem (λ k. k < 2 ^ 64) (kids_at self.now) }
         ensures { result ≡ find (is_behind after) (kids_at self.now) }
     {
         match after {
@@ -86,8 +86,8 @@ impl Index {
 
     /// The first child with a higher incarnation.
     fn kid_behind(&self, inc: u64) -> Option<u64>
-        requires rising { Rising (λ k. k) self.now.kids.items }
-        requires fits { Each (λ k. k < 2 ^ 64) (kids_at self.now) }
+        requires increasing { Increasing (λ k. k) self.now.kids.items }
+        requires fits { EachItem (λ k. k < 2 ^ 64) (kids_at self.now) }
         ensures { result ≡ find (is_behind (Some inc)) (kids_at self.now) }
     {
         if inc < self.base {
@@ -99,7 +99,7 @@ impl Index {
 
     /// The last child.
     pub fn last(&self) -> Option<u64>
-        requires { Each (λ k. k < 2 ^ 64) (kids_at self.now) }
+        requires { EachItem (λ k. k < 2 ^ 64) (kids_at self.now) }
         ensures { result ≡ nth (kids_at self.now) (length (kids_at self.now) - 1) }
     {
         let count = self.kids.len();
@@ -111,7 +111,7 @@ impl Index {
 
     /// The child at a place.
     fn kid_at(&self, place: usize) -> Option<u64>
-        requires { Each (λ k. k < 2 ^ 64) (kids_at self.now) }
+        requires { EachItem (λ k. k < 2 ^ 64) (kids_at self.now) }
         ensures { result ≡ nth (kids_at self.now) place }
     {
         if place >= self.kids.len() {
@@ -158,7 +158,7 @@ impl Index {
 
     /// Removes the child that is so far above the base.
     pub fn remove(&mut self, above: u64)
-        requires { Rising (λ k. k) self.old.kids.items }
+        requires { Increasing (λ k. k) self.old.kids.items }
         ensures base { self.new.base ≡ self.old.base }
         ensures kids { self.new.kids.items ≡ drop_first (λ k. k == above) self.old.kids.items }
         ensures names { self.new.names ≡ self.old.names }
@@ -174,7 +174,7 @@ impl Index {
 }
 
 /// The child of that name that isn't being destroyed.
-pub fn child_in(index: &Option<Index>, name: &ChildName) -> Option<u64>
+pub fn child_in(index: &Option<ChildIndex>, name: &ChildName) -> Option<u64>
     requires { (n : ℕ) → named_in index.now name.now ≡ Some n → n < 2 ^ 64 }
     ensures { result ≡ named_in index.now name.now }
 {
@@ -185,9 +185,9 @@ pub fn child_in(index: &Option<Index>, name: &ChildName) -> Option<u64>
 }
 
 /// The first child that was made after the given one.
-pub fn next_in(index: &Option<Index>, after: Option<u64>) -> Option<u64>
+pub fn next_in(index: &Option<ChildIndex>, after: Option<u64>) -> Option<u64>
     requires rises { Rises index.now }
-    requires fits { Each (λ k. k < 2 ^ 64) (kids_of index.now) }
+    requires fits { EachItem (λ k. k < 2 ^ 64) (kids_of index.now) }
     ensures { result ≡ find (is_behind after) (kids_of index.now) }
 {
     match index {
@@ -197,8 +197,8 @@ pub fn next_in(index: &Option<Index>, after: Option<u64>) -> Option<u64>
 }
 
 /// The last child.
-pub fn last_in(index: &Option<Index>) -> Option<u64>
-    requires { Each (λ k. k < 2 ^ 64) (kids_of index.now) }
+pub fn last_in(index: &Option<ChildIndex>) -> Option<u64>
+    requires { EachItem (λ k. k < 2 ^ 64) (kids_of index.now) }
     ensures { result ≡ nth (kids_of index.now) (length (kids_of index.now) - 1) }
 {
     match index {
@@ -207,10 +207,10 @@ pub fn last_in(index: &Option<Index>) -> Option<u64>
     }
 }
 
-/// How many of these rising numbers are at most the given one, where it is one of them, and each number
+/// How many of these increasing numbers are at most the given one, where it is one of them, and each number
 /// from the first one up to it is there. `None` says nothing.
 fn dense_upto(kids: &[u64], above: u64) -> Option<usize>
-    requires { Rising (λ k. k) kids.now }
+    requires { Increasing (λ k. k) kids.now }
     ensures { IfSome result (λ count. IsPlace (λ k. k) alone kids.now above count) }
 {
     if kids.is_empty() {
@@ -231,9 +231,9 @@ fn dense_upto(kids: &[u64], above: u64) -> Option<usize>
     None
 }
 
-/// How many of these rising numbers are at most the given one.
+/// How many of these increasing numbers are at most the given one.
 fn kids_upto(kids: &[u64], above: u64) -> usize
-    requires { Rising (λ k. k) kids.now }
+    requires { Increasing (λ k. k) kids.now }
     ensures { IsPlace (λ k. k) alone kids.now above result }
 {
     if let Some(count) = dense_upto(kids, above) {

@@ -4,7 +4,7 @@ ghost use Rattle.cm_table.specs.Tree.{Tree};
 
 use crate::table::Table;
 use cm_names::ChildName;
-use cm_world::{Steps, Store, View};
+use cm_world::{StepCount, Store, View};
 use std::sync::ledger::Ledger;
 
 impl<L: Ledger> Store<L> for Table {
@@ -12,12 +12,12 @@ impl<L: Ledger> Store<L> for Table {
 
     ghost next_inc = { λ (t : Tree). t.next_inc };
 
-    fn is_resolved(&self, inc: u64, steps: &mut Steps<L>) -> bool {
+    fn is_resolved(&self, inc: u64, steps: &mut StepCount<L>) -> bool {
         steps.tick();
         self.decl(inc).is_some()
     }
 
-    fn child(&self, parent: u64, name: &ChildName, steps: &mut Steps<L>) -> Option<u64> {
+    fn child(&self, parent: u64, name: &ChildName, steps: &mut StepCount<L>) -> Option<u64> {
         steps.tick();
         View::child(self, parent, name)
     }

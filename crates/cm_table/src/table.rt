@@ -8,7 +8,7 @@ ghost use Rattle.std.specs.Option.{option_copied};
 ghost use Rattle.std.specs.Vec.{vec_capacity};
 ghost use Rattle.cm_world.specs.Edits.{drop_first};
 ghost use Rattle.cm_world.specs.Rows.{row_of, is_live, is_resolved, decl_of, child_of};
-ghost use Rattle.cm_world.specs.Rows.{child_behind};
+ghost use Rattle.cm_world.specs.RowsInside.{child_behind};
 ghost use Rattle.cm_world.specs.Sound.{IsOrderly};
 ghost use Rattle.cm_world.specs.World.{root_row, new_row};
 ghost use Rattle.cm_world.specs.End.{set_on, set_pending, set_closing, set_doomed, set_shut, end_row};
@@ -22,11 +22,11 @@ ghost use Rattle.cm_table.specs.Numbering.{bare_slot};
 ghost use Rattle.cm_table.specs.Leaf.{IsWithin, IsLeaf, IsChildOf, Continues, HaveSameOthers};
 ghost use Rattle.cm_table.specs.Refusal.{RefusesRow};
 
-use crate::block::{Block, change_in, push_block, remove_in, slot_in, swap_in};
+use crate::block::{RowBlock, change_in, push_block, remove_in, slot_in, swap_in};
 use crate::change::Change;
 use crate::links::{link, parent_in, unlink};
 use crate::ordered::OrderedRow;
-use crate::prepared::{Parts, Prepared};
+use crate::prepared::{Prepared, PreparedParts};
 use crate::slot::{Slot, last_in};
 use cm_decl::Give;
 use cm_names::{ChildName, List, Memory, Shared, Text};
@@ -54,14 +54,14 @@ pub struct Settled {
 
 /// The rows of a realm tree, with what stands above the root.
 ///
-/// Contracts see it as the list of its rows by rising incarnations, the incarnation that the
+/// Contracts see it as the list of its rows by increasing incarnations, the incarnation that the
 /// next new row gets, the builtins, the limit of rows, and the number of resolves that memory
 /// is kept for. The rows are always those of an orderly world: each but the root has a parent
 /// that lives and is resolved, no two children of one parent that aren't being destroyed have
 /// one name, and each declaration is valid.
 #[derive(Drop)]
 pub struct Table {
-    blocks: Vec<Block>,
+    blocks: Vec<RowBlock>,
     pub(crate) builtins: List<Builtin>,
     count: u32,
     next_inc: u64,
@@ -74,11 +74,11 @@ impl Model for Table {
 
     ghost Value = { Tree };
 
-    ghost use Rattle.cm_table.specs.Kept.{tree_of, IsKept};
+    ghost use Rattle.cm_table.specs.Kept.{tree_of, IsTableInvariant};
 
     ghost view = { tree_of };
 
-    ghost invariant = { IsKept };
+    ghost invariant = { IsTableInvariant };
 }
 
 impl Table {
@@ -94,7 +94,7 @@ impl Table {
     {
         let mut blocks = Vec::new(alloc);
         let slots = slots_of(alloc, root(alloc, url))?;
-        blocks.push(Block { slots })?;
+        blocks.push(RowBlock { slots })?;
         Ok(Table {
             blocks,
             builtins,
@@ -206,7 +206,7 @@ impl Table {
     {
         let count = prepared.count();
         let parts = prepared.into_parts(inc, self.next_inc);
-        let Parts {
+        let PreparedParts {
             finish,
             absolute,
             decl,
@@ -460,7 +460,7 @@ fn slots_of(alloc: Global, row: Row) -> Result<Vec<Slot>, Memory>
 /// The slots of one row, with room for one block more than the spare ones.
 fn room_for(
     alloc: Global,
-    blocks: &mut Vec<Block>,
+    blocks: &mut Vec<RowBlock>,
     spare: u32,
     row: Row,
 ) -> Result<Vec<Slot>, Memory>

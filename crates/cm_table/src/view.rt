@@ -4,6 +4,7 @@ ghost use Rattle.std.specs.Prelude.{◌≡◌, is_some, option_map};
 ghost use Rattle.std.specs.Option.{option_copied};
 ghost use Rattle.cm_table.specs.Tree.{Tree};
 ghost use Rattle.cm_world.specs.Rows as told;
+ghost use Rattle.cm_world.specs.RowsInside as told_inside;
 ghost use Rattle.cm_world.specs.Offering.{offer_for};
 
 use crate::reading::{is_that, told_index};
@@ -11,7 +12,7 @@ use crate::slot::{child_in, next_in};
 use crate::table::Table;
 use cm_decl::{Decl, Give, Kind};
 use cm_names::{ChildName, List, Name};
-use cm_world::{Builtin, Facts, Place, Row, View};
+use cm_world::{Builtin, Facts, ParentPlace, Row, View};
 
 impl View for Table {
     ghost rows = { λ (t : Tree). t.rows };
@@ -35,7 +36,7 @@ impl View for Table {
         }
     }
 
-    fn place(&self, inc: u64) -> Option<Place<'_>> {
+    fn place(&self, inc: u64) -> Option<ParentPlace<'_>> {
         let _builtins = &self.builtins;
         if inc == 0 {
             return None;
@@ -112,13 +113,13 @@ impl Table {
 }
 
 /// Where a row stands that isn't the root.
-fn place_of(row: &Row) -> Option<Place<'_>>
+fn place_of(row: &Row) -> Option<ParentPlace<'_>>
     requires { is_some row.now.parent ≡ is_some row.now.name }
     ensures parent { option_map (λ p. p.parent) result ≡ row.now.parent }
     ensures name { option_map (λ p. p.name.now) result ≡ row.now.name }
 {
     match (row.parent, &row.name) {
-        (Some(parent), Some(name)) => Some(Place { parent, name }),
+        (Some(parent), Some(name)) => Some(ParentPlace { parent, name }),
         _ => None,
     }
 }
@@ -135,7 +136,7 @@ pub(crate) fn name_of(row: &Row) -> Option<&ChildName>
 
 /// What a decider is told of a row.
 fn facts_of(row: &Row) -> Facts
-    ensures { result ≡ told.facts_of row.now }
+    ensures { result ≡ told_inside.facts_of row.now }
 {
     Facts {
         parent: row.parent,

@@ -1,3 +1,4 @@
+-- Promised.
 -- The classes of bytes in the relaxed spelling.
 use Rattle.std.specs.Prelude.{ℕ, List, [], ◌∷◌, Bool, false, not, ◌||◌, ◌&&◌, ◌==◌, nat_le}
 

@@ -1,3 +1,4 @@
+-- Inside.
 -- Texts in the relaxed spelling, and their JSON or their faults.
 use Rattle.std.specs.Prelude.{◌≡◌, ◌∷◌, ◌++◌, codes, Ok, Err}
 use Rattle.cm_text.specs.Json.{json_of}

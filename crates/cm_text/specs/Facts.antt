@@ -1,7 +1,8 @@
+-- Inside.
 -- What holds of tokens and faults.
 use Rattle.std.specs.Prelude.{◌≡◌, ◌⊎◌, ℕ, List, Ok, Err}
 use Rattle.cm_text.specs.Token.{Token}
-use Rattle.cm_text.specs.Split.{AreTokensOf, IsFaultOf}
+use Rattle.cm_text.specs.Split.{AreTokensOf, IsTextFault}
 use Rattle.cm_text.specs.Pieces.{tokens}
 use Rattle.cm_text.specs.Json.{json_of_tokens}
 use Rattle.cm_text.specs.declared.fault.TextFault.{TextFault}
@@ -20,18 +21,18 @@ TokensAreComputed = (text : List ℕ) (ts : List Token) → AreTokensOf text ts 
 
 -- a text's fault is the one that is computed
 abbrev pub FaultsAreComputed : Type 0
-FaultsAreComputed = (text : List ℕ) (e : TextFault) → IsFaultOf text e → tokens text ≡ Err e
+FaultsAreComputed = (text : List ℕ) (e : TextFault) → IsTextFault text e → tokens text ≡ Err e
 
 -- a text has one fault at most
 abbrev pub FaultsAreUnique : Type 0
-FaultsAreUnique = (text : List ℕ) (e f : TextFault) → IsFaultOf text e → IsFaultOf text f → e ≡ f
+FaultsAreUnique = (text : List ℕ) (e f : TextFault) → IsTextFault text e → IsTextFault text f → e ≡ f
 
 -- and none where it has tokens
 abbrev pub TokensExcludeFaults : Type 0
 TokensExcludeFaults =
-    (text : List ℕ) (ts : List Token) (e : TextFault) → AreTokensOf text ts → IsFaultOf text e → ⊥
+    (text : List ℕ) (ts : List Token) (e : TextFault) → AreTokensOf text ts → IsTextFault text e → ⊥
 
 -- each text has tokens or a fault
 abbrev pub TextsAreCovered : Type 0
 TextsAreCovered =
-    (text : List ℕ) → ((ts : List Token) × AreTokensOf text ts) ⊎ ((e : TextFault) × IsFaultOf text e)
+    (text : List ℕ) → ((ts : List Token) × AreTokensOf text ts) ⊎ ((e : TextFault) × IsTextFault text e)

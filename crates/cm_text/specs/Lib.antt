@@ -1,5 +1,6 @@
 pub mod Bytes
 pub mod Token
+pub mod TokenInside
 pub mod Split
 pub mod Pieces
 pub mod Json

@@ -1,3 +1,4 @@
+-- Inside.
 -- Which tokens a text has, or its first fault.
 use Rattle.std.specs.Prelude.{◌≡◌, ◌≢◌, ◌⊎◌, ℕ, List, [], ◌∷◌, ◌++◌, length, Bool, true, false, not, ◌&&◌}
 use Rattle.std.specs.Prelude.{◌||◌, ◌==◌, IsTrue}
@@ -5,7 +6,8 @@ use Rattle.std.specs.List.{list_all, flat_map}
 use Rattle.cm_text.specs.Bytes.{is_mark, is_space, is_quote, is_word_byte, is_in_line, begins_with}
 use Rattle.cm_text.specs.Bytes.{closes_comment}
 use Rattle.cm_text.specs.Token.{Char, plain, taken, Token, mark, quoted, word, Piece, token, space}
-use Rattle.cm_text.specs.Token.{line_comment, block_comment, char_bytes, bytes_of, tokens_of}
+use Rattle.cm_text.specs.Token.{line_comment, block_comment, char_bytes, tokens_of}
+use Rattle.cm_text.specs.TokenInside.{bytes_of}
 use Rattle.cm_text.specs.declared.fault.TextFault.{TextFault}
 use Rattle.cm_text.specs.declared.fault.TextFault.TheVariants.{BadToken, Unclosed, Memory}
 
@@ -47,13 +49,13 @@ may_follow (space b) rest = true
 may_follow (line_comment bs) rest = not (begins_with is_in_line rest)
 may_follow (block_comment bs) rest = true
 
--- these may be the pieces in front of the rest
+-- these may be the pieces before the rest
 abbrev pub are_pieces : List Piece → List ℕ → Bool
 are_pieces [] rest = true
 are_pieces (p ∷ ps) rest = is_piece p && may_follow p (bytes_of ps ++ rest) && are_pieces ps rest
 
 -- a text is these pieces, and then the rest
-pub record Begins (text : List ℕ) (ps : List Piece) (rest : List ℕ) : Type 0 where
+pub record SplitsInto (text : List ℕ) (ps : List Piece) (rest : List ℕ) : Type 0 where
   pub bytes : bytes_of ps ++ rest ≡ text
   pub pieces : IsTrue (are_pieces ps rest)
 
@@ -62,7 +64,7 @@ pub record Begins (text : List ℕ) (ps : List Piece) (rest : List ℕ) : Type 0
 -- these are the text's tokens
 pub record AreTokensOf (text : List ℕ) (ts : List Token) : Type 0 where
   pub ps : List Piece
-  pub whole : Begins text ps []
+  pub whole : SplitsInto text ps []
   pub tokens : tokens_of ps ≡ ts
 
 -- ---- the faults
@@ -92,10 +94,11 @@ BeginsNothing [] = ⊥
 BeginsNothing (b ∷ bs) = IsTrue (begins_nothing b bs)
 
 -- the text's first fault: behind some pieces stands what begins no piece, or what never ends
-abbrev pub IsFaultOf : List ℕ → TextFault → Type 0
-IsFaultOf text (BadToken at) =
-    (ps : List Piece) × (rest : List ℕ) × Begins text ps rest × (at ≡ length (bytes_of ps))
+abbrev pub IsTextFault : List ℕ → TextFault → Type 0
+IsTextFault text (BadToken at) =
+    (ps : List Piece) × (rest : List ℕ) × SplitsInto text ps rest × (at ≡ length (bytes_of ps))
     × BeginsNothing rest
-IsFaultOf text (Unclosed at) =
-    (ps : List Piece) × (rest : List ℕ) × Begins text ps rest × (at ≡ length (bytes_of ps)) × NeverEnds rest
-IsFaultOf text Memory = ⊥
+IsTextFault text (Unclosed at) =
+    (ps : List Piece) × (rest : List ℕ) × SplitsInto text ps rest × (at ≡ length (bytes_of ps))
+    × NeverEnds rest
+IsTextFault text Memory = ⊥

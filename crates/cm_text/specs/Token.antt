@@ -1,3 +1,4 @@
+-- Promised.
 -- The tokens of a text in the relaxed spelling of JSON, and what stands between them.
 use Rattle.std.specs.Prelude.{ℕ, List, [], ◌∷◌, ◌++◌, Option, Some, None}
 use Rattle.std.specs.List.{flat_map, filter_map}
@@ -35,9 +36,6 @@ piece_bytes (token t) = token_bytes t
 piece_bytes (space b) = b ∷ []
 piece_bytes (line_comment bs) = 47 ∷ 47 ∷ bs
 piece_bytes (block_comment bs) = 47 ∷ 42 ∷ (bs ++ 42 ∷ 47 ∷ [])
-
-abbrev pub bytes_of : List Piece → List ℕ
-bytes_of ps = flat_map piece_bytes ps
 
 -- a piece's token, where it is one
 abbrev pub piece_token : Piece → Option Token

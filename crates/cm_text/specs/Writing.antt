@@ -1,3 +1,4 @@
+-- Inside.
 -- What a writer has written of a text's JSON.
 use Rattle.std.specs.Prelude.{◌≡◌, List, [], ◌∷◌, ◌++◌, ℕ, Option, Some, None, option_map, string_bytes}
 use Rattle.std.specs.Prelude.{Result, Ok, Err}

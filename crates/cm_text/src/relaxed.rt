@@ -2,7 +2,7 @@
 
 ghost use Rattle.std.specs.Prelude.{◌≡◌, ◌<◌, ◌^◌, ◌⊎◌, Ok, Err, IfOk, IfErr, length};
 ghost use Rattle.cm_text.specs.Json.{json_of};
-ghost use Rattle.cm_text.specs.Split.{IsFaultOf};
+ghost use Rattle.cm_text.specs.Split.{IsTextFault};
 ghost use Rattle.cm_text.specs.Facts.{IsJsonOf};
 ghost use Rattle.cm_text.specs.declared.fault.TextFault.TheVariants.{Memory as OutOfMemory};
 
@@ -26,7 +26,7 @@ pub fn to_json(alloc: Global, text: &str) -> Result<Text, TextFault>
     requires has_places { length text.now < 2 ^ 32 }
     ensures json { IfOk result (λ json. IsJsonOf text.now json) }
     ensures computed { IfOk result (λ json. json_of text.now ≡ Ok json) }
-    ensures fault { IfErr result (λ fault. (fault ≡ OutOfMemory) ⊎ IsFaultOf text.now fault) }
+    ensures fault { IfErr result (λ fault. (fault ≡ OutOfMemory) ⊎ IsTextFault text.now fault) }
     ensures computed_fault { IfErr result (λ fault. (fault ≡ OutOfMemory) ⊎ (json_of text.now ≡ Err fault)) }
 {
     let mut writer = JsonWriter::new(alloc);

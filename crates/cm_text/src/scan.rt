@@ -10,7 +10,7 @@ use crate::TextFault;
 use crate::bytes::{is_mark, is_quote, is_space, is_word_byte};
 use crate::token::{Piece, Token};
 
-/// How many bytes of the front may stand in a word.
+/// How many bytes of the prefix may stand in a word.
 fn word_len(bytes: &[u8]) -> usize
     ensures { result ≡ length (take_while spec.is_word_byte bytes.now) }
 {

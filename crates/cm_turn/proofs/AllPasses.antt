@@ -19,25 +19,25 @@ module _ {E F : Type 0} where
   new_passes-at : (lock : TableId) (f : F) (n c : ℕ) (d : PassView E F) → c < n → slice_index_or (new_passes lock f n) c d ≡ new_pass lock f c
   new_passes-at lock f zero c d lt = absurd (omega arith)
   new_passes-at lock f (suc n) c d lt =
-      let front = new_passes {E = E} lock f n in
+      let prefix = new_passes {E = E} lock f n in
       let last : PassView E F = new_pass lock f n in
-      let len : length front ≡ n = new_passes-length E lock f n in
+      let len : length prefix ≡ n = new_passes-length E lock f n in
       dite (dec_lt c n)
-      (λ low. get_or-append front (last ∷ []) d c (omega arith) ∙ new_passes-at lock f n c d low)
+      (λ low. get_or-append prefix (last ∷ []) d c (omega arith) ∙ new_passes-at lock f n c d low)
       (λ high.
-      let here : c ≡ length front = omega arith in
+      let here : c ≡ length prefix = omega arith in
       let is : n ≡ c = omega arith in
-      ap (λ k. slice_index_or (front ++ last ∷ []) k d) here ∙ (get_or-append_seam front last [] d ∙ ap (λ k. new_pass lock f k) is))
+      ap (λ k. slice_index_or (prefix ++ last ∷ []) k d) here ∙ (get_or-append_seam prefix last [] d ∙ ap (λ k. new_pass lock f k) is))
 
   -- the passes that a new lock gives are all of its passes
   pub AreAll-new : (l : LockView) (f : F) (passes : List (PassView E F)) → passes ≡ new_passes l.lock f l.passes → AreAll l passes
   AreAll-new l f passes is =
-      let front = new_passes {E = E} l.lock f l.passes in
-      let len : length front ≡ l.passes = new_passes-length E l.lock f l.passes in
+      let prefix = new_passes {E = E} l.lock f l.passes in
+      let len : length prefix ≡ l.passes = new_passes-length E l.lock f l.passes in
       subst (λ ps. AreAll l ps) (sym is) (
         (λ k d lt. ap (λ (p : PassView E F). p.lock) (new_passes-at l.lock f l.passes k d (omega arith))),
         len,
-        (λ c lt. (c, new_pass l.lock f c, slice_get-get_or front c (new_pass l.lock f c) (omega arith) ∙ ap Some (new_passes-at l.lock f l.passes c (new_pass l.lock f c) lt), refl)),
+        (λ c lt. (c, new_pass l.lock f c, slice_get-get_or prefix c (new_pass l.lock f c) (omega arith) ∙ ap Some (new_passes-at l.lock f l.passes c (new_pass l.lock f c) lt), refl)),
       )
 
   -- where each pass is of the lock and of the caller that it was, they are all passes still

@@ -7,12 +7,12 @@ use mathlib.Core.Logic.{dite}
 use native.Mathlib.Decide.{dec_lt}
 use lib.ListN.{get_elem?}
 use Rattle.atomic_table.specs.Table.{Final, Seen}
-use Rattle.cm_turn.specs.declared.view.View.{View}
+use Rattle.cm_turn.specs.declared.view.SeatView.{SeatView}
 use Rattle.cm_turn.specs.History.{entries_by}
 use Rattle.cm_turn.specs.Views.{with_pass}
-use Rattle.cm_turn.specs.Rule.{Kept}
+use Rattle.cm_turn.specs.Rule.{KeepsRule}
 use Rattle.cm_turn.specs.Views.{gatherer}
-use Rattle.cm_turn.specs.Passes.{PassView, LockView, pass_of, IsIdle, known_as, IsKnown, HasCaller}
+use Rattle.cm_turn.specs.Passes.{PassView, LockView, pass_of, IsIdle, known_as, BearsPassOut, HasCaller}
 use Rattle.cm_turn.proofs.ViewLists.{get-map}
 use Rattle.cm_turn.proofs.Histories.{entries-some}
 use Rattle.cm_turn.proofs.PassSteps.{ends}
@@ -21,20 +21,20 @@ module _ {E F : Type 0} where
   more_of : (ys : List (PassView E F)) (p : PassView E F) → gatherer (length ys + 1) (map known_as ys ++ known_as p ∷ []) ≡ gatherer (length (ys ++ p ∷ [])) (map known_as (ys ++ p ∷ []))
   more_of ys p = λ i. gatherer (sym (length-append ys (p ∷ [])) i) (sym (map-append known_as ys (p ∷ [])) i)
 
-  pub gathered_more : (ys : List (PassView E F)) (lock : Rattle.atomic_table.specs.Seated.TableId) (number : ℕ) (v : View E F) (p : PassView E F) → IsIdle number v → pass_of lock number v ≡ p → with_pass (gatherer (length ys) (map known_as ys)) v ≡ gatherer (length (ys ++ p ∷ [])) (map known_as (ys ++ p ∷ []))
+  pub gathered_more : (ys : List (PassView E F)) (lock : Rattle.atomic_table.specs.Seated.TableId) (number : ℕ) (v : SeatView E F) (p : PassView E F) → IsIdle number v → pass_of lock number v ≡ p → with_pass (gatherer (length ys) (map known_as ys)) v ≡ gatherer (length (ys ++ p ∷ [])) (map known_as (ys ++ p ∷ []))
   gathered_more ys lock number v p idle is =
       ap (λ u. with_pass (gatherer (length ys) (map known_as ys)) u) idle.0 ∙ (more_of ys (pass_of lock number v) ∙ ap (λ q. gatherer (length (ys ++ q ∷ [])) (map known_as (ys ++ q ∷ []))) is)
 
 module _ {S E F : Type 0} (story : S → List E) (frame : S → F) (by : E → ℕ) where
   abbrev pub Closes : S × ℕ → List (PassView E F) → Option S → Type 0
   Closes key passes slot =
-      (x : S) × (slot ≡ Some x) × All (λ p. IsKnown story frame by x p) passes × ((c : ℕ) → key.1 ≤ c → entries_by by c (story x) ≡ [])
+      (x : S) × (slot ≡ Some x) × All (λ p. BearsPassOut story frame by x p) passes × ((c : ℕ) → key.1 ≤ c → entries_by by c (story x) ≡ [])
 
   of_some : (o : Option F) (x : F) → IsSome o → ((f : F) → o ≡ Some f → f ≡ x) → o ≡ Some x
   of_some (Some f) x h is = ap Some (is f refl)
   of_some None x h is = absurd (cc h)
 
-  pub closes : (key : S × ℕ) (words : List ℕ) (slots : List (Option S)) (id : ℕ) (v : View E F) (passes : List (PassView E F)) (slot : Option S) → Final (Seen (Kept story frame by key) id v) words slots → v ≡ gatherer (length passes) (map known_as passes) → length passes ≡ key.1 → All (λ p. IsSome p.frame) passes → get_elem? slots 0 ≡ some slot → Closes key passes slot
+  pub closes : (key : S × ℕ) (words : List ℕ) (slots : List (Option S)) (id : ℕ) (v : SeatView E F) (passes : List (PassView E F)) (slot : Option S) → Final (Seen (KeepsRule story frame by key) id v) words slots → v ≡ gatherer (length passes) (map known_as passes) → length passes ≡ key.1 → All (λ p. IsSome p.frame) passes → get_elem? slots 0 ≡ some slot → Closes key passes slot
   closes key words slots id v passes slot final is all framed there =
       let s = final.0 in
       let e = ends story frame by key s id v final.1.0 final.1.1 (ap (λ u. u.turn) is) (ap (λ u. u.parts) is ∙ all) in

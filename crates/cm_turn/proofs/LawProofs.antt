@@ -3,8 +3,8 @@ use Rattle.std.proofs.Common.{◌≡◌, ℕ, ◌+◌, ◌-◌, ◌%◌, ◌^◌
 use Rattle.std.specs.Prelude.{slice_index}
 use mathlib.Core.Option.{some, none, some-ne-none, some-injective}
 use Rattle.atomic_table.specs.Table.{State}
-use Rattle.cm_turn.specs.declared.view.View.{View}
-use Rattle.cm_turn.specs.Rule.{Homes, Kept, Moment, Stands, tickets_out, ticket_count, left_home}
+use Rattle.cm_turn.specs.declared.view.SeatView.{SeatView}
+use Rattle.cm_turn.specs.Rule.{Homes, KeepsRule, Moment, MomentHolds, tickets_out, ticket_count, left_home}
 use Rattle.cm_turn.specs.Laws.{OneTurn, OneCaller, CallersAreMade, OnlyCallersWait, OneTicket, CountsTickets, TicketsFollow, AllAreHeld, OneFrame, HomeFrame, SeenBegins, OutOnlyInTurn, OutInTurn, HomeIsHistory, TurnHasSeenAll, EntriesAreMine, NoOtherEntries}
 use Rattle.cm_turn.proofs.ViewLists.{some_same, total-le}
 use Rattle.cm_turn.proofs.Moments.{off, away}
@@ -23,7 +23,7 @@ unfolding home_value
 left_else true x homes e f = absurd (cc (some-injective (Some x) None (ap home_value (sym e ∙ f))))
 left_else false x homes e f = some-ne-none (Some x) (ap home_value (sym e ∙ f))
 
-module _ {S E F : Type 0} (story : S → List E) (frame : S → F) (by : E → ℕ) (key : S × ℕ) (s : State (Option S) (View E F)) (kept : Kept story frame by key s) where
+module _ {S E F : Type 0} (story : S → List E) (frame : S → F) (by : E → ℕ) (key : S × ℕ) (s : State (Option S) (SeatView E F)) (kept : KeepsRule story frame by key s) where
   pub one-turn : OneTurn s
   one-turn i j v u at there on its =
       let a = kept.1.each i v at in
@@ -45,7 +45,7 @@ module _ {S E F : Type 0} (story : S → List E) (frame : S → F) (by : E → �
   -- there are at most 64 tickets
   few_out : tickets_out s.views ≤ 64
   few_out =
-      let le : tickets_out s.views ≤ Rattle.cm_turn.specs.Rule.parts_of s.views = total-le (λ (u : View E F). ticket_count u.ticket) (λ (u : View E F). u.parts) s.views (λ i u a. (kept.1.each i u a).paid) in
+      let le : tickets_out s.views ≤ Rattle.cm_turn.specs.Rule.parts_of s.views = total-le (λ (u : SeatView E F). ticket_count u.ticket) (λ (u : SeatView E F). u.parts) s.views (λ i u a. (kept.1.each i u a).paid) in
       let p = kept.1.parts in
       let q = kept.1.few in
       omega arith

@@ -2,7 +2,7 @@ mod ViewLists
 mod Histories
 mod Moments
 mod Tickets
-mod Records
+mod RecordsState
 mod PassSteps
 mod Calls
 mod Closing

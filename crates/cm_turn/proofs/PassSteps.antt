@@ -7,21 +7,21 @@ use native.Mathlib.Decide.{ℕ_discrete}
 use lib.ListN.{get_elem?}
 use Rattle.atomic_table.specs.Table.{State, step, Splits, Joins, Enters, opening}
 use Rattle.atomic_table.proofs.Lists.{set_else}
-use Rattle.cm_turn.specs.declared.view.View.{View}
+use Rattle.cm_turn.specs.declared.view.SeatView.{SeatView}
 use Rattle.cm_turn.specs.declared.view.Known.{Known}
 use Rattle.cm_turn.specs.History.{StartsWith, entries_by}
 use Rattle.cm_turn.specs.Views.{maker, spent_view, with_one_made, next_pass, with_pass, caller_of, known_of}
-use Rattle.cm_turn.specs.Rule.{ticket_count, Moment, SpeaksFor, Fits, Kept}
+use Rattle.cm_turn.specs.Rule.{ticket_count, Moment, SpeaksFor, FitsView, KeepsRule}
 use Rattle.cm_turn.specs.Plays.{Arrives}
 use Rattle.cm_turn.proofs.ViewLists.{each_set, each_snoc, total-set, total-snoc, total-rest}
 use Rattle.cm_turn.proofs.Moments.{off, home_set, home_snoc, queue_set, queue_snoc, one_more, spent_fits}
 
 module _ {S E F : Type 0} (story : S → List E) (frame : S → F) (by : E → ℕ) where
-  abbrev Rule : S × ℕ → State (Option S) (View E F) → Type 0
-  Rule = Kept story frame by
+  abbrev Rule : S × ℕ → State (Option S) (SeatView E F) → Type 0
+  Rule = KeepsRule story frame by
 
-  abbrev Fit : S × ℕ → Moment E → ℕ → View E F → Type 0
-  Fit key m i v = Fits story frame by (frame key.0) key.1 m i v
+  abbrev Fit : S × ℕ → Moment E → ℕ → SeatView E F → Type 0
+  Fit key m i v = FitsView story frame by (frame key.0) key.1 m i v
 
   -- making a pass
   abbrev making_one : Moment E → ℕ → Moment E
@@ -30,7 +30,7 @@ module _ {S E F : Type 0} (story : S → List E) (frame : S → F) (by : E → �
   seat_kept : (m : Moment E) (j i c : ℕ) → m.seat c ≡ i → c < m.made → cond (eqb c m.made) j (m.seat c) ≡ i
   seat_kept m j i c at low = rw (ne_eqb c m.made (λ e. omega arith)) at
 
-  make_other : (key : S × ℕ) (m : Moment E) (new j : ℕ) (u : View E F) → (u.makes ≡ true → ⊥) → Fit key m j u → Fit key (making_one m new) j u
+  make_other : (key : S × ℕ) (m : Moment E) (new j : ℕ) (u : SeatView E F) → (u.makes ≡ true → ⊥) → Fit key m j u → Fit key (making_one m new) j u
   make_other key m new j u other h = record {
     framed = h.framed;
     seen = h.seen;
@@ -45,7 +45,7 @@ module _ {S E F : Type 0} (story : S → List E) (frame : S → F) (by : E → �
     maker = λ on. absurd (other on);
   }
 
-  make_own : (key : S × ℕ) (m : Moment E) (new id : ℕ) (v : View E F) → v.makes ≡ true → v.ticket ≡ None → 0 < v.parts → Fit key m id v → Fit key (making_one m new) id (with_one_made v)
+  make_own : (key : S × ℕ) (m : Moment E) (new id : ℕ) (v : SeatView E F) → v.makes ≡ true → v.ticket ≡ None → 0 < v.parts → Fit key m id v → Fit key (making_one m new) id (with_one_made v)
   make_own key m new id v makes free left h =
       let k = h.maker makes in
       let same = k.1 in
@@ -64,7 +64,7 @@ module _ {S E F : Type 0} (story : S → List E) (frame : S → F) (by : E → �
         maker = λ _. (k.0, omega arith, omega arith);
       }
 
-  make_new : (key : S × ℕ) (m : Moment E) (new id : ℕ) (v : View E F) → ((c : ℕ) → m.made ≤ c → entries_by by c m.log ≡ []) → v.makes ≡ true → Fit key m id v → Fit key (making_one m new) new (next_pass v)
+  make_new : (key : S × ℕ) (m : Moment E) (new id : ℕ) (v : SeatView E F) → ((c : ℕ) → m.made ≤ c → entries_by by c m.log ≡ []) → v.makes ≡ true → Fit key m id v → Fit key (making_one m new) new (next_pass v)
   make_new key m new id v none_else makes h =
       let k = h.maker makes in
       let same = k.1 in
@@ -82,7 +82,7 @@ module _ {S E F : Type 0} (story : S → List E) (frame : S → F) (by : E → �
         maker = λ on. off on refl;
       }
 
-  pub makes_one : (key : S × ℕ) (id : ℕ) (v : View E F) → v.makes ≡ true → v.ticket ≡ None → v.turn ≡ false → 0 < v.parts → Splits (Rule key) id v (with_one_made v) (next_pass v)
+  pub makes_one : (key : S × ℕ) (id : ℕ) (v : SeatView E F) → v.makes ≡ true → v.ticket ≡ None → v.turn ≡ false → 0 < v.parts → Splits (Rule key) id v (with_one_made v) (next_pass v)
   makes_one key id v makes free idle left s kept at =
       let m = kept.0 in
       let h = kept.1 in
@@ -92,10 +92,10 @@ module _ {S E F : Type 0} (story : S → List E) (frame : S → F) (by : E → �
       let mid = set s.views id w in
       let new = length mid in
       let m' = making_one m new in
-      let t0 = total-set (λ (u : View E F). ticket_count u.ticket) s.views id v w at in
-      let t1 = total-snoc (λ (u : View E F). ticket_count u.ticket) mid (next_pass v) in
-      let p0 = total-set (λ (u : View E F). u.parts) s.views id v w at in
-      let p1 = total-snoc (λ (u : View E F). u.parts) mid (next_pass v) in
+      let t0 = total-set (λ (u : SeatView E F). ticket_count u.ticket) s.views id v w at in
+      let t1 = total-snoc (λ (u : SeatView E F). ticket_count u.ticket) mid (next_pass v) in
+      let p0 = total-set (λ (u : SeatView E F). u.parts) s.views id v w at in
+      let p1 = total-snoc (λ (u : SeatView E F). u.parts) mid (next_pass v) in
       let c = h.count in
       let d = h.parts in
       let sum = own.2 in (
@@ -125,7 +125,7 @@ module _ {S E F : Type 0} (story : S → List E) (frame : S → F) (by : E → �
   seat_own : (m : Moment E) (c id d : ℕ) → m.seat d ≡ id → cond (eqb d c) id (m.seat d) ≡ id
   seat_own m c id d at = dite (ℕ_discrete d c) (λ e. rw (eq-eqb d c e) refl) (λ ne. rw (ne_eqb d c ne) at)
 
-  gather_other : (key : S × ℕ) (m : Moment E) (c id other j : ℕ) (u : View E F) → m.seat c ≡ other → j ≢ other → Fit key m j u → Fit key (moving m c id) j u
+  gather_other : (key : S × ℕ) (m : Moment E) (c id other j : ℕ) (u : SeatView E F) → m.seat c ≡ other → j ≢ other → Fit key m j u → Fit key (moving m c id) j u
   gather_other key m c id other j u seat ne h =
       let apart : (d : ℕ) → m.seat d ≡ j → d ≢ c = λ d at same. ne (sym at ∙ (ap m.seat same ∙ seat)) in
       record {
@@ -142,7 +142,7 @@ module _ {S E F : Type 0} (story : S → List E) (frame : S → F) (by : E → �
         maker = h.maker;
       }
 
-  gather_own : (key : S × ℕ) (m : Moment E) (c id other : ℕ) (v w : View E F) → w.caller ≡ Some c → v.makes ≡ false → Fit key m id v → Fit key m other w → Fit key (moving m c id) id (with_pass v w)
+  gather_own : (key : S × ℕ) (m : Moment E) (c id other : ℕ) (v w : SeatView E F) → w.caller ≡ Some c → v.makes ≡ false → Fit key m id v → Fit key m other w → Fit key (moving m c id) id (with_pass v w)
   gather_own key m c id other v w caller plain h k =
       let theirs = k.called c caller in
       let is : caller_of w.caller ≡ c = ap caller_of caller in
@@ -162,7 +162,7 @@ module _ {S E F : Type 0} (story : S → List E) (frame : S → F) (by : E → �
         maker = λ on. off on plain;
       }
 
-  pub gathers : (key : S × ℕ) (id other : ℕ) (v w : View E F) (c : ℕ) → v.turn ≡ false → v.makes ≡ false → w.turn ≡ false → w.ticket ≡ None → w.caller ≡ Some c → Joins (Rule key) id v other w (with_pass v w) spent_view
+  pub gathers : (key : S × ℕ) (id other : ℕ) (v w : SeatView E F) (c : ℕ) → v.turn ≡ false → v.makes ≡ false → w.turn ≡ false → w.ticket ≡ None → w.caller ≡ Some c → Joins (Rule key) id v other w (with_pass v w) spent_view
   gathers key id other v w c idle plain off_w free caller s kept at apart there =
       let m = kept.0 in
       let h = kept.1 in
@@ -171,11 +171,11 @@ module _ {S E F : Type 0} (story : S → List E) (frame : S → F) (by : E → �
       let was : get_elem? s.views other ≡ some w = sym (set_else s.views id other both apart) ∙ there in
       let theirs = h.each other w was in
       let m' = moving m c id in
-      let t0 = total-set (λ (u : View E F). ticket_count u.ticket) s.views id v both at in
-      let t1 = total-set (λ (u : View E F). ticket_count u.ticket) mid other w spent_view there in
+      let t0 = total-set (λ (u : SeatView E F). ticket_count u.ticket) s.views id v both at in
+      let t1 = total-set (λ (u : SeatView E F). ticket_count u.ticket) mid other w spent_view there in
       let z : ticket_count w.ticket ≡ 0 = ap ticket_count free in
-      let p0 = total-set (λ (u : View E F). u.parts) s.views id v both at in
-      let p1 = total-set (λ (u : View E F). u.parts) mid other w spent_view there in
+      let p0 = total-set (λ (u : SeatView E F). u.parts) s.views id v both at in
+      let p1 = total-set (λ (u : SeatView E F). u.parts) mid other w spent_view there in
       let x = h.count in
       let y = h.parts in (
         m',
@@ -195,7 +195,7 @@ module _ {S E F : Type 0} (story : S → List E) (frame : S → F) (by : E → �
       )
 
   -- a new seat, which gathers the passes
-  pub arrives : (key : S × ℕ) (slots : ℕ) (v : View E F) → Enters (Rule key) slots 1 (λ n w. Arrives (step {S = Option S} slots 1 0 0 none) (v, []) n (w, []))
+  pub arrives : (key : S × ℕ) (slots : ℕ) (v : SeatView E F) → Enters (Rule key) slots 1 (λ n w. Arrives (step {S = Option S} slots 1 0 0 none) (v, []) n (w, []))
   arrives key slots v s kept len fits =
       let m = kept.0 in
       let h = kept.1 in
@@ -205,7 +205,7 @@ module _ {S E F : Type 0} (story : S → List E) (frame : S → F) (by : E → �
   pub opens : (key : S × ℕ) → 0 < key.1 → key.1 ≤ 64 → Rule key (opening (1 ∷ 0 ∷ []) (replicate 1 None) (maker (frame key.0) key.1))
   opens key some_pass few =
       let m : Moment E = record { drawn = 1; served = 0; line = λ _. 0; seat = λ _. 0; making = 0; made = 0; log = [] } in
-      let v : View E F = maker (frame key.0) key.1 in
+      let v : SeatView E F = maker (frame key.0) key.1 in
       let fit : Fit key m 0 v = record {
         framed = λ g e. cc e;
         seen = ([], refl);
@@ -234,7 +234,7 @@ module _ {S E F : Type 0} (story : S → List E) (frame : S → F) (by : E → �
       )
 
   -- at the end, where one view has every part, the state is at home
-  pub ends : (key : S × ℕ) (s : State (Option S) (View E F)) (id : ℕ) (v : View E F) → Rule key s → get_elem? s.views id ≡ some v → v.turn ≡ false → v.parts ≡ key.1
+  pub ends : (key : S × ℕ) (s : State (Option S) (SeatView E F)) (id : ℕ) (v : SeatView E F) → Rule key s → get_elem? s.views id ≡ some v → v.turn ≡ false → v.parts ≡ key.1
       → (x : S) × (get_elem? s.homes 0 ≡ some (some (Some x))) × (frame x ≡ frame key.0)
       × ((i : ℕ) (g : Known E F) → get_elem? v.gathered i ≡ some g → StartsWith (story x) g.seen × (entries_by by g.caller (story x) ≡ g.mine) × ((f : F) → g.frame ≡ Some f → f ≡ frame x))
       × ((c : ℕ) → key.1 ≤ c → entries_by by c (story x) ≡ [])
@@ -253,8 +253,8 @@ module _ {S E F : Type 0} (story : S → List E) (frame : S → F) (by : E → �
         | inr x ↦
             let theirs = h.each x.0 x.1 x.2 in
             let sum = h.parts in
-            let apart : x.0 ≢ id = λ same. let e : x.1 ≡ v = some-injective x.1 v (sym x.2 ∙ (ap (λ k. get_elem? s.views k) same ∙ at)) in off x.3 (ap (λ (u : View E F). u.turn) e ∙ idle) in
-            let none_left : x.1.parts ≡ 0 = total-rest (λ (u : View E F). u.parts) s.views id x.0 v x.1 at (omega arith) apart x.2 in
+            let apart : x.0 ≢ id = λ same. let e : x.1 ≡ v = some-injective x.1 v (sym x.2 ∙ (ap (λ k. get_elem? s.views k) same ∙ at)) in off x.3 (ap (λ (u : SeatView E F). u.turn) e ∙ idle) in
+            let none_left : x.1.parts ≡ 0 = total-rest (λ (u : SeatView E F). u.parts) s.views id x.0 v x.1 at (omega arith) apart x.2 in
             let one : ticket_count x.1.ticket ≡ 1 = ap ticket_count (theirs.turn x.3).0 in
             let paid = theirs.paid in
             absurd (omega arith)

@@ -6,9 +6,9 @@ use native.Mathlib.Decide.{ℕ_discrete}
 use lib.ListN.{get_elem?}
 use Rattle.atomic_table.specs.Table.{State, Act, keeps, takes, gives, chain, Valid, homes_after, carried_after, stepped}
 use Rattle.atomic_table.proofs.Lists.{set_else, at_longer}
-use Rattle.cm_turn.specs.declared.view.View.{View}
-use Rattle.cm_turn.specs.Rule.{Homes, Kept}
-use Rattle.cm_turn.specs.Moves.{AreOut, MayDo, HasTurn, Moves, StepsMove, ArrivalsMove, OnlyTurnMoves}
+use Rattle.cm_turn.specs.declared.view.SeatView.{SeatView}
+use Rattle.cm_turn.specs.Rule.{Homes, KeepsRule}
+use Rattle.cm_turn.specs.MovesSlots.{AreOut, MayDo, HasTurn, MovesSlots, StepsMove, ArrivalsMove, OnlyTurnMoves}
 use Rattle.cm_turn.proofs.Moments.{off, away}
 use Rattle.cm_turn.proofs.ViewLists.{at_snoc_here}
 
@@ -71,7 +71,7 @@ module _ {S E F : Type 0} (story : S → List E) (frame : S → F) (by : E → �
             away story frame by (frame key.0) key.1 there.0 t.words t.homes t.views x.0 x.1 there.1 ((m.others x.0 x.1 apart).0 x.2) x.3 ∙ sym x.4)
       ]
 
-module _ {S E F : Type 0} (s : State (Option S) (View E F)) where
+module _ {S E F : Type 0} (s : State (Option S) (SeatView E F)) where
   pub steps_move : StepsMove s
   steps_move word number i slots v act may = record {
     slots = slots;

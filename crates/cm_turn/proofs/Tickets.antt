@@ -7,10 +7,10 @@ use native.Mathlib.Decide.{ℕ_discrete}
 use lib.ListN.{get_elem?}
 use Rattle.atomic_table.specs.Table.{State, step, keeps, takes, gives, Allows, stepped}
 use Rattle.atomic_table.proofs.Lists.{set_again, one_turn}
-use Rattle.cm_turn.specs.declared.view.View.{View}
+use Rattle.cm_turn.specs.declared.view.SeatView.{SeatView}
 use Rattle.cm_turn.specs.History.{StartsWith, entries_by}
 use Rattle.cm_turn.specs.Views.{with_ticket, with_turn, with_slot, without_turn}
-use Rattle.cm_turn.specs.Rule.{tickets_out, parts_of, ticket_count, Moment, left_home, IsQueue, Fits, Stands, Kept}
+use Rattle.cm_turn.specs.Rule.{tickets_out, parts_of, ticket_count, Moment, left_home, IsQueue, FitsView, MomentHolds, KeepsRule}
 use Rattle.cm_turn.specs.Plays.{ticket_word, Looks, Draws, TakesEmpty, PassesOn}
 use Rattle.cm_turn.proofs.ViewLists.{each_set, set_at, total-set, total-le}
 use Rattle.cm_turn.proofs.Histories.{starts-refl}
@@ -27,16 +27,16 @@ serve_word : {E : Type 0} (m : Moment E) (ws : List ℕ) → ws ≡ (m.drawn % 2
 serve_word m ws e = rw e (ap (λ (k : ℕ). (m.drawn % 2 ^ 64) ∷ k ∷ []) (mod_suc m.served))
 
 module _ {S E F : Type 0} (story : S → List E) (frame : S → F) (by : E → ℕ) where
-  abbrev Rule : S × ℕ → State (Option S) (View E F) → Type 0
-  Rule = Kept story frame by
+  abbrev Rule : S × ℕ → State (Option S) (SeatView E F) → Type 0
+  Rule = KeepsRule story frame by
 
-  abbrev Fit : S × ℕ → Moment E → ℕ → View E F → Type 0
-  Fit key m i v = Fits story frame by (frame key.0) key.1 m i v
+  abbrev Fit : S × ℕ → Moment E → ℕ → SeatView E F → Type 0
+  Fit key m i v = FitsView story frame by (frame key.0) key.1 m i v
 
   abbrev drawing : Moment E → ℕ → Moment E
   drawing m id = record m { drawn = m.drawn + 1; line = λ t. cond (eqb t m.drawn) id (m.line t) }
 
-  draw_other : (key : S × ℕ) (m : Moment E) (id j : ℕ) (u : View E F) → Fit key m j u → Fit key (drawing m id) j u
+  draw_other : (key : S × ℕ) (m : Moment E) (id j : ℕ) (u : SeatView E F) → Fit key m j u → Fit key (drawing m id) j u
   draw_other key m id j u h = record {
     framed = h.framed;
     seen = h.seen;
@@ -51,7 +51,7 @@ module _ {S E F : Type 0} (story : S → List E) (frame : S → F) (by : E → �
     maker = h.maker;
   }
 
-  draw_own : (key : S × ℕ) (m : Moment E) (id : ℕ) (v : View E F) → m.served ≤ m.drawn → v.turn ≡ false → IsSome v.caller → 0 < v.parts → Fit key m id v → Fit key (drawing m id) id (with_ticket m.drawn v)
+  draw_own : (key : S × ℕ) (m : Moment E) (id : ℕ) (v : SeatView E F) → m.served ≤ m.drawn → v.turn ≡ false → IsSome v.caller → 0 < v.parts → Fit key m id v → Fit key (drawing m id) id (with_ticket m.drawn v)
   draw_own key m id v le idle caller paid h = record {
     framed = h.framed;
     seen = h.seen;
@@ -67,24 +67,24 @@ module _ {S E F : Type 0} (story : S → List E) (frame : S → F) (by : E → �
   }
 
   -- after the draw each ticket is held: the new one by this seat, and the others as before
-  draw_queue : (m : Moment E) (views : List (View E F)) (id : ℕ) (v : View E F) → v.ticket ≡ None → get_elem? views id ≡ some v → IsQueue m views → IsQueue (drawing m id) (set views id (with_ticket m.drawn v))
+  draw_queue : (m : Moment E) (views : List (SeatView E F)) (id : ℕ) (v : SeatView E F) → v.ticket ≡ None → get_elem? views id ≡ some v → IsQueue m views → IsQueue (drawing m id) (set views id (with_ticket m.drawn v))
   draw_queue m views id v free at h = λ t lo hi.
       dite (ℕ_discrete t m.drawn)
       (λ new. let is : eqb t m.drawn ≡ true = eq-eqb t m.drawn new in rw is (with_ticket m.drawn v, set_at views id v (with_ticket m.drawn v) at, ap Some (sym new)))
       (λ old.
       let no : eqb t m.drawn ≡ false = ne_eqb t m.drawn old in
       let x = h t lo (omega arith) in
-      let apart : m.line t ≡ id → ⊥ = λ here. let is : v ≡ x.0 = some-injective v x.0 (sym at ∙ (ap (λ k. get_elem? views k) (sym here) ∙ x.1)) in absurd (cc (sym free ∙ (ap (λ (u : View E F). u.ticket) is ∙ x.2))) in
+      let apart : m.line t ≡ id → ⊥ = λ here. let is : v ≡ x.0 = some-injective v x.0 (sym at ∙ (ap (λ k. get_elem? views k) (sym here) ∙ x.1)) in absurd (cc (sym free ∙ (ap (λ (u : SeatView E F). u.ticket) is ∙ x.2))) in
       rw no (queue_apart m views id (with_ticket m.drawn v) t apart x))
 
-  pub draws : (key : S × ℕ) (slots id : ℕ) (v : View E F) → v.ticket ≡ None → v.turn ≡ false → IsSome v.caller → 0 < v.parts → Allows (Rule key) slots id (v, []) 0 (λ n. (n + 1) % 2 ^ 64) (Draws (step slots 0 1 0 none) (v, []))
+  pub draws : (key : S × ℕ) (slots id : ℕ) (v : SeatView E F) → v.ticket ≡ None → v.turn ≡ false → IsSome v.caller → 0 < v.parts → Allows (Rule key) slots id (v, []) 0 (λ n. (n + 1) % 2 ^ 64) (Draws (step slots 0 1 0 none) (v, []))
   draws key slots id v free idle caller paid s kept len at fits =
       let m = kept.0 in let h = kept.1 in let w = with_ticket m.drawn v in let m' = drawing m id in
       let le : m.served ≤ m.drawn = let c = h.count in omega arith in
       let count : m.drawn + 1 ≡ m.served + tickets_out (set s.views id w) =
-      let t = total-set (λ (u : View E F). ticket_count u.ticket) s.views id v w at in let z : ticket_count v.ticket ≡ 0 = ap ticket_count free in let c = h.count in omega arith in
+      let t = total-set (λ (u : SeatView E F). ticket_count u.ticket) s.views id v w at in let z : ticket_count v.ticket ≡ 0 = ap ticket_count free in let c = h.count in omega arith in
       let parts : parts_of (set s.views id w) ≡ key.1 =
-      let t = total-set (λ (u : View E F). u.parts) s.views id v w at in let c = h.parts in omega arith in (
+      let t = total-set (λ (u : SeatView E F). u.parts) s.views id v w at in let c = h.parts in omega arith in (
         w,
         keeps,
         tt,
@@ -106,7 +106,7 @@ module _ {S E F : Type 0} (story : S → List E) (frame : S → F) (by : E → �
       )
 
   -- the look
-  took : (key : S × ℕ) (m : Moment E) (id : ℕ) (v : View E F) (log : List E) → log ≡ m.log → v.ticket ≡ Some m.served → Fit key m id v → Fit key m id (with_turn log v)
+  took : (key : S × ℕ) (m : Moment E) (id : ℕ) (v : SeatView E F) (log : List E) → log ≡ m.log → v.ticket ≡ Some m.served → Fit key m id v → Fit key m id (with_turn log v)
   took key m id v log is t h = record {
     framed = h.framed;
     seen = subst (λ l. StartsWith m.log l) (sym is) (starts-refl m.log);
@@ -122,19 +122,19 @@ module _ {S E F : Type 0} (story : S → List E) (frame : S → F) (by : E → �
   }
 
   -- a look that changes no view
-  still : (key : S × ℕ) (s : State (Option S) (View E F)) (id : ℕ) (v : View E F) → Rule key s → get_elem? s.views id ≡ some v → Rule key (stepped s 1 (slice_index s.words 1) id [] v keeps)
+  still : (key : S × ℕ) (s : State (Option S) (SeatView E F)) (id : ℕ) (v : SeatView E F) → Rule key s → get_elem? s.views id ≡ some v → Rule key (stepped s 1 (slice_index s.words 1) id [] v keeps)
   still key s id v kept at =
       let m = kept.0 in
       let h = kept.1 in
       let again : s.views ≡ set s.views id v = sym (set_again s.views id v at) in
       let ws : s.words ≡ slice_set s.words 1 (slice_index s.words 1) = h.words_are ∙ sym (same_word m s.words h.words_are) in
-      (m, subst (λ (x : List ℕ × List (View E F)). Stands story frame by (frame key.0) key.1 m x.0 s.homes x.1) (λ i. (ws i, again i)) h)
+      (m, subst (λ (x : List ℕ × List (SeatView E F)). MomentHolds story frame by (frame key.0) key.1 m x.0 s.homes x.1) (λ i. (ws i, again i)) h)
 
-  its_turn : (key : S × ℕ) (m : Moment E) (s : State (Option S) (View E F)) (id : ℕ) (v : View E F) (t : ℕ) → Stands story frame by (frame key.0) key.1 m s.words s.homes s.views → get_elem? s.views id ≡ some v → v.ticket ≡ Some t → slice_index s.words 1 ≡ t % 2 ^ 64 → t ≡ m.served
+  its_turn : (key : S × ℕ) (m : Moment E) (s : State (Option S) (SeatView E F)) (id : ℕ) (v : SeatView E F) (t : ℕ) → MomentHolds story frame by (frame key.0) key.1 m s.words s.homes s.views → get_elem? s.views id ≡ some v → v.ticket ≡ Some t → slice_index s.words 1 ≡ t % 2 ^ 64 → t ≡ m.served
   its_turn key m s id v t h at wait e =
       let fit = h.each id v at in
       let ticket = fit.ticket t wait in
-      let few : tickets_out s.views ≤ parts_of s.views = total-le (λ (u : View E F). ticket_count u.ticket) (λ (u : View E F). u.parts) s.views (λ i u a. (h.each i u a).paid) in
+      let few : tickets_out s.views ≤ parts_of s.views = total-le (λ (u : SeatView E F). ticket_count u.ticket) (λ (u : SeatView E F). u.parts) s.views (λ i u a. (h.each i u a).paid) in
       let c = h.count in
       let p = h.parts in
       let q = h.few in
@@ -143,7 +143,7 @@ module _ {S E F : Type 0} (story : S → List E) (frame : S → F) (by : E → �
       let hi = ticket.2 in
       sym (one_turn m.served t (2 ^ 64) lo (omega arith) (sym w ∙ e))
 
-  pub looks : (key : S × ℕ) (slots id : ℕ) (v : View E F) (t : ℕ) → v.ticket ≡ Some t → v.turn ≡ false → v.fresh ≡ false → Allows (Rule key) slots id (v, []) 1 (λ n. n) (Looks story frame by (step slots 1 0 0 none) (v, []))
+  pub looks : (key : S × ℕ) (slots id : ℕ) (v : SeatView E F) (t : ℕ) → v.ticket ≡ Some t → v.turn ≡ false → v.fresh ≡ false → Allows (Rule key) slots id (v, []) 1 (λ n. n) (Looks story frame by (step slots 1 0 0 none) (v, []))
   looks key slots id v t wait idle plain s kept len at fits =
       let m = kept.0 in
       let h = kept.1 in
@@ -162,8 +162,8 @@ module _ {S E F : Type 0} (story : S → List E) (frame : S → F) (by : E → �
                 m,
                 record {
                   words_are = same_word m s.words h.words_are;
-                  count = h.count ∙ ap (λ (k : ℕ). m.served + k) (sym (same_total (λ (u : View E F). ticket_count u.ticket) s.views id v w at refl));
-                  parts = same_total (λ (u : View E F). u.parts) s.views id v w at refl ∙ h.parts;
+                  count = h.count ∙ ap (λ (k : ℕ). m.served + k) (sym (same_total (λ (u : SeatView E F). ticket_count u.ticket) s.views id v w at refl));
+                  parts = same_total (λ (u : SeatView E F). u.parts) s.views id v w at refl ∙ h.parts;
                   few = h.few;
                   made = h.made;
                   none_else = h.none_else;
@@ -178,15 +178,15 @@ module _ {S E F : Type 0} (story : S → List E) (frame : S → F) (by : E → �
             let theirs = (h.each x.0 x.1 x.2).turn x.3 in
             let holder : x.0 ≡ id = one_holder story frame by key m x.0 id x.1 v m.served (h.each x.0 x.1 x.2) fit theirs.0 mine in
             let e : x.1 ≡ v = some-injective x.1 v (sym x.2 ∙ (ap (λ k. get_elem? s.views k) holder ∙ at)) in
-            off x.3 (ap (λ (u : View E F). u.turn) e ∙ idle)
+            off x.3 (ap (λ (u : SeatView E F). u.turn) e ∙ idle)
       ])
       (λ miss. (v, keeps, tt, still key s id v kept at, ((λ hit. absurd (miss hit)), (λ _. refl))))
 
   -- the empty slot is taken
-  unfresh : (key : S × ℕ) (m : Moment E) (id : ℕ) (v : View E F) → Fit key m id v → Fit key m id (with_slot v)
+  unfresh : (key : S × ℕ) (m : Moment E) (id : ℕ) (v : SeatView E F) → Fit key m id v → Fit key m id (with_slot v)
   unfresh key m id v h = record { framed = h.framed; seen = h.seen; told = h.told; called = h.called; own = h.own; nameless = h.nameless; gathered = h.gathered; ticket = h.ticket; paid = h.paid; turn = h.turn; maker = h.maker }
 
-  pub takes_empty : (key : S × ℕ) (slots id : ℕ) (v : View E F) → v.turn ≡ true → v.fresh ≡ true → Allows (Rule key) slots id (v, []) 1 (λ n. n) (TakesEmpty (step slots 1 0 0 none) (v, []))
+  pub takes_empty : (key : S × ℕ) (slots id : ℕ) (v : SeatView E F) → v.turn ≡ true → v.fresh ≡ true → Allows (Rule key) slots id (v, []) 1 (λ n. n) (TakesEmpty (step slots 1 0 0 none) (v, []))
   takes_empty key slots id v on fresh s kept len at fits =
       let m = kept.0 in
       let h = kept.1 in
@@ -199,8 +199,8 @@ module _ {S E F : Type 0} (story : S → List E) (frame : S → F) (by : E → �
           m,
           record {
             words_are = same_word m s.words h.words_are;
-            count = h.count ∙ ap (λ (k : ℕ). m.served + k) (sym (same_total (λ (u : View E F). ticket_count u.ticket) s.views id v w at refl));
-            parts = same_total (λ (u : View E F). u.parts) s.views id v w at refl ∙ h.parts;
+            count = h.count ∙ ap (λ (k : ℕ). m.served + k) (sym (same_total (λ (u : SeatView E F). ticket_count u.ticket) s.views id v w at refl));
+            parts = same_total (λ (u : SeatView E F). u.parts) s.views id v w at refl ∙ h.parts;
             few = h.few;
             made = h.made;
             none_else = h.none_else;
@@ -216,7 +216,7 @@ module _ {S E F : Type 0} (story : S → List E) (frame : S → F) (by : E → �
   abbrev serving : Moment E → Moment E
   serving m = record m { served = m.served + 1 }
 
-  pass_other : (key : S × ℕ) (m : Moment E) (j : ℕ) (u : View E F) → (u.ticket ≡ Some m.served → ⊥) → Fit key m j u → Fit key (serving m) j u
+  pass_other : (key : S × ℕ) (m : Moment E) (j : ℕ) (u : SeatView E F) → (u.ticket ≡ Some m.served → ⊥) → Fit key m j u → Fit key (serving m) j u
   pass_other key m j u ne h = record {
     framed = h.framed;
     seen = h.seen;
@@ -231,7 +231,7 @@ module _ {S E F : Type 0} (story : S → List E) (frame : S → F) (by : E → �
     maker = h.maker;
   }
 
-  pass_own : (key : S × ℕ) (m : Moment E) (id : ℕ) (v : View E F) → Fit key m id v → Fit key (serving m) id (without_turn v)
+  pass_own : (key : S × ℕ) (m : Moment E) (id : ℕ) (v : SeatView E F) → Fit key m id v → Fit key (serving m) id (without_turn v)
   pass_own key m id v h = record {
     framed = h.framed;
     seen = h.seen;
@@ -247,17 +247,17 @@ module _ {S E F : Type 0} (story : S → List E) (frame : S → F) (by : E → �
   }
 
   -- after the turn is passed on each ticket from the next one on is held as before
-  pass_queue : (m : Moment E) (views : List (View E F)) (id : ℕ) (v w : View E F) → v.ticket ≡ Some m.served → get_elem? views id ≡ some v → IsQueue m views → IsQueue (serving m) (set views id w)
+  pass_queue : (m : Moment E) (views : List (SeatView E F)) (id : ℕ) (v w : SeatView E F) → v.ticket ≡ Some m.served → get_elem? views id ≡ some v → IsQueue m views → IsQueue (serving m) (set views id w)
   pass_queue m views id v w its at h = λ t lo hi.
       let x = h t (omega arith) hi in
       let apart : m.line t ≡ id → ⊥ = λ here.
       let is : v ≡ x.0 = some-injective v x.0 (sym at ∙ (ap (λ k. get_elem? views k) (sym here) ∙ x.1)) in
-      let same : m.served ≡ t = cc (sym its ∙ (ap (λ (u : View E F). u.ticket) is ∙ x.2)) in
+      let same : m.served ≡ t = cc (sym its ∙ (ap (λ (u : SeatView E F). u.ticket) is ∙ x.2)) in
       omega arith
       in
       queue_apart m views id w t apart x
 
-  pub passes_on : (key : S × ℕ) (slots id : ℕ) (v : View E F) (x : S) → v.turn ≡ true → story x ≡ v.seen → v.frame ≡ Some (frame x)
+  pub passes_on : (key : S × ℕ) (slots id : ℕ) (v : SeatView E F) (x : S) → v.turn ≡ true → story x ≡ v.seen → v.frame ≡ Some (frame x)
       → Allows (Rule key) slots id (v, (0, Some x) ∷ []) 1 (λ n. (n + 1) % 2 ^ 64) (PassesOn (step slots 1 1 0 none) (v, (0, Some x) ∷ []))
   passes_on key slots id v x on is framed s kept len at fits =
       let m = kept.0 in
@@ -267,9 +267,9 @@ module _ {S E F : Type 0} (story : S → List E) (frame : S → F) (by : E → �
       let m' = serving m in
       let w = without_turn v in
       let hs = away story frame by (frame key.0) key.1 m s.words s.homes s.views id v h at on in
-      let else_no : (j : ℕ) (u : View E F) → j ≢ id → get_elem? s.views j ≡ some u → u.ticket ≡ Some m.served → ⊥ = λ j u ne e t. ne (only_turn story frame by (frame key.0) key.1 m s.words s.homes s.views id j v u h at on e t) in
+      let else_no : (j : ℕ) (u : SeatView E F) → j ≢ id → get_elem? s.views j ≡ some u → u.ticket ≡ Some m.served → ⊥ = λ j u ne e t. ne (only_turn story frame by (frame key.0) key.1 m s.words s.homes s.views id j v u h at on e t) in
       let count : m.drawn ≡ (m.served + 1) + tickets_out (set s.views id w) =
-      let t = total-set (λ (u : View E F). ticket_count u.ticket) s.views id v w at in let z : ticket_count v.ticket ≡ 1 = ap ticket_count mine.0 in let c = h.count in omega arith in (
+      let t = total-set (λ (u : SeatView E F). ticket_count u.ticket) s.views id v w at in let z : ticket_count v.ticket ≡ 1 = ap ticket_count mine.0 in let c = h.count in omega arith in (
         w,
         gives,
         tt,
@@ -278,7 +278,7 @@ module _ {S E F : Type 0} (story : S → List E) (frame : S → F) (by : E → �
           record {
             words_are = serve_word m s.words h.words_are;
             count = count;
-            parts = same_total (λ (u : View E F). u.parts) s.views id v w at refl ∙ h.parts;
+            parts = same_total (λ (u : SeatView E F). u.parts) s.views id v w at refl ∙ h.parts;
             few = h.few;
             made = h.made;
             none_else = h.none_else;
@@ -289,7 +289,7 @@ module _ {S E F : Type 0} (story : S → List E) (frame : S → F) (by : E → �
               ap (λ xs. slice_set xs 0 (some (Some x))) hs,
               is ∙ mine.1,
               fit.framed (frame x) framed,
-              each_set (λ _ (u : View E F). u.turn ≡ false) s.views id w (λ j u ne e. not_on u.turn (λ its. else_no j u ne e ((h.each j u e).turn its).0)) refl,
+              each_set (λ _ (u : SeatView E F). u.turn ≡ false) s.views id w (λ j u ne e. not_on u.turn (λ its. else_no j u ne e ((h.each j u e).turn its).0)) refl,
             );
           },
         ),

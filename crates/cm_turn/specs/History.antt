@@ -1,3 +1,4 @@
+-- Promised.
 -- Words for a history: a list of entries, each of which a numbered caller has made.
 use Rattle.std.specs.Prelude.{◌≡◌, ◌==◌, ℕ, Bool, true, false, List, ◌++◌, length, filter, nat_lt}
 

@@ -4,4 +4,4 @@ pub mod Rule
 pub mod Plays
 pub mod Passes
 pub mod Laws
-pub mod Moves
+pub mod MovesSlots

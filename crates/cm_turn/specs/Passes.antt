@@ -1,8 +1,9 @@
+-- Promised.
 -- What contracts see of a lock, of its passes and of a turn that is held.
 use Rattle.std.specs.Prelude.{◌≡◌, ℕ, zero, suc, ◌<◌, List, [], ◌∷◌, ◌++◌, All, length, Option, Some, IsSome}
 use Rattle.std.specs.Prelude.{slice_get}
 use Rattle.atomic_table.specs.Seated.{TableId}
-use Rattle.cm_turn.specs.declared.view.View.{View}
+use Rattle.cm_turn.specs.declared.view.SeatView.{SeatView}
 use Rattle.cm_turn.specs.declared.view.Known.{Known}
 use Rattle.cm_turn.specs.History.{StartsWith, entries_by}
 use Rattle.cm_turn.specs.Views.{spent_view, idle_view, holding_view}
@@ -64,15 +65,15 @@ module _ {E F : Type 0} where
 
 -- the state bears a pass out: it has the pass's frame, its list begins with what the pass has
 -- seen, and the caller's entries in it are the pass's own
-abbrev pub IsKnown : {S E F : Type 0} → (S → List E) → (S → F) → (E → ℕ) → S → PassView E F → Type 0
-IsKnown story frame by s p =
+abbrev pub BearsPassOut : {S E F : Type 0} → (S → List E) → (S → F) → (E → ℕ) → S → PassView E F → Type 0
+BearsPassOut story frame by s p =
     (p.frame ≡ Some (frame s)) × StartsWith (story s) p.seen × (entries_by by p.caller (story s) ≡ p.mine)
 
 -- ---- a turn
 
 module _ {S E F : Type 0} (story : S → List E) where
   -- the pass that had this turn has seen the whole list, and has the entries that were added to it as its own
-  pub record Leaves (by : E → ℕ) (h : HeldView S E F) (p : PassView E F) : Type 0 where
+  pub record LeavesTurn (by : E → ℕ) (h : HeldView S E F) (p : PassView E F) : Type 0 where
     pub lock : p.lock ≡ h.pass.lock
     pub frame : p.frame ≡ h.pass.frame
     pub caller : p.caller ≡ h.pass.caller
@@ -92,11 +93,11 @@ module _ {S E F : Type 0} (story : S → List E) where
 -- How the values of this crate are seen.
 module _ {E F : Type 0} where
   -- the view of a badge that is alone
-  abbrev pub view_in : List (View E F) → View E F
+  abbrev pub view_in : List (SeatView E F) → SeatView E F
   view_in [] = spent_view
   view_in (v ∷ vs) = v
 
-  abbrev pub pass_of : TableId → ℕ → View E F → PassView E F
+  abbrev pub pass_of : TableId → ℕ → SeatView E F → PassView E F
   pass_of lock number v =
       record { lock = lock; frame = v.frame; caller = number; seen = v.seen; mine = v.mine }
 
@@ -104,15 +105,15 @@ module _ {E F : Type 0} where
   known_as p = record { frame = p.frame; caller = p.caller; seen = p.seen; mine = p.mine }
 
   -- a pass at rest, with a frame
-  abbrev pub IsIdle : ℕ → View E F → Type 0
+  abbrev pub IsIdle : ℕ → SeatView E F → Type 0
   IsIdle c v = (v ≡ idle_view v.frame c v.seen v.mine) × IsSome v.frame
 
   -- the views of a pass's badge
-  abbrev pub IsPass : ℕ → List (View E F) → Type 0
+  abbrev pub IsPass : ℕ → List (SeatView E F) → Type 0
   IsPass c views = (views ≡ view_in views ∷ []) × IsIdle c (view_in views)
 
   -- a pass that has the turn, and has seen its caller's entries and no others of it
-  abbrev pub IsHolding : (E → ℕ) → ℕ → View E F → Type 0
+  abbrev pub IsHolding : (E → ℕ) → ℕ → SeatView E F → Type 0
   IsHolding by c v =
       ((t : ℕ) × (v ≡ holding_view t v.frame c v.seen v.mine)) × (entries_by by c v.seen ≡ v.mine)
 

@@ -1,10 +1,11 @@
+-- Inside.
 -- The rule of the lock's table, which holds between any two steps.
 use Rattle.std.specs.Prelude.{◌≡◌, ℕ, ◌+◌, ◌%◌, ◌^◌, ◌<◌, ◌≤◌, ◌⊎◌, Bool, true, false, List, [], ◌∷◌, Option}
 use Rattle.std.specs.Prelude.{Some, None}
 use mathlib.Core.Option.{some, none}
 use lib.ListN.{get_elem?}
 use Rattle.atomic_table.specs.Table.{State}
-use Rattle.cm_turn.specs.declared.view.View.{View}
+use Rattle.cm_turn.specs.declared.view.SeatView.{SeatView}
 use Rattle.cm_turn.specs.declared.view.Known.{Known}
 use Rattle.cm_turn.specs.History.{StartsWith, entries_by}
 
@@ -18,11 +19,11 @@ total f [] = 0
 total f (v ∷ vs) = f v + total f vs
 
 -- how many tickets all views have
-abbrev pub tickets_out : {E F : Type 0} → List (View E F) → ℕ
+abbrev pub tickets_out : {E F : Type 0} → List (SeatView E F) → ℕ
 tickets_out views = total (λ v. ticket_count v.ticket) views
 
 -- how many passes all views are, or may yet make
-abbrev pub parts_of : {E F : Type 0} → List (View E F) → ℕ
+abbrev pub parts_of : {E F : Type 0} → List (SeatView E F) → ℕ
 parts_of views = total (λ v. v.parts) views
 
 -- What one moment adds to the table. Tickets are counted here without end.
@@ -43,11 +44,11 @@ pub record Moment (E : Type 0) : Type 0 where
   pub log : List E
 
 -- ticket t is held: the seat that it belongs to has it
-abbrev pub IsHeld : {E F : Type 0} → Moment E → List (View E F) → ℕ → Type 0
-IsHeld {E} {F} m views t = (v : View E F) × (get_elem? views (m.line t) ≡ some v) × (v.ticket ≡ Some t)
+abbrev pub IsHeld : {E F : Type 0} → Moment E → List (SeatView E F) → ℕ → Type 0
+IsHeld {E} {F} m views t = (v : SeatView E F) × (get_elem? views (m.line t) ≡ some v) × (v.ticket ≡ Some t)
 
 -- each ticket that is drawn and not yet past is held
-abbrev pub IsQueue : {E F : Type 0} → Moment E → List (View E F) → Type 0
+abbrev pub IsQueue : {E F : Type 0} → Moment E → List (SeatView E F) → Type 0
 IsQueue m views = (t : ℕ) → m.served ≤ t → t < m.drawn → IsHeld m views t
 
 -- what each slot has: none where it is out with a seat, and else its value, which is a state or nothing yet
@@ -65,20 +66,20 @@ SpeaksFor by m i c mine = (m.seat c ≡ i) × (c < m.made) × (entries_by by c m
 
 module _ {S E F : Type 0} where
   -- the state is at home: it stands for the history, has the frame, and no view has the turn
-  abbrev pub IsHome : (S → List E) → (S → F) → F → List E → Homes S → List (View E F) → Type 0
+  abbrev pub IsHome : (S → List E) → (S → F) → F → List E → Homes S → List (SeatView E F) → Type 0
   IsHome story frame f log homes views =
       (s : S) × (homes ≡ some (Some s) ∷ []) × (story s ≡ log) × (frame s ≡ f)
-      × ((i : ℕ) (v : View E F) → get_elem? views i ≡ some v → v.turn ≡ false)
+      × ((i : ℕ) (v : SeatView E F) → get_elem? views i ≡ some v → v.turn ≡ false)
 
   -- the state is out: a view has the turn
-  abbrev pub IsOut : Homes S → List (View E F) → Type 0
+  abbrev pub IsOut : Homes S → List (SeatView E F) → Type 0
   IsOut homes views =
-      (i : ℕ) × (v : View E F) × (get_elem? views i ≡ some v) × (v.turn ≡ true)
+      (i : ℕ) × (v : SeatView E F) × (get_elem? views i ≡ some v) × (v.turn ≡ true)
       × (homes ≡ left_home v.fresh ∷ [])
 
 module _ {S E F : Type 0} (story : S → List E) (frame : S → F) (by : E → ℕ) where
   -- the rule for one view: v is the view of seat i, at a lock with the frame f and n passes
-  pub record Fits (f : F) (n : ℕ) (m : Moment E) (i : ℕ) (v : View E F) : Type 0 where
+  pub record FitsView (f : F) (n : ℕ) (m : Moment E) (i : ℕ) (v : SeatView E F) : Type 0 where
     -- a frame that it knows is the lock's
     pub framed : (g : F) → v.frame ≡ Some g → g ≡ f
     -- the history begins with what it has seen
@@ -104,8 +105,8 @@ module _ {S E F : Type 0} (story : S → List E) (frame : S → F) (by : E → �
     pub maker : v.makes ≡ true → (m.making ≡ i) × (v.made ≡ m.made) × (m.made + v.parts ≡ n)
 
   -- the rule for one moment, of the table's words, of what is at home, and of all views
-  pub record Stands (f : F) (n : ℕ) (m : Moment E) (words : List ℕ) (homes : Homes S)
-      (views : List (View E F)) : Type 0 where
+  pub record MomentHolds (f : F) (n : ℕ) (m : Moment E) (words : List ℕ) (homes : Homes S)
+      (views : List (SeatView E F)) : Type 0 where
     -- the words are the next ticket and the one that is served
     pub words_are : words ≡ (m.drawn % 2 ^ 64) ∷ (m.served % 2 ^ 64) ∷ []
     -- as many tickets are held as are drawn and not yet past
@@ -121,10 +122,10 @@ module _ {S E F : Type 0} (story : S → List E) (frame : S → F) (by : E → �
     -- no entry has a caller whose pass isn't made
     pub none_else : (c : ℕ) → m.made ≤ c → entries_by by c m.log ≡ []
     -- each view fits
-    pub each : (i : ℕ) (v : View E F) → get_elem? views i ≡ some v → Fits f n m i v
+    pub each : (i : ℕ) (v : SeatView E F) → get_elem? views i ≡ some v → FitsView f n m i v
     -- the state is at home, or out with a view that has the turn
     pub home : IsHome story frame f m.log homes views ⊎ IsOut homes views
 
   -- The rule. The key has the first state, whose frame is the lock's, and the number of passes.
-  abbrev pub Kept : S × ℕ → State (Option S) (View E F) → Type 0
-  Kept key s = (m : Moment E) × Stands (frame key.0) key.1 m s.words s.homes s.views
+  abbrev pub KeepsRule : S × ℕ → State (Option S) (SeatView E F) → Type 0
+  KeepsRule key s = (m : Moment E) × MomentHolds (frame key.0) key.1 m s.words s.homes s.views

@@ -1,6 +1,7 @@
+-- Promised.
 -- The views that seats have, and what each step makes of one.
 use Rattle.std.specs.Prelude.{ℕ, ◌+◌, ◌-◌, true, false, List, [], ◌∷◌, ◌++◌, Option, Some, None}
-use Rattle.cm_turn.specs.declared.view.View.{View}
+use Rattle.cm_turn.specs.declared.view.SeatView.{SeatView}
 use Rattle.cm_turn.specs.declared.view.Known.{Known}
 use Rattle.cm_turn.specs.History.{longer}
 
@@ -10,7 +11,7 @@ caller_of (Some c) = c
 
 module _ {E F : Type 0} where
   -- a seat that knows nothing: it has just come, or another has joined it
-  abbrev pub spent_view : View E F
+  abbrev pub spent_view : SeatView E F
   spent_view = record {
     frame = None;
     caller = None;
@@ -27,12 +28,12 @@ module _ {E F : Type 0} where
   }
 
   -- the maker at rest, when k of n passes are made
-  abbrev pub idle_maker : F → ℕ → ℕ → View E F
+  abbrev pub idle_maker : F → ℕ → ℕ → SeatView E F
   idle_maker f k n = record spent_view { frame = Some f; parts = n - k; makes = true; made = k }
 
   -- the maker at the beginning, with n passes to make: it has ticket 0 and the turn, and the
   -- slot is still empty
-  abbrev pub maker : F → ℕ → View E F
+  abbrev pub maker : F → ℕ → SeatView E F
   maker f n = record spent_view {
     frame = Some f;
     ticket = Some 0;
@@ -43,62 +44,62 @@ module _ {E F : Type 0} where
   }
 
   -- the pass of caller c at rest
-  abbrev pub idle_view : Option F → ℕ → List E → List E → View E F
+  abbrev pub idle_view : Option F → ℕ → List E → List E → SeatView E F
   idle_view f c seen mine =
       record spent_view { frame = f; caller = Some c; seen = seen; mine = mine; parts = 1 }
 
   -- the pass of caller c that has the turn, by the ticket t
-  abbrev pub holding_view : ℕ → Option F → ℕ → List E → List E → View E F
+  abbrev pub holding_view : ℕ → Option F → ℕ → List E → List E → SeatView E F
   holding_view t f c seen mine = record (idle_view f c seen mine) { ticket = Some t; turn = true }
 
   -- a seat that has taken in n passes, of which each knew this
-  abbrev pub gatherer : ℕ → List (Known E F) → View E F
+  abbrev pub gatherer : ℕ → List (Known E F) → SeatView E F
   gatherer n known = record spent_view { parts = n; gathered = known }
 
   -- a ticket is drawn
-  abbrev pub with_ticket : ℕ → View E F → View E F
+  abbrev pub with_ticket : ℕ → SeatView E F → SeatView E F
   with_ticket t v = record v { ticket = Some t }
 
   -- the turn is found, and with it the history
-  abbrev pub with_turn : List E → View E F → View E F
+  abbrev pub with_turn : List E → SeatView E F → SeatView E F
   with_turn log v = record v { turn = true; seen = log }
 
   -- the maker has taken the empty slot
-  abbrev pub with_slot : View E F → View E F
+  abbrev pub with_slot : SeatView E F → SeatView E F
   with_slot v = record v { fresh = false }
 
   -- the entries of the turn are recorded
-  abbrev pub with_entries : List E → List E → View E F → View E F
+  abbrev pub with_entries : List E → List E → SeatView E F → SeatView E F
   with_entries log mine v = record v { seen = log; mine = mine }
 
   -- the turn is passed on
-  abbrev pub without_turn : View E F → View E F
+  abbrev pub without_turn : SeatView E F → SeatView E F
   without_turn v = record v { ticket = None; turn = false }
 
   -- another seat has told what it had seen
-  abbrev pub with_told : View E F → View E F → View E F
+  abbrev pub with_told : SeatView E F → SeatView E F → SeatView E F
   with_told v w = record v { told = w.seen }
 
   -- what was told is looked up
-  abbrev pub with_longer : View E F → View E F
+  abbrev pub with_longer : SeatView E F → SeatView E F
   with_longer v = record v { seen = longer v.seen v.told; told = [] }
 
   -- the maker has made one more pass
-  abbrev pub with_one_made : View E F → View E F
+  abbrev pub with_one_made : SeatView E F → SeatView E F
   with_one_made v = record v { made = v.made + 1; parts = v.parts - 1 }
 
   -- the pass that the maker makes next
-  abbrev pub next_pass : View E F → View E F
+  abbrev pub next_pass : SeatView E F → SeatView E F
   next_pass v = idle_view v.frame v.made [] []
 
   -- a seat that tells what this one has seen
-  abbrev pub note_of : View E F → View E F
+  abbrev pub note_of : SeatView E F → SeatView E F
   note_of v = record spent_view { frame = v.frame; seen = v.seen }
 
   -- what a pass knows
-  abbrev pub known_of : View E F → Known E F
+  abbrev pub known_of : SeatView E F → Known E F
   known_of w = record { frame = w.frame; caller = caller_of w.caller; seen = w.seen; mine = w.mine }
 
   -- a pass is taken in
-  abbrev pub with_pass : View E F → View E F → View E F
+  abbrev pub with_pass : SeatView E F → SeatView E F → SeatView E F
   with_pass v w = record v { parts = v.parts + w.parts; gathered = v.gathered ++ known_of w ∷ [] }

@@ -7,8 +7,8 @@ ghost use Rattle.cm_turn.specs.Laws.{Always, OneTurn, OneCaller, CallersAreMade,
 ghost use Rattle.cm_turn.specs.Laws.{CountsTickets, TicketsFollow, AllAreHeld, OneFrame, HomeFrame};
 ghost use Rattle.cm_turn.specs.Laws.{SeenBegins, OutOnlyInTurn, OutInTurn, HomeIsHistory, TurnHasSeenAll};
 ghost use Rattle.cm_turn.specs.Laws.{EntriesAreMine, NoOtherEntries};
-ghost use Rattle.cm_turn.specs.Moves.{ArrivalsMove, OnlyTurnMoves, StepsMove};
-ghost use Rattle.cm_turn.specs.declared.view.View.{View};
+ghost use Rattle.cm_turn.specs.MovesSlots.{ArrivalsMove, OnlyTurnMoves, StepsMove};
+ghost use Rattle.cm_turn.specs.declared.view.SeatView.{SeatView};
 ghost use Rattle.atomic_table.specs.Table.{State};
 ghost use Rattle.std.specs.Prelude.{Option};
 
@@ -60,8 +60,8 @@ pub fn state_is_out_in_a_turn<S: Storied>()
 /// the coming of a seat; what cuts a seat in two or joins two of them has nothing at home to change.
 pub fn only_the_turn_moves_the_slot<S: Storied>()
     ensures only { OnlyTurnMoves S.story S.frame S.by }
-    ensures steps { (s : State (Option S) (View S.Entry S.Frame)) → StepsMove s }
-    ensures arrivals { (s : State (Option S) (View S.Entry S.Frame)) → ArrivalsMove s }
+    ensures steps { (s : State (Option S) (SeatView S.Entry S.Frame)) → StepsMove s }
+    ensures arrivals { (s : State (Option S) (SeatView S.Entry S.Frame)) → ArrivalsMove s }
 {}
 
 /// The state at home stands for the history, and a seat with the turn has seen the whole of it.

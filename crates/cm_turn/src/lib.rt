@@ -15,7 +15,6 @@
 //! The callers are served in the order in which they ask. That a call returns at all is not claimed.
 #![tactic(auto)]
 
-mod bells;
 pub mod laws;
 mod lends;
 pub mod pass;
@@ -26,6 +25,7 @@ pub mod storied;
 mod tests;
 pub mod turn;
 pub mod view;
+mod wakeups;
 
 pub use pass::Pass;
 pub use storied::Storied;

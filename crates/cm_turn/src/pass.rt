@@ -2,7 +2,7 @@
 ghost use Rattle.std.specs.Prelude.{◌≡◌};
 ghost use Rattle.cm_turn.specs.Passes.{PassView, pass_of, view_in, IsPass};
 
-use crate::view::View;
+use crate::view::SeatView;
 use atomic_table::Badge;
 use std::marker::Model;
 
@@ -14,7 +14,7 @@ use std::marker::Model;
 /// in hand is idle.
 #[derive(Drop)]
 pub struct Pass<E, F> {
-    pub(crate) badge: Badge<View<E, F>>,
+    pub(crate) badge: Badge<SeatView<E, F>>,
     pub(crate) number: u32,
 }
 

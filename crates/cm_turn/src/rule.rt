@@ -2,17 +2,17 @@
 ghost use Rattle.std.specs.Prelude.{ℕ};
 
 use crate::storied::Storied;
-use crate::view::View;
+use crate::view::SeatView;
 use atomic_table::{Join, Play, Split, TableRule};
 
 /// The rule. The key has the first state, whose frame is the lock's, and the number of passes.
 pub struct InTurns;
 
-impl<S: Storied> TableRule<Option<S>, View<S::Entry, S::Frame>, (S, u32)> for InTurns {
+impl<S: Storied> TableRule<Option<S>, SeatView<S::Entry, S::Frame>, (S, u32)> for InTurns {
     ghost use Rattle.cm_turn.specs.Views.{maker};
-    ghost use Rattle.cm_turn.specs.Rule.{Kept};
+    ghost use Rattle.cm_turn.specs.Rule.{KeepsRule};
 
-    ghost holds = { λ key. Kept S.story S.frame S.by key };
+    ghost holds = { λ key. KeepsRule S.story S.frame S.by key };
 
     ghost first = { λ key. maker (S.frame key.0) key.1 };
 }
@@ -20,16 +20,16 @@ impl<S: Storied> TableRule<Option<S>, View<S::Entry, S::Frame>, (S, u32)> for In
 /// A ticket is drawn.
 pub struct Draw;
 
-impl<S: Storied> Play<Option<S>, View<S::Entry, S::Frame>> for Draw {
+impl<S: Storied> Play<Option<S>, SeatView<S::Entry, S::Frame>> for Draw {
     ghost use Rattle.cm_turn.specs.Plays.{Draws};
 
     ghost then = { Draws };
 }
 
 /// A look at the ticket that is served. Where it is the seat's own, the seat has the turn and the slot.
-pub struct Look;
+pub struct PollTicket;
 
-impl<S: Storied> Play<Option<S>, View<S::Entry, S::Frame>> for Look {
+impl<S: Storied> Play<Option<S>, SeatView<S::Entry, S::Frame>> for PollTicket {
     ghost use Rattle.cm_turn.specs.Plays.{Looks};
 
     ghost then = { Looks S.story S.frame S.by };
@@ -38,7 +38,7 @@ impl<S: Storied> Play<Option<S>, View<S::Entry, S::Frame>> for Look {
 /// The maker, which has the turn from the beginning, takes the empty slot.
 pub struct TakeEmpty;
 
-impl<S: Storied> Play<Option<S>, View<S::Entry, S::Frame>> for TakeEmpty {
+impl<S: Storied> Play<Option<S>, SeatView<S::Entry, S::Frame>> for TakeEmpty {
     ghost use Rattle.cm_turn.specs.Plays.{TakesEmpty};
 
     ghost then = { TakesEmpty };
@@ -47,16 +47,16 @@ impl<S: Storied> Play<Option<S>, View<S::Entry, S::Frame>> for TakeEmpty {
 /// The entries of the turn join the history.
 pub struct Record;
 
-impl<S: Storied> Play<Option<S>, View<S::Entry, S::Frame>> for Record {
-    ghost use Rattle.cm_turn.specs.Plays.{Records};
+impl<S: Storied> Play<Option<S>, SeatView<S::Entry, S::Frame>> for Record {
+    ghost use Rattle.cm_turn.specs.Plays.{RecordsState};
 
-    ghost then = { Records S.story S.frame S.by };
+    ghost then = { RecordsState S.story S.frame S.by };
 }
 
 /// The slot goes home and the next ticket is served.
 pub struct PassOn;
 
-impl<S: Storied> Play<Option<S>, View<S::Entry, S::Frame>> for PassOn {
+impl<S: Storied> Play<Option<S>, SeatView<S::Entry, S::Frame>> for PassOn {
     ghost use Rattle.cm_turn.specs.Plays.{PassesOn};
 
     ghost then = { PassesOn };
@@ -65,7 +65,7 @@ impl<S: Storied> Play<Option<S>, View<S::Entry, S::Frame>> for PassOn {
 /// What another seat has told is looked up.
 pub struct Learn;
 
-impl<S: Storied> Play<Option<S>, View<S::Entry, S::Frame>> for Learn {
+impl<S: Storied> Play<Option<S>, SeatView<S::Entry, S::Frame>> for Learn {
     ghost use Rattle.cm_turn.specs.Plays.{Learns};
 
     ghost then = { Learns S.story S.frame S.by };
@@ -74,7 +74,7 @@ impl<S: Storied> Play<Option<S>, View<S::Entry, S::Frame>> for Learn {
 /// A new seat comes, which knows nothing.
 pub struct Arrive;
 
-impl<S: Storied> Play<Option<S>, View<S::Entry, S::Frame>> for Arrive {
+impl<S: Storied> Play<Option<S>, SeatView<S::Entry, S::Frame>> for Arrive {
     ghost use Rattle.cm_turn.specs.Plays.{Arrives};
 
     ghost then = { Arrives };
@@ -83,7 +83,7 @@ impl<S: Storied> Play<Option<S>, View<S::Entry, S::Frame>> for Arrive {
 /// The maker makes a pass.
 pub struct Make;
 
-impl<E, F> Split<View<E, F>> for Make {
+impl<E, F> Split<SeatView<E, F>> for Make {
     ghost use Rattle.cm_turn.specs.Views.{with_one_made, next_pass};
 
     ghost left = { with_one_made };
@@ -94,7 +94,7 @@ impl<E, F> Split<View<E, F>> for Make {
 /// A seat that tells what another has seen: it is split off that one, and joined to the one that is told.
 pub struct Note;
 
-impl<E, F> Split<View<E, F>> for Note {
+impl<E, F> Split<SeatView<E, F>> for Note {
     ghost use Rattle.cm_turn.specs.Views.{note_of};
 
     ghost left = { λ v. v };
@@ -102,7 +102,7 @@ impl<E, F> Split<View<E, F>> for Note {
     ghost right = { note_of };
 }
 
-impl<E, F> Join<View<E, F>> for Note {
+impl<E, F> Join<SeatView<E, F>> for Note {
     ghost use Rattle.cm_turn.specs.Views.{with_told, spent_view};
 
     ghost both = { with_told };
@@ -113,7 +113,7 @@ impl<E, F> Join<View<E, F>> for Note {
 /// A pass is taken in.
 pub struct Gather;
 
-impl<E, F> Join<View<E, F>> for Gather {
+impl<E, F> Join<SeatView<E, F>> for Gather {
     ghost use Rattle.cm_turn.specs.Views.{with_pass, spent_view};
 
     ghost both = { with_pass };

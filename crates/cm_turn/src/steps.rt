@@ -7,15 +7,15 @@ ghost use Rattle.cm_turn.specs.History.{StartsWith, entries_by, longer};
 ghost use Rattle.cm_turn.specs.Views.{spent_view, with_ticket, with_turn, with_slot, with_entries};
 ghost use Rattle.cm_turn.specs.Views.{without_turn, with_longer, with_one_made, next_pass, note_of};
 ghost use Rattle.cm_turn.specs.Views.{with_told, with_pass};
-ghost use Rattle.cm_turn.specs.Plays.{Found};
+ghost use Rattle.cm_turn.specs.Plays.{FindsState};
 ghost use Rattle.cm_turn.specs.Passes.{IsLockTable};
 
-use crate::bells::{AWAITED, Bells, bell_of};
 use crate::rule::{
-    Arrive, Draw, Gather, InTurns, Learn, Look, Make, Note, PassOn, Record, TakeEmpty,
+    Arrive, Draw, Gather, InTurns, Learn, Make, Note, PassOn, PollTicket, Record, TakeEmpty,
 };
 use crate::storied::Storied;
-use crate::view::View;
+use crate::view::SeatView;
+use crate::wakeups::{AWAITED, Wakeups, wakeup_of};
 use atomic_table::{Seat, Shared};
 use std::hint;
 use std::sync::Wait;
@@ -23,13 +23,16 @@ use std::sync::Wait;
 /// The lock's table: two words and one slot.
 pub(crate) type LockTable<S> = Shared<
     Option<S>,
-    View<<S as Storied>::Entry, <S as Storied>::Frame>,
+    SeatView<<S as Storied>::Entry, <S as Storied>::Frame>,
     (S, u32),
     InTurns,
 >;
 
 /// A seat at the lock's table.
-pub(crate) type LockSeat<S> = Seat<Option<S>, View<<S as Storied>::Entry, <S as Storied>::Frame>>;
+pub(crate) type LockSeat<S> = Seat<
+    Option<S>,
+    SeatView<<S as Storied>::Entry, <S as Storied>::Frame>,
+>;
 
 /// How many times a caller looks whether its turn has come before it parks.
 const LOOKS: u32 = 200;
@@ -57,11 +60,11 @@ fn is_served<S: Storied>(table: &LockTable<S>, seat: &mut LockSeat<S>, ticket: u
     ensures lock { seat.new.table_id ≡ seat.old.table_id }
     ensures found { MatchBool result
         ((s : S)
-        × Found S.story S.frame S.by seat.old.me.0 s
+        × FindsState S.story S.frame S.by seat.old.me.0 s
         × (seat.new.me ≡ (with_turn (S.story s) seat.old.me.0, (0, Some s) ∷ [])))
         (seat.new.me ≡ seat.old.me) }
 {
-    table.load::<Look>(seat, 1) == ticket
+    table.load::<PollTicket>(seat, 1) == ticket
 }
 
 /// Looks up to [`LOOKS`] times whether the ticket is served, and stops at the look that finds it.
@@ -73,7 +76,7 @@ fn is_served_soon<S: Storied>(table: &LockTable<S>, seat: &mut LockSeat<S>, tick
     ensures lock { seat.new.table_id ≡ seat.old.table_id }
     ensures found { MatchBool result
         ((s : S)
-        × Found S.story S.frame S.by seat.old.me.0 s
+        × FindsState S.story S.frame S.by seat.old.me.0 s
         × (seat.new.me ≡ (with_turn (S.story s) seat.old.me.0, (0, Some s) ∷ [])))
         (seat.new.me ≡ seat.old.me) }
 {
@@ -88,11 +91,11 @@ fn is_served_soon<S: Storied>(table: &LockTable<S>, seat: &mut LockSeat<S>, tick
 
 /// Waits until the ticket is served, and then has the turn and the slot.
 ///
-/// It looks [`LOOKS`] times, and once more when it has said at its bell that it is about to park.
+/// It looks [`LOOKS`] times, and once more when it has said at its wakeup that it is about to park.
 pub(crate) fn await_turn<S: Storied, R: Wait>(
     rt: &R,
     table: &LockTable<S>,
-    bells: &Bells,
+    wakeups: &Wakeups,
     mut seat: LockSeat<S>,
     ticket: u64,
 ) -> LockSeat<S>
@@ -102,18 +105,18 @@ pub(crate) fn await_turn<S: Storied, R: Wait>(
     requires idle { (seat.me.0.turn ≡ false) × (seat.me.0.fresh ≡ false) }
     ensures lock { result.table_id ≡ seat.table_id }
     ensures found { (s : S)
-        × Found S.story S.frame S.by seat.me.0 s
+        × FindsState S.story S.frame S.by seat.me.0 s
         × (result.me ≡ (with_turn (S.story s) seat.me.0, (0, Some s) ∷ [])) }
 {
     for _ in rt.forever() {
         if is_served_soon(table, &mut seat, ticket) {
             return seat;
         }
-        bells.announce(ticket);
+        wakeups.announce(ticket);
         if is_served(table, &mut seat, ticket) {
             return seat;
         }
-        bells.table.shared.park(rt, bell_of(ticket), AWAITED);
+        wakeups.table.shared.park(rt, wakeup_of(ticket), AWAITED);
     }
     unreachable!()
 }
@@ -169,7 +172,11 @@ fn serve_next<S: Storied>(table: &LockTable<S>, seat: &mut LockSeat<S>) -> u64
 
 /// Puts the slot home with the state in it, serves the next ticket, and wakes its caller if that one
 /// is parked.
-pub(crate) fn pass_turn_on<S: Storied>(table: &LockTable<S>, bells: &Bells, seat: &mut LockSeat<S>)
+pub(crate) fn pass_turn_on<S: Storied>(
+    table: &LockTable<S>,
+    wakeups: &Wakeups,
+    seat: &mut LockSeat<S>,
+)
     requires lock { IsLockTable table.now.table_id × (seat.old.table_id ≡ table.now.table_id) }
     requires turn { seat.old.me.0.turn ≡ true }
     requires slot { (s : S)
@@ -180,7 +187,7 @@ pub(crate) fn pass_turn_on<S: Storied>(table: &LockTable<S>, bells: &Bells, seat
     ensures view { seat.new.me ≡ (without_turn seat.old.me.0, []) }
 {
     let next = serve_next(table, seat);
-    bells.ring(next);
+    wakeups.ring(next);
 }
 
 /// Looks up what another seat has told: the longer of that and of what this one has seen is a

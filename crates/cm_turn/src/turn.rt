@@ -4,10 +4,9 @@ ghost use Rattle.std.specs.Prelude.{List as Seq, IfOk, IfErr, true, false, lengt
 ghost use Rattle.cm_turn.specs.History.{StartsWith, entries_by, longer};
 ghost use Rattle.cm_turn.specs.Views.{with_longer, with_told, maker, gatherer, idle_maker};
 ghost use Rattle.cm_turn.specs.Passes.{LockView, HeldView, pass_of, IsHolding, AreAll, new_passes};
-ghost use Rattle.cm_turn.specs.Passes.{seen_up_to, IsKnown, IsLockTable, HasCaller, known_as, IsOwn};
-ghost use Rattle.cm_turn.specs.Passes.{Enters, Leaves};
+ghost use Rattle.cm_turn.specs.Passes.{seen_up_to, BearsPassOut, IsLockTable, HasCaller, known_as, IsOwn};
+ghost use Rattle.cm_turn.specs.Passes.{Enters, LeavesTurn};
 
-use crate::bells::Bells;
 use crate::pass::Pass;
 use crate::rule::InTurns;
 use crate::steps::{
@@ -15,7 +14,8 @@ use crate::steps::{
     pass_turn_on, record_entries, take_empty_slot, tell_seen,
 };
 use crate::storied::Storied;
-use crate::view::View;
+use crate::view::SeatView;
+use crate::wakeups::Wakeups;
 use atomic_table::{Badge, Seat, Table};
 use cm_names::List;
 use std::alloc::Global;
@@ -29,8 +29,8 @@ use std::sync::Wait;
 /// Where it is dropped and not closed, the state is dropped with it.
 #[derive(Drop)]
 pub struct Turn<S: Storied> {
-    table: Table<Option<S>, View<S::Entry, S::Frame>, (S, u32), InTurns, Global>,
-    bells: Bells,
+    table: Table<Option<S>, SeatView<S::Entry, S::Frame>, (S, u32), InTurns, Global>,
+    wakeups: Wakeups,
     passes: u32,
 }
 
@@ -49,7 +49,7 @@ impl<S: Storied> Model for Turn<S> {
 /// was found. It can't be dropped, so no turn is forgotten.
 pub struct Held<S: Storied> {
     pub(crate) state: S,
-    seat: Seat<Option<S>, View<S::Entry, S::Frame>>,
+    seat: Seat<Option<S>, SeatView<S::Entry, S::Frame>>,
     number: u32,
 }
 
@@ -81,7 +81,7 @@ impl<S: Storied> Turn<S> {
         let Ok(list) = Vec::with_capacity(alloc, passes as usize) else {
             return Err(state);
         };
-        let Ok(bells) = Bells::new(alloc) else {
+        let Ok(wakeups) = Wakeups::new(alloc) else {
             list.destroy_empty();
             return Err(state);
         };
@@ -93,11 +93,11 @@ impl<S: Storied> Turn<S> {
             list.destroy_empty();
             return Err(state);
         };
-        put_home(&table.shared, &bells, &mut seat, state);
+        put_home(&table.shared, &wakeups, &mut seat, state);
         let list = make_passes(&table.shared, seat, passes, list);
         let turn = Turn {
             table,
-            bells,
+            wakeups,
             passes,
         };
         Ok((turn, List::from_vec(list)))
@@ -121,7 +121,7 @@ impl<S: Storied> Turn<S> {
         let table = &self.table.shared;
         let mut seat = badge.into_seat();
         let ticket = draw_ticket(table, &mut seat);
-        let mut seat = await_turn(rt, table, &self.bells, seat, ticket);
+        let mut seat = await_turn(rt, table, &self.wakeups, seat, ticket);
         let Some(state) = table.exchange(&mut seat, 0, None) else {
             unreachable!()
         };
@@ -142,7 +142,7 @@ impl<S: Storied> Turn<S> {
         requires entries { (es : Seq S.Entry)
             × (S.story held.state ≡ held.pass.seen ++ es)
             × All (λ e. S.by e ≡ held.pass.caller) es }
-        ensures { Leaves S.story S.by held result }
+        ensures { LeavesTurn S.story S.by held result }
     {
         let Held {
             state,
@@ -153,7 +153,7 @@ impl<S: Storied> Turn<S> {
         let out = table.exchange(&mut seat, 0, Some(state));
         let None = out else { unreachable!() };
         record_entries(table, &mut seat);
-        pass_turn_on(table, &self.bells, &mut seat);
+        pass_turn_on(table, &self.wakeups, &mut seat);
         Pass {
             badge: seat.into_badge(),
             number,
@@ -189,12 +189,12 @@ impl<S: Storied> Turn<S> {
     /// else.
     pub fn close(self, passes: List<Pass<S::Entry, S::Frame>>) -> S
         requires { AreAll self passes }
-        ensures known { All (IsKnown S.story S.frame S.by result) passes }
+        ensures known { All (BearsPassOut S.story S.frame S.by result) passes }
         ensures callers { All (λ e. HasCaller passes (S.by e)) (S.story result) }
     {
         let Turn {
             table,
-            bells: _,
+            wakeups: _,
             passes: _,
         } = self;
         let seat = gather_passes(&table.shared, passes.into_vec());
@@ -253,7 +253,7 @@ fn gather_passes<S: Storied>(
 }
 
 // The maker puts the state home and passes the turn on.
-fn put_home<S: Storied>(table: &LockTable<S>, bells: &Bells, seat: &mut LockSeat<S>, state: S)
+fn put_home<S: Storied>(table: &LockTable<S>, wakeups: &Wakeups, seat: &mut LockSeat<S>, state: S)
     requires lock { IsLockTable table.now.table_id × (seat.old.table_id ≡ table.now.table_id) }
     requires maker { seat.old.me ≡ (maker (S.frame state) table.now.key.1, []) }
     requires empty { S.story state ≡ [] }
@@ -263,7 +263,7 @@ fn put_home<S: Storied>(table: &LockTable<S>, bells: &Bells, seat: &mut LockSeat
     take_empty_slot(table, seat);
     let out = table.exchange(seat, 0, Some(state));
     let None = out else { unreachable!() };
-    pass_turn_on(table, bells, seat);
+    pass_turn_on(table, wakeups, seat);
 }
 
 // Makes all passes, in order.

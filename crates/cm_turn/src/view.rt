@@ -2,7 +2,7 @@
 use std::collections::LinkedList;
 
 /// What one seat knows.
-pub struct View<E, F> {
+pub struct SeatView<E, F> {
     /// The lock's frame, and `None` at a seat that knows nothing.
     pub frame: Option<F>,
     /// The caller that the seat speaks for, and `None` where it is no pass.

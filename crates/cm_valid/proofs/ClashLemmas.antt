@@ -12,7 +12,7 @@ use Rattle.cm_decl.specs.declared.rows.Usage.{Usage}
 use Rattle.cm_decl.specs.declared.rows.Offer.{Offer}
 use Rattle.cm_decl.specs.Clashes.{same_path, are_paths_nested, same_target}
 use Rattle.cm_valid.specs.Keys.{zeroed, usage_key, offer_key}
-use Rattle.cm_valid.specs.Near.{covers, near, StandApart}
+use Rattle.cm_valid.specs.Near.{covers, near, KeysAreApart}
 
 -- ---- texts that are near
 
@@ -51,7 +51,7 @@ inside_covered (b ∷ path) (x ∷ outer) e =
 -- ---- rows that stand apart
 
 -- among rows that stand apart none clashes with an earlier one
-pub none_before : {A : Type 0} (key : A → List ℕ) (clashes : A → A → Bool) → ((a b : A) → clashes a b ≡ true → near (key a) (key b) ≡ true) → (rows : List A) (n row : ℕ) (this : A) → StandApart key rows n → row < n → slice_get rows row ≡ Some this → position (λ e. clashes e this) (take row rows) ≡ None
+pub none_before : {A : Type 0} (key : A → List ℕ) (clashes : A → A → Bool) → ((a b : A) → clashes a b ≡ true → near (key a) (key b) ≡ true) → (rows : List A) (n row : ℕ) (this : A) → KeysAreApart key rows n → row < n → slice_get rows row ≡ Some this → position (λ e. clashes e this) (take row rows) ≡ None
 none_before {A} key clashes close rows n row this apart bound here = by (position (λ e. clashes e this) (take row rows)) refl
   where
     by : (o : Option ℕ) → position (λ e. clashes e this) (take row rows) ≡ o → o ≡ None

@@ -12,7 +12,7 @@ use Rattle.cm_decl.specs.declared.origin.Origin.{Origin}
 use Rattle.cm_decl.specs.declared.origin.Origin.TheVariants as origin
 use Rattle.cm_decl.specs.declared.node.Node.{Node}
 use Rattle.cm_decl.specs.declared.node.Node.TheVariants.{Own, Child}
-use Rattle.cm_decl.specs.Reach.{Way, NoCycle}
+use Rattle.cm_decl.specs.Reach.{DependencyPath, NoCycle}
 use Rattle.cm_decl.specs.Graph.{is_strong, is_from_child, is_from_node, own_sources, offers_to, sources_of, target_of, StrongOn, is_node}
 use Rattle.cm_decl.proofs.Sameness.{and_first}
 use Rattle.cm_valid.specs.Cycles.{needs_child}
@@ -110,11 +110,11 @@ module _ (d : Decl) (free : needs_child d ≡ false) where
       let first = and_first sources (is_node d [] (Child k)) (and_first (sources && is_node d [] (Child k)) (is_node d [] (Child c)) on) in
       true≢false (sym (subst IsTrue (no_source c (offers_to d k ++ []) (given_none k)) first))
 
-  last_step : (x y : Node) (zs : List Node) → Way (StrongOn d []) x zs y → (w : Node) × StrongOn d [] w y
+  last_step : (x y : Node) (zs : List Node) → DependencyPath (StrongOn d []) x zs y → (w : Node) × StrongOn d [] w y
   last_step x y [] way = (x, way)
   last_step x y (z ∷ zs) way = last_step z y zs way.1
 
-  first_step : (x y : Node) (zs : List Node) → Way (StrongOn d []) x zs y → (w : Node) × StrongOn d [] x w
+  first_step : (x y : Node) (zs : List Node) → DependencyPath (StrongOn d []) x zs y → (w : Node) × StrongOn d [] x w
   first_step x y [] way = (y, way)
   first_step x y (z ∷ zs) way = (z, way.0)
 

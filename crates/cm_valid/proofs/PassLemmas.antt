@@ -4,11 +4,12 @@ use Rattle.std.proofs.lemmas.Bool.{cases_order, cases_lt}
 use Rattle.cm_decl.specs.declared.decl.Decl.{Decl}
 use Rattle.cm_decl.specs.declared.section.Section.{Section}
 use Rattle.cm_decl.specs.declared.section.Section.TheVariants.{Manifest, Program, Children, Collections, Capabilities, Uses, Offers, Exposes, Environments, Graph}
-use Rattle.cm_decl.specs.Faults.{Fault, IsFirst, IsFirstIn, IsFaultless, section_rank}
+use Rattle.cm_decl.specs.Faults.{DeclFault, IsFirst, IsFaultless, section_rank}
+use Rattle.cm_decl.specs.FaultsInside.{IsFirstIn}
 use Rattle.cm_decl.proofs.faults.FirstFaults as faults
 use Rattle.cm_decl.proofs.faults.FirstFaults.{same_section, first_below_more, first_in_section}
-use Rattle.cm_valid.specs.declared.found.Found.{Found}
-use Rattle.cm_valid.specs.Parts.{Finds, fault_of, At, Below, In, Before, Anywhere, rows_of}
+use Rattle.cm_valid.specs.declared.found.FoundFault.{FoundFault}
+use Rattle.cm_valid.specs.Parts.{FindsFault, fault_of, At, Below, In, Before, Anywhere, rows_of}
 
 same_rows : (d : Decl) (s : Section) → rows_of d s ≡ faults.rows_of d s
 same_rows d Manifest = refl
@@ -25,25 +26,25 @@ same_rows d Graph = refl
 -- ---- the rows of a section
 
 -- before the first row there is no fault
-pub none_yet : (d : Decl) (s : Section) → Finds d (Below s 0) None
+pub none_yet : (d : Decl) (s : Section) → FindsFault d (Below s 0) None
 none_yet d s = λ g st here. absurd (omega arith)
 
-none_found : (o : Option Found) → is_some o ≡ false → o ≡ None
+none_found : (o : Option FoundFault) → is_some o ≡ false → o ≡ None
 none_found None e = refl
 none_found (Some f) e = absurd (true≢false e)
 
 -- nor below the next row, if there is none at this one
-pub none_more : (d : Decl) (s : Section) (n : ℕ) (o : Option Found) → Finds d (Below s n) None → Finds d (At s n) o → is_some o ≡ false → Finds d (Below s (n + 1)) None
+pub none_more : (d : Decl) (s : Section) (n : ℕ) (o : Option FoundFault) → FindsFault d (Below s n) None → FindsFault d (At s n) o → is_some o ≡ false → FindsFault d (Below s (n + 1)) None
 none_more d s n o none at e =
-    first_below_more d s n None None none (subst (λ (p : Option Found). Finds d (At s n) p) (none_found o e) at)
+    first_below_more d s n None None none (subst (λ (p : Option FoundFault). FindsFault d (At s n) p) (none_found o e) at)
 
 -- nor in the section, if there is none at any of its rows
-pub none_in : (d : Decl) (s : Section) (n : ℕ) → rows_of d s ≤ n → Finds d (Below s n) None → Finds d (In s) None
+pub none_in : (d : Decl) (s : Section) (n : ℕ) → rows_of d s ≤ n → FindsFault d (Below s n) None → FindsFault d (In s) None
 none_in d s n whole none = first_in_section d s None (λ g st here.
     let same : rows_of d s ≡ faults.rows_of d s = same_rows d s in
     none g st (here.0, omega arith))
 
-first_in : (d : Decl) (s : Section) (n : ℕ) (f : Fault) → IsFirstIn d (Below s n) None → IsFirstIn d (At s n) (Some f) → IsFirstIn d (In s) (Some f)
+first_in : (d : Decl) (s : Section) (n : ℕ) (f : DeclFault) → IsFirstIn d (Below s n) None → IsFirstIn d (At s n) (Some f) → IsFirstIn d (In s) (Some f)
 first_in d s n f none first = (
   first.0,
   first.1.0,
@@ -58,13 +59,13 @@ first_in d s n f none first = (
 )
 
 -- the first row with a fault has the first fault of the section
-pub some_in : (d : Decl) (s : Section) (n : ℕ) (o : Option Found) → Finds d (Below s n) None → Finds d (At s n) o → is_some o ≡ true → Finds d (In s) o
+pub some_in : (d : Decl) (s : Section) (n : ℕ) (o : Option FoundFault) → FindsFault d (Below s n) None → FindsFault d (At s n) o → is_some o ≡ true → FindsFault d (In s) o
 some_in d s n None none at e = absurd (true≢false (sym e))
 some_in d s n (Some f) none at e = first_in d s n (fault_of f) none at
 
 -- ---- the sections
 
-first_anywhere : (d : Decl) (s : Section) (k : ℕ) (f : Fault) → section_rank s ≡ k → IsFirstIn d (Before k) None → IsFirstIn d (In s) (Some f) → IsFirstIn d Anywhere (Some f)
+first_anywhere : (d : Decl) (s : Section) (k : ℕ) (f : DeclFault) → section_rank s ≡ k → IsFirstIn d (Before k) None → IsFirstIn d (In s) (Some f) → IsFirstIn d Anywhere (Some f)
 first_anywhere d s k f rank none first = (
   first.0,
   tt,
@@ -77,7 +78,7 @@ first_anywhere d s k f rank none first = (
 )
 
 -- the first section with a fault has the first fault of all
-pub some_anywhere : (d : Decl) (s : Section) (k : ℕ) (o : Option Found) → section_rank s ≡ k → Finds d (Before k) None → Finds d (In s) o → is_some o ≡ true → Finds d Anywhere o
+pub some_anywhere : (d : Decl) (s : Section) (k : ℕ) (o : Option FoundFault) → section_rank s ≡ k → FindsFault d (Before k) None → FindsFault d (In s) o → is_some o ≡ true → FindsFault d Anywhere o
 some_anywhere d s k None rank none first e = absurd (true≢false (sym e))
 some_anywhere d s k (Some f) rank none first e = first_anywhere d s k (fault_of f) rank none first
 
@@ -96,8 +97,8 @@ ranked (suc (suc (suc (suc (suc (suc i)))))) s l = absurd (omega arith)
 
 -- ---- what was found anywhere
 
-pub is_first : (d : Decl) (found : Found) → Finds d Anywhere (Some found) → IsFirst d (fault_of found)
+pub is_first : (d : Decl) (found : FoundFault) → FindsFault d Anywhere (Some found) → IsFirst d (fault_of found)
 is_first d found first = record { stands = first.0; none_before = λ g st before. first.2 g st tt before }
 
-pub is_faultless : (d : Decl) → Finds d Anywhere None → IsFaultless d
+pub is_faultless : (d : Decl) → FindsFault d Anywhere None → IsFaultless d
 is_faultless d none = λ g st. none g st tt

@@ -9,16 +9,17 @@ use Rattle.cm_decl.specs.declared.rows.Child.{Child}
 use Rattle.cm_decl.specs.declared.rows.Collection.{Collection}
 use Rattle.cm_decl.specs.declared.section.Section.{Section}
 use Rattle.cm_decl.specs.declared.section.Section.TheVariants.{Children, Collections}
-use Rattle.cm_decl.specs.Rules.{Rule, RepeatedName, rules, number_of}
-use Rattle.cm_decl.specs.Clashes.{Place, place, clash, or_else, first_row, first_before, same_collection_name}
+use Rattle.cm_decl.specs.Rules.{Rule, RepeatedName, number_of}
+use Rattle.cm_decl.specs.RulesInside.{rules}
+use Rattle.cm_decl.specs.Clashes.{RowPlace, place, clash, or_else, first_row, first_before, same_collection_name}
 use Rattle.cm_decl.specs.Breaks.{breaks, passes_at}
-use Rattle.cm_decl.specs.Faults.{IsFirstIn}
+use Rattle.cm_decl.specs.FaultsInside.{IsFirstIn}
 use Rattle.cm_decl.proofs.faults.Computed.{fault_by}
 use Rattle.cm_decl.proofs.faults.FirstFaults.{first_at_row}
-use Rattle.cm_valid.specs.declared.found.Found.{Found}
+use Rattle.cm_valid.specs.declared.found.FoundFault.{FoundFault}
 use Rattle.cm_valid.specs.Lookup.{is_child_name}
-use Rattle.cm_valid.specs.Near.{near, StandApart}
-use Rattle.cm_valid.specs.Parts.{At, Finds, fault_of}
+use Rattle.cm_valid.specs.Near.{near, KeysAreApart}
+use Rattle.cm_valid.specs.Parts.{At, FindsFault, fault_of}
 use Rattle.cm_valid.proofs.ClashLemmas.{none_before, same_near}
 
 -- ---- rows that are read
@@ -50,7 +51,7 @@ first_named {A} s name rows all i row found o same within is looked told =
     (subst (λ (l : List A). position (λ e. bytes_eq (name e) (name row)) (take i l) ≡ o) same (sym looked ∙ told))
 
 -- a row that stands apart clashes with no earlier one
-pub clash_apart : {A : Type 0} (s : Section) (key : A → List ℕ) (clashes : A → A → Bool) → ((a b : A) → clashes a b ≡ true → near (key a) (key b) ≡ true) → (rows : List A) (n i : ℕ) → StandApart key rows n → i < n → first_before s clashes rows i ≡ None
+pub clash_apart : {A : Type 0} (s : Section) (key : A → List ℕ) (clashes : A → A → Bool) → ((a b : A) → clashes a b ≡ true → near (key a) (key b) ≡ true) → (rows : List A) (n i : ℕ) → KeysAreApart key rows n → i < n → first_before s clashes rows i ≡ None
 clash_apart {A} s key clashes close rows n i apart bound = by (slice_get rows i) refl
   where
     by : (o : Option A) → slice_get rows i ≡ o → first_before s clashes rows i ≡ None
@@ -60,7 +61,7 @@ clash_apart {A} s key clashes close rows n i apart bound = by (slice_get rows i)
 -- ---- the rule that a row breaks first
 
 -- what was found, without and with the row that it clashes with
-abbrev pub found_at : Section → ℕ → Rule → Option Place → Found
+abbrev pub found_at : Section → ℕ → Rule → Option RowPlace → FoundFault
 found_at s i rule against = record { number = number_of rule; section = s; index = i; against = against }
 
 -- none of these rules passes the test
@@ -82,13 +83,13 @@ find_none test [] fails = refl
 find_none test (x ∷ some) fails = ap (λ v. cond v (Some x) (find test some)) fails.0 ∙ find_none test some fails.1
 
 -- a row that breaks the k-th rule and none before it
-pub finds : (d : Decl) (s : Section) (i k : ℕ) (rule : Rule) (against : Option Place) → slice_get rules k ≡ Some rule → NonePasses (λ q. breaks d q s i) (take k rules) → breaks d rule s i ≡ true → clash d rule s i ≡ against → Finds d (At s i) (Some (found_at s i rule against))
+pub finds : (d : Decl) (s : Section) (i k : ℕ) (rule : Rule) (against : Option RowPlace) → slice_get rules k ≡ Some rule → NonePasses (λ q. breaks d q s i) (take k rules) → breaks d rule s i ≡ true → clash d rule s i ≡ against → FindsFault d (At s i) (Some (found_at s i rule against))
 finds d s i k rule against at fails broken e =
-    subst (λ (a : Option Place). IsFirstIn d (At s i) (Some (fault_of (found_at s i rule a)))) e
+    subst (λ (a : Option RowPlace). IsFirstIn d (At s i) (Some (fault_of (found_at s i rule a)))) e
     (subst (λ (o : Option Rule). IsFirstIn d (At s i) (option_map (fault_by d s i) o)) (find_behind (λ q. breaks d q s i) rules k rule at fails broken) (first_at_row d s i))
 
 -- a row that breaks none
-pub finds_none : (d : Decl) (s : Section) (i : ℕ) → NonePasses (λ q. breaks d q s i) rules → Finds d (At s i) None
+pub finds_none : (d : Decl) (s : Section) (i : ℕ) → NonePasses (λ q. breaks d q s i) rules → FindsFault d (At s i) None
 finds_none d s i fails =
     subst (λ (o : Option Rule). IsFirstIn d (At s i) (option_map (fault_by d s i) o)) (find_none (λ q. breaks d q s i) rules fails) (first_at_row d s i)
 
@@ -98,13 +99,13 @@ abbrev BreaksNoOther : Decl → Section → ℕ → Type 0
 BreaksNoOther d s i = NonePasses (λ q. breaks d q s i) (drop 1 rules)
 
 -- the name isn't repeated
-pub named_once : (d : Decl) (s : Section) (i : ℕ) → breaks d RepeatedName s i ≡ false → BreaksNoOther d s i → Finds d (At s i) None
+pub named_once : (d : Decl) (s : Section) (i : ℕ) → breaks d RepeatedName s i ≡ false → BreaksNoOther d s i → FindsFault d (At s i) None
 named_once d s i once others = finds_none d s i (once, others)
 
 -- it is that of an earlier row
-pub named_before : (d : Decl) (s other : Section) (i first : ℕ) (found : Found) → found ≡ found_at s i RepeatedName (Some (place other first)) → breaks d RepeatedName s i ≡ true → clash d RepeatedName s i ≡ Some (place other first) → Finds d (At s i) (Some found)
+pub named_before : (d : Decl) (s other : Section) (i first : ℕ) (found : FoundFault) → found ≡ found_at s i RepeatedName (Some (place other first)) → breaks d RepeatedName s i ≡ true → clash d RepeatedName s i ≡ Some (place other first) → FindsFault d (At s i) (Some found)
 named_before d s other i first found is broken clashing =
-    subst (λ (f : Found). Finds d (At s i) (Some f)) (sym is) (finds d s i 0 RepeatedName (Some (place other first)) refl tt broken clashing)
+    subst (λ (f : FoundFault). FindsFault d (At s i) (Some f)) (sym is) (finds d s i 0 RepeatedName (Some (place other first)) refl tt broken clashing)
 
 -- a section whose rows have names, at a row that breaks no rule but that of these
 pub record IsNamed {A : Type 0} (d : Decl) (s : Section) (name : A → List ℕ) (rows : List A) (i : ℕ) : Type 0 where
@@ -113,13 +114,13 @@ pub record IsNamed {A : Type 0} (d : Decl) (s : Section) (name : A → List ℕ)
   pub others : BreaksNoOther d s i
 
 -- where the row stands apart, its name is that of no earlier one
-pub named_apart : {A : Type 0} (d : Decl) (s : Section) (name : A → List ℕ) (rows : List A) (n i : ℕ) → IsNamed d s name rows i → StandApart name rows n → i < n → Finds d (At s i) None
+pub named_apart : {A : Type 0} (d : Decl) (s : Section) (name : A → List ℕ) (rows : List A) (n i : ℕ) → IsNamed d s name rows i → KeysAreApart name rows n → i < n → FindsFault d (At s i) None
 named_apart {A} d s name rows n i named apart low =
     named_once d s i (named.broken ∙ ap is_some (clash_apart s name (λ a b. bytes_eq (name a) (name b)) (λ a b e. same_near (name a) (name b) e) rows n i apart low)) named.others
 
 -- else it is that of the first earlier row that was found, if one was
 pub named_found : {A : Type 0} (d : Decl) (s : Section) (name : A → List ℕ) (rows all : List A) (i : ℕ) (row : A) (found o : Option ℕ) → IsNamed d s name all i → rows ≡ all → i < length all → row ≡ get_or rows i row → found ≡ position (λ e. bytes_eq (name e) (name row)) (take i rows) → found ≡ o
-    → Finds d (At s i) (option_map (λ first. found_at s i RepeatedName (Some (place s first))) o)
+    → FindsFault d (At s i) (option_map (λ first. found_at s i RepeatedName (Some (place s first))) o)
 named_found {A} d s name rows all i row found None named same within is looked told =
     named_once d s i (named.broken ∙ ap is_some (first_named s name rows all i row found None same within is looked told)) named.others
 named_found {A} d s name rows all i row found (Some first) named same within is looked told =
@@ -156,11 +157,11 @@ some_child d name e none =
 -- a collection clashes with the first child of its name
 pub clash_child : (d : Decl) (i : ℕ) (row : Collection) (k : ℕ) → slice_get d.collections i ≡ Some row → position (λ c. bytes_eq c.name row.name) d.children ≡ Some k → clash d RepeatedName Collections i ≡ Some (place Children k)
 clash_child d i row k at e =
-    ap (λ (o : Option Place). or_else o (first_before Collections same_collection_name d.collections i))
+    ap (λ (o : Option RowPlace). or_else o (first_before Collections same_collection_name d.collections i))
     (ap (λ (o : Option Collection). option_and_then (λ x. first_row Children (λ c. bytes_eq c.name x.name) d.children) o) at ∙ ap (option_map (place Children)) e)
 
 -- where no child has its name, it clashes with earlier collections alone
-pub clash_collection : (d : Decl) (i : ℕ) (row : Collection) (o : Option Place) → slice_get d.collections i ≡ Some row → position (λ c. bytes_eq c.name row.name) d.children ≡ None → first_before Collections same_collection_name d.collections i ≡ o → clash d RepeatedName Collections i ≡ o
+pub clash_collection : (d : Decl) (i : ℕ) (row : Collection) (o : Option RowPlace) → slice_get d.collections i ≡ Some row → position (λ c. bytes_eq c.name row.name) d.children ≡ None → first_before Collections same_collection_name d.collections i ≡ o → clash d RepeatedName Collections i ≡ o
 clash_collection d i row o at e f =
-    ap (λ (p : Option Place). or_else p (first_before Collections same_collection_name d.collections i))
+    ap (λ (p : Option RowPlace). or_else p (first_before Collections same_collection_name d.collections i))
     (ap (λ (p : Option Collection). option_and_then (λ x. first_row Children (λ c. bytes_eq c.name x.name) d.children) p) at ∙ ap (option_map (place Children)) e) ∙ f

@@ -1,3 +1,4 @@
+-- Inside.
 -- Declarations in which nothing depends on a child, so that nothing depends on itself.
 use Rattle.std.specs.Prelude.{Bool, ◌&&◌, ◌||◌}
 use Rattle.std.specs.List.{list_any}

@@ -1,3 +1,4 @@
+-- Inside.
 -- The texts by which rows clash.
 use Rattle.std.specs.Prelude.{ℕ, ◌==◌, List, ◌∷◌, ◌++◌, map, if◌then◌else◌}
 use Rattle.cm_decl.specs.declared.rows.Usage.{Usage}

@@ -1,9 +1,11 @@
+-- Inside.
 -- What holds of declarations.
 use Rattle.std.specs.Prelude.{IsTrue, ◌⊎◌}
 use Rattle.cm_decl.specs.declared.decl.Decl.{Decl}
-use Rattle.cm_decl.specs.Faults.{Fault}
-use Rattle.cm_decl.specs.Valid.{IsValid, IsFaultOf, is_well_formed}
+use Rattle.cm_decl.specs.Faults.{DeclFault}
+use Rattle.cm_decl.specs.Valid.{IsValid, IsDeclFault, is_well_formed}
 
 -- a well-formed declaration is valid or has a fault
 abbrev pub EachIsValidOrHasAFault : Type 0
-EachIsValidOrHasAFault = (d : Decl) → IsTrue (is_well_formed d) → IsValid d ⊎ ((f : Fault) × IsFaultOf d f)
+EachIsValidOrHasAFault = (d : Decl) → IsTrue (is_well_formed d) → IsValid d ⊎ ((f : DeclFault)
+    × IsDeclFault d f)

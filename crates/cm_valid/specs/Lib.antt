@@ -3,6 +3,7 @@ pub mod Lookup
 pub mod Keys
 pub mod Parts
 pub mod Reports
+pub mod ReportsInside
 pub mod Texts
 pub mod Cycles
 pub mod Laws

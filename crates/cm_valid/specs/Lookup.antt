@@ -1,3 +1,4 @@
+-- Inside.
 -- The names of a declaration, laid out for look-up.
 use Rattle.std.specs.Prelude.{◌≡◌, ℕ, List, Bool}
 use Rattle.std.specs.List.{list_any}

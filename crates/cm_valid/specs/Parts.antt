@@ -1,3 +1,4 @@
+-- Inside.
 -- The first fault in a part of a declaration, as it is found.
 use Rattle.std.specs.Prelude.{◌≡◌, ℕ, ◌<◌, [], length, Option, option_map}
 use Rattle.cm_decl.specs.declared.decl.Decl.{Decl}
@@ -8,13 +9,14 @@ use Rattle.cm_decl.specs.declared.rows.Give.{Give}
 use Rattle.cm_decl.specs.declared.section.Section.{Section}
 use Rattle.cm_decl.specs.declared.section.Section.TheVariants.{Children, Collections, Capabilities, Uses}
 use Rattle.cm_decl.specs.declared.section.Section.TheVariants.{Offers, Exposes}
-use Rattle.cm_decl.specs.Faults.{Fault, IsFirstIn, section_rank}
+use Rattle.cm_decl.specs.Faults.{DeclFault, section_rank}
+use Rattle.cm_decl.specs.FaultsInside.{IsFirstIn}
 use Rattle.cm_valid.specs.Keys.{usage_key, offer_key}
-use Rattle.cm_valid.specs.Near.{StandApart}
-use Rattle.cm_valid.specs.declared.found.Found.{Found}
+use Rattle.cm_valid.specs.Near.{KeysAreApart}
+use Rattle.cm_valid.specs.declared.found.FoundFault.{FoundFault}
 
 -- the fault that was found
-abbrev pub fault_of : Found → Fault
+abbrev pub fault_of : FoundFault → DeclFault
 fault_of found = record {
   number = found.number;
   section = found.section;
@@ -24,27 +26,27 @@ fault_of found = record {
 }
 
 -- what was found is the first fault of those in a part of the declaration, or there is none in this part
-abbrev pub Finds : Decl → (Fault → Type 0) → Option Found → Type 0
-Finds d In found = IsFirstIn d In (option_map fault_of found)
+abbrev pub FindsFault : Decl → (DeclFault → Type 0) → Option FoundFault → Type 0
+FindsFault d In found = IsFirstIn d In (option_map fault_of found)
 
 -- at a row
-abbrev pub At : Section → ℕ → Fault → Type 0
+abbrev pub At : Section → ℕ → DeclFault → Type 0
 At section i f = (f.section ≡ section) × (f.index ≡ i)
 
 -- at the first n rows of a section
-abbrev pub Below : Section → ℕ → Fault → Type 0
+abbrev pub Below : Section → ℕ → DeclFault → Type 0
 Below section n f = (f.section ≡ section) × (f.index < n)
 
 -- in a section
-abbrev pub In : Section → Fault → Type 0
+abbrev pub In : Section → DeclFault → Type 0
 In section f = f.section ≡ section
 
 -- in the sections before the k-th
-abbrev pub Before : ℕ → Fault → Type 0
+abbrev pub Before : ℕ → DeclFault → Type 0
 Before k f = section_rank f.section < k
 
 -- anywhere
-abbrev pub Anywhere : Fault → Type 0
+abbrev pub Anywhere : DeclFault → Type 0
 Anywhere f = Unit {0}
 
 -- how many rows a section has
@@ -59,10 +61,10 @@ rows_of d section = 0
 
 -- of the first n rows of a section no two may clash
 abbrev pub ApartIn : Decl → Section → ℕ → Type 0
-ApartIn d Children n = StandApart (λ (k : Child). k.name) d.children n
-ApartIn d Collections n = StandApart (λ (k : Collection). k.name) d.collections n
-ApartIn d Capabilities n = StandApart (λ (c : Capability). c.name) d.capabilities n
-ApartIn d Uses n = StandApart usage_key d.uses n
-ApartIn d Offers n = StandApart offer_key d.offers n
-ApartIn d Exposes n = StandApart (λ (g : Give). g.target_name) d.exposes n
+ApartIn d Children n = KeysAreApart (λ (k : Child). k.name) d.children n
+ApartIn d Collections n = KeysAreApart (λ (k : Collection). k.name) d.collections n
+ApartIn d Capabilities n = KeysAreApart (λ (c : Capability). c.name) d.capabilities n
+ApartIn d Uses n = KeysAreApart usage_key d.uses n
+ApartIn d Offers n = KeysAreApart offer_key d.offers n
+ApartIn d Exposes n = KeysAreApart (λ (g : Give). g.target_name) d.exposes n
 ApartIn d section n = Unit {0}

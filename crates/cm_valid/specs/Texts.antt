@@ -1,3 +1,4 @@
+-- Promised.
 -- How a fault is written.
 use Rattle.std.specs.Prelude.{ℕ, List, [], ◌++◌, codes, decimal, flat_map, Option, Some, None}
 use Rattle.cm_decl.specs.declared.node.Node.{Node}

@@ -9,11 +9,11 @@ use cm_names::{List, Memory};
 use std::error::Error;
 use std::fmt;
 
-/// Why a declaration isn't valid: its first fault, or want of memory.
+/// Why a declaration isn't valid: its first fault, or lack of memory.
 ///
 /// It is written `invalid NUMBER SECTION INDEX`, followed by the section and the index of the row
 /// that it clashes with, where there is one, and by the nodes of the cycle, all parted by spaces.
-/// The component itself is written `self`. Want of memory is written `out of memory`.
+/// The component itself is written `self`. Lack of memory is written `out of memory`.
 ///
 /// The sections come in the order `children`, `collections`, `capabilities`, `use`, `offer`,
 /// `expose`, the rows of a section in theirs, and the faults of a row by their numbers:

@@ -12,7 +12,7 @@ use std::alloc::Global;
 
 /// The first fault at a row: its number and place, and the place of the row that it clashes with.
 #[derive(Debug, Clone, Copy)]
-pub(crate) struct Found {
+pub(crate) struct FoundFault {
     /// The number of the fault, from 50 to 57.
     pub(crate) number: u8,
     /// The section of the row.
@@ -23,9 +23,9 @@ pub(crate) struct Found {
     pub(crate) against: Option<(Section, usize)>,
 }
 
-impl Found {
+impl FoundFault {
     /// The fault of a row that clashes with no other.
-    pub(crate) fn alone(number: u8, section: Section, index: usize) -> Found
+    pub(crate) fn alone(number: u8, section: Section, index: usize) -> FoundFault
         ensures { result ≡ record {
           number = number;
           section = section;
@@ -33,7 +33,7 @@ impl Found {
           against = None;
         } }
     {
-        Found {
+        FoundFault {
             number,
             section,
             index,
@@ -48,7 +48,7 @@ impl Found {
         index: usize,
         other: Section,
         first: usize,
-    ) -> Found
+    ) -> FoundFault
         ensures { result ≡ record {
           number = number;
           section = section;
@@ -56,7 +56,7 @@ impl Found {
           against = Some (other, first);
         } }
     {
-        Found {
+        FoundFault {
             number,
             section,
             index,
@@ -71,7 +71,7 @@ impl Found {
         section: Section,
         index: usize,
         first: Option<usize>,
-    ) -> Option<Found>
+    ) -> Option<FoundFault>
         ensures { result ≡ option_map (λ at. record {
           number = number;
           section = section;
@@ -80,7 +80,7 @@ impl Found {
         }) first }
     {
         match first {
-            Some(first) => Some(Found::clash(number, section, index, section, first)),
+            Some(first) => Some(FoundFault::clash(number, section, index, section, first)),
             None => None,
         }
     }

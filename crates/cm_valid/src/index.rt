@@ -12,7 +12,7 @@ use std::marker::Model;
 
 /// A declaration with its names laid out for look-up, which contracts see as the declaration.
 #[derive(Drop)]
-pub struct Index<'a> {
+pub struct NameIndex<'a> {
     decl: &'a Decl,
     children: Names<'a>,
     collections: Names<'a>,
@@ -20,7 +20,7 @@ pub struct Index<'a> {
     directories: Names<'a>,
 }
 
-impl<'a> Model for Index<'a> {
+impl<'a> Model for NameIndex<'a> {
     ghost use Rattle.cm_decl.specs.declared.decl.Decl.{Decl};
     ghost use Rattle.cm_valid.specs.Lookup.{HasNames};
 
@@ -32,13 +32,13 @@ impl<'a> Model for Index<'a> {
         HasNames a.decl.now a.children a.collections a.protocols a.directories };
 }
 
-impl<'a> Index<'a> {
+impl<'a> NameIndex<'a> {
     /// Lays out the names of a declaration. `Err` where memory runs out.
-    pub fn new(alloc: Global, decl: &'a Decl) -> Result<Index<'a>, Memory>
+    pub fn new(alloc: Global, decl: &'a Decl) -> Result<NameIndex<'a>, Memory>
         ensures { IfOk result (λ index. index ≡ decl.now) }
     {
         let capabilities = decl.capabilities.as_slice();
-        Ok(Index {
+        Ok(NameIndex {
             decl,
             children: child_names(alloc, decl.children.as_slice())?,
             collections: collection_names(alloc, decl.collections.as_slice())?,

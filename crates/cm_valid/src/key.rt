@@ -4,7 +4,7 @@ use cm_names::Bytes;
 
 /// What tells a row apart from the others of its section.
 #[derive(Debug, Drop, PartialEq, Eq, PartialOrd, Ord)]
-pub(crate) struct Key {
+pub(crate) struct RowKey {
     /// The text by which the row clashes with others.
     pub(crate) text: Bytes,
     /// The index of the row in its section.

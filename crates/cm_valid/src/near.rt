@@ -2,9 +2,9 @@
 
 ghost use Rattle.std.specs.Prelude.{◌≡◌, ℕ, ◌<◌, ◌≤◌, List, length, IfOk};
 ghost use Rattle.cm_valid.specs.Near as spec;
-ghost use Rattle.cm_valid.specs.Near.{ApartKeys, AreKeys, IsInOrder, StandApart};
+ghost use Rattle.cm_valid.specs.Near.{ApartKeys, AreKeys, IsInOrder, KeysAreApart};
 
-use crate::key::Key;
+use crate::key::RowKey;
 use cm_names::{Bytes, Memory};
 use std::alloc::Global;
 
@@ -23,9 +23,9 @@ pub(crate) trait Keyed {
         ensures { IfOk result (λ text. text ≡ key self.now) };
 }
 
-/// How many rows at the front have no two that may clash: none of them clashes with another.
+/// How many rows at the start have no two that may clash: none of them clashes with another.
 pub(crate) fn apart<T: Keyed>(alloc: Global, rows: &[T]) -> Result<usize, Memory>
-    ensures { IfOk result (λ count. StandApart T.key rows.now count) }
+    ensures { IfOk result (λ count. KeysAreApart T.key rows.now count) }
 {
     let mut keys = keys_of(alloc, rows)?;
     keys.sort()?;
@@ -33,13 +33,13 @@ pub(crate) fn apart<T: Keyed>(alloc: Global, rows: &[T]) -> Result<usize, Memory
 }
 
 /// The keys of the rows.
-fn keys_of<T: Keyed>(alloc: Global, rows: &[T]) -> Result<Vec<Key>, Memory>
+fn keys_of<T: Keyed>(alloc: Global, rows: &[T]) -> Result<Vec<RowKey>, Memory>
     ensures { IfOk result (λ keys. AreKeys T.key rows.now keys.items) }
 {
     let mut keys = Vec::new(alloc);
     for (row, item) in rows.iter().enumerate() {
         let text = item.key(alloc)?;
-        keys.push(Key { text, row })?;
+        keys.push(RowKey { text, row })?;
     }
     Ok(keys)
 }
@@ -48,7 +48,7 @@ fn keys_of<T: Keyed>(alloc: Global, rows: &[T]) -> Result<Vec<Key>, Memory>
 ///
 /// In this order all texts that a text covers stand right behind it. Of two rows whose texts are
 /// near, the later one bounds the answer, so only the earlier one needs to be kept in mind.
-fn apart_keys(keys: &[Key]) -> usize
+fn apart_keys(keys: &[RowKey]) -> usize
     requires { IsInOrder keys.now }
     ensures { ApartKeys keys.now result }
 {

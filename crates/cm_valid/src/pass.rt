@@ -2,10 +2,10 @@
 
 ghost use Rattle.std.specs.Prelude.{◌≡◌, IfOk};
 ghost use Rattle.cm_valid.specs.Parts as spec;
-ghost use Rattle.cm_valid.specs.Parts.{ApartIn, Anywhere, Finds, In};
+ghost use Rattle.cm_valid.specs.Parts.{ApartIn, Anywhere, FindsFault, In};
 
-use crate::found::Found;
-use crate::index::Index;
+use crate::found::FoundFault;
+use crate::index::NameIndex;
 use crate::near::apart;
 use crate::row::row_fault;
 use cm_decl::{Decl, Section};
@@ -13,16 +13,16 @@ use cm_names::Memory;
 use std::alloc::Global;
 
 /// The first fault at a row, or `None` where no row has one. `Err` where memory runs out.
-pub(crate) fn first_fault(alloc: Global, decl: &Decl) -> Result<Option<Found>, Memory>
-    ensures { IfOk result (Finds decl.now Anywhere) }
+pub(crate) fn first_fault(alloc: Global, decl: &Decl) -> Result<Option<FoundFault>, Memory>
+    ensures { IfOk result (FindsFault decl.now Anywhere) }
 {
-    let index = Index::new(alloc, decl)?;
+    let index = NameIndex::new(alloc, decl)?;
     first_in_sections(alloc, &index)
 }
 
 /// The first fault at a row. The sections are gone through in their order, each once.
-fn first_in_sections(alloc: Global, index: &Index) -> Result<Option<Found>, Memory>
-    ensures { IfOk result (Finds index.now Anywhere) }
+fn first_in_sections(alloc: Global, index: &NameIndex) -> Result<Option<FoundFault>, Memory>
+    ensures { IfOk result (FindsFault index.now Anywhere) }
 {
     let sections = [
         Section::Children,
@@ -43,8 +43,12 @@ fn first_in_sections(alloc: Global, index: &Index) -> Result<Option<Found>, Memo
 
 /// The first fault in a section. Only the rows that a sort of the section leaves over are compared
 /// with earlier ones.
-fn section_fault(alloc: Global, index: &Index, section: Section) -> Result<Option<Found>, Memory>
-    ensures { IfOk result (Finds index.now (In section)) }
+fn section_fault(
+    alloc: Global,
+    index: &NameIndex,
+    section: Section,
+) -> Result<Option<FoundFault>, Memory>
+    ensures { IfOk result (FindsFault index.now (In section)) }
 {
     let apart = apart_in(alloc, index.decl(), section)?;
     for row in 0..rows_of(index.decl(), section) {
@@ -56,7 +60,7 @@ fn section_fault(alloc: Global, index: &Index, section: Section) -> Result<Optio
     Ok(None)
 }
 
-/// How many rows at the front of a section have no two that may clash.
+/// How many rows at the start of a section have no two that may clash.
 fn apart_in(alloc: Global, decl: &Decl, section: Section) -> Result<usize, Memory>
     ensures { IfOk result (ApartIn decl.now section) }
 {

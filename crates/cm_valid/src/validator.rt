@@ -5,7 +5,7 @@ ghost use Rattle.std.specs.List.{list_all, list_any};
 ghost use Rattle.cm_decl.specs.Valid as valid;
 ghost use Rattle.cm_decl.specs.Valid.{IsValid};
 ghost use Rattle.cm_valid.specs.Cycles as spec;
-ghost use Rattle.cm_valid.specs.Reports.{Reports};
+ghost use Rattle.cm_valid.specs.ReportsInside.{Reports};
 
 use crate::ValidFault;
 use crate::pass::first_fault;

@@ -1,3 +1,4 @@
+-- Inside.
 -- The set of instances that a way down the tree has still to go to.
 use Rattle.std.specs.Prelude.{ℕ, List, Bool, false}
 use Rattle.std.specs.Option.{option_map_or}

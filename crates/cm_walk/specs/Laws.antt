@@ -1,3 +1,4 @@
+-- Inside.
 -- Laws of walks, as statements. Functions of this crate promise them, and nothing is assumed.
 use Rattle.std.specs.Prelude.{◌≡◌, ◌↔◌, ℕ, ◌<◌, List, [], None, find, take, length, slice_get}
 use Rattle.std.specs.Prelude.{option_and_then, if◌then◌else◌}

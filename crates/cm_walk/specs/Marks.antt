@@ -1,3 +1,4 @@
+-- Inside.
 -- What counts for all below the row that has it.
 use Rattle.std.specs.Prelude.{ℕ, Bool, ◌==◌}
 use Rattle.cm_world.specs.declared.row.Row.{Row}

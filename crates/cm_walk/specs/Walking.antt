@@ -1,3 +1,4 @@
+-- Inside.
 -- How far a walk has come.
 use Rattle.std.specs.Prelude.{◌≡◌, ℕ, List, [], ◌∷◌, ◌++◌, Bool, true, false, Option, Some, None, map}
 use Rattle.std.specs.Prelude.{filter_map, option_and_then}
@@ -16,14 +17,14 @@ use Rattle.cm_world.specs.declared.route.Why.TheVariants.{NoInstance}
 use Rattle.cm_world.specs.declared.route.Hop.{Hop}
 use Rattle.cm_world.specs.Rows.{moniker_of}
 use Rattle.cm_world.specs.Stations as world
-use Rattle.cm_world.specs.Next as spec
+use Rattle.cm_world.specs.NextStation as spec
 use Rattle.cm_world.specs.Route.{Named, First, NoUse, NoneExposed, trial, trial_by, said_by, standing}
 use Rattle.cm_world.specs.Route.{asked_rights, is_use, weak_availability, weak_rights}
-use Rattle.cm_walk.specs.declared.station.Station.{Station}
-use Rattle.cm_walk.specs.declared.station.Source.{Source}
-use Rattle.cm_walk.specs.declared.station.Source.TheVariants.{Row as FromRow, End}
-use Rattle.cm_walk.specs.declared.next.Next.{Next}
-use Rattle.cm_walk.specs.declared.next.Next.TheVariants.{To, Ends, Needs, FromVoid, NoChild, Misses}
+use Rattle.cm_walk.specs.declared.station.HopStation.{HopStation}
+use Rattle.cm_walk.specs.declared.station.StationSource.{StationSource}
+use Rattle.cm_walk.specs.declared.station.StationSource.TheVariants.{Row as FromRow, End}
+use Rattle.cm_walk.specs.declared.next.NextOnWalk.{NextOnWalk}
+use Rattle.cm_walk.specs.declared.next.NextOnWalk.TheVariants.{To, Ends, Needs, FromVoid, NoChild, Misses}
 use Rattle.cm_walk.specs.declared.trail.Trail.{Trail}
 use Rattle.cm_walk.specs.declared.walking.Step.{Step}
 use Rattle.cm_walk.specs.declared.walking.Step.TheVariants.{On, Done}
@@ -33,27 +34,27 @@ use Rattle.cm_walk.specs.declared.walking.Begun.TheVariants as begun
 -- ---- what the code's values stand for
 
 -- where the row of a station says that the capability comes from; an end has no such row
-abbrev pub origin_of : Source → Option Origin
+abbrev pub origin_of : StationSource → Option Origin
 origin_of (FromRow from name subdir) = Some from.now
 origin_of (End path) = None
 
 -- the name there
-abbrev pub name_of : Source → List ℕ
+abbrev pub name_of : StationSource → List ℕ
 name_of (FromRow from name subdir) = name.now
 name_of (End path) = []
 
 -- the subdirectory that the row of a station states
-abbrev pub subdir_of : Source → Option (List ℕ)
+abbrev pub subdir_of : StationSource → Option (List ℕ)
 subdir_of (FromRow from name subdir) = subdir.now
 subdir_of (End path) = None
 
 -- the path that an end provides
-abbrev pub end_of : Source → List ℕ
+abbrev pub end_of : StationSource → List ℕ
 end_of (FromRow from name subdir) = []
 end_of (End path) = path
 
 -- the station with its hop and source
-abbrev pub as_station : Station → world.Station
+abbrev pub as_station : HopStation → world.Station
 as_station s = record {
   hop = s.hop;
   source = origin_of s.source;
@@ -63,7 +64,7 @@ as_station s = record {
 }
 
 -- what comes behind a station
-abbrev pub as_next : Next → spec.Next
+abbrev pub as_next : NextOnWalk → spec.NextStation
 as_next (To s) = spec.To (as_station s)
 as_next (Ends path) = spec.Ends
 as_next (Needs i) = spec.Needs i
@@ -72,7 +73,7 @@ as_next NoChild = spec.NoChild
 as_next (Misses hop why) = spec.Misses hop why
 
 -- the path of an end is that of its station
-abbrev pub EndsAt : world.Station → Next → Type 0
+abbrev pub EndsAt : world.Station → NextOnWalk → Type 0
 EndsAt s (Ends path) = path ≡ s.path
 EndsAt s _ = Unit {0}
 
@@ -83,11 +84,11 @@ as_named begun.NoUse = NoUse
 as_named (begun.NoneExposed hop) = NoneExposed hop
 
 -- a hop tells where its instance stands in the tree
-abbrev pub IsPlaced : List Row → Hop → Type 0
-IsPlaced rows hop = hop.moniker ≡ moniker_of rows hop.inc
+abbrev pub IsHopPlaced : List Row → Hop → Type 0
+IsHopPlaced rows hop = hop.moniker ≡ moniker_of rows hop.inc
 
 -- whether it is a child that isn't there
-abbrev pub is_no_child : spec.Next → Bool
+abbrev pub is_no_child : spec.NextStation → Bool
 is_no_child spec.NoChild = true
 is_no_child _ = false
 
@@ -102,38 +103,39 @@ begins_with_use (s ∷ ss) = is_use s.hop.step
 abbrev pub standing_by : Option Availability → Option Availability → Option Availability
 standing_by before stated = or_else (option_and_then stated_itself stated) before
 
--- the trail keeps of the stations of the front what s, which is tried now, and those ahead of
+-- the trail keeps of the stations of the prefix what s, which is tried now, and those ahead of
 -- it are judged by
-pub record IsBehind (front : List world.Station) (s : world.Station) (t : Trail) : Type 0 where
-  pub hops : t.hops ≡ map (λ x. x.hop) front
-  pub subdirs : t.subdirs ≡ filter_map (λ x. x.subdir) front
-  pub availability : t.availability ≡ standing front
-  pub from_use : t.from_use ≡ begins_with_use (front ++ s ∷ [])
-  pub asked : t.asked ≡ asked_rights (front ++ s ∷ [])
+pub record IsBehind (prefix : List world.Station) (s : world.Station) (t : Trail) : Type 0 where
+  pub hops : t.hops ≡ map (λ x. x.hop) prefix
+  pub subdirs : t.subdirs ≡ filter_map (λ x. x.subdir) prefix
+  pub availability : t.availability ≡ standing prefix
+  pub from_use : t.from_use ≡ begins_with_use (prefix ++ s ∷ [])
+  pub asked : t.asked ≡ asked_rights (prefix ++ s ∷ [])
 
 -- what is said by the next of a station: to go on to another behind this trail, or an answer
-abbrev pub Leads : List world.Station → world.Station → spec.Next → Trail → Step → Type 0
-Leads front s next t (On u) = (next ≡ spec.To (as_station u)) × IsBehind (front ++ s ∷ []) (as_station u) t
-Leads front s next t (Done v) = said_by front s next ≡ Some v
+abbrev pub NextLeads : List world.Station → world.Station → spec.NextStation → Trail → Step → Type 0
+NextLeads prefix s next t (On u) = (next ≡ spec.To (as_station u))
+    × IsBehind (prefix ++ s ∷ []) (as_station u) t
+NextLeads prefix s next t (Done v) = said_by prefix s next ≡ Some v
 
 -- what refuses a station before its next is looked at: a child that isn't there, or a hop that is too weak
-abbrev pub refused : List world.Station → world.Station → spec.Next → Option Walked
-refused front s spec.NoChild = Some (Failed s.hop NoInstance)
-refused front s _ = or_else (weak_availability front s) (weak_rights front s)
+abbrev pub refused : List world.Station → world.Station → spec.NextStation → Option Walked
+refused prefix s spec.NoChild = Some (Failed s.hop NoInstance)
+refused prefix s _ = or_else (weak_availability prefix s) (weak_rights prefix s)
 
 -- what is decided at a station whose next this is
-abbrev pub Decides : List world.Station → world.Station → spec.Next → Trail → Step → Type 0
-Decides front s next t (On u) =
-    (trial_by front s next ≡ None) × (next ≡ spec.To (as_station u))
-    × IsBehind (front ++ s ∷ []) (as_station u) t
-Decides front s next t (Done v) = trial_by front s next ≡ Some v
+abbrev pub Decides : List world.Station → world.Station → spec.NextStation → Trail → Step → Type 0
+Decides prefix s next t (On u) =
+    (trial_by prefix s next ≡ None) × (next ≡ spec.To (as_station u))
+    × IsBehind (prefix ++ s ∷ []) (as_station u) t
+Decides prefix s next t (Done v) = trial_by prefix s next ≡ Some v
 
 -- what is decided at a station: nothing, and the walk goes on to the next one, or an answer
-abbrev pub Steps : List Row → List Builtin → List world.Station → world.Station → Trail → Step → Type 0
-Steps rows builtins front s t (On u) =
-    (trial rows builtins front s ≡ None) × (spec.next_of rows builtins s ≡ spec.To (as_station u))
-    × IsBehind (front ++ s ∷ []) (as_station u) t
-Steps rows builtins front s t (Done v) = trial rows builtins front s ≡ Some v
+abbrev pub StepsAlong : List Row → List Builtin → List world.Station → world.Station → Trail → Step → Type 0
+StepsAlong rows builtins prefix s t (On u) =
+    (trial rows builtins prefix s ≡ None) × (spec.next_of rows builtins s ≡ spec.To (as_station u))
+    × IsBehind (prefix ++ s ∷ []) (as_station u) t
+StepsAlong rows builtins prefix s t (Done v) = trial rows builtins prefix s ≡ Some v
 
 -- where a capability stands at its provider, with the subdirectories from there on
 abbrev pub path_at : StepKind → List ℕ → List (List ℕ) → List ℕ

@@ -5,7 +5,7 @@ ghost use Rattle.std.specs.Option.{option_copied};
 ghost use Rattle.std.specs.Str.{bytes_eq};
 ghost use Rattle.cm_decl.specs.Graph.{target_of};
 ghost use Rattle.cm_decl.specs.Same as same;
-ghost use Rattle.cm_world.specs.Next as spec;
+ghost use Rattle.cm_world.specs.NextStation as spec;
 ghost use Rattle.cm_world.specs.Offering.{offer_index, told_index};
 
 use cm_decl::{Capability, Decl, Give, Kind, Offer, Usage};

@@ -4,7 +4,7 @@ ghost use Rattle.std.specs.Prelude.{◌≡◌, IfOk, Some, option_and_then};
 ghost use Rattle.cm_world.specs.Rows.{row_of, moniker_of};
 ghost use Rattle.cm_world.specs.Sound.{IsOrderly};
 ghost use Rattle.cm_world.specs.Stations as spec;
-ghost use Rattle.cm_walk.specs.Walking.{IsPlaced};
+ghost use Rattle.cm_walk.specs.Walking.{IsHopPlaced};
 
 use cm_decl::Kind;
 use cm_names::{List, Memory, Moniker, Name};
@@ -51,15 +51,15 @@ pub(crate) fn moniker_above<V: View>(
     parent: u64,
 ) -> Result<Moniker, Memory>
     requires orderly { IsOrderly (V.rows view.now) (V.next_inc view.now) }
-    requires placed { IsPlaced (V.rows view.now) here.now }
+    requires placed { IsHopPlaced (V.rows view.now) here.now }
     requires parent { let row = row_of (V.rows view.now) here.now.inc in
         option_and_then (λ r. r.parent) row ≡ Some parent }
     ensures { IfOk result (λ made. made ≡ moniker_of (V.rows view.now) parent) }
 {
     let parts = here.moniker.parts.as_slice();
-    let front = &parts[..parts.len().saturating_sub(1)];
+    let prefix = &parts[..parts.len().saturating_sub(1)];
     Ok(Moniker {
-        parts: List::from_vec(front.to_vec(alloc)?),
+        parts: List::from_vec(prefix.to_vec(alloc)?),
     })
 }
 

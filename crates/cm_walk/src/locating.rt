@@ -7,14 +7,18 @@ ghost use Rattle.cm_world.specs.Rows.{is_live};
 ghost use Rattle.cm_world.specs.Sound.{IsOrderly};
 
 use cm_names::Moniker;
-use cm_world::{Located, Steps, Store};
+use cm_world::{Located, StepCount, Store};
 use std::sync::ledger::Ledger;
 
 /// Where the moniker leads from the root, in at most two looks a name: each look at this tree takes a step
 /// of this counter, and of no other. The tree is orderly and its root lives. It takes no memory.
 ///
 /// `Missing` tells how many names are found; a number above 2^32 - 1 is told as that.
-pub fn locate<L: Ledger, S: Store<L>>(store: &S, moniker: &Moniker, steps: &mut Steps<L>) -> Located
+pub fn locate<L: Ledger, S: Store<L>>(
+    store: &S,
+    moniker: &Moniker,
+    steps: &mut StepCount<L>,
+) -> Located
     requires orderly { IsOrderly (S.rows store.now) (S.next_inc store.now) }
     requires root { IsTrue (is_live (S.rows store.now) 0) }
     ensures located { result ≡ located_from (S.rows store.now) 0 0 moniker.now.parts }

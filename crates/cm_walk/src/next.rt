@@ -2,17 +2,18 @@
 
 ghost use Rattle.std.specs.Prelude.{◌≡◌, IfOk, Some, option_and_then};
 ghost use Rattle.std.specs.Option.{option_copied};
-ghost use Rattle.cm_world.specs.Rows.{row_of, name_of, child_of, decl_of};
+ghost use Rattle.cm_world.specs.Rows.{row_of, child_of, decl_of};
+ghost use Rattle.cm_world.specs.RowsInside.{name_of};
 ghost use Rattle.cm_world.specs.declared.row.Row.{Row};
-ghost use Rattle.cm_world.specs.Next as spec;
+ghost use Rattle.cm_world.specs.NextStation as spec;
 ghost use Rattle.cm_world.specs.Sound.{IsOrderly};
-ghost use Rattle.cm_walk.specs.Walking.{as_station, as_next, is_no_child, EndsAt, IsPlaced};
+ghost use Rattle.cm_walk.specs.Walking.{as_station, as_next, is_no_child, EndsAt, IsHopPlaced};
 
 use crate::find;
 use crate::hop::{bare_hop, moniker, moniker_above};
 use crate::station::{
-    Source, Station, builtin_station, capability_station, expose_station, framework_station,
-    offer_station,
+    HopStation, StationSource, builtin_station, capability_station, expose_station,
+    framework_station, offer_station,
 };
 use cm_decl::{Decl, Give, Kind, Offer, Origin};
 use cm_names::{CapPath, ChildName, Memory, Name};
@@ -21,9 +22,9 @@ use std::alloc::Global;
 
 /// What comes behind a station.
 #[derive(Drop)]
-pub(crate) enum Next<'a> {
+pub(crate) enum NextOnWalk<'a> {
     /// Another station.
-    To(Station<'a>),
+    To(HopStation<'a>),
     /// Nothing: the station is an end, which provides the capability at this path.
     Ends(CapPath),
     /// What the declaration of this instance says, which isn't resolved.
@@ -36,13 +37,13 @@ pub(crate) enum Next<'a> {
     Misses(Hop, Why),
 }
 
-impl<'a> Next<'a> {
+impl<'a> NextOnWalk<'a> {
     /// Whether a child isn't there.
     pub(crate) fn is_no_child(&self) -> bool
         ensures { result ≡ is_no_child (as_next self.now) }
     {
         match self {
-            Next::NoChild => true,
+            NextOnWalk::NoChild => true,
             _ => false,
         }
     }
@@ -52,16 +53,16 @@ impl<'a> Next<'a> {
 pub(crate) fn next_of<'a, V: View>(
     alloc: Global,
     view: &'a V,
-    station: &Station<'a>,
-) -> Result<Next<'a>, Memory>
-    requires placed { IsPlaced (V.rows view.now) station.now.hop }
+    station: &HopStation<'a>,
+) -> Result<NextOnWalk<'a>, Memory>
+    requires placed { IsHopPlaced (V.rows view.now) station.now.hop }
     ensures next { IfOk result (λ found. as_next found
         ≡ spec.next_of (V.rows view.now) (V.builtins view.now) (as_station station.now)) }
     ensures path { IfOk result (λ found. EndsAt (as_station station.now) found) }
 {
     match &station.source {
-        Source::End(path) => Ok(Next::Ends(path.clone()?)),
-        Source::Row(from, name, _) => from_origin(alloc, view, &station.hop, name, from),
+        StationSource::End(path) => Ok(NextOnWalk::Ends(path.clone()?)),
+        StationSource::Row(from, name, _) => from_origin(alloc, view, &station.hop, name, from),
     }
 }
 
@@ -72,8 +73,8 @@ fn from_origin<'a, V: View>(
     here: &Hop,
     name: &'a Name,
     from: &Origin,
-) -> Result<Next<'a>, Memory>
-    requires placed { IsPlaced (V.rows view.now) here.now }
+) -> Result<NextOnWalk<'a>, Memory>
+    requires placed { IsHopPlaced (V.rows view.now) here.now }
     ensures { IfOk result (λ found. as_next found
         ≡ spec.next_from (V.rows view.now) (V.builtins view.now) here.now.inc here.now.kind
         name.now from.now) }
@@ -85,9 +86,9 @@ fn from_origin<'a, V: View>(
         Origin::Framework => {
             let moniker = here.moniker.clone()?;
             let station = framework_station(alloc, view, here.inc, moniker, here.kind, name)?;
-            Ok(Next::To(station))
+            Ok(NextOnWalk::To(station))
         }
-        Origin::Void => Ok(Next::FromVoid),
+        Origin::Void => Ok(NextOnWalk::FromVoid),
     }
 }
 
@@ -97,14 +98,14 @@ fn above<'a, V: View>(
     view: &'a V,
     here: &Hop,
     name: &'a Name,
-) -> Result<Next<'a>, Memory>
-    requires placed { IsPlaced (V.rows view.now) here.now }
+) -> Result<NextOnWalk<'a>, Memory>
+    requires placed { IsHopPlaced (V.rows view.now) here.now }
     ensures { IfOk result (λ found. as_next found
         ≡ spec.from_above (V.rows view.now) (V.builtins view.now) here.now.kind name.now (row_of
         (V.rows view.now) here.now.inc)) }
 {
     let Some(facts) = view.facts(here.inc) else {
-        return Ok(Next::NoChild);
+        return Ok(NextOnWalk::NoChild);
     };
     match facts.parent {
         None => builtin(view, here, name),
@@ -113,8 +114,8 @@ fn above<'a, V: View>(
 }
 
 /// The capability above the root, which is the hop's instance.
-fn builtin<'a, V: View>(view: &'a V, here: &Hop, name: &'a Name) -> Result<Next<'a>, Memory>
-    requires placed { IsPlaced (V.rows view.now) here.now }
+fn builtin<'a, V: View>(view: &'a V, here: &Hop, name: &'a Name) -> Result<NextOnWalk<'a>, Memory>
+    requires placed { IsHopPlaced (V.rows view.now) here.now }
     ensures { IfOk result (λ found. as_next found
         ≡ spec.by_builtin (V.rows view.now) here.now.inc here.now.kind name.now
         (spec.builtin_of (V.builtins view.now) here.now.kind name.now)) }
@@ -123,7 +124,7 @@ fn builtin<'a, V: View>(view: &'a V, here: &Hop, name: &'a Name) -> Result<Next<
     match view.builtin(here.kind, name) {
         Some(builtin) => {
             let station = builtin_station(view, here.inc, moniker, builtin)?;
-            Ok(Next::To(station))
+            Ok(NextOnWalk::To(station))
         }
         None => {
             let hop = bare_hop(
@@ -134,7 +135,7 @@ fn builtin<'a, V: View>(view: &'a V, here: &Hop, name: &'a Name) -> Result<Next<
                 here.kind,
                 name,
             )?;
-            Ok(Next::Misses(hop, Why::NoBuiltin))
+            Ok(NextOnWalk::Misses(hop, Why::NoBuiltin))
         }
     }
 }
@@ -146,8 +147,8 @@ fn offered<'a, V: View>(
     parent: u64,
     here: &Hop,
     name: &'a Name,
-) -> Result<Next<'a>, Memory>
-    requires placed { IsPlaced (V.rows view.now) here.now }
+) -> Result<NextOnWalk<'a>, Memory>
+    requires placed { IsHopPlaced (V.rows view.now) here.now }
     requires parent { let row = row_of (V.rows view.now) here.now.inc in
         option_and_then (λ r. r.parent) row ≡ Some parent }
     ensures { IfOk result (λ found. (r : Row) → row_of (V.rows view.now) here.now.inc ≡ Some r
@@ -156,17 +157,17 @@ fn offered<'a, V: View>(
         (V.rows view.now) parent)) }
 {
     let Some(decl) = view.decl(parent) else {
-        return Ok(Next::Needs(parent));
+        return Ok(NextOnWalk::Needs(parent));
     };
     let moniker = moniker_above(alloc, view, here, parent)?;
     match offered_by(view, decl, parent, here, name) {
         Some(give) => {
             let station = offer_station(view, parent, moniker, give)?;
-            Ok(Next::To(station))
+            Ok(NextOnWalk::To(station))
         }
         None => {
             let hop = bare_hop(view, StepKind::OfferHop, parent, moniker, here.kind, name)?;
-            Ok(Next::Misses(hop, Why::NoOffer))
+            Ok(NextOnWalk::Misses(hop, Why::NoOffer))
         }
     }
 }
@@ -181,7 +182,7 @@ fn offered_by<'a, V: View>(
     name: &Name,
 ) -> Option<&'a Give>
     requires orderly { IsOrderly (V.rows view.now) (V.next_inc view.now) }
-    requires placed { IsPlaced (V.rows view.now) here.now }
+    requires placed { IsHopPlaced (V.rows view.now) here.now }
     requires parent { let row = row_of (V.rows view.now) here.now.inc in
         option_and_then (λ r. r.parent) row ≡ Some parent }
     ensures { (r : Row) → row_of (V.rows view.now) here.now.inc ≡ Some r
@@ -200,7 +201,7 @@ fn offered_by<'a, V: View>(
 /// The name of the hop's instance among the children of this parent, the last one of the hop.
 fn name_at<'a, V: View>(view: &'a V, parent: u64, here: &'a Hop) -> Option<&'a ChildName>
     requires orderly { IsOrderly (V.rows view.now) (V.next_inc view.now) }
-    requires placed { IsPlaced (V.rows view.now) here.now }
+    requires placed { IsHopPlaced (V.rows view.now) here.now }
     requires parent { let row = row_of (V.rows view.now) here.now.inc in
         option_and_then (λ r. r.parent) row ≡ Some parent }
     ensures { option_copied result ≡ name_of (V.rows view.now) here.now.inc }
@@ -235,46 +236,46 @@ fn below<'a, V: View>(
     child: Option<u64>,
     kind: Kind,
     name: &'a Name,
-) -> Result<Next<'a>, Memory>
+) -> Result<NextOnWalk<'a>, Memory>
     ensures { IfOk result (λ found. as_next found
         ≡ spec.from_child (V.rows view.now) kind name.now child) }
 {
     let Some(inc) = child else {
-        return Ok(Next::NoChild);
+        return Ok(NextOnWalk::NoChild);
     };
     let Some(decl) = view.decl(inc) else {
-        return Ok(Next::Needs(inc));
+        return Ok(NextOnWalk::Needs(inc));
     };
     let moniker = moniker(alloc, view, inc)?;
     match find::give(decl.exposes.as_slice(), kind, name) {
         Some(give) => {
             let station = expose_station(view, inc, moniker, give)?;
-            Ok(Next::To(station))
+            Ok(NextOnWalk::To(station))
         }
         None => {
             let hop = bare_hop(view, StepKind::ExposeHop, inc, moniker, kind, name)?;
-            Ok(Next::Misses(hop, Why::NoExpose))
+            Ok(NextOnWalk::Misses(hop, Why::NoExpose))
         }
     }
 }
 
 /// What comes from the hop's instance itself.
-fn own<'a, V: View>(view: &'a V, here: &Hop, name: &'a Name) -> Result<Next<'a>, Memory>
-    requires placed { IsPlaced (V.rows view.now) here.now }
+fn own<'a, V: View>(view: &'a V, here: &Hop, name: &'a Name) -> Result<NextOnWalk<'a>, Memory>
+    requires placed { IsHopPlaced (V.rows view.now) here.now }
     ensures { IfOk result (λ found. as_next found
         ≡ spec.by_capability (V.rows view.now) here.now.inc (option_and_then
         (λ d. spec.capability_of d here.now.kind name.now) (decl_of (V.rows view.now)
         here.now.inc))) }
 {
     let Some(decl) = view.decl(here.inc) else {
-        return Ok(Next::NoChild);
+        return Ok(NextOnWalk::NoChild);
     };
     match find::capability(decl, here.kind, name) {
         Some(capability) => {
             let moniker = here.moniker.clone()?;
             let station = capability_station(view, here.inc, moniker, capability)?;
-            Ok(Next::To(station))
+            Ok(NextOnWalk::To(station))
         }
-        None => Ok(Next::NoChild),
+        None => Ok(NextOnWalk::NoChild),
     }
 }

@@ -14,12 +14,12 @@ use std::alloc::Global;
 
 /// A hop, with what leads on from it.
 #[derive(Drop)]
-pub(crate) struct Station<'a> {
+pub(crate) struct HopStation<'a> {
     pub hop: Hop,
-    pub source: Source<'a>,
+    pub source: StationSource<'a>,
 }
 
-impl<'a> Station<'a> {
+impl<'a> HopStation<'a> {
     /// The hop alone.
     pub(crate) fn into_hop(self) -> Hop
         ensures { result ≡ self.entry.hop }
@@ -30,7 +30,7 @@ impl<'a> Station<'a> {
 
 /// What leads on from a hop.
 #[derive(Drop)]
-pub(crate) enum Source<'a> {
+pub(crate) enum StationSource<'a> {
     /// The row of a declaration: where it says that the capability comes from, the name there,
     /// and the part of the directory that it passes on, if it isn't the whole.
     Row(&'a Origin, &'a Name, &'a Option<SubDir>),
@@ -44,7 +44,7 @@ pub(crate) fn use_station<'a, V: View>(
     inc: u64,
     moniker: Moniker,
     usage: &'a Usage,
-) -> Result<Station<'a>, Memory>
+) -> Result<HopStation<'a>, Memory>
     requires { moniker ≡ moniker_of (V.rows view.now) inc }
     ensures { IfOk result (λ made. as_station made
         ≡ spec.use_station (V.rows view.now) inc usage.now) }
@@ -57,9 +57,9 @@ pub(crate) fn use_station<'a, V: View>(
         usage.kind,
         &usage.name,
     )?;
-    let source = Source::Row(&usage.from, &usage.name, &usage.subdir);
+    let source = StationSource::Row(&usage.from, &usage.name, &usage.subdir);
     let strong = is_strong(usage.dependency);
-    Ok(Station {
+    Ok(HopStation {
         hop: stating(bare, usage.rights, usage.availability, strong),
         source,
     })
@@ -98,14 +98,14 @@ fn give_station<'a, V: View>(
     moniker: Moniker,
     give: &'a Give,
     strong: bool,
-) -> Result<Station<'a>, Memory>
+) -> Result<HopStation<'a>, Memory>
     requires { moniker ≡ moniker_of (V.rows view.now) inc }
     ensures { IfOk result (λ made. as_station made
         ≡ spec.give_station (V.rows view.now) step inc give.now strong) }
 {
     let bare = bare_hop(view, step, inc, moniker, give.kind, &give.target_name)?;
-    let source = Source::Row(&give.from, &give.source_name, &give.subdir);
-    Ok(Station {
+    let source = StationSource::Row(&give.from, &give.source_name, &give.subdir);
+    Ok(HopStation {
         hop: stating(bare, give.rights, give.availability, strong),
         source,
     })
@@ -117,7 +117,7 @@ pub(crate) fn offer_station<'a, V: View>(
     inc: u64,
     moniker: Moniker,
     give: &'a Give,
-) -> Result<Station<'a>, Memory>
+) -> Result<HopStation<'a>, Memory>
     requires { moniker ≡ moniker_of (V.rows view.now) inc }
     ensures { IfOk result (λ made. as_station made
         ≡ spec.offer_station (V.rows view.now) inc give.now) }
@@ -138,7 +138,7 @@ pub(crate) fn expose_station<'a, V: View>(
     inc: u64,
     moniker: Moniker,
     give: &'a Give,
-) -> Result<Station<'a>, Memory>
+) -> Result<HopStation<'a>, Memory>
     requires { moniker ≡ moniker_of (V.rows view.now) inc }
     ensures { IfOk result (λ made. as_station made
         ≡ spec.expose_station (V.rows view.now) inc give.now) }
@@ -151,16 +151,16 @@ fn end_station<'a>(
     bare: Hop,
     rights: Option<Rights>,
     path: &'a CapPath,
-) -> Result<Station<'a>, Memory>
+) -> Result<HopStation<'a>, Memory>
     ensures { IfOk result (λ made. as_station made
         ≡ spec.end_station (record bare { rights = rights }) path.now) }
 {
     let path = path.clone()?;
     let mut hop = bare;
     hop.rights = rights;
-    Ok(Station {
+    Ok(HopStation {
         hop,
-        source: Source::End(path),
+        source: StationSource::End(path),
     })
 }
 
@@ -170,7 +170,7 @@ pub(crate) fn capability_station<'a, V: View>(
     inc: u64,
     moniker: Moniker,
     capability: &'a Capability,
-) -> Result<Station<'a>, Memory>
+) -> Result<HopStation<'a>, Memory>
     requires { moniker ≡ moniker_of (V.rows view.now) inc }
     ensures { IfOk result (λ made. as_station made
         ≡ spec.capability_station (V.rows view.now) inc capability.now) }
@@ -186,7 +186,7 @@ pub(crate) fn builtin_station<'a, V: View>(
     inc: u64,
     moniker: Moniker,
     builtin: &'a Builtin,
-) -> Result<Station<'a>, Memory>
+) -> Result<HopStation<'a>, Memory>
     requires { moniker ≡ moniker_of (V.rows view.now) inc }
     ensures { IfOk result (λ made. as_station made
         ≡ spec.builtin_station (V.rows view.now) inc builtin.now) }
@@ -204,15 +204,15 @@ pub(crate) fn framework_station<'a, V: View>(
     moniker: Moniker,
     kind: Kind,
     name: &'a Name,
-) -> Result<Station<'a>, Memory>
+) -> Result<HopStation<'a>, Memory>
     requires { moniker ≡ moniker_of (V.rows view.now) inc }
     ensures { IfOk result (λ made. as_station made
         ≡ spec.framework_station (V.rows view.now) inc kind name.now) }
 {
     let hop = bare_hop(view, StepKind::FrameworkHop, inc, moniker, kind, name)?;
     let path = CapPath::service(alloc, name)?;
-    Ok(Station {
+    Ok(HopStation {
         hop,
-        source: Source::End(path),
+        source: StationSource::End(path),
     })
 }

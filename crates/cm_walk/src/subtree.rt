@@ -10,7 +10,7 @@ use cm_world::View;
 use std::alloc::Global;
 use std::collections::BTreeSet;
 
-/// The instances at and below the given one, by rising incarnations; none where it doesn't live.
+/// The instances at and below the given one, by increasing incarnations; none where it doesn't live.
 /// `Err` where memory runs out. It goes to these alone, and finds each in a logarithm.
 pub fn rows_below<V: View>(alloc: Global, view: &V, top: u64) -> Result<Vec<u64>, Memory>
     ensures found { let below = subtree (V.rows view.now) top in

@@ -9,7 +9,7 @@ ghost use Rattle.cm_world.specs.Route as spec;
 ghost use Rattle.cm_world.specs.Stations.{Station as Place};
 ghost use Rattle.cm_walk.specs.Walking.{as_station, subdir_of, path_at as whole_path, standing_by, IsBehind};
 
-use crate::station::{Source, Station};
+use crate::station::{HopStation, StationSource};
 use cm_names::{Availability, CapPath, List, Memory, Rights, SubDir, Text};
 use cm_world::{Hop, Provider, Route, StepKind, Why};
 use std::alloc::Global;
@@ -50,9 +50,9 @@ impl Trail {
 
     /// Why the hop is too weak, if it is: in its availability, else in its rights.
     pub(crate) fn too_weak(&self, hop: &Hop) -> Option<Why>
-        ensures { (front : Seq Place) (s : Place) → s.hop ≡ hop.now → IsBehind front s self.now
-            → option_map (walked.Failed hop.now) result ≡ or_else (spec.weak_availability front s)
-            (spec.weak_rights front s) }
+        ensures { (prefix : Seq Place) (s : Place) → s.hop ≡ hop.now → IsBehind prefix s self.now
+            → option_map (walked.Failed hop.now) result ≡ or_else (spec.weak_availability prefix s)
+            (spec.weak_rights prefix s) }
     {
         match self.too_unsure(hop) {
             Some(why) => Some(why),
@@ -95,10 +95,10 @@ impl Trail {
 
     /// Puts this station at the end, before the next one, which has this hop. `Err` where memory
     /// runs out.
-    pub(crate) fn push(&mut self, here: Station<'_>, next: &Hop) -> Result<(), Memory>
-        ensures { OnOk result ((front : Seq Place) (t : Place)
-            → IsBehind front (as_station here.entry) self.old → t.hop ≡ next.now
-            → IsBehind (front ++ as_station here.entry ∷ []) t self.new) }
+    pub(crate) fn push(&mut self, here: HopStation<'_>, next: &Hop) -> Result<(), Memory>
+        ensures { OnOk result ((prefix : Seq Place) (t : Place)
+            → IsBehind prefix (as_station here.entry) self.old → t.hop ≡ next.now
+            → IsBehind (prefix ++ as_station here.entry ∷ []) t self.new) }
     {
         self.asked = asked_then(self.from_use, self.asked, next.rights);
         self.availability = standing_then(self.availability, here.hop.availability);
@@ -114,9 +114,9 @@ impl Trail {
         hop: Hop,
         path: &CapPath,
     ) -> Result<Route, Memory>
-        ensures { IfOk result (λ made. (front : Seq Place) (s : Place) → IsBehind front s self.old
+        ensures { IfOk result (λ made. (prefix : Seq Place) (s : Place) → IsBehind prefix s self.old
             → s.hop
-            ≡ hop → s.path ≡ path.now → made ≡ spec.route_of front s) }
+            ≡ hop → s.path ≡ path.now → made ≡ spec.route_of prefix s) }
     {
         let rights = self.asked;
         let provider = provider(&hop)?;
@@ -177,11 +177,11 @@ fn asked_then(from_use: bool, asked: Option<Rights>, stated: Option<Rights>) -> 
 }
 
 /// Puts the subdirectory that the station's row states at the end, if there is one.
-fn push_subdir(subdirs: &mut List<SubDir>, source: &Source<'_>) -> Result<(), Memory>
+fn push_subdir(subdirs: &mut List<SubDir>, source: &StationSource<'_>) -> Result<(), Memory>
     ensures { OnOk result (subdirs.new ≡ subdirs.old ++ option_to_list (subdir_of source.now)) }
 {
     match source {
-        Source::Row(_from, _name, Some(subdir)) => {
+        StationSource::Row(_from, _name, Some(subdir)) => {
             subdirs.push(subdir.clone()?)?;
             Ok(())
         }

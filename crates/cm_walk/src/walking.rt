@@ -3,18 +3,19 @@
 ghost use Rattle.std.specs.Prelude.{◌≡◌, List as Seq, IfOk, option_map};
 ghost use Rattle.cm_world.specs.declared.route.Walked.TheVariants as walked;
 ghost use Rattle.cm_walk.specs.declared.walking.Step.TheVariants as step;
-ghost use Rattle.cm_world.specs.Next as to;
+ghost use Rattle.cm_world.specs.NextStation as to;
 ghost use Rattle.cm_world.specs.Route as spec;
 ghost use Rattle.cm_world.specs.Stations.{Station as Place};
 ghost use Rattle.cm_world.specs.Sound.{IsOrderly};
 ghost use Rattle.cm_world.specs.Ending.{KeepsDown};
 ghost use Rattle.cm_walk.specs.Walking.{as_station, as_next, as_named};
-ghost use Rattle.cm_walk.specs.Walking.{EndsAt, IsBehind, IsPlaced, refused, Leads, Decides, Steps};
+ghost use Rattle.cm_walk.specs.Walking.{EndsAt, IsBehind, IsHopPlaced, refused, NextLeads, Decides};
+ghost use Rattle.cm_walk.specs.Walking.{StepsAlong};
 
 use crate::find;
 use crate::hop::{bare_hop, moniker};
-use crate::next::{Next, next_of};
-use crate::station::{Station, expose_station, offer_station, use_station};
+use crate::next::{NextOnWalk, next_of};
+use crate::station::{HopStation, expose_station, offer_station, use_station};
 use crate::trail::Trail;
 use cm_decl::Kind;
 use cm_names::{CapPath, Memory, Name, Shared};
@@ -25,7 +26,7 @@ use std::alloc::Global;
 #[derive(Drop)]
 pub(crate) enum Step<'a> {
     /// Nothing is decided at the station, and the walk goes on to this one.
-    On(Station<'a>),
+    On(HopStation<'a>),
     /// This is decided.
     Done(Walked),
 }
@@ -34,7 +35,7 @@ pub(crate) enum Step<'a> {
 #[derive(Drop)]
 pub(crate) enum Begun<'a> {
     /// A use, an expose or an offer.
-    At(Station<'a>),
+    At(HopStation<'a>),
     /// A use or an offer that isn't there.
     NoUse,
     /// An expose that isn't there: the hop that is missing.
@@ -192,11 +193,11 @@ fn begin_expose<'a, V: View>(
 }
 
 /// Walks from the station to what is decided.
-fn follow<'a, V: View>(alloc: Global, view: &'a V, first: Station<'a>) -> Result<Walked, Memory>
+fn follow<'a, V: View>(alloc: Global, view: &'a V, first: HopStation<'a>) -> Result<Walked, Memory>
     requires orderly { IsOrderly (V.rows view.now) (V.next_inc view.now) }
     requires down { KeepsDown (as_station first) }
-    requires placed { IsPlaced (V.rows view.now) first.hop }
-    ensures { IfOk result (λ walked. spec.IsVerdict (V.rows view.now) (V.builtins view.now)
+    requires placed { IsHopPlaced (V.rows view.now) first.hop }
+    ensures { IfOk result (λ walked. spec.IsRouteVerdict (V.rows view.now) (V.builtins view.now)
         (as_station first.entry) walked) }
 {
     let mut trail = Trail::new(alloc, &first.hop)?;
@@ -214,11 +215,11 @@ fn try_station<'a, V: View>(
     alloc: Global,
     view: &'a V,
     trail: &mut Trail,
-    here: Station<'a>,
+    here: HopStation<'a>,
 ) -> Result<Step<'a>, Memory>
-    requires placed { IsPlaced (V.rows view.now) here.hop }
-    ensures { IfOk result (λ step. (front : Seq Place) → IsBehind front (as_station here.entry) trail.old
-        → Steps (V.rows view.now) (V.builtins view.now) front (as_station here.entry) trail.new step) }
+    requires placed { IsHopPlaced (V.rows view.now) here.hop }
+    ensures { IfOk result (λ step. (prefix : Seq Place) → IsBehind prefix (as_station here.entry) trail.old
+        → StepsAlong (V.rows view.now) (V.builtins view.now) prefix (as_station here.entry) trail.new step) }
 {
     let next = next_of(alloc, view, &here)?;
     decide(alloc, trail, here, next)
@@ -228,12 +229,12 @@ fn try_station<'a, V: View>(
 fn decide<'a>(
     alloc: Global,
     trail: &mut Trail,
-    here: Station<'a>,
-    next: Next<'a>,
+    here: HopStation<'a>,
+    next: NextOnWalk<'a>,
 ) -> Result<Step<'a>, Memory>
-    ensures { IfOk result (λ step. (front : Seq Place) → IsBehind front (as_station here.entry) trail.old
+    ensures { IfOk result (λ step. (prefix : Seq Place) → IsBehind prefix (as_station here.entry) trail.old
         → EndsAt (as_station here.entry) next.entry
-        → Decides front (as_station here.entry) (as_next next.entry) trail.new step) }
+        → Decides prefix (as_station here.entry) (as_next next.entry) trail.new step) }
 {
     match refusal(trail, &here.hop, &next) {
         Some(why) => done_failed(alloc, here.into_hop(), why),
@@ -242,9 +243,9 @@ fn decide<'a>(
 }
 
 /// Why the walk ends at the hop, if it does by the hop itself or by a child that isn't there.
-fn refusal(trail: &Trail, hop: &Hop, next: &Next<'_>) -> Option<Why>
-    ensures { (front : Seq Place) (s : Place) → s.hop ≡ hop.now → IsBehind front s trail.now
-        → option_map (walked.Failed hop.now) result ≡ refused front s (as_next next.now) }
+fn refusal(trail: &Trail, hop: &Hop, next: &NextOnWalk<'_>) -> Option<Why>
+    ensures { (prefix : Seq Place) (s : Place) → s.hop ≡ hop.now → IsBehind prefix s trail.now
+        → option_map (walked.Failed hop.now) result ≡ refused prefix s (as_next next.now) }
 {
     if next.is_no_child() {
         return Some(Why::NoInstance);
@@ -256,27 +257,31 @@ fn refusal(trail: &Trail, hop: &Hop, next: &Next<'_>) -> Option<Why>
 fn go<'a>(
     alloc: Global,
     trail: &mut Trail,
-    here: Station<'a>,
-    next: Next<'a>,
+    here: HopStation<'a>,
+    next: NextOnWalk<'a>,
 ) -> Result<Step<'a>, Memory>
-    ensures { IfOk result (λ step. (front : Seq Place) → IsBehind front (as_station here.entry) trail.old
+    ensures { IfOk result (λ step. (prefix : Seq Place) → IsBehind prefix (as_station here.entry) trail.old
         → EndsAt (as_station here.entry) next.entry
-        → Leads front (as_station here.entry) (as_next next.entry) trail.new step) }
+        → NextLeads prefix (as_station here.entry) (as_next next.entry) trail.new step) }
 {
     match next {
-        Next::To(station) => go_on(trail, here, station),
-        Next::Ends(path) => arrive(alloc, trail, here, path),
-        Next::Needs(inc) => Ok(Step::Done(Walked::Need(inc))),
-        Next::FromVoid => done_void(alloc, here.into_hop()),
-        Next::NoChild => done_failed(alloc, here.into_hop(), Why::NoInstance),
-        Next::Misses(hop, why) => done_failed(alloc, hop, why),
+        NextOnWalk::To(station) => go_on(trail, here, station),
+        NextOnWalk::Ends(path) => arrive(alloc, trail, here, path),
+        NextOnWalk::Needs(inc) => Ok(Step::Done(Walked::Need(inc))),
+        NextOnWalk::FromVoid => done_void(alloc, here.into_hop()),
+        NextOnWalk::NoChild => done_failed(alloc, here.into_hop(), Why::NoInstance),
+        NextOnWalk::Misses(hop, why) => done_failed(alloc, hop, why),
     }
 }
 
 /// Goes on to the next station.
-fn go_on<'a>(trail: &mut Trail, here: Station<'a>, next: Station<'a>) -> Result<Step<'a>, Memory>
-    ensures { IfOk result (λ step. (front : Seq Place) → IsBehind front (as_station here.entry) trail.old
-        → Leads front (as_station here.entry) (to.To (as_station next.entry)) trail.new step) }
+fn go_on<'a>(
+    trail: &mut Trail,
+    here: HopStation<'a>,
+    next: HopStation<'a>,
+) -> Result<Step<'a>, Memory>
+    ensures { IfOk result (λ step. (prefix : Seq Place) → IsBehind prefix (as_station here.entry) trail.old
+        → NextLeads prefix (as_station here.entry) (to.To (as_station next.entry)) trail.new step) }
 {
     trail.push(here, &next.hop)?;
     Ok(Step::On(next))
@@ -286,11 +291,12 @@ fn go_on<'a>(trail: &mut Trail, here: Station<'a>, next: Station<'a>) -> Result<
 fn arrive<'a>(
     alloc: Global,
     trail: &mut Trail,
-    here: Station<'a>,
+    here: HopStation<'a>,
     path: CapPath,
 ) -> Result<Step<'a>, Memory>
-    ensures { IfOk result (λ step. (front : Seq Place) → IsBehind front (as_station here.entry) trail.old
-        → path ≡ (as_station here.entry).path → Leads front (as_station here.entry) to.Ends trail.new step) }
+    ensures { IfOk result (λ step. (prefix : Seq Place) → IsBehind prefix (as_station here.entry) trail.old
+        → path ≡ (as_station here.entry).path
+        → NextLeads prefix (as_station here.entry) to.Ends trail.new step) }
 {
     let route = trail.take_route(alloc, here.into_hop(), &path)?;
     let route = Shared::new(alloc, route)?;

@@ -1,3 +1,4 @@
+-- Inside.
 -- Histories that worked examples of actions speak of. They go on where the root, the logger 1
 -- and the client 2 are resolved and off, and three actions have ended.
 use Rattle.std.specs.Prelude.{ℕ, List, [], ◌∷◌, Some}

@@ -1,5 +1,7 @@
+-- Promised.
 -- The world that an entry leaves.
-use Rattle.std.specs.Prelude.{ℕ, ◌+◌, List, [], ◌∷◌, ◌++◌, Bool, true, false, not, ◌&&◌, Option}
+-- ---- actions
+use Rattle.std.specs.Prelude.{ℕ, ◌+◌, List, [], ◌∷◌, ◌++◌, Bool, false, not, ◌&&◌, Option}
 use Rattle.std.specs.Prelude.{Some, None, filter, if◌then◌else◌}
 use Rattle.std.specs.List.{list_any}
 use Rattle.cm_world.specs.declared.row.Row.{Row}
@@ -23,8 +25,6 @@ use Rattle.cm_world.specs.End.{added_by, ended}
 use Rattle.cm_world.specs.Create.{created_row}
 use Rattle.cm_world.specs.Expiring.{expired, expired_by}
 use Rattle.cm_world.specs.Step.{is_join}
-
--- ---- actions
 
 abbrev pub new_act : ℕ → ActKind → ℕ → ℕ → Act
 new_act action kind i caller = record { action = action; kind = kind; inc = i; by = caller; outcome = None }
@@ -95,20 +95,6 @@ moved w caller (Pick t) (reply.ShutDown i) = with_rows w (changed i set_shut w.r
 moved w caller (Purge i) (reply.Purged lost) = with_rows w (others_than w.rows i)
 moved w caller (Exited i) (reply.Left m) = with_rows w (expired i (changed i (set_on false) w.rows))
 moved w caller event r = w
-
--- whether an event with its reply may change more than that number
-abbrev pub moves : Event → Reply → Bool
-moves (Begin kind i) (reply.Begun work) = true
-moves (Begin kind i) (reply.Joined a) = true
-moves (End a finish) (reply.Ended o) = true
-moves (Await a) (reply.Ended o) = true
-moves (Create p coll name url gives) (reply.Created i) = true
-moves (Mark doom i) reply.Marked = true
-moves (Pick t) (reply.Stopping work) = true
-moves (Pick t) (reply.ShutDown i) = true
-moves (Purge i) (reply.Purged lost) = true
-moves (Exited i) (reply.Left m) = true
-moves event r = false
 
 abbrev pub counted : World → World
 counted w = record w { entries = w.entries + 1 }

@@ -1,3 +1,4 @@
+-- Promised.
 -- The reply to a begin.
 use Rattle.std.specs.Prelude.{ℕ, List, Bool, true, false, not, Option, Some, None, is_some, is_none}
 use Rattle.std.specs.Prelude.{if◌then◌else◌}

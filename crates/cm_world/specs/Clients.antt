@@ -1,3 +1,4 @@
+-- Promised.
 -- Which instance is a client of which.
 use Rattle.std.specs.Prelude.{◌≡◌, ◌≢◌, ℕ, List, ◌∷◌, IsTrue}
 use Rattle.std.specs.List.{list_all}

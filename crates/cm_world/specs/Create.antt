@@ -1,3 +1,4 @@
+-- Promised.
 -- The reply to a create.
 use Rattle.std.specs.Prelude.{◌≡◌, ℕ, List, [], ◌∷◌, ◌++◌, Bool, true, false, not, ◌&&◌, Option, Some, None}
 use Rattle.std.specs.Prelude.{find, filter_map, is_some, option_map, option_and_then, if◌then◌else◌}

@@ -1,3 +1,4 @@
+-- Promised.
 -- Changes of one item of a list: of the first that passes a test, which is the one that `find` finds.
 use Rattle.std.specs.Prelude.{List, [], ◌∷◌, Bool, if◌then◌else◌}
 

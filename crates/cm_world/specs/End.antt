@@ -1,3 +1,4 @@
+-- Promised.
 -- The end of an action: which ends fit it, and what they change.
 use Rattle.std.specs.Prelude.{ℕ, ◌+◌, List, [], ◌∷◌, ◌++◌, Bool, true, false, Option, Some, None, length}
 use Rattle.std.specs.Prelude.{if◌then◌else◌, ◌==◌}

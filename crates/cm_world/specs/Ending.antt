@@ -1,3 +1,4 @@
+-- Inside.
 -- How many steps a walk can still make. It goes up while it follows uses and offers, each time
 -- to a row with a lower incarnation; then it goes down by exposes, each time to a row with a
 -- higher one, and never up again.
@@ -11,7 +12,7 @@ use Rattle.cm_world.specs.declared.route.Walked.{Walked}
 use Rattle.cm_world.specs.declared.route.StepKind.{StepKind}
 use Rattle.cm_world.specs.declared.route.StepKind.TheVariants.{ExposeHop}
 use Rattle.cm_world.specs.Stations.{Station}
-use Rattle.cm_world.specs.Next.{To, next_of}
+use Rattle.cm_world.specs.NextStation.{To, next_of}
 use Rattle.cm_world.specs.Route.{First, named_by, IsWalked}
 use Rattle.cm_world.specs.Sound.{IsOrderly}
 

@@ -1,3 +1,4 @@
+-- Inside.
 -- Short realms that worked examples speak of: a route that is found, one that isn't, and a
 -- tree without room. A name of one letter is written by its byte.
 use Rattle.std.specs.Prelude.{ℕ, List, [], ◌∷◌, ◌++◌, true, false, Some, None}

@@ -1,3 +1,4 @@
+-- Promised.
 -- What goes with an instance that stops: its children in collections, or, where its collection runs each
 -- child once, it itself.
 use Rattle.std.specs.Prelude.{ℕ, List, [], ◌∷◌, Bool, true, false, not, ◌&&◌, ◌==◌, Option, Some, None}

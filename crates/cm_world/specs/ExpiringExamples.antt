@@ -1,3 +1,4 @@
+-- Inside.
 -- Histories that worked examples speak of in which instances go with one that stops.
 use Rattle.std.specs.Prelude.{ℕ, List, [], ◌∷◌, false, None}
 use Rattle.cm_decl.specs.declared.decl.Decl.{Decl}

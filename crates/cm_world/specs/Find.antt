@@ -1,3 +1,4 @@
+-- Promised.
 -- The reply to a find.
 use Rattle.std.specs.Prelude.{ℕ, List, [], ◌∷◌, ◌++◌, Some, None, if◌then◌else◌}
 use Rattle.cm_names.specs.declared.child.ChildName.{ChildName}
@@ -6,13 +7,13 @@ use Rattle.cm_world.specs.declared.reply.Reply.{Reply}
 use Rattle.cm_world.specs.declared.reply.Reply.TheVariants.{Found, Need, Shut, NotFound}
 use Rattle.cm_world.specs.Rows.{is_resolved, is_closed, child_of}
 
--- where row i was reached by the names of the front, and these are left
+-- where row i was reached by the names of the prefix, and these are left
 abbrev pub found_from : List Row → ℕ → List ChildName → List ChildName → Reply
-found_from rows i front [] = Found i
-found_from rows i front (c ∷ cs) =
+found_from rows i prefix [] = Found i
+found_from rows i prefix (c ∷ cs) =
     if is_resolved rows i then
     elim (child_of rows i c) as (λ _. Reply) [
-      | None ↦ NotFound (record { parts = front })
-      | Some j ↦ found_from rows j (front ++ c ∷ []) cs
+      | None ↦ NotFound (record { parts = prefix })
+      | Some j ↦ found_from rows j (prefix ++ c ∷ []) cs
     ]
     else if is_closed rows i then Shut i else Need i

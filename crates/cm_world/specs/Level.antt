@@ -1,3 +1,4 @@
+-- Promised.
 -- The level of an instance: which of it and its children depends on which. It is the realm graph of its
 -- declaration, made of rows: of the instance itself and of its children that live, doomed ones too.
 use Rattle.std.specs.Prelude.{ℕ, List, [], Bool, false, ◌&&◌, ◌||◌, ◌==◌, nat_eq, Some, None, if◌then◌else◌}
@@ -7,7 +8,7 @@ use Rattle.cm_decl.specs.declared.decl.Decl.{Decl}
 use Rattle.cm_decl.specs.declared.origin.Origin.{Origin}
 use Rattle.cm_decl.specs.declared.origin.Origin.TheVariants.{Own, Child}
 use Rattle.cm_decl.specs.Graph.{own_sources, child_sources}
-use Rattle.cm_decl.specs.Realm.{Realm, Strong, Directly}
+use Rattle.cm_decl.specs.RealmGraph.{RealmGraph, Strong}
 use Rattle.cm_world.specs.declared.row.Row.{Row}
 use Rattle.cm_world.specs.Rows.{row_of, is_live, decl_of, child_of, has_parent}
 
@@ -47,12 +48,8 @@ level_edge rows p x y =
     && is_level_node rows p y
 
 -- the level of p
-abbrev pub level : List Row → ℕ → Realm ℕ
+abbrev pub level : List Row → ℕ → RealmGraph ℕ
 level rows p = record { own = p; has = is_level_node rows p; edge = level_edge rows p }
 
 abbrev pub LevelStrong : List Row → ℕ → ℕ → ℕ → Type 0
 LevelStrong rows p x y = Strong (level rows p) x y
-
--- the first depends directly on the second, by a strong or an implied edge
-abbrev pub LevelOn : List Row → ℕ → ℕ → ℕ → Type 0
-LevelOn rows p x y = Directly (level rows p) x y

@@ -1,3 +1,4 @@
+-- Inside.
 -- Where a moniker leads in a tree of rows.
 use Rattle.std.specs.Prelude.{ℕ, ◌+◌, List, [], ◌∷◌, Some, None, if◌then◌else◌}
 use Rattle.cm_names.specs.declared.child.ChildName.{ChildName}

@@ -1,3 +1,4 @@
+-- Promised.
 -- The replies to a mark and to a purge.
 use Rattle.std.specs.Prelude.{ℕ, List, Bool, false, Some, None, map, is_some, if◌then◌else◌}
 use Rattle.std.specs.Option.{option_map_or}

@@ -1,3 +1,4 @@
+-- Promised.
 -- Where the offer stands by which a row gets what it wants from its parent.
 use Rattle.std.specs.Prelude.{ℕ, ◌-◌, ◌^◌, List, Option, Some, None, min, position}
 use Rattle.std.specs.Prelude.{option_map, option_and_then}
@@ -6,7 +7,7 @@ use Rattle.cm_decl.specs.declared.decl.Decl.{Decl}
 use Rattle.cm_decl.specs.declared.kind.Kind.{Kind}
 use Rattle.cm_world.specs.declared.row.Row.{Row}
 use Rattle.cm_world.specs.Rows.{row_of, decl_of}
-use Rattle.cm_world.specs.Next.{is_offer_to}
+use Rattle.cm_world.specs.NextStation.{is_offer_to}
 
 -- the index of the first offer of that kind and target name to a child or to its collection
 abbrev pub offer_index : Decl → Kind → List ℕ → ChildName → Option ℕ

@@ -1,3 +1,4 @@
+-- Promised.
 -- The replies to who asks for a route, and to who opens what is used or exposed.
 use Rattle.std.specs.Prelude.{◌≡◌, ℕ, List, not, ◌&&◌, ◌||◌, Option, Some, None, if◌then◌else◌}
 use Rattle.cm_world.specs.declared.row.Row.{Row}

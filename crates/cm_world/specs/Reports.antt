@@ -1,3 +1,4 @@
+-- Promised.
 -- The replies that tell how instances are.
 use Rattle.std.specs.Prelude.{ℕ, List, [], Bool, not, ◌&&◌, Option, Some, None, filter, filter_map, map}
 use Rattle.std.specs.Prelude.{is_some, option_map, option_and_then, if◌then◌else◌}

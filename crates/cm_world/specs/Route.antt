@@ -1,3 +1,4 @@
+-- Promised.
 -- Routes, and what a walk along one comes to.
 use Rattle.std.specs.Prelude.{◌≡◌, ℕ, List, [], ◌∷◌, ◌++◌, Bool, true, false, Option, Some, None, find, map}
 use Rattle.std.specs.Prelude.{filter_map, reverse, slice_get, option_and_then, if◌then◌else◌}
@@ -24,7 +25,7 @@ use Rattle.cm_world.specs.declared.route.Walked.{Walked}
 use Rattle.cm_world.specs.declared.route.Walked.TheVariants.{Given, Failed, Need, Void, NoSuchUse}
 use Rattle.cm_world.specs.Rows.{decl_of}
 use Rattle.cm_world.specs.Stations.{Station, use_station, offer_station, expose_station, bare_hop}
-use Rattle.cm_world.specs.Next.{Next, To, Ends, Needs, FromVoid, NoChild, Misses, next_of}
+use Rattle.cm_world.specs.NextStation.{NextStation, To, Ends, Needs, FromVoid, NoChild, Misses, next_of}
 
 -- ---- routes
 
@@ -95,21 +96,21 @@ asked_rights (s ∷ ss) = if is_use s.hop.step then s.hop.rights else first_righ
 -- the end's path and the subdirectories, in the order from the source to the use; what the
 -- framework provides has its path alone
 abbrev pub path_of : List Station → Station → List ℕ
-path_of front s = elim s.hop.step as (λ _. List ℕ) [
+path_of prefix s = elim s.hop.step as (λ _. List ℕ) [
   | FrameworkHop ↦ s.path
-  | _ ↦ joined_text s.path (filter_map (λ t. t.subdir) (reverse front))
+  | _ ↦ joined_text s.path (filter_map (λ t. t.subdir) (reverse prefix))
 ]
 
 -- the route that ends at a station, behind these
 abbrev pub route_of : List Station → Station → Route
-route_of front s = record {
-  hops = map (λ t. t.hop) (front ++ s ∷ []);
-  path = path_of front s;
-  rights = asked_rights (front ++ s ∷ []);
+route_of prefix s = record {
+  hops = map (λ t. t.hop) (prefix ++ s ∷ []);
+  path = path_of prefix s;
+  rights = asked_rights (prefix ++ s ∷ []);
   provider = provider_of s.hop;
 }
 
--- ---- what is tried at a station, behind the front of those before it
+-- ---- what is tried at a station, behind the prefix of those before it
 
 abbrev pub is_offer_or_expose : StepKind → Bool
 is_offer_or_expose OfferHop = true
@@ -129,9 +130,9 @@ unless_fitting hop _ _ = None
 
 -- an offer or expose hop at which an availability stands that doesn't fit the one at the hop before
 abbrev pub weak_availability : List Station → Station → Option Walked
-weak_availability front s =
+weak_availability prefix s =
     if is_offer_or_expose s.hop.step
-    then unless_fitting s.hop (standing front) (standing (front ++ s ∷ []))
+    then unless_fitting s.hop (standing prefix) (standing (prefix ++ s ∷ []))
     else None
 
 abbrev pub unless_within : Hop → Option RightSet → Option RightSet → Option Walked
@@ -141,43 +142,44 @@ unless_within hop _ _ = None
 
 -- a hop that states rights which the asked ones aren't within
 abbrev pub weak_rights : List Station → Station → Option Walked
-weak_rights front s = unless_within s.hop (asked_rights (front ++ s ∷ [])) s.hop.rights
+weak_rights prefix s = unless_within s.hop (asked_rights (prefix ++ s ∷ [])) s.hop.rights
 
 -- what the next of a station says by itself
-abbrev pub said_by : List Station → Station → Next → Option Walked
-said_by front s (To t) = None
-said_by front s Ends = Some (Given (route_of front s))
-said_by front s (Needs j) = Some (Need j)
-said_by front s FromVoid = Some (Void s.hop)
-said_by front s NoChild = Some (Failed s.hop why.NoInstance)
-said_by front s (Misses hop reason) = Some (Failed hop reason)
+abbrev pub said_by : List Station → Station → NextStation → Option Walked
+said_by prefix s (To t) = None
+said_by prefix s Ends = Some (Given (route_of prefix s))
+said_by prefix s (Needs j) = Some (Need j)
+said_by prefix s FromVoid = Some (Void s.hop)
+said_by prefix s NoChild = Some (Failed s.hop why.NoInstance)
+said_by prefix s (Misses hop reason) = Some (Failed hop reason)
 
 -- a missing instance first, then availability, then rights, then what its next says
-abbrev pub trial_by : List Station → Station → Next → Option Walked
-trial_by front s NoChild = Some (Failed s.hop why.NoInstance)
-trial_by front s next =
-    or_else (weak_availability front s) (or_else (weak_rights front s) (said_by front s next))
+abbrev pub trial_by : List Station → Station → NextStation → Option Walked
+trial_by prefix s NoChild = Some (Failed s.hop why.NoInstance)
+trial_by prefix s next =
+    or_else (weak_availability prefix s) (or_else (weak_rights prefix s) (said_by prefix s next))
 
 -- what is decided at a station, if anything is
 abbrev pub trial : List Row → List Builtin → List Station → Station → Option Walked
-trial rows builtins front s = trial_by front s (next_of rows builtins s)
+trial rows builtins prefix s = trial_by prefix s (next_of rows builtins s)
 
 -- ---- the verdict
 
--- of these stations behind the front the last is the first at which something is decided
+-- of these stations behind the prefix the last is the first at which something is decided
 abbrev pub IsDecided : List Row → List Builtin → List Station → Station → List Station → Walked → Type 0
-IsDecided rows builtins front s [] v = trial rows builtins front s ≡ Some v
-IsDecided rows builtins front s (t ∷ ts) v =
-    (trial rows builtins front s ≡ None) × IsDecided rows builtins (front ++ s ∷ []) t ts v
+IsDecided rows builtins prefix s [] v = trial rows builtins prefix s ≡ Some v
+IsDecided rows builtins prefix s (t ∷ ts) v =
+    (trial rows builtins prefix s ≡ None) × IsDecided rows builtins (prefix ++ s ∷ []) t ts v
 
 -- the verdict on the stations from one on, up to the first that decides
-pub record IsVerdict (rows : List Row) (builtins : List Builtin) (first : Station) (v : Walked) : Type 0 where
+pub record IsRouteVerdict (rows : List Row) (builtins : List Builtin) (first : Station)
+    (v : Walked) : Type 0 where
   pub rest : List Station
   pub chain : IsChain rows builtins first rest
   pub decided : IsDecided rows builtins [] first rest v
 
 abbrev pub IsWalkedFrom : List Row → List Builtin → Named → Walked → Type 0
-IsWalkedFrom rows builtins (First s) v = IsVerdict rows builtins s v
+IsWalkedFrom rows builtins (First s) v = IsRouteVerdict rows builtins s v
 IsWalkedFrom rows builtins NoUse v = v ≡ NoSuchUse
 IsWalkedFrom rows builtins (NoneExposed hop) v = v ≡ Failed hop why.NoExpose
 

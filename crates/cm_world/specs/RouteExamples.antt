@@ -1,3 +1,4 @@
+-- Inside.
 -- Rows that worked examples of routes speak of: of directories, of the void, and of a tree without room.
 use Rattle.std.specs.Prelude.{ℕ, List, [], ◌∷◌, true, Option, Some, None}
 use Rattle.cm_names.specs.declared.child.ChildName.{ChildName}

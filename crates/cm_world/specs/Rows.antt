@@ -1,6 +1,8 @@
+-- Promised.
 -- What is read of the rows of a realm tree. A row is named by its incarnation.
-use Rattle.std.specs.Prelude.{ℕ, zero, suc, List, [], ◌∷◌, ◌++◌, Bool, true, false, ◌&&◌, ◌||◌, not, ◌==◌}
-use Rattle.std.specs.Prelude.{nat_eq, nat_lt, Option, Some, None, find, filter, is_some, length, option_map}
+-- ---- single rows
+use Rattle.std.specs.Prelude.{ℕ, zero, suc, List, [], ◌∷◌, ◌++◌, Bool, false, ◌&&◌, ◌||◌, not, ◌==◌}
+use Rattle.std.specs.Prelude.{nat_eq, Option, Some, None, find, filter, is_some, length, option_map}
 use Rattle.std.specs.Prelude.{option_and_then, option_to_list}
 use Rattle.std.specs.List.{list_all}
 use Rattle.std.specs.Option.{option_eq, option_map_or}
@@ -9,9 +11,6 @@ use Rattle.cm_names.specs.declared.moniker.Moniker.{Moniker}
 use Rattle.cm_decl.specs.declared.decl.Decl.{Decl}
 use Rattle.cm_decl.specs.Same.{same_child}
 use Rattle.cm_world.specs.declared.row.Row.{Row}
-use Rattle.cm_world.specs.declared.view.Facts.{Facts}
-
--- ---- single rows
 
 -- the row of an incarnation
 abbrev pub row_of : List Row → ℕ → Option Row
@@ -33,29 +32,12 @@ is_shut rows i = option_map_or (λ r. r.shut) (row_of rows i) false
 abbrev pub is_on : List Row → ℕ → Bool
 is_on rows i = option_map_or (λ r. r.on) (row_of rows i) false
 
--- the name of a row that isn't the root
-abbrev pub name_of : List Row → ℕ → Option ChildName
-name_of rows i = option_and_then (λ r. r.name) (row_of rows i)
-
 -- whether the row itself is doomed, or closing
 abbrev pub has_doomed : List Row → ℕ → Bool
 has_doomed rows i = option_map_or (λ r. r.doomed) (row_of rows i) false
 
 abbrev pub has_closing : List Row → ℕ → Bool
 has_closing rows i = option_map_or (λ r. r.closing) (row_of rows i) false
-
--- what a decider is told of a row
-abbrev pub facts_of : Row → Facts
-facts_of r = record {
-  parent = r.parent;
-  on = r.on;
-  pending = r.pending;
-  closing = r.closing;
-  doomed = r.doomed;
-  shut = r.shut;
-}
-
--- ---- up the tree
 
 -- whether this row or one of the n - 1 rows above it passes a test
 abbrev pub at_or_above : ℕ → (Row → Bool) → List Row → Option ℕ → Bool
@@ -130,11 +112,3 @@ has_name c r = option_eq same_child r.name (Some c)
 -- the child of that name that isn't doomed
 abbrev pub child_of : List Row → ℕ → ChildName → Option ℕ
 child_of rows p c = option_map (λ r. r.inc) (find (λ r. has_parent p r && has_name c r && not r.doomed) rows)
-
-abbrev pub is_behind : Option ℕ → ℕ → Bool
-is_behind None i = true
-is_behind (Some j) i = nat_lt j i
-
--- the first child, or the first whose incarnation is above the given one, doomed ones too
-abbrev pub child_behind : List Row → ℕ → Option ℕ → Option ℕ
-child_behind rows p after = option_map (λ r. r.inc) (find (λ r. has_parent p r && is_behind after r.inc) rows)

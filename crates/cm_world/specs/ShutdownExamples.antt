@@ -1,3 +1,4 @@
+-- Inside.
 -- Realms that worked examples of a shutdown speak of.
 use Rattle.std.specs.Prelude.{ℕ, List, [], ◌∷◌, Bool, true, false, not, Option, Some, None}
 use Rattle.cm_names.specs.declared.child.ChildName.{ChildName}

@@ -1,3 +1,4 @@
+-- Promised.
 -- Which rows are those of an orderly world, and of a sound one. The next incarnation is given beside them.
 use Rattle.std.specs.Prelude.{◌≡◌, ℕ, ◌<◌, List, [], ◌∷◌, Bool, true, false, ◌&&◌, Some, None, IsSome, IsTrue}
 use Rattle.std.specs.Prelude.{is_none, count_by}
@@ -14,9 +15,10 @@ use Rattle.cm_world.specs.Level.{LevelStrong}
 -- ---- orderly
 
 -- incarnations rise along the list and are below the next one
-abbrev pub IsRising : ℕ → List Row → Type 0
-IsRising next [] = Unit {0}
-IsRising next (r ∷ rs) = ((r.inc < next) × ((s : ℕ) → IsSome (row_of rs s) → r.inc < s)) × IsRising next rs
+abbrev pub IncarnationsIncrease : ℕ → List Row → Type 0
+IncarnationsIncrease next [] = Unit {0}
+IncarnationsIncrease next (r ∷ rs) = ((r.inc < next) × ((s : ℕ) → IsSome (row_of rs s) → r.inc < s))
+    × IncarnationsIncrease next rs
 
 -- the row of an incarnation, as a fact
 abbrev pub Lives : List Row → ℕ → Row → Type 0
@@ -32,7 +34,7 @@ pub record IsParent (rows : List Row) (p i : ℕ) : Type 0 where
 -- incarnations rise, there is one root, parents live and come first, names are apart, and declarations
 -- are valid
 pub record IsOrderly (rows : List Row) (next : ℕ) : Type 0 where
-  pub rising : IsRising next rows
+  pub increasing : IncarnationsIncrease next rows
   -- a row without a parent is the root
   pub root : (i : ℕ) (r : Row) → Lives rows i r → r.parent ≡ None → (i ≡ 0) × (r.name ≡ None)
   pub parents : (i p : ℕ) (r : Row) → Lives rows i r → r.parent ≡ Some p → IsParent rows p i × IsSome r.name

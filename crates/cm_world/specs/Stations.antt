@@ -1,3 +1,4 @@
+-- Promised.
 -- The stations of a route: its hops, each with the source that the declaration's row names.
 use Rattle.std.specs.Prelude.{ℕ, List, [], Bool, true, Option, Some, None}
 use Rattle.cm_names.specs.Path.{service_path}

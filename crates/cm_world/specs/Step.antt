@@ -1,3 +1,4 @@
+-- Promised.
 -- The events that are enabled, and the replies that they may get.
 use Rattle.std.specs.Prelude.{◌≡◌, ℕ, List, [], Bool, false, true, not, ◌&&◌, ◌||◌, ◌==◌, Some, None}
 use Rattle.std.specs.Prelude.{option_map, is_some, IsTrue, ◌⊎◌}

@@ -1,7 +1,8 @@
+-- Promised.
 -- Which instances may stop now, and which of them a pick may choose.
 use Rattle.std.specs.Prelude.{◌≡◌, ℕ, List, [], ◌∷◌, Bool, false, Option, Some, None, find, filter, reverse}
 use Rattle.std.specs.Prelude.{if◌then◌else◌, IsTrue, ◌==◌}
-use Rattle.cm_decl.specs.Realm.{Depends}
+use Rattle.cm_decl.specs.RealmGraph.{Depends}
 use Rattle.cm_world.specs.declared.row.Row.{Row}
 use Rattle.cm_world.specs.Rows.{row_of, has_closing, is_below, is_shut, is_subtree_shut, line_of}
 use Rattle.cm_world.specs.Level.{level}

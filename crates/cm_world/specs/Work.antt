@@ -1,3 +1,4 @@
+-- Promised.
 -- What the beginner of an action has to do.
 use Rattle.std.specs.Prelude.{ℕ, List, [], Option, Some, None, filter, filter_map, option_and_then, unwrap_or}
 use Rattle.cm_decl.specs.Graph.{static_name}

@@ -1,3 +1,4 @@
+-- Promised.
 -- The realm tree as a whole.
 use Rattle.std.specs.Prelude.{ℕ, ◌+◌, ◌-◌, ◌^◌, List, [], ◌∷◌, Bool, false, ◌&&◌, nat_le, ◌==◌, Option, None}
 use Rattle.std.specs.Prelude.{find, is_none, length, count_by, option_and_then}

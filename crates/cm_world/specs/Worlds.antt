@@ -1,3 +1,4 @@
+-- Inside.
 -- The worlds that worked examples speak of.
 use Rattle.std.specs.Prelude.{[], ◌∷◌, false, Some, take}
 use Rattle.cm_names.specs.declared.availability.Availability.TheVariants.{Required, Optional, Transitional}

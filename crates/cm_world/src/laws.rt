@@ -17,6 +17,7 @@ ghost use Rattle.cm_world.specs.Stopping.{MayStop};
 ghost use Rattle.cm_world.specs.Step.{IsEnabled, Allowed};
 ghost use Rattle.cm_world.specs.Legal.{Legal};
 ghost use Rattle.cm_world.specs.Laws as laws;
+ghost use Rattle.cm_world.specs.LawsInside as laws_inside;
 ghost use Rattle.cm_world.specs.Worlds as worlds;
 ghost use Rattle.cm_world.specs.Ending as ending;
 ghost use Rattle.cm_world.specs.Examples.{route_entries, unoffered_entries, unexposed_entries, logger_look};
@@ -30,12 +31,12 @@ ghost use Rattle.cm_world.specs.ActionExamples.{joined_entries, failed_entries, 
 
 /// Every event but a pick gets at most one reply.
 pub fn replies_once()
-    ensures { laws.RepliesOnce }
+    ensures { laws_inside.RepliesOnce }
 {}
 
 /// A walk comes to at most one answer.
 pub fn walks_once()
-    ensures { laws.WalksOnce }
+    ensures { laws_inside.WalksOnce }
 {}
 
 /// In an orderly tree every walk comes to an answer.
@@ -53,14 +54,14 @@ pub fn steps_fall()
 
 /// A tree is sound when it is made.
 pub fn starts_sound()
-    ensures { laws.StartsSound }
+    ensures { laws_inside.StartsSound }
 {}
 
 /// A legal history goes on by any entry that the world allows which it leaves, and then leaves
 /// the world behind that entry.
 pub fn goes_on()
-    ensures legal { laws.LegalGoesOn }
-    ensures replay { laws.ReplayGoesOn }
+    ensures legal { laws_inside.LegalGoesOn }
+    ensures replay { laws_inside.ReplayGoesOn }
 {}
 
 /// Eleven entries find a route in a new realm: the root, the client and the provider are

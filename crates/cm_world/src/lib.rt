@@ -8,7 +8,7 @@
 //! | file of `specs/` | says |
 //! |---|---|
 //! | `World`, `Rows` | what the tree is, and what is read of its rows |
-//! | `Next`, `Route` | where a capability comes from, and what a walk along its route comes to |
+//! | `NextStation`, `Route` | where a capability comes from, and what a walk along its route comes to |
 //! | `Offering` | where the offer stands by which a row gets what it wants from its parent |
 //! | `Located` | where a moniker leads |
 //! | `Level`, `Stopping`, `Clients` | which instance depends on which, and which may stop now |
@@ -49,6 +49,6 @@ pub use reply::{Entry, Reply};
 pub use report::{Kid, Look, Lost, SurveyRow};
 pub use route::{Hop, Provider, Route, Start, StepKind, Walked, Why};
 pub use row::Row;
-pub use steps::Steps;
+pub use steps::StepCount;
 pub use store::{Located, Store};
-pub use view::{Facts, Place, View};
+pub use view::{Facts, ParentPlace, View};

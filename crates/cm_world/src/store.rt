@@ -1,6 +1,6 @@
 //! Finding by names, where each look is counted.
 
-use crate::steps::Steps;
+use crate::steps::StepCount;
 use cm_names::ChildName;
 use std::sync::ledger::Ledger;
 
@@ -29,14 +29,14 @@ pub trait Store<L: Ledger>: Drop {
     ghost next_inc: { Self → ℕ };
 
     /// Whether the instance is resolved. This is one step.
-    fn is_resolved(&self, inc: u64, steps: &mut Steps<L>) -> bool
+    fn is_resolved(&self, inc: u64, steps: &mut StepCount<L>) -> bool
         requires lives { IsTrue (is_live (rows self.now) inc) }
         ensures resolved { result ≡ is_resolved (rows self.now) inc }
         ensures cost { steps.new ≡ steps.old + 1 };
 
     /// The child of that name, or `None` where there is none that isn't being destroyed. This is
     /// one step.
-    fn child(&self, parent: u64, name: &ChildName, steps: &mut Steps<L>) -> Option<u64>
+    fn child(&self, parent: u64, name: &ChildName, steps: &mut StepCount<L>) -> Option<u64>
         requires resolved { IsTrue (is_resolved (rows self.now) parent) }
         ensures child { result ≡ child_of (rows self.now) parent name.now }
         ensures cost { steps.new ≡ steps.old + 1 };

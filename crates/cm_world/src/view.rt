@@ -23,7 +23,7 @@ pub struct Facts {
 
 /// Where an instance stands that isn't the root.
 #[derive(Clone, Copy)]
-pub struct Place<'a> {
+pub struct ParentPlace<'a> {
     /// The incarnation of its parent.
     pub parent: u64,
     /// Its name among the children of its parent.
@@ -36,8 +36,9 @@ pub trait View: Drop {
     ghost use Rattle.std.specs.Option.{option_copied};
     ghost use Rattle.cm_world.specs.declared.frame.Builtin.{Builtin as Given};
     ghost use Rattle.cm_world.specs.declared.row.Row.{Row};
-    ghost use Rattle.cm_world.specs.Rows.{row_of, name_of, decl_of, child_of, child_behind, facts_of};
-    ghost use Rattle.cm_world.specs.Next.{builtin_of};
+    ghost use Rattle.cm_world.specs.Rows.{row_of, decl_of, child_of};
+    ghost use Rattle.cm_world.specs.RowsInside.{name_of, child_behind, facts_of};
+    ghost use Rattle.cm_world.specs.NextStation.{builtin_of};
     ghost use Rattle.cm_world.specs.Offering as offering;
     ghost use Rattle.cm_world.specs.Sound.{IsOrderly};
 
@@ -62,7 +63,7 @@ pub trait View: Drop {
 
     /// The parent of the instance, and its name there, or `None` where it doesn't live or is the
     /// root.
-    fn place(&self, inc: u64) -> Option<Place<'_>>
+    fn place(&self, inc: u64) -> Option<ParentPlace<'_>>
         ensures parent { option_map (λ p. p.parent) result
             ≡ option_and_then (λ r. r.parent) (row_of (rows self.now) inc) }
         ensures name { option_map (λ p. p.name.now) result ≡ name_of (rows self.now) inc }

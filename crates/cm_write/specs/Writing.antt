@@ -1,10 +1,10 @@
+-- Promised.
 -- The one text of a declaration.
-use Rattle.std.specs.Prelude.{◌≡◌, ℕ, String, List, [], ◌∷◌, ◌++◌, map, codes, Bool, true, false, Option}
+-- ---- values
+use Rattle.std.specs.Prelude.{ℕ, List, [], ◌∷◌, ◌++◌, map, codes, Bool, true, false, Option}
 use Rattle.std.specs.Prelude.{Some, None}
 use Rattle.serde_json.specs.Data.{Data, string, array, object, Members, no_members, put}
-use Rattle.std.specs.declared.alloc.Global.{Global}
-use Rattle.serde_json.specs.View.{items_of, members_view}
-use Rattle.serde_json.specs.declared.value.Value.{Value}
+use Rattle.serde_json.specs.View.{items_of}
 use Rattle.serde_json.specs.Written.{compact_text}
 use Rattle.cm_names.specs.Child.{child_text}
 use Rattle.cm_names.specs.Availability.{availability_word, dependency_word}
@@ -28,8 +28,6 @@ use Rattle.cm_decl.specs.declared.decl.Decl.{Decl}
 use Rattle.cm_decl.specs.declared.rows.Durability.{Durability}
 use Rattle.cm_decl.specs.declared.rows.Durability.TheVariants.{Transient, SingleRun}
 
--- ---- values
-
 -- keys and what stands at them
 abbrev pub Pairs : Type 0
 Pairs = List (List ℕ × Data)
@@ -38,10 +36,6 @@ Pairs = List (List ℕ × Data)
 abbrev pub with_pairs : Members → Pairs → Members
 with_pairs ms [] = ms
 with_pairs ms (p ∷ ps) = with_pairs (put p.0 p.1 ms) ps
-
--- the new members are the old ones with these pairs put among them
-abbrev pub Puts : List (String Global × Value) → List (String Global × Value) → Pairs → Type 0
-Puts old new ps = members_view new ≡ with_pairs (members_view old) ps
 
 -- the object with these members
 abbrev pub object_of : Pairs → Data
@@ -159,11 +153,6 @@ storage_pairs s =
     ∷ (codes "backing_dir", string s.backing)
     ∷ (codes "storage_id", string (storage_id_word s.by_moniker))
     ∷ subdir_pair s.subdir
-
--- a use of which nothing but the name, the source and the path is kept
-abbrev pub plain_use : List ℕ → List ℕ → List ℕ → List ℕ → Data
-plain_use key name from path =
-    object_of ((key, string name) ∷ (codes "from", string from) ∷ (codes "path", string path) ∷ [])
 
 -- the members of a debug use in `use`
 abbrev pub debug_use_pairs : DebugUse → Pairs

@@ -3,9 +3,9 @@
 ghost use Rattle.std.specs.Prelude.{◌≡◌, [], ◌∷◌, IfOk, OnOk};
 ghost use Rattle.serde_json.specs.View.{view};
 ghost use Rattle.cm_write.specs.Writing as writing;
-ghost use Rattle.cm_write.specs.Writing.{Puts};
+ghost use Rattle.cm_write.specs.WritingInside.{Puts};
 
-use crate::puts::{Row, extends_word, put_from, put_text};
+use crate::puts::{WritableRow, extends_word, put_from, put_text};
 use cm_decl::{Environment, Registration};
 use cm_names::Memory;
 use serde_json::{Map, Value};
@@ -50,7 +50,7 @@ fn put_registrations(
     Ok(serde_json::put(members, alloc, field, value)?)
 }
 
-impl Row for Environment {
+impl WritableRow for Environment {
     ghost use Rattle.cm_write.specs.Writing.{environment_data};
 
     ghost writes = { environment_data };

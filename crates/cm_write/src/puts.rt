@@ -6,7 +6,8 @@ ghost use Rattle.serde_json.specs.View.{view, items_of};
 ghost use Rattle.cm_names.specs.Availability as names;
 ghost use Rattle.cm_decl.specs.Words.{kind_word};
 ghost use Rattle.cm_write.specs.Writing as spec;
-ghost use Rattle.cm_write.specs.Writing.{Puts};
+ghost use Rattle.cm_write.specs.WritingInside as spec_inside;
+ghost use Rattle.cm_write.specs.WritingInside.{Puts};
 
 use cm_decl::{Durability, Kind, Origin};
 use cm_names::{Availability, CapPath, Dependency, Memory, Name, Rights, SubDir, Text};
@@ -14,7 +15,7 @@ use serde_json::{Map, Value};
 use std::alloc::{AllocError, Global};
 
 /// What is written as a JSON value.
-pub trait Row {
+pub trait WritableRow {
     ghost use Rattle.serde_json.specs.Data.{Data};
 
     ghost writes: { Self → Data };
@@ -25,7 +26,11 @@ pub trait Row {
 }
 
 /// Puts what each is written as at the end.
-pub fn push_each<T: Row>(alloc: Global, values: &mut Vec<Value>, rows: &[T]) -> Result<(), Memory>
+pub fn push_each<T: WritableRow>(
+    alloc: Global,
+    values: &mut Vec<Value>,
+    rows: &[T],
+) -> Result<(), Memory>
     ensures { OnOk result
         (map view values.new.items ≡ map view values.old.items ++ map T.writes rows.now) }
 {
@@ -36,7 +41,7 @@ pub fn push_each<T: Row>(alloc: Global, values: &mut Vec<Value>, rows: &[T]) -> 
 }
 
 /// The list of what each is written as.
-fn list_of<T: Row>(alloc: Global, rows: &[T]) -> Result<Value, Memory>
+fn list_of<T: WritableRow>(alloc: Global, rows: &[T]) -> Result<Value, Memory>
     ensures { IfOk result (λ v. view v ≡ spec.list_of T.writes rows.now) }
 {
     let mut values = Vec::new(alloc);
@@ -44,7 +49,7 @@ fn list_of<T: Row>(alloc: Global, rows: &[T]) -> Result<Value, Memory>
     Ok(Value::from(values))
 }
 
-impl Row for Text {
+impl WritableRow for Text {
     ghost use Rattle.serde_json.specs.Data.{string};
 
     ghost writes = { string };
@@ -197,7 +202,7 @@ pub fn put_to(alloc: Global, members: &mut Map<String, Value>, to: &Name) -> Res
 }
 
 /// Puts a list among the members.
-pub fn put_list<T: Row>(
+pub fn put_list<T: WritableRow>(
     alloc: Global,
     members: &mut Map<String, Value>,
     key: &str,
@@ -286,7 +291,7 @@ pub fn plain_use(
     path: &CapPath,
 ) -> Result<Value, Memory>
     ensures { IfOk result
-        (λ v. view v ≡ spec.plain_use key.now name.now from.now path.now) }
+        (λ v. view v ≡ spec_inside.plain_use key.now name.now from.now path.now) }
 {
     let mut members = Map::new(alloc);
     put_text(alloc, &mut members, key, name.as_str())?;

@@ -1,12 +1,14 @@
 //! Storages as values.
 
-use crate::puts::{Row, plain_use, put_from, put_subdir, put_text, put_to, storage_id_word};
+use crate::puts::{
+    WritableRow, plain_use, put_from, put_subdir, put_text, put_to, storage_id_word,
+};
 use cm_decl::{Storage, StorageOffer, StorageUse};
 use cm_names::Memory;
 use serde_json::{Map, Value};
 use std::alloc::Global;
 
-impl Row for Storage {
+impl WritableRow for Storage {
     ghost use Rattle.cm_write.specs.Writing.{storage_data};
 
     ghost writes = { storage_data };
@@ -27,7 +29,7 @@ impl Row for Storage {
     }
 }
 
-impl Row for StorageUse {
+impl WritableRow for StorageUse {
     ghost use Rattle.cm_write.specs.Writing.{storage_use_data};
 
     ghost writes = { storage_use_data };
@@ -37,7 +39,7 @@ impl Row for StorageUse {
     }
 }
 
-impl Row for StorageOffer {
+impl WritableRow for StorageOffer {
     ghost use Rattle.cm_write.specs.Writing.{storage_offer_data};
 
     ghost writes = { storage_offer_data };

@@ -4,19 +4,19 @@ ghost use Rattle.std.specs.Prelude.{◌≡◌, [], ◌∷◌, ◌++◌, codes, I
 ghost use Rattle.serde_json.specs.Data.{array};
 ghost use Rattle.serde_json.specs.View.{view, items_of};
 ghost use Rattle.cm_write.specs.Writing as spec;
-ghost use Rattle.cm_write.specs.Writing.{Puts};
+ghost use Rattle.cm_write.specs.WritingInside.{Puts};
 
 use crate::puts::{
-    Row, availability_word, dependency_word, durability_word, offers_word, plain_use, push_each,
-    put_environment, put_from, put_limits, put_list, put_rights, put_text, put_to, put_values,
-    startup_word, word_of,
+    WritableRow, availability_word, dependency_word, durability_word, offers_word, plain_use,
+    push_each, put_environment, put_from, put_limits, put_list, put_rights, put_text, put_to,
+    put_values, startup_word, word_of,
 };
 use cm_decl::{Capability, Child, Collection, DebugUse, Decl, Environment, Give, Offer, Usage};
 use cm_names::{Memory, Name};
 use serde_json::{Map, Value, json};
 use std::alloc::Global;
 
-impl Row for Child {
+impl WritableRow for Child {
     ghost use Rattle.cm_write.specs.Writing.{child_data};
 
     ghost writes = { child_data };
@@ -31,7 +31,7 @@ impl Row for Child {
     }
 }
 
-impl Row for Collection {
+impl WritableRow for Collection {
     ghost use Rattle.cm_write.specs.Writing.{collection_data};
 
     ghost writes = { collection_data };
@@ -56,7 +56,7 @@ impl Row for Collection {
     }
 }
 
-impl Row for Capability {
+impl WritableRow for Capability {
     ghost use Rattle.cm_write.specs.Writing.{capability_data};
 
     ghost writes = { capability_data };
@@ -93,7 +93,7 @@ fn put_use(alloc: Global, members: &mut Map<String, Value>, usage: &Usage) -> Re
     put_limits(alloc, members, usage.rights, &usage.subdir)
 }
 
-impl Row for Usage {
+impl WritableRow for Usage {
     ghost use Rattle.cm_write.specs.Writing.{use_data};
 
     ghost writes = { use_data };
@@ -127,7 +127,7 @@ fn put_give(alloc: Global, members: &mut Map<String, Value>, give: &Give) -> Res
     put_limits(alloc, members, give.rights, &give.subdir)
 }
 
-impl Row for DebugUse {
+impl WritableRow for DebugUse {
     ghost use Rattle.cm_write.specs.Writing.{debug_use_data};
 
     ghost writes = { debug_use_data };
@@ -137,7 +137,7 @@ impl Row for DebugUse {
     }
 }
 
-impl Row for Offer {
+impl WritableRow for Offer {
     ghost use Rattle.cm_write.specs.Writing.{offer_data};
 
     ghost writes = { offer_data };
@@ -156,7 +156,7 @@ impl Row for Offer {
     }
 }
 
-impl Row for Give {
+impl WritableRow for Give {
     ghost use Rattle.cm_write.specs.Writing.{expose_data};
 
     ghost writes = { expose_data };

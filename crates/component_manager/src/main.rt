@@ -14,8 +14,8 @@ use cm_io::{Door, Put, Reading, Sink, SocketDoor, Writing, put_all};
 use cm_keep::{Keeping, Unkept, keep_service, keeping_of, try_keeping};
 use cm_names::{List, Memory, Text};
 use cm_program::closing::ended;
+use cm_program::out_of_memory;
 use cm_program::run::run;
-use cm_program::want_of_memory;
 use std::alloc::{AllocError, Global};
 use std::io::ErrorKind;
 use std::process::ExitCode;
@@ -142,7 +142,7 @@ fn status_after(status: u8, unkept: u8) -> u8
 /// Says on the error stream why a journal isn't kept. The result is the status for that.
 fn say<R: Threads + Wait + Sync, E: Sink>(rt: &R, err: &mut E, why: &Unkept) -> u8 {
     let Unkept::Said(line) = why else {
-        return want_of_memory(rt, err);
+        return out_of_memory(rt, err);
     };
     match put_all(rt, err, line.as_str().as_bytes()) {
         Put::Done => 4,
@@ -177,7 +177,7 @@ fn main(rt: HostRuntime) -> ExitCode {
     let mut out = Writing::new(io::writer(&output));
     let mut err = Writing::new(io::writer(&error));
     let Ok(words) = words(&rt) else {
-        return ExitCode::from(want_of_memory(&rt, &mut err));
+        return ExitCode::from(out_of_memory(&rt, &mut err));
     };
     let asked = words.as_slice();
     let (gates, keeping) = match outside_of(rt, asked) {

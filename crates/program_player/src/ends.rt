@@ -11,14 +11,14 @@
 
 use super::input::{number_of, push_line, push_text};
 use super::texts::is_one_of;
-use cm_gate::{Asked, Fetched, Gates, PlannedGates};
+use cm_gate::{Fetched, GateCall, Gates, PlannedGates};
 use cm_names::{Memory, Text};
 use std::alloc::Global;
 
 /// What came of a run: its status, the length of its history, how often each side failed, and what was
 /// written and told.
 #[derive(Drop)]
-pub struct Came<'a> {
+pub struct RunSummary<'a> {
     pub status: u8,
     pub entries: usize,
     pub read_faults: u64,
@@ -53,7 +53,7 @@ fn is_known(line: &str) -> bool {
 }
 
 /// Whether a run came to one of these ends.
-pub fn is_an_end(alloc: Global, came: &Came<'_>, ends: &str) -> Option<bool> {
+pub fn is_an_end(alloc: Global, came: &RunSummary<'_>, ends: &str) -> Option<bool> {
     for end in ends.split("\n=> ") {
         if is_end(alloc, came, end)? {
             return Some(true);
@@ -63,7 +63,7 @@ pub fn is_an_end(alloc: Global, came: &Came<'_>, ends: &str) -> Option<bool> {
 }
 
 /// Whether a run came to this end.
-fn is_end(alloc: Global, came: &Came<'_>, end: &str) -> Option<bool> {
+fn is_end(alloc: Global, came: &RunSummary<'_>, end: &str) -> Option<bool> {
     let (status, lines) = end.split_once('\n').unwrap_or((end, ""));
     let status: u8 = status.parse().ok()?;
     let entries = number_of(lines, "entries", came.entries as u64)?;
@@ -78,7 +78,7 @@ fn is_end(alloc: Global, came: &Came<'_>, end: &str) -> Option<bool> {
 }
 
 /// Whether each side of a run failed as often as these lines say.
-fn has_faults(came: &Came<'_>, lines: &str) -> Option<bool> {
+fn has_faults(came: &RunSummary<'_>, lines: &str) -> Option<bool> {
     let is_so = came.read_faults == number_of(lines, "read-faults", 0)?
         && came.write_faults == number_of(lines, "write-faults", 0)?
         && came.say_faults == number_of(lines, "say-faults", 0)?
@@ -87,7 +87,7 @@ fn has_faults(came: &Came<'_>, lines: &str) -> Option<bool> {
 }
 
 /// Whether a run wrote these lines.
-fn is_written(alloc: Global, came: &Came<'_>, lines: &str) -> Option<bool> {
+fn is_written(alloc: Global, came: &RunSummary<'_>, lines: &str) -> Option<bool> {
     let is_so = is_said(alloc, came.out, lines, "out", "out+")?
         && is_said(alloc, came.err, lines, "err", "err+")?
         && is_said(alloc, came.sent, lines, "sent", "sent+")?;
@@ -135,19 +135,19 @@ fn word_of(answer: &Fetched) -> &'static str {
 }
 
 /// Puts down a question that the gates of a lane noted, with its answer.
-fn push_asked(told: &mut Text, lane: usize, asked: &Asked) -> Result<(), Memory> {
+fn push_asked(told: &mut Text, lane: usize, asked: &GateCall) -> Result<(), Memory> {
     match asked {
-        Asked::Fetch(what, answer) => {
+        GateCall::Fetch(what, answer) => {
             let url = what.url.as_str();
             let word = word_of(answer);
             told.push(format_args!("{lane} fetch {url} {word}\n"))
         }
-        Asked::Launch(job, answer) => {
+        GateCall::Launch(job, answer) => {
             let url = job.url.as_str();
             let action = job.action;
             told.push(format_args!("{lane} launch {url} action {action} {answer:?}\n"))
         }
-        Asked::Halt(job, answer) => {
+        GateCall::Halt(job, answer) => {
             let url = job.url.as_str();
             let action = job.action;
             told.push(format_args!("{lane} halt {url} action {action} {answer:?}\n"))
@@ -155,7 +155,7 @@ fn push_asked(told: &mut Text, lane: usize, asked: &Asked) -> Result<(), Memory>
     }
 }
 
-fn push_log(told: &mut Text, lane: usize, log: Option<&[Asked]>) -> Result<(), Memory> {
+fn push_log(told: &mut Text, lane: usize, log: Option<&[GateCall]>) -> Result<(), Memory> {
     let Some(log) = log else {
         return told.push(format_args!("{lane} untold\n"));
     };

@@ -2,7 +2,7 @@
 //!
 //! The input is made of lines in their order: `| ` and a line, `+ ` and a text that no line feed
 //! ends, `@` and the name of a text of `manifests`, `fill`, a byte and how often it stands there, or
-//! `names`, a front and how many names in quotes begin with it, each with its number and a comma behind it.
+//! `names`, a prefix and how many names in quotes begin with it, each with its number and a comma behind it.
 //! The other words, each of which may be left out:
 //!
 //! - `piece`: how many bytes one read or write moves at most;
@@ -22,7 +22,7 @@
 use super::manifests::named;
 use super::texts::is_one_of;
 use cm_gate::Manifest;
-use cm_io::{MemorySource, Plan};
+use cm_io::{FaultPlan, MemorySource};
 use cm_names::{Bytes, List, Text};
 use std::alloc::Global;
 
@@ -133,8 +133,8 @@ fn push_by_word(alloc: Global, bytes: &mut Vec<u8>, word: &str, text: &str) -> O
             fill(bytes, byte.parse().ok()?, count)
         }
         "names" => {
-            let (front, count) = counted(text)?;
-            push_names(alloc, bytes, front, count)
+            let (prefix, count) = counted(text)?;
+            push_names(alloc, bytes, prefix, count)
         }
         _ => Some(()),
     }
@@ -146,11 +146,11 @@ fn counted(text: &str) -> Option<(&str, u64)> {
     Some((word, count.parse().ok()?))
 }
 
-/// Puts down so many names that begin with a front.
-fn push_names(alloc: Global, bytes: &mut Vec<u8>, front: &str, count: u64) -> Option<()> {
+/// Puts down so many names that begin with a prefix.
+fn push_names(alloc: Global, bytes: &mut Vec<u8>, prefix: &str, count: u64) -> Option<()> {
     let mut names = Text::new(alloc);
     for number in 0..count {
-        names.push(format_args!("'{front}{number}',")).ok()?;
+        names.push(format_args!("'{prefix}{number}',")).ok()?;
     }
     push_text(bytes, names.as_str())
 }
@@ -178,10 +178,10 @@ pub fn input_of(alloc: Global, case: &str) -> Option<Vec<u8>> {
 }
 
 /// How much one read or write moves, and the one that fails: that behind this word, if at all.
-pub fn plan_of(alloc: Global, case: &str, word: &str) -> Option<Plan> {
+pub fn plan_of(alloc: Global, case: &str, word: &str) -> Option<FaultPlan> {
     let piece = usize::try_from(number_of(case, "piece", u64::MAX)?).ok()?;
     match failing_of(alloc, case, word) {
-        Some(failing) => Some(Plan {
+        Some(failing) => Some(FaultPlan {
             piece,
             failing: List::from_vec(failing),
         }),

@@ -11,13 +11,13 @@ ghost use Rattle.cm_session.specs.Links.{view_of};
 ghost use Rattle.std.specs.Prelude.{◌≡◌, IfSome, false, length};
 
 use super::doors::{door_of, sent_of};
-use super::ends::{Came, are_known_ends, is_an_end, told_by};
+use super::ends::{RunSummary, are_known_ends, is_an_end, told_by};
 use super::input::{
     are_known, calls_of, manifests_of, number_of, plan_of, source_of, values_of, words_of,
 };
 use super::repeated::expanded;
 use cm_gate::{GatePlan, Gates, Manifest, PlannedGates};
-use cm_io::{Door, MemoryDoor, MemoryLink, MemorySink, MemorySource, Plan, Sink, Source};
+use cm_io::{Door, FaultPlan, MemoryDoor, MemoryLink, MemorySink, MemorySource, Sink, Source};
 use cm_names::{List, Memory, Text};
 use cm_program::Ran;
 use cm_program::run::run;
@@ -209,7 +209,7 @@ fn arguments_again(alloc: Global, case: &str, words: Vec<Text>, wrote: &[u8]) ->
 {
     match wrote.to_vec(alloc) {
         Ok(bytes) => {
-            let plan = Plan {
+            let plan = FaultPlan {
                 piece: usize::MAX,
                 failing: List::new(alloc),
             };
@@ -373,7 +373,7 @@ pub fn odd_end<G>(
     ends: &str,
 ) -> Option<Option<Text>> {
     let sent = sent_of(alloc, played.ran.links.as_slice())?;
-    let came = Came {
+    let came = RunSummary {
         status: played.ran.status,
         entries: played.ran.book.entries().len(),
         read_faults: played.sides.input.faults(),
@@ -388,7 +388,7 @@ pub fn odd_end<G>(
     compared(alloc, &came, ends)
 }
 
-fn compared(alloc: Global, came: &Came<'_>, ends: &str) -> Option<Option<Text>> {
+fn compared(alloc: Global, came: &RunSummary<'_>, ends: &str) -> Option<Option<Text>> {
     if is_an_end(alloc, came, ends)? {
         return Some(None);
     }
@@ -431,7 +431,7 @@ fn written(bytes: &[u8]) -> Option<&str> {
 }
 
 /// Puts down how often each side of a run failed.
-fn push_faults(text: &mut Text, came: &Came<'_>) -> Result<(), Memory> {
+fn push_faults(text: &mut Text, came: &RunSummary<'_>) -> Result<(), Memory> {
     let read = came.read_faults;
     let write = came.write_faults;
     let say = came.say_faults;
@@ -440,7 +440,7 @@ fn push_faults(text: &mut Text, came: &Came<'_>) -> Result<(), Memory> {
 }
 
 /// What came of a run, as a text.
-fn shown(alloc: Global, came: &Came<'_>) -> Option<Text> {
+fn shown(alloc: Global, came: &RunSummary<'_>) -> Option<Text> {
     let status = came.status;
     let entries = came.entries;
     let out = written(came.out)?;

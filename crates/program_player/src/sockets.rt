@@ -6,7 +6,7 @@ ghost use Rattle.std.specs.Prelude.{◌≡◌, IfSome, length};
 use super::input::words_of;
 use super::player::{Sides, ran};
 use cm_gate::QuietGates;
-use cm_io::{Door, MemorySink, MemorySource, Plan, SocketDoor};
+use cm_io::{Door, FaultPlan, MemorySink, MemorySource, SocketDoor};
 use cm_names::{List, Text};
 use cm_program::Ran;
 use std::alloc::Global;
@@ -50,9 +50,9 @@ fn quiet_gates(alloc: Global) -> Option<List<QuietGates>>
 /// An input without a byte, and outputs that don't fail.
 fn quiet_sides(alloc: Global) -> Sides {
     Sides {
-        input: MemorySource::new(List::new(alloc), Plan::quiet(alloc)),
-        out: MemorySink::new(alloc, Plan::quiet(alloc)),
-        err: MemorySink::new(alloc, Plan::quiet(alloc)),
+        input: MemorySource::new(List::new(alloc), FaultPlan::quiet(alloc)),
+        out: MemorySink::new(alloc, FaultPlan::quiet(alloc)),
+        err: MemorySink::new(alloc, FaultPlan::quiet(alloc)),
     }
 }
 

@@ -69,7 +69,7 @@ pub const NAMES: &str = "\
     == subdir a/b\tc\n\
     => fault BadByte(3)\n";
 
-/// Monikers. A fault has the longest front that some moniker begins with.
+/// Monikers. A fault has the longest prefix that some moniker begins with.
 pub const MONIKERS: &str = "\
     == moniker .\n\
     => .\n\

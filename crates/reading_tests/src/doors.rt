@@ -5,7 +5,7 @@
 ghost use Rattle.cm_io.specs.Doors.{IsOpen, IsShut};
 ghost use Rattle.std.specs.Prelude.{◌≡◌};
 
-use cm_io::{Accept, Door, Link, Listen, MemorySink, Plan, Put, SocketDoor, put_all};
+use cm_io::{Accept, Door, FaultPlan, Link, Listen, MemorySink, Put, SocketDoor, put_all};
 use std::alloc::Global;
 use std::io::{Read, Write};
 use std::net::Net;
@@ -21,7 +21,7 @@ fn is_put<R: Threads + Wait + Sync>(rt: &R, sink: &mut MemorySink) -> bool {
 #[test]
 fn puts_into_room(rt: HostRuntime) {
     let alloc = rt.alloc();
-    let is_so = match MemorySink::with_capacity(alloc, 16, Plan::quiet(alloc)) {
+    let is_so = match MemorySink::with_capacity(alloc, 16, FaultPlan::quiet(alloc)) {
         Ok(mut sink) => is_put(&rt, &mut sink) && sink.bytes() == b"sixteen bytes...".as_slice(),
         Err(_) => false,
     };

@@ -182,9 +182,9 @@ fn told_of_whole(alloc: Global, reader: &str, whole: &str) -> Option<Text> {
 
 /// So many times the text of the second line, between those of the first and of all others.
 fn repeated(alloc: Global, times: usize, lines: &str) -> Option<Text> {
-    let (front, rest) = lines.split_once('\n')?;
+    let (prefix, rest) = lines.split_once('\n')?;
     let (text, end) = rest.split_once('\n')?;
-    let mut whole = Text::from_str(alloc, front).ok()?;
+    let mut whole = Text::from_str(alloc, prefix).ok()?;
     for _ in 0..times {
         whole.push_str(text).ok()?;
     }

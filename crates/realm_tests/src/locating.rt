@@ -9,7 +9,7 @@ use crate::words::moniker_of;
 use cm_names::{ChildName, List, Memory, Moniker, Text};
 use cm_table::{Prepared, Table};
 use cm_walk::locate;
-use cm_world::{Located, Steps, Store, View};
+use cm_world::{Located, StepCount, Store, View};
 use std::alloc::Global;
 use std::cell::Cell;
 use std::marker::Brand;
@@ -34,12 +34,12 @@ impl<L: Ledger> Store<L> for Counted {
 
     ghost next_inc = { λ c. c.table.next_inc };
 
-    fn is_resolved(&self, inc: u64, steps: &mut Steps<L>) -> bool {
+    fn is_resolved(&self, inc: u64, steps: &mut StepCount<L>) -> bool {
         self.count();
         self.table.is_resolved(inc, steps)
     }
 
-    fn child(&self, parent: u64, name: &ChildName, steps: &mut Steps<L>) -> Option<u64> {
+    fn child(&self, parent: u64, name: &ChildName, steps: &mut StepCount<L>) -> Option<u64> {
         self.count();
         Store::child(&self.table, parent, name, steps)
     }
@@ -152,7 +152,7 @@ fn led_to<L: Ledger>(counted: &Counted, moniker: &Moniker, blank: Blank) -> Loca
     requires orderly { IsOrderly counted.now.table.rows counted.now.table.next_inc }
     requires root { IsTrue (is_live counted.now.table.rows 0) }
 {
-    let mut steps = Steps::<L>::new(blank);
+    let mut steps = StepCount::<L>::new(blank);
     locate(counted, moniker, &mut steps)
 }
 

@@ -6,7 +6,7 @@ ghost use Rattle.cm_world.specs.declared.action.Outcome.TheVariants as outcome;
 ghost use Rattle.cm_world.specs.Step.{MayEnd, may_close};
 ghost use Rattle.cm_laws.specs.Laws.{IsJoined};
 ghost use Rattle.cm_laws.specs.Story.{world_of};
-ghost use Rattle.realm_tests.specs.Ends.{Closes};
+ghost use Rattle.realm_tests.specs.Ends.{MayClose};
 
 use crate::endings::begun;
 use cm_laws::marks_stay;
@@ -111,7 +111,7 @@ fn doom(realm: &mut Realm, alloc: Global, inc: u64, begun: u64) -> Option<NoStep
 
 /// Marks an instance for caller 1 to be destroyed, or tells why no step was made, if none was.
 fn marked(realm: &mut Realm, inc: u64) -> Result<(), Option<NoStep>>
-    ensures { OnOk result (Closes realm.old realm.new inc) }
+    ensures { OnOk result (MayClose realm.old realm.new inc) }
 {
     marks_stay();
     let _entries = realm.entries();

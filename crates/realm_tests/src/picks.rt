@@ -18,8 +18,8 @@ use std::alloc::Global;
 /// What is picked in a case: first come the realm's limits and what the case shows, then steps, of which
 /// nothing is told. Behind a line `--` each line is a target, which is marked to be shut down.
 pub fn told(alloc: Global, case: &str) -> Option<Text> {
-    let (front, targets) = case.split_once("\n--\n")?;
-    let (head, steps) = front.split_once('\n')?;
+    let (prefix, targets) = case.split_once("\n--\n")?;
+    let (head, steps) = prefix.split_once('\n')?;
     match realm_with(alloc, head) {
         Some(mut realm) => {
             let told = told_in(alloc, &mut realm, steps, targets);

@@ -21,7 +21,7 @@ pub fn realm_of(alloc: Global, rows: u32, entries: u64) -> Option<Realm> {
 }
 
 /// Takes the steps of lines, and puts down what each tells: why no step was made, the new lines of the
-/// history, and how many answers of walks were there again, where that rose. Nothing where a line can't be
+/// history, and how many answers of walks were cache hits, where that rose. Nothing where a line can't be
 /// read.
 pub fn take_all(realm: &mut Realm, alloc: Global, lines: &str, told: &mut Text) -> Option<()> {
     for line in lines.split('\n') {
@@ -40,7 +40,7 @@ pub fn length_of(realm: &Realm) -> usize {
     realm.entries().len()
 }
 
-/// How many answers of walks were there again.
+/// How many answers of walks were cache hits.
 fn kept_in(realm: &Realm) -> u64 {
     realm.kept()
 }
@@ -241,7 +241,7 @@ pub fn tell_lines(
     Ok(())
 }
 
-/// Puts down how many answers of walks were there again, where that isn't as before.
+/// Puts down how many answers of walks were cache hits, where that isn't as before.
 fn tell_kept(told: &mut Text, before: u64, kept: u64) -> Result<(), Memory> {
     if kept == before {
         return Ok(());

@@ -6,7 +6,7 @@ ghost use Rattle.cm_manager.specs.Kept.{AreSixteen};
 
 use crate::player::{add, new_realm};
 use cm_gate::{Manifest, MeetingGates};
-use cm_io::{Door, LinkPlan, Listen, MemoryDoor, MemoryLink, Plan};
+use cm_io::{Door, FaultPlan, LinkPlan, Listen, MemoryDoor, MemoryLink};
 use cm_manager::Manager;
 use cm_names::{Bytes, List, Text};
 use cm_repo::Repository;
@@ -93,11 +93,11 @@ fn link(alloc: Global, line: &str) -> Option<LinkPlan> {
     let bytes = bytes_of(alloc, line)?;
     Some(LinkPlan {
         bytes,
-        source: Plan {
+        source: FaultPlan {
             piece: 1,
             failing: List::new(alloc),
         },
-        sink: Plan::quiet(alloc),
+        sink: FaultPlan::quiet(alloc),
     })
 }
 

@@ -6,7 +6,7 @@ ghost use Rattle.cm_turn.specs.Passes.{LockView};
 
 use crate::cases::{ENDS, LIMITS, STOP, answer_of};
 use cm_gate::QuietGates;
-use cm_io::{Link, MemoryLink, MemorySink, MemorySource, Plan, StepLog};
+use cm_io::{FaultPlan, Link, MemoryLink, MemorySink, MemorySource, StepLog};
 use cm_manager::Manager;
 use cm_names::{Bytes, List, Text};
 use cm_repo::Repository;
@@ -19,10 +19,10 @@ use std::sync::Wait;
 use std::thread::Threads;
 
 /// A plan that moves so many bytes at once and fails at this call, if at any.
-fn plan_of(alloc: Global, piece: &str, failing: &str) -> Option<Plan> {
+fn plan_of(alloc: Global, piece: &str, failing: &str) -> Option<FaultPlan> {
     let piece = piece.parse().ok()?;
     match failing_of(alloc, failing) {
-        Some(failing) => Some(Plan {
+        Some(failing) => Some(FaultPlan {
             piece,
             failing: List::from_vec(failing),
         }),

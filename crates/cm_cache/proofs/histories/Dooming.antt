@@ -18,12 +18,12 @@ use Rattle.cm_world.specs.End.{changed, end_row, set_pending, set_on, set_closin
 use Rattle.cm_world.specs.Expiring.{goes_with, expired, expired_by, is_stopped}
 use Rattle.cm_world.specs.Marks.{is_dynamic}
 use Rattle.cm_world.specs.After.{after, with_end_of}
-use Rattle.cm_world.specs.Sound.{IsRising}
+use Rattle.cm_world.specs.Sound.{IncarnationsIncrease}
 use Rattle.cm_cache.specs.Keeping.{resolves, comes_or_goes}
 use Rattle.cm_cache.specs.Right.{bare}
-use Rattle.cm_cache.specs.Beside.{IsTold, goes_some, goes_some_by}
+use Rattle.cm_cache.specs.Beside.{IsReported, goes_some, goes_some_by}
 use Rattle.cm_cache.specs.Steps.{may_doom, OthersDoomNone, MarksDoom, ExitsDoom, EndsDoom}
-use Rattle.cm_cache.proofs.trees.Staying.{read_changed, rising_changed, AllLive, all_live, doom_inc, goes, going, row_of-going, end_bare, was_doomed_by}
+use Rattle.cm_cache.proofs.trees.Staying.{read_changed, increasing_changed, AllLive, all_live, doom_inc, goes, going, row_of-going, end_bare, was_doomed_by}
 
 -- whether a row is newly doomed
 abbrev newly : List Row → List Row → ℕ → Bool
@@ -80,7 +80,7 @@ module _ (rows : List Row) (i : ℕ) (old : List Row) (was : (j : ℕ) → has_d
       ∙ ap (λ t. goes rows i x || t) (each_goes xs live.1)
 
   -- some row is newly doomed where some row goes
-  some_goes : (next : ℕ) → IsRising next rows → some_newly old (expired i rows) ≡ goes_some rows i
+  some_goes : (next : ℕ) → IncarnationsIncrease next rows → some_newly old (expired i rows) ≡ goes_some rows i
   some_goes next up = each_goes rows (all_live next rows up)
 
 module _ (f : Row → Row) (bares : (r : Row) → bare (f r) ≡ bare r) where
@@ -91,13 +91,13 @@ module _ (f : Row → Row) (bares : (r : Row) → bare (f r) ≡ bare r) where
   doomed_kept r = ap (λ x. x.doomed) (bares r)
 
   -- behind a change of the row with which they go
-  changed_goes : (next i : ℕ) (rows : List Row) → IsRising next rows → some_newly rows (expired i (changed i f rows)) ≡ goes_some (changed i f rows) i
+  changed_goes : (next i : ℕ) (rows : List Row) → IncarnationsIncrease next rows → some_newly rows (expired i (changed i f rows)) ≡ goes_some (changed i f rows) i
   changed_goes next i rows up =
       some_goes (changed i f rows) i rows (λ j. read_changed f inc_kept (λ r. r.doomed) doomed_kept i j rows) next
-      (rising_changed f inc_kept next i rows up)
+      (increasing_changed f inc_kept next i rows up)
 
   -- which may have stopped, or not
-  stopped_goes : (t : Bool) (next i : ℕ) (rows : List Row) → IsRising next rows → some_newly rows (cond t (expired i (changed i f rows)) (changed i f rows)) ≡ (t && goes_some (changed i f rows) i)
+  stopped_goes : (t : Bool) (next i : ℕ) (rows : List Row) → IncarnationsIncrease next rows → some_newly rows (cond t (expired i (changed i f rows)) (changed i f rows)) ≡ (t && goes_some (changed i f rows) i)
   stopped_goes true next i rows up = changed_goes next i rows up
   stopped_goes false next i rows up = none_changed f inc_kept doomed_kept i rows
 
@@ -133,7 +133,7 @@ pub exits_doom : ExitsDoom
 unfolding after
 exits_doom w caller i m up = sym (changed_goes (set_on false) (λ r. refl) w.next_inc i w.rows up)
 
-ended_goes : (w : World) (a i : ℕ) (finish : Finish) (o : Outcome) → IsRising w.next_inc w.rows → resolves (End a finish) (reply.Ended o) ≡ false → some_newly w.rows (expired_by o i (rows_by i w.next_inc finish o w.rows)) ≡ goes_some_by o (rows_by i w.next_inc finish o w.rows) i
+ended_goes : (w : World) (a i : ℕ) (finish : Finish) (o : Outcome) → IncarnationsIncrease w.next_inc w.rows → resolves (End a finish) (reply.Ended o) ≡ false → some_newly w.rows (expired_by o i (rows_by i w.next_inc finish o w.rows)) ≡ goes_some_by o (rows_by i w.next_inc finish o w.rows) i
 ended_goes w a i (Resolved url d) outcome.Resolved up stays = absurd (true≢false stays)
 ended_goes w a i (Resolved url d) o up stays = stopped_goes (end_row o) (end_bare o) (is_stopped o) w.next_inc i w.rows up
 ended_goes w a i (Other f) o up stays = stopped_goes (end_row o) (end_bare o) (is_stopped o) w.next_inc i w.rows up
@@ -151,7 +151,7 @@ ends_doom w caller a finish o x up there =
 
 -- ---- all others
 
-others_told : (w : World) (caller : ℕ) (event : Event) (r : Reply) → may_doom event r ≡ false → IsTold w (record { caller = caller; event = event; reply = r }) false
+others_told : (w : World) (caller : ℕ) (event : Event) (r : Reply) → may_doom event r ≡ false → IsReported w (record { caller = caller; event = event; reply = r }) false
 unfolding after
 others_told w caller (Begin kind i) (reply.Begun work) may =
     sym (none_changed (set_pending (Some (kind, w.next_action))) (λ r. refl) (λ r. refl) i w.rows)

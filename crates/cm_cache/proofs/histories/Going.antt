@@ -15,27 +15,27 @@ use Rattle.cm_world.specs.Route.{IsWalked}
 use Rattle.cm_world.specs.World.{World, start, act_of}
 use Rattle.cm_world.specs.After.{moved, counted, after, with_end_of}
 use Rattle.cm_world.specs.Legal.{replay}
-use Rattle.cm_world.specs.Sound.{IsRising}
+use Rattle.cm_world.specs.Sound.{IncarnationsIncrease}
 use Rattle.cm_world.proofs.trees.Finding.{none_some}
 use Rattle.cm_world.proofs.trees.Histories.{replay-push}
-use Rattle.cm_cache.specs.declared.answer.Answer.{Answer}
-use Rattle.cm_cache.specs.Answers.{kept_at, put_in}
-use Rattle.cm_cache.specs.Keeping.{Asked, Kept, asked_by, is_lasting, with_use, emptied, forgets, KeepsBy, Keeps}
+use Rattle.cm_cache.specs.declared.answer.CachedAnswer.{CachedAnswer}
+use Rattle.cm_cache.specs.AnswersInside.{kept_at, put_in}
+use Rattle.cm_cache.specs.Keeping.{UseKey, KeptUses, asked_by, is_lasting, with_use, emptied, forgets, KeepsBy, KeepsUses}
 use Rattle.cm_cache.specs.Right.{uses_of, AreRight}
-use Rattle.cm_cache.specs.declared.keeper.Found.TheVariants.{New, Passing}
-use Rattle.cm_cache.specs.Answers.{answer_of}
-use Rattle.cm_cache.specs.Beside.{Held, asked_for, found_by, IsBeside}
+use Rattle.cm_cache.specs.declared.keeper.CacheLookup.TheVariants.{New, Passing}
+use Rattle.cm_cache.specs.AnswersInside.{answer_of}
+use Rattle.cm_cache.specs.Beside.{CacheContents, asked_for, found_by, IsBeside}
 use Rattle.cm_cache.specs.Steps.{NothingAtFirst, BesideIsRight, BesideIsNumber, BesideIsFew, UnaskedGoOn, AskedGoOn}
 use Rattle.cm_cache.specs.Steps.{KeptAreFound, NewAreFound}
 use Rattle.cm_cache.proofs.histories.Folding.{keeping_goes_on, kept_are_few}
 use Rattle.cm_cache.proofs.puts.Putting.{uses_are_kept, puts_add_uses, right_answers, puts_stay_right, answers_stay_right}
 
 -- what a keeper has, as what a history keeps
-abbrev seen : Held → Kept
+abbrev seen : CacheContents → KeptUses
 seen h = record { uses = uses_of h.answers; number = h.number }
 
 -- answers that are right in a tree
-abbrev RightIn : World → List Answer → Type 0
+abbrev RightIn : World → List CachedAnswer → Type 0
 RightIn w answers = AreRight w.rows w.frame.builtins answers
 
 -- ---- what is beside a history
@@ -79,20 +79,20 @@ frame_after w e = frame_moved w e.caller e.event e.reply
 
 -- ---- an entry that asks for no use
 
-right_after : (w : World) (e : Entry) (answers : List Answer) → IsRising w.next_inc w.rows → forgets w e ≡ false → RightIn w answers → RightIn (after w e) answers
+right_after : (w : World) (e : Entry) (answers : List CachedAnswer) → IncarnationsIncrease w.next_inc w.rows → forgets w e ≡ false → RightIn w answers → RightIn (after w e) answers
 right_after w e answers up stays right =
     subst (λ (fr : Frame). AreRight (after w e).rows fr.builtins answers) (sym (frame_after w e))
     (answers_stay_right w e w.frame.builtins answers up stays right)
 
 -- what is right behind the entry is so behind the history with it
-right_push : (f : Frame) (es : List Entry) (e : Entry) (answers : List Answer) → RightIn (after (replay (start f) es) e) answers → RightIn (replay (start f) (es ++ e ∷ [])) answers
+right_push : (f : Frame) (es : List Entry) (e : Entry) (answers : List CachedAnswer) → RightIn (after (replay (start f) es) e) answers → RightIn (replay (start f) (es ++ e ∷ [])) answers
 right_push f es e answers right = subst (λ w. RightIn w answers) (sym (replay-push (start f) es e)) right
 
-keeps_left : (t : Bool) (w : World) (e : Entry) (old : Kept) → asked_by w e.event ≡ None → forgets w e ≡ t → Keeps w e old (cond t (emptied old) old)
+keeps_left : (t : Bool) (w : World) (e : Entry) (old : KeptUses) → asked_by w e.event ≡ None → forgets w e ≡ t → KeepsUses w e old (cond t (emptied old) old)
 keeps_left t w e old none is =
     subst (λ o. KeepsBy o w e old (cond t (emptied old) old)) (sym none) (ap (λ b. cond b (emptied old) old) (sym is))
 
-left_by : (t : Bool) (f : Frame) (es : List Entry) (e : Entry) (h : Held) → IsRising (replay (start f) es).next_inc (replay (start f) es).rows → asked_by (replay (start f) es) e.event ≡ None → forgets (replay (start f) es) e ≡ t → IsBeside f es h → IsBeside f (es ++ e ∷ []) (cond t (record h { answers = [] }) h)
+left_by : (t : Bool) (f : Frame) (es : List Entry) (e : Entry) (h : CacheContents) → IncarnationsIncrease (replay (start f) es).next_inc (replay (start f) es).rows → asked_by (replay (start f) es) e.event ≡ None → forgets (replay (start f) es) e ≡ t → IsBeside f es h → IsBeside f (es ++ e ∷ []) (cond t (record h { answers = [] }) h)
 left_by true f es e h up none is beside = record {
   right = tt;
   keeps = keeping_goes_on f es e (seen h) (emptied (seen h)) beside.keeps (keeps_left true (replay (start f) es) e (seen h) none is);
@@ -110,24 +110,24 @@ unasked_go_on f es e doomed h up none told beside =
 -- ---- an entry that asks for a use
 
 -- it moves nothing
-asked_still : (w : World) (caller : ℕ) (event : Event) (r : Reply) (u : Asked) → asked_by w event ≡ Some u → moved w caller event r ≡ w
+asked_still : (w : World) (caller : ℕ) (event : Event) (r : Reply) (u : UseKey) → asked_by w event ≡ Some u → moved w caller event r ≡ w
 asked_still w caller (Route i path) r u asks = refl
 asked_still w caller (OpenUse i path) r u asks = refl
 asked_still w caller event r u asks = absurd (none_some u asks)
 
-pub asked_after : (w : World) (e : Entry) (u : Asked) → asked_by w e.event ≡ Some u → after w e ≡ counted w
+pub asked_after : (w : World) (e : Entry) (u : UseKey) → asked_by w e.event ≡ Some u → after w e ≡ counted w
 unfolding after
 asked_after w e u asks = ap counted (asked_still w e.caller e.event e.reply u asks)
 
-module _ (i : ℕ) (path : List ℕ) (v : Walked) (h : Held) where
-  abbrev use_at : Asked
+module _ (i : ℕ) (path : List ℕ) (v : Walked) (h : CacheContents) where
+  abbrev use_at : UseKey
   use_at = record { inc = i; path = path }
 
   -- by whether an answer is kept, and whether this one lasts
-  abbrev held_by : Option Walked → Bool → Held
+  abbrev held_by : Option Walked → Bool → CacheContents
   held_by o t = cond (is_some o) (record h { number = h.number + 1 }) (cond t (record h { answers = put_in h.answers i path v }) h)
 
-  abbrev kept_by : Bool → Bool → Kept
+  abbrev kept_by : Bool → Bool → KeptUses
   kept_by b t = cond b (record (seen h) { number = h.number + 1 }) (cond t (record (seen h) { uses = with_use use_at (uses_of h.answers) }) (seen h))
 
   right_held : (o : Option Walked) (t : Bool) (w : World) → kept_at h.answers i path ≡ o → IsWalked w.rows w.frame.builtins (UseAt i path) v → RightIn w h.answers → RightIn w (held_by o t).answers
@@ -140,7 +140,7 @@ module _ (i : ℕ) (path : List ℕ) (v : Walked) (h : Held) where
   seen_held None true is = ap (λ us. record { uses = us; number = h.number }) (puts_add_uses h.answers i path v is)
   seen_held None false is = refl
 
-  keeps_held : (w : World) (e : Entry) → asked_by w e.event ≡ Some use_at → IsWalked w.rows w.frame.builtins (UseAt i path) v → Keeps w e (seen h) (seen (asked_for i path v h))
+  keeps_held : (w : World) (e : Entry) → asked_by w e.event ≡ Some use_at → IsWalked w.rows w.frame.builtins (UseAt i path) v → KeepsUses w e (seen h) (seen (asked_for i path v h))
   keeps_held w e asks walked =
       subst (λ o. KeepsBy o w e (seen h) (seen (asked_for i path v h))) (sym asks) (
         v,
@@ -165,7 +165,7 @@ asked_go_on f es e i path v h asks walked beside =
 pub kept_are_found : KeptAreFound
 kept_are_found i path v h is = sym (ap (λ o. held_by i path v h o (is_lasting v)) is)
 
-new_by : (t : Bool) (i : ℕ) (path : List ℕ) (v : Walked) (h : Held) → found_by (cond t (New (answer_of i path v)) Passing) h ≡ held_by i path v h None t
+new_by : (t : Bool) (i : ℕ) (path : List ℕ) (v : Walked) (h : CacheContents) → found_by (cond t (New (answer_of i path v)) Passing) h ≡ held_by i path v h None t
 new_by true i path v h = refl
 new_by false i path v h = refl
 

@@ -9,9 +9,10 @@ use Rattle.cm_world.specs.declared.route.Start.TheVariants.{UseAt}
 use Rattle.cm_world.specs.declared.route.Walked.{Walked}
 use Rattle.cm_world.specs.Edits.{edit_first}
 use Rattle.cm_world.specs.Route.{IsWalked}
-use Rattle.cm_cache.specs.declared.answer.Answer.{Answer}
-use Rattle.cm_cache.specs.Answers.{answer_of, is_of, kept_at, most, joined_by, with_walked, put_in}
-use Rattle.cm_cache.specs.Keeping.{Asked, has_use}
+use Rattle.cm_cache.specs.declared.answer.CachedAnswer.{CachedAnswer}
+use Rattle.cm_cache.specs.Answers.{most}
+use Rattle.cm_cache.specs.AnswersInside.{answer_of, is_of, kept_at, joined_by, with_walked, put_in}
+use Rattle.cm_cache.specs.Keeping.{UseKey, has_use}
 use Rattle.cm_cache.specs.Right.{uses_of, AreRight}
 use Rattle.cm_cache.specs.Laws.{WhatIsPutIsKept, UsesAreKept, PutsAddUses, RightAnswers, PutsStayRight, AnswersStayRight}
 use Rattle.cm_cache.proofs.puts.Placing.{some_same, none_some}
@@ -34,7 +35,7 @@ itself i path =
     ap (λ t. t && bytes_eq path path) ((unsigned_Decides i i).1 refl) ∙ (bytes_eq-Decides path path).1 refl
 
 -- an answer to one use is none to another
-other_by : (t : Bool) (i j : ℕ) (path other : List ℕ) (a : Answer) → same_use i path j other ≡ false → is_of i path a ≡ true → is_of j other a ≡ t → t ≡ false
+other_by : (t : Bool) (i j : ℕ) (path other : List ℕ) (a : CachedAnswer) → same_use i path j other ≡ false → is_of i path a ≡ true → is_of j other a ≡ t → t ≡ false
 other_by false i j path other a apart here is = refl
 other_by true i j path other a apart here is =
     let inc : i ≡ j = sym (same_inc a.inc i a.path path here) ∙ same_inc a.inc j a.path other is in
@@ -44,49 +45,49 @@ other_by true i j path other a apart here is =
 
 -- ---- the answer in the place of another
 
-abbrev walked_in : Option Answer → Option Walked
+abbrev walked_in : Option CachedAnswer → Option Walked
 walked_in o = option_map (λ a. a.walked) o
 
 module _ (i : ℕ) (path : List ℕ) (v : Walked) where
-  abbrev edited : List Answer → List Answer
+  abbrev edited : List CachedAnswer → List CachedAnswer
   edited xs = edit_first (is_of i path) (with_walked v) xs
 
-  here_by : (t : Bool) (x : Answer) (xs : List Answer) → is_of i path x ≡ t → (is_some (kept_at xs i path) ≡ true → kept_at (edited xs) i path ≡ Some v) → is_some (walked_in (cond t (Some x) (find (is_of i path) xs))) ≡ true → kept_at (cond t (with_walked v x ∷ xs) (x ∷ edited xs)) i path ≡ Some v
+  here_by : (t : Bool) (x : CachedAnswer) (xs : List CachedAnswer) → is_of i path x ≡ t → (is_some (kept_at xs i path) ≡ true → kept_at (edited xs) i path ≡ Some v) → is_some (walked_in (cond t (Some x) (find (is_of i path) xs))) ≡ true → kept_at (cond t (with_walked v x ∷ xs) (x ∷ edited xs)) i path ≡ Some v
   here_by true x xs is later some = ap (λ t. walked_in (cond t (Some (with_walked v x)) (find (is_of i path) xs))) is
   here_by false x xs is later some = ap (λ t. walked_in (cond t (Some x) (find (is_of i path) (edited xs)))) is ∙ later some
 
-  edited_here : (xs : List Answer) → is_some (kept_at xs i path) ≡ true → kept_at (edited xs) i path ≡ Some v
+  edited_here : (xs : List CachedAnswer) → is_some (kept_at xs i path) ≡ true → kept_at (edited xs) i path ≡ Some v
   edited_here [] some = absurd (true≢false (sym some))
   edited_here (x ∷ xs) some = here_by (is_of i path x) x xs refl (edited_here xs) some
 
   module _ (j : ℕ) (other : List ℕ) (apart : same_use i path j other ≡ false) where
-    keeps_later : (t : Bool) (x : Answer) (o p : Option Answer) → walked_in p ≡ walked_in o → walked_in (cond t (Some x) p) ≡ walked_in (cond t (Some x) o)
+    keeps_later : (t : Bool) (x : CachedAnswer) (o p : Option CachedAnswer) → walked_in p ≡ walked_in o → walked_in (cond t (Some x) p) ≡ walked_in (cond t (Some x) o)
     keeps_later true x o p later = refl
     keeps_later false x o p later = later
 
-    there_by : (t : Bool) (x : Answer) (xs : List Answer) → is_of i path x ≡ t → kept_at (edited xs) j other ≡ kept_at xs j other → kept_at (cond t (with_walked v x ∷ xs) (x ∷ edited xs)) j other ≡ kept_at (x ∷ xs) j other
+    there_by : (t : Bool) (x : CachedAnswer) (xs : List CachedAnswer) → is_of i path x ≡ t → kept_at (edited xs) j other ≡ kept_at xs j other → kept_at (cond t (with_walked v x ∷ xs) (x ∷ edited xs)) j other ≡ kept_at (x ∷ xs) j other
     there_by true x xs is later =
         let not_this : is_of j other x ≡ false = other_by (is_of j other x) i j path other x apart is refl in
         ap (λ t. walked_in (cond t (Some (with_walked v x)) (find (is_of j other) xs))) not_this
         ∙ sym (ap (λ t. walked_in (cond t (Some x) (find (is_of j other) xs))) not_this)
     there_by false x xs is later = keeps_later (is_of j other x) x (find (is_of j other) xs) (find (is_of j other) (edited xs)) later
 
-    edited_there : (xs : List Answer) → kept_at (edited xs) j other ≡ kept_at xs j other
+    edited_there : (xs : List CachedAnswer) → kept_at (edited xs) j other ≡ kept_at xs j other
     edited_there [] = refl
     edited_there (x ∷ xs) = there_by (is_of i path x) x xs refl (edited_there xs)
 
 -- ---- an answer behind the others
 
-alone_by : (t : Bool) (v : Walked) (a : Answer) → a.walked ≡ v → walked_in (cond t (Some a) None) ≡ cond t (Some v) None
+alone_by : (t : Bool) (v : Walked) (a : CachedAnswer) → a.walked ≡ v → walked_in (cond t (Some a) None) ≡ cond t (Some v) None
 alone_by true v a is = ap Some is
 alone_by false v a is = refl
 
-push_by : (t u : Bool) (x : Answer) (v : Walked) (o p : Option Answer) → walked_in p ≡ cond (is_some (walked_in o)) (walked_in o) (cond u (Some v) None) → walked_in (cond t (Some x) p) ≡ cond (is_some (walked_in (cond t (Some x) o))) (walked_in (cond t (Some x) o)) (cond u (Some v) None)
+push_by : (t u : Bool) (x : CachedAnswer) (v : Walked) (o p : Option CachedAnswer) → walked_in p ≡ cond (is_some (walked_in o)) (walked_in o) (cond u (Some v) None) → walked_in (cond t (Some x) p) ≡ cond (is_some (walked_in (cond t (Some x) o))) (walked_in (cond t (Some x) o)) (cond u (Some v) None)
 push_by true u x v o p later = refl
 push_by false u x v o p later = later
 
 -- what is found, else the new one
-kept_push : (xs : List Answer) (i j : ℕ) (path other : List ℕ) (v : Walked) → kept_at (xs ++ answer_of i path v ∷ []) j other ≡ cond (is_some (kept_at xs j other)) (kept_at xs j other) (cond (same_use i path j other) (Some v) None)
+kept_push : (xs : List CachedAnswer) (i j : ℕ) (path other : List ℕ) (v : Walked) → kept_at (xs ++ answer_of i path v ∷ []) j other ≡ cond (is_some (kept_at xs j other)) (kept_at xs j other) (cond (same_use i path j other) (Some v) None)
 kept_push [] i j path other v = alone_by (same_use i path j other) v (answer_of i path v) refl
 kept_push (x ∷ xs) i j path other v =
     push_by (is_of j other x) (same_use i path j other) x v (find (is_of j other) xs) (find (is_of j other) (xs ++ answer_of i path v ∷ []))
@@ -102,13 +103,13 @@ is_none_by (Some v) is = absurd (true≢false is)
 
 -- ---- a put
 
-replaced_by : (u : Bool) (xs : List Answer) (i j : ℕ) (path other : List ℕ) (v : Walked) → same_use i path j other ≡ u → is_some (kept_at xs i path) ≡ true → kept_at (edited i path v xs) j other ≡ cond u (Some v) (kept_at xs j other)
+replaced_by : (u : Bool) (xs : List CachedAnswer) (i j : ℕ) (path other : List ℕ) (v : Walked) → same_use i path j other ≡ u → is_some (kept_at xs i path) ≡ true → kept_at (edited i path v xs) j other ≡ cond u (Some v) (kept_at xs j other)
 replaced_by true xs i j path other v same some =
     subst (λ k. kept_at (edited i path v xs) k other ≡ Some v) (same_inc i j path other same)
     (subst (λ q. kept_at (edited i path v xs) i q ≡ Some v) (same_path i j path other same) (edited_here i path v xs some))
 replaced_by false xs i j path other v same some = edited_there i path v j other same xs
 
-added_by : (u : Bool) (xs : List Answer) (i j : ℕ) (path other : List ℕ) (v : Walked) → same_use i path j other ≡ u → kept_at xs i path ≡ None → kept_at (xs ++ answer_of i path v ∷ []) j other ≡ cond u (Some v) (kept_at xs j other)
+added_by : (u : Bool) (xs : List CachedAnswer) (i j : ℕ) (path other : List ℕ) (v : Walked) → same_use i path j other ≡ u → kept_at xs i path ≡ None → kept_at (xs ++ answer_of i path v ∷ []) j other ≡ cond u (Some v) (kept_at xs j other)
 added_by true xs i j path other v same none =
     let gone : kept_at xs j other ≡ None = subst (λ k. kept_at xs k other ≡ None) (same_inc i j path other same) (subst (λ q. kept_at xs i q ≡ None) (same_path i j path other same) none) in
     kept_push xs i j path other v
@@ -119,11 +120,11 @@ added_by false xs i j path other v same none =
     ∙ ap (λ t. cond (is_some (kept_at xs j other)) (kept_at xs j other) (cond t (Some v) None)) same
     ∙ none_by (kept_at xs j other)
 
-joined_kept : (full : Bool) (xs : List Answer) (i j : ℕ) (path other : List ℕ) (v : Walked) → kept_at xs i path ≡ None → kept_at (cond full (answer_of i path v ∷ []) (xs ++ answer_of i path v ∷ [])) j other ≡ cond (same_use i path j other) (Some v) (kept_at (cond full [] xs) j other)
+joined_kept : (full : Bool) (xs : List CachedAnswer) (i j : ℕ) (path other : List ℕ) (v : Walked) → kept_at xs i path ≡ None → kept_at (cond full (answer_of i path v ∷ []) (xs ++ answer_of i path v ∷ [])) j other ≡ cond (same_use i path j other) (Some v) (kept_at (cond full [] xs) j other)
 joined_kept true xs i j path other v none = alone_by (same_use i path j other) v (answer_of i path v) refl
 joined_kept false xs i j path other v none = added_by (same_use i path j other) xs i j path other v refl none
 
-put_kept : (some : Bool) (xs : List Answer) (i j : ℕ) (path other : List ℕ) (v : Walked) → is_some (kept_at xs i path) ≡ some → kept_at (cond some (edited i path v xs) (joined_by (answer_of i path v) xs)) j other ≡ cond (same_use i path j other) (Some v) (kept_at (cond some xs (cond (nat_le most (length xs)) [] xs)) j other)
+put_kept : (some : Bool) (xs : List CachedAnswer) (i j : ℕ) (path other : List ℕ) (v : Walked) → is_some (kept_at xs i path) ≡ some → kept_at (cond some (edited i path v xs) (joined_by (answer_of i path v) xs)) j other ≡ cond (same_use i path j other) (Some v) (kept_at (cond some xs (cond (nat_le most (length xs)) [] xs)) j other)
 put_kept true xs i j path other v is = replaced_by (same_use i path j other) xs i j path other v refl is
 put_kept false xs i j path other v is =
     joined_kept (nat_le most (length xs)) xs i j path other v (is_none_by (kept_at xs i path) is)
@@ -132,16 +133,16 @@ pub what_is_put_is_kept : WhatIsPutIsKept
 what_is_put_is_kept xs i j path other v = put_kept (is_some (kept_at xs i path)) xs i j path other v refl
 
 -- a put for a use of which nothing is kept
-pub put_new : (xs : List Answer) (i : ℕ) (path : List ℕ) (v : Walked) → kept_at xs i path ≡ None → put_in xs i path v ≡ joined_by (answer_of i path v) xs
+pub put_new : (xs : List CachedAnswer) (i : ℕ) (path : List ℕ) (v : Walked) → kept_at xs i path ≡ None → put_in xs i path v ≡ joined_by (answer_of i path v) xs
 put_new xs i path v none = ap (λ o. cond (is_some o) (edited i path v xs) (joined_by (answer_of i path v) xs)) none
 
 -- a put in the place of what is kept
-pub put_there : (xs : List Answer) (i : ℕ) (path : List ℕ) (v w : Walked) → kept_at xs i path ≡ Some w → put_in xs i path v ≡ edit_first (is_of i path) (with_walked v) xs
+pub put_there : (xs : List CachedAnswer) (i : ℕ) (path : List ℕ) (v w : Walked) → kept_at xs i path ≡ Some w → put_in xs i path v ≡ edit_first (is_of i path) (with_walked v) xs
 put_there xs i path v w some = ap (λ o. cond (is_some o) (edited i path v xs) (joined_by (answer_of i path v) xs)) some
 
 -- ---- caches beside histories
 
-has_by : (t : Bool) (x : Answer) (o : Option Answer) (rest : Bool) → rest ≡ is_some (walked_in o) → (t || rest) ≡ is_some (walked_in (cond t (Some x) o))
+has_by : (t : Bool) (x : CachedAnswer) (o : Option CachedAnswer) (rest : Bool) → rest ≡ is_some (walked_in o) → (t || rest) ≡ is_some (walked_in (cond t (Some x) o))
 has_by true x o rest later = refl
 has_by false x o rest later = later
 
@@ -149,27 +150,27 @@ pub uses_are_kept : UsesAreKept
 uses_are_kept [] u = refl
 uses_are_kept (x ∷ xs) u = has_by (is_of u.inc u.path x) x (find (is_of u.inc u.path) xs) (has_use (uses_of xs) u) (uses_are_kept xs u)
 
-uses_push : (xs : List Answer) (a : Answer) → uses_of (xs ++ a ∷ []) ≡ uses_of xs ++ record { inc = a.inc; path = a.path } ∷ []
+uses_push : (xs : List CachedAnswer) (a : CachedAnswer) → uses_of (xs ++ a ∷ []) ≡ uses_of xs ++ record { inc = a.inc; path = a.path } ∷ []
 uses_push [] a = refl
 uses_push (x ∷ xs) a = ap (λ us. record { inc = x.inc; path = x.path } ∷ us) (uses_push xs a)
 
-length-uses : (xs : List Answer) → length (uses_of xs) ≡ length xs
+length-uses : (xs : List CachedAnswer) → length (uses_of xs) ≡ length xs
 length-uses [] = refl
 length-uses (x ∷ xs) = ap suc (length-uses xs)
 
-uses_joined : (t : Bool) (xs : List Answer) (a : Answer) → uses_of (cond t (a ∷ []) (xs ++ a ∷ [])) ≡ cond t (record { inc = a.inc; path = a.path } ∷ []) (uses_of xs ++ record { inc = a.inc; path = a.path } ∷ [])
+uses_joined : (t : Bool) (xs : List CachedAnswer) (a : CachedAnswer) → uses_of (cond t (a ∷ []) (xs ++ a ∷ [])) ≡ cond t (record { inc = a.inc; path = a.path } ∷ []) (uses_of xs ++ record { inc = a.inc; path = a.path } ∷ [])
 uses_joined true xs a = refl
 uses_joined false xs a = uses_push xs a
 
 pub puts_add_uses : PutsAddUses
 puts_add_uses xs i path v none =
-    let u : Asked = record { inc = i; path = path } in
+    let u : UseKey = record { inc = i; path = path } in
     ap uses_of (put_new xs i path v none) ∙ uses_joined (nat_le most (length xs)) xs (answer_of i path v)
     ∙ ap (λ n. cond (nat_le most n) (u ∷ []) (uses_of xs ++ u ∷ [])) (sym (length-uses xs))
 
 -- ---- right answers
 
-right_by : (t : Bool) (rows : List Row) (builtins : List Builtin) (x : Answer) (o : Option Answer) (i : ℕ) (path : List ℕ) (v : Walked) → is_of i path x ≡ t → IsWalked rows builtins (UseAt x.inc x.path) x.walked → (walked_in o ≡ Some v → IsWalked rows builtins (UseAt i path) v) → walked_in (cond t (Some x) o) ≡ Some v → IsWalked rows builtins (UseAt i path) v
+right_by : (t : Bool) (rows : List Row) (builtins : List Builtin) (x : CachedAnswer) (o : Option CachedAnswer) (i : ℕ) (path : List ℕ) (v : Walked) → is_of i path x ≡ t → IsWalked rows builtins (UseAt x.inc x.path) x.walked → (walked_in o ≡ Some v → IsWalked rows builtins (UseAt i path) v) → walked_in (cond t (Some x) o) ≡ Some v → IsWalked rows builtins (UseAt i path) v
 right_by true rows builtins x o i path v is here later e =
     subst (λ z. IsWalked rows builtins (UseAt i path) z) (some_same x.walked v e)
     (subst (λ q. IsWalked rows builtins (UseAt i q) x.walked) (same_path x.inc i x.path path is)
@@ -181,11 +182,11 @@ right_answers rows builtins [] i path v right e = absurd (none_some v e)
 right_answers rows builtins (x ∷ xs) i path v right e =
     right_by (is_of i path x) rows builtins x (find (is_of i path) xs) i path v refl right.0 (right_answers rows builtins xs i path v right.1) e
 
-right_push : (rows : List Row) (builtins : List Builtin) (xs : List Answer) (a : Answer) → AreRight rows builtins xs → IsWalked rows builtins (UseAt a.inc a.path) a.walked → AreRight rows builtins (xs ++ a ∷ [])
+right_push : (rows : List Row) (builtins : List Builtin) (xs : List CachedAnswer) (a : CachedAnswer) → AreRight rows builtins xs → IsWalked rows builtins (UseAt a.inc a.path) a.walked → AreRight rows builtins (xs ++ a ∷ [])
 right_push rows builtins [] a right walked = (walked, tt)
 right_push rows builtins (x ∷ xs) a right walked = (right.0, right_push rows builtins xs a right.1 walked)
 
-right_joined : (t : Bool) (rows : List Row) (builtins : List Builtin) (xs : List Answer) (a : Answer) → AreRight rows builtins xs → IsWalked rows builtins (UseAt a.inc a.path) a.walked → AreRight rows builtins (cond t (a ∷ []) (xs ++ a ∷ []))
+right_joined : (t : Bool) (rows : List Row) (builtins : List Builtin) (xs : List CachedAnswer) (a : CachedAnswer) → AreRight rows builtins xs → IsWalked rows builtins (UseAt a.inc a.path) a.walked → AreRight rows builtins (cond t (a ∷ []) (xs ++ a ∷ []))
 right_joined true rows builtins xs a right walked = (walked, tt)
 right_joined false rows builtins xs a right walked = right_push rows builtins xs a right walked
 

@@ -27,7 +27,7 @@ use Rattle.cm_world.specs.declared.route.StepKind.TheVariants.{UseHop, OfferHop,
 use Rattle.cm_world.specs.declared.route.Why.TheVariants.{NoOffer, NoExpose, NoBuiltin}
 use Rattle.cm_world.specs.Rows.{row_of, decl_of, child_of, moniker_of, names_to, has_parent, has_name}
 use Rattle.cm_world.specs.Stations.{Station, hop_at, bare_hop, use_station, offer_station, expose_station, end_station}
-use Rattle.cm_world.specs.Next.{To, Misses, next_of, next_by, next_from, from_above, next_above, by_builtin, builtin_of, offered_by, offered, by_offer, from_child, exposed_by, by_expose, give_of, by_capability, capability_of}
+use Rattle.cm_world.specs.NextStation.{To, Misses, next_of, next_by, next_from, from_above, next_above, by_builtin, builtin_of, offered_by, offered, by_offer, from_child, exposed_by, by_expose, give_of, by_capability, capability_of}
 use Rattle.cm_world.specs.Route.{Named, First, NoUse, NoneExposed, named_by, IsChain, IsDecided, IsWalkedFrom, trial, trial_by}
 use Rattle.cm_cache.specs.Right.{bare}
 use Rattle.cm_cache.specs.Laws.{WalksReadBareRows}
@@ -267,13 +267,13 @@ module _ (a b : List Row) (builtins : List Builtin) (same : ReadsSame a b) where
   chain_same s [] chain = tt
   chain_same s (t ∷ ts) chain = (sym (next_same s) ∙ chain.0, chain_same t ts chain.1)
 
-  trial_same : (front : List Station) (s : Station) → trial a builtins front s ≡ trial b builtins front s
-  trial_same front s = ap (trial_by front s) (next_same s)
+  trial_same : (prefix : List Station) (s : Station) → trial a builtins prefix s ≡ trial b builtins prefix s
+  trial_same prefix s = ap (trial_by prefix s) (next_same s)
 
-  decided_same : (front : List Station) (s : Station) (ts : List Station) (v : Walked) → IsDecided a builtins front s ts v → IsDecided b builtins front s ts v
-  decided_same front s [] v decided = sym (trial_same front s) ∙ decided
-  decided_same front s (t ∷ ts) v decided =
-      (sym (trial_same front s) ∙ decided.0, decided_same (front ++ s ∷ []) t ts v decided.1)
+  decided_same : (prefix : List Station) (s : Station) (ts : List Station) (v : Walked) → IsDecided a builtins prefix s ts v → IsDecided b builtins prefix s ts v
+  decided_same prefix s [] v decided = sym (trial_same prefix s) ∙ decided
+  decided_same prefix s (t ∷ ts) v decided =
+      (sym (trial_same prefix s) ∙ decided.0, decided_same (prefix ++ s ∷ []) t ts v decided.1)
 
   walked_from_same : (n : Named) (v : Walked) → IsWalkedFrom a builtins n v → IsWalkedFrom b builtins n v
   walked_from_same (First s) v walked = record {

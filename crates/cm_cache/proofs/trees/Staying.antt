@@ -19,7 +19,7 @@ use Rattle.cm_world.specs.World.{World, act_of}
 use Rattle.cm_world.specs.End.{changed, end_row, set_pending, set_on, set_closing, set_doomed, set_shut, rows_by}
 use Rattle.cm_world.specs.Expiring.{goes_with, expired, expired_by, is_stopped}
 use Rattle.cm_world.specs.After.{moved, after, with_end_of}
-use Rattle.cm_world.specs.Sound.{IsRising}
+use Rattle.cm_world.specs.Sound.{IncarnationsIncrease}
 use Rattle.cm_world.proofs.trees.Finding.{some_same, none_some}
 use Rattle.cm_cache.specs.Keeping.{resolves, comes_or_goes}
 use Rattle.cm_cache.specs.Right.{bare}
@@ -80,22 +80,22 @@ module _ (f : Row → Row) (inc : (r : Row) → (f r).inc ≡ r.inc) where
       sym (lives_as (row_of (changed i f rows) j)) ∙ read_changed f inc (λ r. true) (λ r. refl) i j rows
       ∙ lives_as (row_of rows j)
 
-  rising_by : (t : Bool) (next i : ℕ) (x : Row) (xs : List Row) → IsRising next (x ∷ xs) → IsRising next (changed i f xs) → IsRising next (cond t (f x ∷ xs) (x ∷ changed i f xs))
-  rising_by true next i x xs up later = (
+  increasing_by : (t : Bool) (next i : ℕ) (x : Row) (xs : List Row) → IncarnationsIncrease next (x ∷ xs) → IncarnationsIncrease next (changed i f xs) → IncarnationsIncrease next (cond t (f x ∷ xs) (x ∷ changed i f xs))
+  increasing_by true next i x xs up later = (
     (
       subst (λ n. n < next) (sym (inc x)) up.0.0,
       λ s lives. subst (λ n. n < s) (sym (inc x)) (up.0.1 s lives),
     ),
     up.1,
   )
-  rising_by false next i x xs up later = (
+  increasing_by false next i x xs up later = (
     (up.0.0, λ s lives. up.0.1 s (sym (live_changed i s xs) ∙ lives)),
     later,
   )
 
-  pub rising_changed : (next i : ℕ) (rows : List Row) → IsRising next rows → IsRising next (changed i f rows)
-  rising_changed next i [] up = up
-  rising_changed next i (x ∷ xs) up = rising_by (x.inc == i) next i x xs up (rising_changed next i xs up.1)
+  pub increasing_changed : (next i : ℕ) (rows : List Row) → IncarnationsIncrease next rows → IncarnationsIncrease next (changed i f rows)
+  increasing_changed next i [] up = up
+  increasing_changed next i (x ∷ xs) up = increasing_by (x.inc == i) next i x xs up (increasing_changed next i xs up.1)
 
 -- ---- rows that are each changed
 
@@ -117,7 +117,7 @@ live_later y ys (x ∷ xs) low live = (
   live_later y ys xs low live.1,
 )
 
-pub all_live : (next : ℕ) (rows : List Row) → IsRising next rows → AllLive rows rows
+pub all_live : (next : ℕ) (rows : List Row) → IncarnationsIncrease next rows → AllLive rows rows
 unfolding AllLive
 all_live next [] up = tt
 all_live next (y ∷ ys) up = (
@@ -188,7 +188,7 @@ module _ (rows : List Row) (i : ℕ) where
         ap (λ y. y ∷ map going xs) here ∙ ap (λ ys. x ∷ ys) (stay xs live.1 none)
 
     -- where no row is newly doomed, nothing goes
-    none_goes : (next : ℕ) → IsRising next rows → list_any (λ r. newly r.inc) (expired i rows) ≡ false → expired i rows ≡ rows
+    none_goes : (next : ℕ) → IncarnationsIncrease next rows → list_any (λ r. newly r.inc) (expired i rows) ≡ false → expired i rows ≡ rows
     none_goes next up none =
         stay rows (all_live next rows up) (λ j r lives. none_passes newly (expired i rows) j r none lives)
 
@@ -202,13 +202,13 @@ module _ (f : Row → Row) (bares : (r : Row) → bare (f r) ≡ bare r) where
   doomed_kept r = ap (λ x. x.doomed) (bares r)
 
   -- a change of what no walk reads, and then those that go
-  bare_expired : (next i : ℕ) (rows : List Row) → IsRising next rows → list_any (λ r. not (has_doomed rows r.inc) && has_doomed (expired i (changed i f rows)) r.inc) (expired i (changed i f rows)) ≡ false → map bare (expired i (changed i f rows)) ≡ map bare rows
+  bare_expired : (next i : ℕ) (rows : List Row) → IncarnationsIncrease next rows → list_any (λ r. not (has_doomed rows r.inc) && has_doomed (expired i (changed i f rows)) r.inc) (expired i (changed i f rows)) ≡ false → map bare (expired i (changed i f rows)) ≡ map bare rows
   bare_expired next i rows up none =
       ap (map bare) (none_goes (changed i f rows) i rows (λ j. read_changed f inc_kept (λ r. r.doomed) doomed_kept i j rows) next
-      (rising_changed f inc_kept next i rows up) none)
+      (increasing_changed f inc_kept next i rows up) none)
       ∙ bare_changed f bares i rows
 
-  bare_stopped : (t : Bool) (next i : ℕ) (rows : List Row) → IsRising next rows → list_any (λ r. not (has_doomed rows r.inc) && has_doomed (cond t (expired i (changed i f rows)) (changed i f rows)) r.inc) (cond t (expired i (changed i f rows)) (changed i f rows)) ≡ false → map bare (cond t (expired i (changed i f rows)) (changed i f rows)) ≡ map bare rows
+  bare_stopped : (t : Bool) (next i : ℕ) (rows : List Row) → IncarnationsIncrease next rows → list_any (λ r. not (has_doomed rows r.inc) && has_doomed (cond t (expired i (changed i f rows)) (changed i f rows)) r.inc) (cond t (expired i (changed i f rows)) (changed i f rows)) ≡ false → map bare (cond t (expired i (changed i f rows)) (changed i f rows)) ≡ map bare rows
   bare_stopped true next i rows up none = bare_expired next i rows up none
   bare_stopped false next i rows up none = bare_changed f bares i rows
 
@@ -267,14 +267,14 @@ module _ (old : List Row) (i : ℕ) where
 abbrev NoneDoomed : List Row → List Row → Type 0
 NoneDoomed old new = list_any (λ r. not (has_doomed old r.inc) && has_doomed new r.inc) new ≡ false
 
-bare_ended : (w : World) (i : ℕ) (finish : Finish) (o : Outcome) → IsRising w.next_inc w.rows → resolves (End i finish) (reply.Ended o) ≡ false → (j : ℕ) → NoneDoomed w.rows (expired_by o j (rows_by j w.next_inc finish o w.rows)) → map bare (expired_by o j (rows_by j w.next_inc finish o w.rows)) ≡ map bare w.rows
+bare_ended : (w : World) (i : ℕ) (finish : Finish) (o : Outcome) → IncarnationsIncrease w.next_inc w.rows → resolves (End i finish) (reply.Ended o) ≡ false → (j : ℕ) → NoneDoomed w.rows (expired_by o j (rows_by j w.next_inc finish o w.rows)) → map bare (expired_by o j (rows_by j w.next_inc finish o w.rows)) ≡ map bare w.rows
 bare_ended w i (Resolved url d) outcome.Resolved up stays j none = absurd (true≢false stays)
 bare_ended w i (Resolved url d) o up stays j none =
     bare_stopped (end_row o) (end_bare o) (is_stopped o) w.next_inc j w.rows up none
 bare_ended w i (Other f) o up stays j none =
     bare_stopped (end_row o) (end_bare o) (is_stopped o) w.next_inc j w.rows up none
 
-bare_end_of : (w : World) (a : ℕ) (finish : Finish) (o : Outcome) (x : Option Act) → IsRising w.next_inc w.rows → resolves (End a finish) (reply.Ended o) ≡ false → NoneDoomed w.rows (with_end_of w a finish o x).rows → map bare (with_end_of w a finish o x).rows ≡ map bare w.rows
+bare_end_of : (w : World) (a : ℕ) (finish : Finish) (o : Outcome) (x : Option Act) → IncarnationsIncrease w.next_inc w.rows → resolves (End a finish) (reply.Ended o) ≡ false → NoneDoomed w.rows (with_end_of w a finish o x).rows → map bare (with_end_of w a finish o x).rows ≡ map bare w.rows
 bare_end_of w a finish o None up stays none = refl
 bare_end_of w a finish o (Some x) up stays none = bare_ended w a finish o up stays x.inc none
 
@@ -282,7 +282,7 @@ bare_marks : (w : World) (doom : Bool) (i : ℕ) → NoneDoomed w.rows (moved w 
 bare_marks w true i none = bare_marked w.rows i none
 bare_marks w false i none = bare_changed set_closing (λ r. refl) i w.rows
 
-pub bare_moved : (w : World) (caller : ℕ) (event : Event) (r : Reply) → IsRising w.next_inc w.rows → resolves event r ≡ false → comes_or_goes r ≡ false → NoneDoomed w.rows (moved w caller event r).rows → map bare (moved w caller event r).rows ≡ map bare w.rows
+pub bare_moved : (w : World) (caller : ℕ) (event : Event) (r : Reply) → IncarnationsIncrease w.next_inc w.rows → resolves event r ≡ false → comes_or_goes r ≡ false → NoneDoomed w.rows (moved w caller event r).rows → map bare (moved w caller event r).rows ≡ map bare w.rows
 bare_moved w caller (Begin kind i) (reply.Begun work) up stays quiet none =
     bare_changed (set_pending (Some (kind, w.next_action))) (λ r. refl) i w.rows
 bare_moved w caller (Begin kind i) (reply.Joined a) up stays quiet none = refl

@@ -15,9 +15,9 @@ use Rattle.clap.specs.declared.error.kind.ErrorKind.TheVariants as kind
 use Rattle.cm_call.specs.Calls.{is_free, number_in, rows_read}
 use Rattle.cm_call.specs.declared.call.WordsFault.TheVariants.{Usage}
 
-pub front_true : (a b : Bool) → (a && b) ≡ true → a ≡ true
-front_true true b h = refl
-front_true false b h = h
+pub prefix_true : (a b : Bool) → (a && b) ≡ true → a ≡ true
+prefix_true true b h = refl
+prefix_true false b h = h
 
 pub map-id : {A : Type 0} (xs : List A) → map (λ x. x) xs ≡ xs
 map-id [] = refl

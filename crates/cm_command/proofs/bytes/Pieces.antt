@@ -5,7 +5,7 @@ use Rattle.std.proofs.Math.Seq.{drop-cons, drop-length}
 use Rattle.std.proofs.lemmas.List.{take-append-drop, get_or-take, length-take-le, take_more, take_rest}
 use Rattle.std.proofs.lemmas.List.Quantifiers.{position-Some}
 use Rattle.cm_command.specs.Numbers.{value_behind}
-use Rattle.cm_command.specs.Scripts.{lines_of, in_front}
+use Rattle.cm_command.specs.Scripts.{lines_of, in_prefix}
 
 -- no byte of the list is k
 abbrev pub Lacks : ℕ → List ℕ → Type 0
@@ -35,13 +35,13 @@ pub lines_at : (t rest : List ℕ) → Lacks 10 t → lines_of (t ++ 10 ∷ rest
 lines_at [] rest h = refl
 lines_at (b ∷ bs) rest h =
     let here : (b == 10) ≡ false = h 0 b (omega arith) in
-    rw here (ap (in_front b) (lines_at bs rest (tail_lacks 10 b bs h)))
+    rw here (ap (in_prefix b) (lines_at bs rest (tail_lacks 10 b bs h)))
 
 last_line : (b : ℕ) (bs : List ℕ) → Lacks 10 (b ∷ bs) → lines_of (b ∷ bs) ≡ (b ∷ bs) ∷ []
 last_line b [] h = let here : (b == 10) ≡ false = h 0 b (omega arith) in rw here refl
 last_line b (c ∷ cs) h =
     let here : (b == 10) ≡ false = h 0 b (omega arith) in
-    rw here (ap (in_front b) (last_line c cs (tail_lacks 10 b (c ∷ cs) h)))
+    rw here (ap (in_prefix b) (last_line c cs (tail_lacks 10 b (c ∷ cs) h)))
 
 pub lines_last : (t : List ℕ) → 0 < length t → Lacks 10 t → lines_of t ≡ t ∷ []
 lines_last [] lt h = absurd (omega arith)

@@ -1,6 +1,6 @@
 -- The words behind the origin of a group.
 use Rattle.std.proofs.Common.{◌≡◌, ◌⊎◌, inl, inr, ℕ, ◌≤◌, List, [], codes, true, false, IsTrue, Result, Ok, Err, MatchResult, refl, sym, subst, arith}
-use Rattle.cm_names.specs.Fronts.{Begins}
+use Rattle.cm_names.specs.Prefixes.{HasCompletion}
 use Rattle.cm_names.specs.Name.{IsName}
 use Rattle.cm_names.specs.Path.{is_subdir}
 use Rattle.cm_names.specs.Rights.{RightSet, rights_of, rights_of_word}
@@ -16,7 +16,7 @@ use Rattle.cm_command.proofs.counts.KindLemmas.{IsBehind, fault_either, fault_sa
 use Rattle.cm_command.proofs.counts.NameCounts.{name_begins}
 use Rattle.cm_command.proofs.counts.RightCounts.{IsSomeRights}
 
--- ---- the words that have a front
+-- ---- the words that have a prefix
 
 abbrev pub IsSomeTargetWord : List ℕ → Type 0
 IsSomeTargetWord t = (name : List ℕ) × IsTargetWord t name
@@ -45,7 +45,7 @@ rights_text : IsRightsText (codes "connect") (record {
 unfolding rights_of rights_of_word
 rights_text = refl
 
-pub rights_begin : Begins IsSomeRights []
+pub rights_begin : HasCompletion IsSomeRights []
 rights_begin = (codes "connect", (_, rights_text))
 
 pub rights_behind : IsBehind (codes "rights=") IsSomeRights IsSomeRightsWord

@@ -4,18 +4,20 @@ use Rattle.std.specs.List.{Contains, slice_split, join_with_byte}
 use Rattle.std.proofs.lemmas.List.Elements.{All-nil}
 use Rattle.std.proofs.lemmas.List.Splits.{join_with_byte-slice_split, slice_split_none, slice_split_at}
 use Rattle.cm_names.specs.declared.child.ChildName.{ChildName}
-use Rattle.cm_names.specs.Fronts.{Begins}
+use Rattle.cm_names.specs.Prefixes.{HasCompletion}
 use Rattle.cm_names.specs.Name.{IsName, continues_name}
 use Rattle.cm_names.specs.Child.{child_text, in_collection}
-use Rattle.cm_names.specs.Moniker.{IsChild, IsChildText}
+use Rattle.cm_names.specs.Moniker.{IsChildName}
+use Rattle.cm_names.specs.MonikerInside.{IsChildText}
 use Rattle.cm_decl.specs.declared.origin.Origin.{Origin}
 use Rattle.cm_decl.specs.declared.origin.Origin.TheVariants.{Parent, Own, Framework, Child, Void}
 use Rattle.cm_command.specs.declared.tokens.WordFault.{WordFault}
 use Rattle.cm_command.specs.declared.tokens.WordFault.TheVariants.{Bad, Memory}
-use Rattle.cm_command.specs.Counts.{CountsFronts, IsWordFault, fault_behind, either_fault}
-use Rattle.cm_command.specs.Words.{IsOriginText, IsChildOrigin, origin_words}
+use Rattle.cm_command.specs.Counts.{CountsPrefixes, IsWordFault, fault_behind, either_fault}
+use Rattle.cm_command.specs.Words.{IsOriginText}
+use Rattle.cm_command.specs.WordsInside.{IsChildOrigin, origin_words}
 use Rattle.cm_command.proofs.counts.KindLemmas.{IsBehind, Each, of_each, counts_same, fault_either}
-use Rattle.cm_command.proofs.line.Machine.{Leads, Wants, Says, IsMachine, GoesOn, BeginsWithPiece, pieces, first, word_says, more_says, counts_piece, counts_more}
+use Rattle.cm_command.proofs.line.Machine.{PiecesLead, Wants, SaysText, IsMachine, GoesOn, BeginsWithPiece, pieces, first, word_says, more_says, counts_piece, counts_more}
 use Rattle.cm_command.proofs.bytes.Pieces.{Lacks}
 use Rattle.cm_command.proofs.written.WrittenLemmas.{name_lacks}
 
@@ -59,19 +61,19 @@ names = record { one_way = one_way; clean = clean; goes = goes }
 
 -- ---- what they say is a child's text
 
-second_only : (a : List ℕ) (ps : List (List ℕ)) (v : ChildName) → Leads steps ends (one_name a) ps v → IsName a → IsChild v × (child_text v ≡ join_with_byte 58 (a ∷ ps))
-second_only a [] v h first = subst (λ c. IsChild c × (child_text c ≡ a)) (sym h) ((first, tt), refl)
+second_only : (a : List ℕ) (ps : List (List ℕ)) (v : ChildName) → PiecesLead steps ends (one_name a) ps v → IsName a → IsChildName v × (child_text v ≡ join_with_byte 58 (a ∷ ps))
+second_only a [] v h first = subst (λ c. IsChildName c × (child_text c ≡ a)) (sym h) ((first, tt), refl)
 second_only a (b ∷ []) v h first =
     let is : v ≡ record { coll = Some a; name = b } = subst (λ p. ends p v) h.1.1 h.2 in
-    subst (λ c. IsChild c × (child_text c ≡ a ++ 58 ∷ b)) (sym is) ((h.1.0, first), refl)
+    subst (λ c. IsChildName c × (child_text c ≡ a ++ 58 ∷ b)) (sym is) ((h.1.0, first), refl)
 second_only a (b ∷ d ∷ ds) v h first =
-    absurd (subst (λ p. Leads steps ends p (d ∷ ds) v) h.1.1 h.2).1
+    absurd (subst (λ p. PiecesLead steps ends p (d ∷ ds) v) h.1.1 h.2).1
 
-led_child : (ps : List (List ℕ)) (v : ChildName) → Leads steps ends no_name ps v → IsChild v × (child_text v ≡ join_with_byte 58 ps)
+led_child : (ps : List (List ℕ)) (v : ChildName) → PiecesLead steps ends no_name ps v → IsChildName v × (child_text v ≡ join_with_byte 58 ps)
 led_child [] v h = absurd h
-led_child (a ∷ ps) v h = second_only a ps v (subst (λ p. Leads steps ends p ps v) h.1.1 h.2) h.1.0
+led_child (a ∷ ps) v h = second_only a ps v (subst (λ p. PiecesLead steps ends p ps v) h.1.1 h.2) h.1.0
 
-says_child : (t : List ℕ) → Says 58 steps ends no_name t → IsChildText t
+says_child : (t : List ℕ) → SaysText 58 steps ends no_name t → IsChildText t
 says_child t h =
     let led = led_child (pieces 58 t) h.0 h.1 in
     (h.0, led.0, led.1 ∙ join_with_byte-slice_split 58 t)
@@ -81,25 +83,25 @@ says_child t h =
 one_piece : (t : List ℕ) → IsName t → slice_split (λ b. b == 58) t ≡ t ∷ []
 one_piece t h = slice_split_none (λ b. b == 58) t (name_lacks 58 refl t h)
 
-parts_say : (coll : Option (List ℕ)) (name : List ℕ) → IfSome coll IsName → IsName name → Says 58 steps ends no_name (in_collection coll name)
+parts_say : (coll : Option (List ℕ)) (name : List ℕ) → IfSome coll IsName → IsName name → SaysText 58 steps ends no_name (in_collection coll name)
 parts_say None name k h = (
   record { coll = None; name = name },
-  subst (λ ws. Leads steps ends no_name ws (record { coll = None; name = name })) (sym (one_piece name h)) (one_name name, (h, refl), refl),
+  subst (λ ws. PiecesLead steps ends no_name ws (record { coll = None; name = name })) (sym (one_piece name h)) (one_name name, (h, refl), refl),
 )
 parts_say (Some a) name k h = (
   record { coll = Some a; name = name },
-  subst (λ ws. Leads steps ends no_name ws (record { coll = Some a; name = name })) (sym (slice_split_at (λ b. b == 58) a 58 name (name_lacks 58 refl a k) refl ∙ ap (λ ws. a ∷ ws) (one_piece name h))) (one_name a, (k, refl), (two_names a name, (h, refl), refl)),
+  subst (λ ws. PiecesLead steps ends no_name ws (record { coll = Some a; name = name })) (sym (slice_split_at (λ b. b == 58) a 58 name (name_lacks 58 refl a k) refl ∙ ap (λ ws. a ∷ ws) (one_piece name h))) (one_name a, (k, refl), (two_names a name, (h, refl), refl)),
 )
 
-child_says : (t : List ℕ) → IsChildText t → Says 58 steps ends no_name t
+child_says : (t : List ℕ) → IsChildText t → SaysText 58 steps ends no_name t
 child_says t h =
-    subst (Says 58 steps ends no_name) h.2 (parts_say h.0.coll h.0.name h.1.1 h.1.0)
+    subst (SaysText 58 steps ends no_name) h.2 (parts_say h.0.coll h.0.name h.1.1 h.1.0)
 
 -- ---- the first name is none
 
-piece_is_name : (w p : List ℕ) → Lacks 58 p → BeginsWithPiece 58 p w → Says 58 steps ends no_name w → IsName p
+piece_is_name : (w p : List ℕ) → Lacks 58 p → BeginsWithPiece 58 p w → SaysText 58 steps ends no_name w → IsName p
 piece_is_name w p lacks begins h =
-    ⊎_elim (λ e. (word_says 58 steps ends no_name p lacks (subst (Says 58 steps ends no_name) e h)).1.0) (λ m. (more_says 58 steps ends no_name p m.0 lacks (subst (Says 58 steps ends no_name) m.1 h)).1.0) begins
+    ⊎_elim (λ e. (word_says 58 steps ends no_name p lacks (subst (SaysText 58 steps ends no_name) e h)).1.0) (λ m. (more_says 58 steps ends no_name p m.0 lacks (subst (SaysText 58 steps ends no_name) m.1 h)).1.0) begins
 
 pub bad_first_name : (w p : List ℕ) (e : WordFault) → Lacks 58 p → BeginsWithPiece 58 p w → IsWordFault IsName p e → IsWordFault IsChildText w e
 bad_first_name w p (Bad n) lacks begins h = (
@@ -110,30 +112,30 @@ bad_first_name w p Memory lacks begins h = tt
 
 -- ---- the second name is none
 
-nothing_says : (a b t : List ℕ) → Says 58 steps ends (two_names a b) t → ⊥
+nothing_says : (a b t : List ℕ) → SaysText 58 steps ends (two_names a b) t → ⊥
 nothing_says a b t h =
     let f = first 58 t in
-    ⊎_elim (λ e. (word_says 58 steps ends (two_names a b) f.piece f.clean (subst (Says 58 steps ends (two_names a b)) e h)).1) (λ m. (more_says 58 steps ends (two_names a b) f.piece m.0 f.clean (subst (Says 58 steps ends (two_names a b)) m.1 h)).1) f.whole
+    ⊎_elim (λ e. (word_says 58 steps ends (two_names a b) f.piece f.clean (subst (SaysText 58 steps ends (two_names a b)) e h)).1) (λ m. (more_says 58 steps ends (two_names a b) f.piece m.0 f.clean (subst (SaysText 58 steps ends (two_names a b)) m.1 h)).1) f.whole
 
-one_says : (a t : List ℕ) → Says 58 steps ends (one_name a) t → IsName t
+one_says : (a t : List ℕ) → SaysText 58 steps ends (one_name a) t → IsName t
 one_says a t h =
     let f = first 58 t in
-    ⊎_elim (λ e. subst IsName (sym e) (word_says 58 steps ends (one_name a) f.piece f.clean (subst (Says 58 steps ends (one_name a)) e h)).1.0) (λ m. let led = more_says 58 steps ends (one_name a) f.piece m.0 f.clean (subst (Says 58 steps ends (one_name a)) m.1 h) in absurd (nothing_says a f.piece m.0 (subst (λ p. Says 58 steps ends p m.0) led.1.1 led.2))) f.whole
+    ⊎_elim (λ e. subst IsName (sym e) (word_says 58 steps ends (one_name a) f.piece f.clean (subst (SaysText 58 steps ends (one_name a)) e h)).1.0) (λ m. let led = more_says 58 steps ends (one_name a) f.piece m.0 f.clean (subst (SaysText 58 steps ends (one_name a)) m.1 h) in absurd (nothing_says a f.piece m.0 (subst (λ p. SaysText 58 steps ends p m.0) led.1.1 led.2))) f.whole
 
-says_one : (a t : List ℕ) → IsName t → Says 58 steps ends (one_name a) t
+says_one : (a t : List ℕ) → IsName t → SaysText 58 steps ends (one_name a) t
 says_one a t h = (
   record { coll = Some a; name = t },
-  subst (λ ws. Leads steps ends (one_name a) ws (record { coll = Some a; name = t })) (sym (one_piece t h)) (two_names a t, (h, refl), refl),
+  subst (λ ws. PiecesLead steps ends (one_name a) ws (record { coll = Some a; name = t })) (sym (one_piece t h)) (two_names a t, (h, refl), refl),
 )
 
 second_name : (w a r : List ℕ) → w ≡ a ++ 58 ∷ r → IsName a → IsChildText w → IsName r
 second_name w a r e h child =
-    let led = more_says 58 steps ends no_name a r (name_lacks 58 refl a h) (subst (Says 58 steps ends no_name) e (child_says w child)) in
-    one_says a r (subst (λ p. Says 58 steps ends p r) led.1.1 led.2)
+    let led = more_says 58 steps ends no_name a r (name_lacks 58 refl a h) (subst (SaysText 58 steps ends no_name) e (child_says w child)) in
+    one_says a r (subst (λ p. SaysText 58 steps ends p r) led.1.1 led.2)
 
 pub bad_second_name : (w a r : List ℕ) (e f : WordFault) → w ≡ a ++ 58 ∷ r → IsName a → f ≡ fault_behind (length a + 1) e → IsWordFault IsName r e → IsWordFault IsChildText w f
 bad_second_name w a r (Bad n) f is name same h =
-    subst (IsWordFault IsChildText w) (sym same) (λ child. h.0 (second_name w a r is name child), subst (λ x. CountsFronts IsChildText x (length a + 1 + n)) (sym is) (counts_same (a ++ 58 ∷ r) (length a + 1 + n) says_child child_says (counts_more 58 steps ends names no_name (one_name a) a r n (name, refl) (counts_same {P = IsName} {Q = Says 58 steps ends (one_name a)} r n (says_one a) (one_says a) h.1))))
+    subst (IsWordFault IsChildText w) (sym same) (λ child. h.0 (second_name w a r is name child), subst (λ x. CountsPrefixes IsChildText x (length a + 1 + n)) (sym is) (counts_same (a ++ 58 ∷ r) (length a + 1 + n) says_child child_says (counts_more 58 steps ends names no_name (one_name a) a r n (name, refl) (counts_same {P = IsName} {Q = SaysText 58 steps ends (one_name a)} r n (says_one a) (one_says a) h.1))))
 bad_second_name w a r Memory f is name same h = subst (IsWordFault IsChildText w) (sym same) tt
 
 -- ---- origins
@@ -141,7 +143,7 @@ bad_second_name w a r Memory f is name same h = subst (IsWordFault IsChildText w
 one_letter : All (λ c. continues_name c ≡ true) []
 one_letter = All-nil (λ c. continues_name c ≡ true)
 
-child_begins : Begins IsChildText []
+child_begins : HasCompletion IsChildText []
 child_begins =
     (codes "a", (record { coll = None; name = codes "a" }, ((omega arith, refl, one_letter), tt), refl))
 

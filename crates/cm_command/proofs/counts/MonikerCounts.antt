@@ -4,21 +4,22 @@ use Rattle.std.specs.Str.{IsUtf8}
 use Rattle.std.proofs.lemmas.Option.{none-some}
 use Rattle.std.proofs.lemmas.List.{take_all, length-take-le}
 use Rattle.std.proofs.lemmas.List.Elements.{All-cons, All-nil}
-use Rattle.cm_names.specs.declared.grammar.MonikerPlace.{MonikerPlace}
-use Rattle.cm_names.specs.declared.grammar.MonikerPlace.TheVariants.{Start, Whole, Root, Part, First, Colon, Second}
-use Rattle.cm_names.specs.Fronts.{IsLongestFront}
+use Rattle.cm_names.specs.declared.grammar.MonikerState.{MonikerState}
+use Rattle.cm_names.specs.declared.grammar.MonikerState.TheVariants.{Start, Whole, Root, Part, First, Colon, Second}
+use Rattle.cm_names.specs.Prefixes.{IsLongestPrefix}
 use Rattle.cm_names.specs.Name.{begins_name, continues_name}
-use Rattle.cm_names.specs.Moniker.{IsMonikerText}
-use Rattle.cm_names.specs.MonikerPlaces.{next, may_end}
-use Rattle.cm_names.proofs.fronts.Fronts.{Accepts, onward}
-use Rattle.cm_names.proofs.fronts.MonikerGrammar.{moniker_accepted}
+use Rattle.cm_names.specs.MonikerInside.{IsMonikerText}
+use Rattle.cm_names.specs.MonikerStates.{next, may_end}
+use Rattle.cm_names.proofs.prefixes.Prefixes.{Accepts, onward}
+use Rattle.cm_names.proofs.prefixes.MonikerGrammar.{moniker_accepted}
 use Rattle.cm_world.specs.declared.event.Target.{Target}
 use Rattle.cm_world.specs.declared.event.Target.TheVariants.{Named, Inc}
 use Rattle.cm_command.specs.declared.tokens.WordFault.{WordFault}
 use Rattle.cm_command.specs.declared.tokens.WordFault.TheVariants.{Bad, Memory}
-use Rattle.cm_command.specs.Counts.{CountsFronts, IsWordFault, IsSureFault, either_fault}
-use Rattle.cm_command.specs.Numbers.{IsNumber}
-use Rattle.cm_command.specs.Words.{IsTargetText, IsIncarnation}
+use Rattle.cm_command.specs.Counts.{CountsPrefixes, IsWordFault, IsSureFault, either_fault}
+use Rattle.cm_command.specs.NumbersInside.{IsU64Text}
+use Rattle.cm_command.specs.Words.{IsTargetText}
+use Rattle.cm_command.specs.WordsInside.{IsIncarnation}
 use Rattle.cm_command.proofs.counts.KindLemmas.{IsBehind, counts_limited, counts_longest, counts_whole, fault_either}
 use Rattle.cm_command.proofs.counts.NumberCounts.{number_begins}
 use Rattle.cm_command.proofs.bytes.Runs.{ascii_text}
@@ -34,7 +35,7 @@ high_continues b h = grind (arith, rules)
 high_is : (b k : ℕ) → 128 ≤ b → k < 128 → (b == k) ≡ false
 high_is b k h lt = grind (arith, rules)
 
-high_stops : (p : MonikerPlace) (b : ℕ) → 128 ≤ b → next p b ≡ None
+high_stops : (p : MonikerState) (b : ℕ) → 128 ≤ b → next p b ≡ None
 high_stops Start b h = rw (high_is b 46 h (omega arith), high_is b 47 h (omega arith), high_begins b h) refl
 high_stops Whole b h = refl
 high_stops Root b h = rw (high_begins b h) refl
@@ -46,10 +47,10 @@ high_stops (Second n) b h = rw (high_is b 47 h (omega arith), high_continues b h
 low_or_high : (b : ℕ) → (b < 128) ⊎ (128 ≤ b)
 low_or_high b = grind arith
 
-low : (p q : MonikerPlace) (b : ℕ) → next p b ≡ Some q → b < 128
+low : (p q : MonikerState) (b : ℕ) → next p b ≡ Some q → b < 128
 low p q b h = ⊎_elim (λ lt. lt) (λ high. absurd (none-some q (sym (high_stops p b high) ∙ h))) (low_or_high b)
 
-accepted_low : (p : MonikerPlace) (t : List ℕ) → Accepts next may_end p t → All (λ b. b < 128) t
+accepted_low : (p : MonikerState) (t : List ℕ) → Accepts next may_end p t → All (λ b. b < 128) t
 accepted_low p [] h = All-nil (λ b. b < 128)
 accepted_low p (b ∷ bs) h =
     let on = onward p b bs h in
@@ -64,28 +65,28 @@ moniker_short : (t : List ℕ) → IsMonikerText t → length t ≤ 4096
 moniker_short t h = h.2
 
 -- the first bytes, as many as a moniker may have, are none
-pub moniker_stops : (w : List ℕ) (m n : ℕ) → m ≡ min (length w) 4096 → IsLongestFront IsMonikerText (take m w) n → (IsMonikerText (take m w) → ⊥) → (IsMonikerText w → ⊥) × CountsFronts IsMonikerText w (n + 1)
-moniker_stops w m n e front never =
-    (λ h. never (subst IsMonikerText (sym (take_all m w (omega (arith, h.2)))) h), counts_limited 4096 w m (n + 1) moniker_short e (counts_longest (take m w) n front))
+pub moniker_stops : (w : List ℕ) (m n : ℕ) → m ≡ min (length w) 4096 → IsLongestPrefix IsMonikerText (take m w) n → (IsMonikerText (take m w) → ⊥) → (IsMonikerText w → ⊥) × CountsPrefixes IsMonikerText w (n + 1)
+moniker_stops w m n e prefix never =
+    (λ h. never (subst IsMonikerText (sym (take_all m w (omega (arith, h.2)))) h), counts_limited 4096 w m (n + 1) moniker_short e (counts_longest (take m w) n prefix))
 
 -- the first bytes are one, and more follow
-pub moniker_full : (w : List ℕ) (m : ℕ) → m ≡ min (length w) 4096 → 4096 < length w → IsMonikerText (take m w) → (IsMonikerText w → ⊥) × CountsFronts IsMonikerText w 4097
+pub moniker_full : (w : List ℕ) (m : ℕ) → m ≡ min (length w) 4096 → 4096 < length w → IsMonikerText (take m w) → (IsMonikerText w → ⊥) × CountsPrefixes IsMonikerText w 4097
 moniker_full w m e more whole =
     let len : length (take m w) ≡ m = length-take-le m w (omega arith) in
     let n : length (take m w) + 1 ≡ 4097 = omega arith in
-    (λ h. absurd (omega (arith, h.2)), counts_limited 4096 w m 4097 moniker_short e (subst (CountsFronts IsMonikerText (take m w)) n (counts_whole (take m w) whole)))
+    (λ h. absurd (omega (arith, h.2)), counts_limited 4096 w m 4097 moniker_short e (subst (CountsPrefixes IsMonikerText (take m w)) n (counts_whole (take m w) whole)))
 
 -- ---- targets
 
-incarnation_rest : (t : List ℕ) → IsIncarnation t → (x : List ℕ) × IsNumber x × (t ≡ codes "@" ++ x)
+incarnation_rest : (t : List ℕ) → IsIncarnation t → (x : List ℕ) × IsU64Text x × (t ≡ codes "@" ++ x)
 incarnation_rest t h = (h.1.0, (h.0, h.1.2, h.1.3), h.1.1)
 
-pub incarnation_behind : IsBehind (codes "@") IsNumber IsIncarnation
+pub incarnation_behind : IsBehind (codes "@") IsU64Text IsIncarnation
 incarnation_behind =
     record { rest = incarnation_rest; whole = λ x p. (p.0, (x, refl, p.1, p.2)); some = number_begins }
 
 -- a fault of a reader that takes no memory is one
-pub sure_fault : (w : List ℕ) (e : WordFault) → IsSureFault IsNumber w e → IsWordFault IsNumber w e
+pub sure_fault : (w : List ℕ) (e : WordFault) → IsSureFault IsU64Text w e → IsWordFault IsU64Text w e
 sure_fault w (Bad n) h = h
 sure_fault w Memory h = absurd h
 

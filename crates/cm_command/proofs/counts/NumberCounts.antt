@@ -3,9 +3,10 @@ use Rattle.std.proofs.Common.{◌≡◌, ◌≢◌, ℕ, zero, suc, ◌+◌, ◌
 use Rattle.std.proofs.Math.Seq.{get_or-append_seam}
 use Rattle.std.proofs.lemmas.List.{take_more}
 use Rattle.std.proofs.lemmas.List.Elements.{All-cons, All-nil, All-append}
-use Rattle.cm_names.specs.Fronts.{Begins}
-use Rattle.cm_command.specs.Counts.{CountsFronts}
-use Rattle.cm_command.specs.Numbers.{is_digit, value_behind, IsDecimal, IsNumber}
+use Rattle.cm_names.specs.Prefixes.{HasCompletion}
+use Rattle.cm_command.specs.Counts.{CountsPrefixes}
+use Rattle.cm_command.specs.Numbers.{is_digit, value_behind, IsDecimal}
+use Rattle.cm_command.specs.NumbersInside.{IsU64Text}
 use Rattle.cm_command.proofs.counts.CountLemmas.{take_none}
 use Rattle.cm_command.proofs.counts.KindLemmas.{counts_stop, counts_all}
 use Rattle.cm_command.proofs.bytes.Pieces.{value_snoc}
@@ -36,22 +37,22 @@ zero_alone (d ∷ ds) h e =
     let is : d ≡ 48 = omega arith in
     ap (λ x. x ∷ ds) is ∙ ap (λ xs. 48 ∷ xs) (h.2 is)
 
-pub number_begins : Begins IsNumber []
+pub number_begins : HasCompletion IsU64Text []
 number_begins = (48 ∷ [], (0, ((refl, All-nil (λ b. IsTrue (is_digit b)), λ _. refl), refl), omega arith))
 
-pub number_front : (w : List ℕ) (i n : ℕ) → IsSoFar w i n → Begins IsNumber (take i w)
-number_front w zero n far = subst (Begins IsNumber) (sym (take_none w)) number_begins
-number_front w (suc i) n far =
-    ([], subst IsNumber (sym (append-nil (take (suc i) w))) (n, (far.digits (omega arith), sym far.number), far.small))
+pub number_prefix : (w : List ℕ) (i n : ℕ) → IsSoFar w i n → HasCompletion IsU64Text (take i w)
+number_prefix w zero n far = subst (HasCompletion IsU64Text) (sym (take_none w)) number_begins
+number_prefix w (suc i) n far =
+    ([], subst IsU64Text (sym (append-nil (take (suc i) w))) (n, (far.digits (omega arith), sym far.number), far.small))
 
 zero_ends : (b : ℕ) (r : List ℕ) → IsDecimal (((48 ∷ []) ++ b ∷ []) ++ r) → ⊥
 zero_ends b r h = let none : b ∷ r ≡ [] = h.2 refl in absurd (cc none)
 
 -- a zero is not followed by anything
-pub zero_stops : (w : List ℕ) (i n : ℕ) → i < length w → IsSoFar w i n → 0 < i → n ≡ 0 → CountsFronts IsNumber w (i + 1)
+pub zero_stops : (w : List ℕ) (i n : ℕ) → i < length w → IsSoFar w i n → 0 < i → n ≡ 0 → CountsPrefixes IsU64Text w (i + 1)
 zero_stops w i n lt far some e =
     let zero_is : take i w ≡ 48 ∷ [] = zero_alone (take i w) (far.digits some) (sym far.number ∙ e) in
-    counts_stop w i lt (number_front w i n far) (λ more. zero_ends (get_or w i 0) more.0 (subst IsDecimal (ap (λ t. t ++ more.0) (take_more w i 0 lt ∙ ap (λ t. t ++ get_or w i 0 ∷ []) zero_is)) more.1.1.0))
+    counts_stop w i lt (number_prefix w i n far) (λ more. zero_ends (get_or w i 0) more.0 (subst IsDecimal (ap (λ t. t ++ more.0) (take_more w i 0 lt ∙ ap (λ t. t ++ get_or w i 0 ∷ []) zero_is)) more.1.1.0))
 
 digit_at : (xs r : List ℕ) (b : ℕ) → IsDecimal (xs ++ b ∷ r) → IsTrue (is_digit b)
 digit_at [] r b h = h.0
@@ -66,9 +67,9 @@ too_great xs r b n m limit e great h is lt =
     absurd (omega arith)
 
 -- the next byte is no digit, or the number would be too great
-pub digit_stops : (w : List ℕ) (i n : ℕ) → i < length w → IsSoFar w i n → (IsTrue (is_digit (get_or w i 0)) → 2 ^ 64 ≤ n * 10 + (get_or w i 0 - 48)) → CountsFronts IsNumber w (i + 1)
+pub digit_stops : (w : List ℕ) (i n : ℕ) → i < length w → IsSoFar w i n → (IsTrue (is_digit (get_or w i 0)) → 2 ^ 64 ≤ n * 10 + (get_or w i 0 - 48)) → CountsPrefixes IsU64Text w (i + 1)
 digit_stops w i n lt far great =
-    counts_stop w i lt (number_front w i n far) (λ more. let cut : take (i + 1) w ++ more.0 ≡ take i w ++ get_or w i 0 ∷ more.0 = ap (λ t. t ++ more.0) (take_more w i 0 lt) ∙ append_assoc (take i w) (get_or w i 0 ∷ []) more.0 in too_great (take i w) more.0 (get_or w i 0) n more.1.0 (2 ^ 64) far.number great (subst IsDecimal cut more.1.1.0) (ap (value_behind 0) (sym cut) ∙ more.1.1.1) more.1.2)
+    counts_stop w i lt (number_prefix w i n far) (λ more. let cut : take (i + 1) w ++ more.0 ≡ take i w ++ get_or w i 0 ∷ more.0 = ap (λ t. t ++ more.0) (take_more w i 0 lt) ∙ append_assoc (take i w) (get_or w i 0 ∷ []) more.0 in too_great (take i w) more.0 (get_or w i 0) n more.1.0 (2 ^ 64) far.number great (subst IsDecimal cut more.1.1.0) (ap (value_behind 0) (sym cut) ∙ more.1.1.1) more.1.2)
 
 pub decimal_more : (t : List ℕ) (b : ℕ) → IsDecimal t → value_behind 0 t ≢ 0 → IsTrue (is_digit b) → IsDecimal (t ++ b ∷ [])
 decimal_more [] b h some digit = absurd h
@@ -92,9 +93,9 @@ digit_more w (suc i) n m lt far some digit e small =
       small = small;
     }
 
-pub nothing_is_no_number : (w : List ℕ) → length w ≡ 0 → IsNumber w → ⊥
+pub nothing_is_no_number : (w : List ℕ) → length w ≡ 0 → IsU64Text w → ⊥
 nothing_is_no_number [] e h = h.1.0
 nothing_is_no_number (b ∷ bs) e h = absurd (omega arith)
 
-pub nothing_counts : (w : List ℕ) → length w ≡ 0 → CountsFronts IsNumber w 1
-nothing_counts w e = counts_all w 0 (sym e) (subst (Begins IsNumber) (sym (take_none w)) number_begins)
+pub nothing_counts : (w : List ℕ) → length w ≡ 0 → CountsPrefixes IsU64Text w 1
+nothing_counts w e = counts_all w 0 (sym e) (subst (HasCompletion IsU64Text) (sym (take_none w)) number_begins)

@@ -1,17 +1,17 @@
 -- Paths, byte by byte.
 use Rattle.std.proofs.Common.{◌≡◌, ◌⊎◌, inl, inr, ⊎_elim, ℕ, ◌+◌, ◌<◌, ◌≤◌, List, [], ◌∷◌, ◌++◌, length, take, get_or, codes, true, false, true≢false, IsTrue, All, nat_le, ◌&&◌, ◌==◌, not, rules, eqb-true, refl, sym, ap, subst, ◌∙◌, arith, append_assoc, append-nil, length-append}
 use Rattle.std.proofs.lemmas.List.{take_more, length-take-le}
-use Rattle.cm_names.specs.Fronts.{Begins}
+use Rattle.cm_names.specs.Prefixes.{HasCompletion}
 use Rattle.std.proofs.lemmas.Bool.{and_parts}
 use Rattle.std.specs.List.{list_all, slice_split, join_with_byte}
 use Rattle.std.specs.Str.{IsUtf8}
 use Rattle.std.proofs.lemmas.List.Elements.{All-cons, All-nil, All-append}
 use Rattle.std.proofs.lemmas.List.Splits.{join_with_byte-slice_split}
 use Rattle.cm_names.specs.Path.{is_path, is_subdir, is_relative, is_part, is_part_byte, is_slash, is_dots}
-use Rattle.cm_command.specs.declared.tokens.PathPlace.{PathPlace}
-use Rattle.cm_command.specs.declared.tokens.PathPlace.TheVariants.{Slash, Dot, Dots, Inside}
-use Rattle.cm_command.specs.PathPlaces.{path_front}
-use Rattle.cm_command.specs.Counts.{CountsFronts}
+use Rattle.cm_command.specs.declared.tokens.PathState.{PathState}
+use Rattle.cm_command.specs.declared.tokens.PathState.TheVariants.{Slash, Dot, Dots, Inside}
+use Rattle.cm_command.specs.PathPlaces.{path_prefix}
+use Rattle.cm_command.specs.Counts.{CountsPrefixes}
 use Rattle.cm_command.proofs.counts.KindLemmas.{IsBehind, counts_stop, counts_all, counts_same, counts_behind}
 use Rattle.cm_command.proofs.counts.NameCounts.{nil_of}
 use Rattle.cm_command.proofs.bytes.Runs.{ascii_text}
@@ -21,20 +21,20 @@ abbrev pub AreParts : ℕ → List ℕ → Type 0
 AreParts limit t = IsTrue (is_relative t) × (length t ≤ limit)
 
 -- the place is that behind the bytes so far, and there is room for what is wanting
-pub record IsUnderWay (w : List ℕ) (limit i : ℕ) (p : PathPlace) : Type 0 where
-  pub leads : (t : List ℕ) → is_relative (take i w ++ t) ≡ is_relative (path_front p ++ t)
+pub record IsUnderWay (w : List ℕ) (limit i : ℕ) (p : PathState) : Type 0 where
+  pub leads : (t : List ℕ) → is_relative (take i w ++ t) ≡ is_relative (path_prefix p ++ t)
   pub short : i ≤ limit
-  pub room : is_relative (path_front p) ≡ false → i < limit
+  pub room : is_relative (path_prefix p) ≡ false → i < limit
 
 -- the text may end at the place, or with one letter more
-may_end : (p : PathPlace) → (is_relative (path_front p ++ []) ≡ true) ⊎ ((is_relative (path_front p) ≡ false) × (is_relative (path_front p ++ codes "a") ≡ true))
+may_end : (p : PathState) → (is_relative (path_prefix p ++ []) ≡ true) ⊎ ((is_relative (path_prefix p) ≡ false) × (is_relative (path_prefix p ++ codes "a") ≡ true))
 may_end Slash = inr (refl, refl)
 may_end Dot = inr (refl, refl)
 may_end Dots = inr (refl, refl)
 may_end Inside = inl refl
 
-front : (w : List ℕ) (limit i : ℕ) (p : PathPlace) → i ≤ length w → IsUnderWay w limit i p → Begins (AreParts limit) (take i w)
-front w limit i p le way =
+prefix : (w : List ℕ) (limit i : ℕ) (p : PathState) → i ≤ length w → IsUnderWay w limit i p → HasCompletion (AreParts limit) (take i w)
+prefix w limit i p le way =
     let len : length (take i w) ≡ i = length-take-le i w le in
     ⊎_elim (λ e. ([], (way.leads [] ∙ e, omega (arith, way.short, length-append (take i w) [])))) (λ e. let room : i < limit = way.room e.0 in (codes "a", (way.leads (codes "a") ∙ e.1, omega (arith, length-append (take i w) (codes "a"))))) (may_end p)
 
@@ -43,23 +43,23 @@ further_is w r i lt =
     ap (λ t. t ++ r) (take_more w i 0 lt) ∙ append_assoc (take i w) (get_or w i 0 ∷ []) r
 
 -- the next byte leads nowhere
-pub stuck : (w : List ℕ) (limit i : ℕ) (p : PathPlace) → i < length w → IsUnderWay w limit i p → ((t : List ℕ) → is_relative (path_front p ++ get_or w i 0 ∷ t) ≡ false) → CountsFronts (AreParts limit) w (i + 1)
+pub stuck : (w : List ℕ) (limit i : ℕ) (p : PathState) → i < length w → IsUnderWay w limit i p → ((t : List ℕ) → is_relative (path_prefix p ++ get_or w i 0 ∷ t) ≡ false) → CountsPrefixes (AreParts limit) w (i + 1)
 stuck w limit i p lt way never =
-    counts_stop w i lt (front w limit i p (omega arith) way) (λ more. true≢false (sym more.1.0 ∙ ap is_relative (further_is w more.0 i lt) ∙ way.leads (get_or w i 0 ∷ more.0) ∙ never more.0))
+    counts_stop w i lt (prefix w limit i p (omega arith) way) (λ more. true≢false (sym more.1.0 ∙ ap is_relative (further_is w more.0 i lt) ∙ way.leads (get_or w i 0 ∷ more.0) ∙ never more.0))
 
 -- there is no room for the next byte
-pub full : (w : List ℕ) (limit i : ℕ) (p : PathPlace) → i < length w → IsUnderWay w limit i p → limit < i + 1 → CountsFronts (AreParts limit) w (i + 1)
+pub full : (w : List ℕ) (limit i : ℕ) (p : PathState) → i < length w → IsUnderWay w limit i p → limit < i + 1 → CountsPrefixes (AreParts limit) w (i + 1)
 full w limit i p lt way over =
-    counts_stop w i lt (front w limit i p (omega arith) way) (λ more. let len : length (take (i + 1) w) ≡ i + 1 = length-take-le (i + 1) w (omega arith) in absurd (omega (arith, more.1.1, length-append (take (i + 1) w) more.0)))
+    counts_stop w i lt (prefix w limit i p (omega arith) way) (λ more. let len : length (take (i + 1) w) ≡ i + 1 = length-take-le (i + 1) w (omega arith) in absurd (omega (arith, more.1.1, length-append (take (i + 1) w) more.0)))
 
 -- the next byte leads to a place where parts may not end, and there is no room for more
-pub unended : (w : List ℕ) (limit i : ℕ) (p q : PathPlace) → i < length w → IsUnderWay w limit i p → ((t : List ℕ) → is_relative (path_front p ++ get_or w i 0 ∷ t) ≡ is_relative (path_front q ++ t)) → i + 1 ≡ limit → is_relative (path_front q) ≡ false → CountsFronts (AreParts limit) w (i + 1)
+pub unended : (w : List ℕ) (limit i : ℕ) (p q : PathState) → i < length w → IsUnderWay w limit i p → ((t : List ℕ) → is_relative (path_prefix p ++ get_or w i 0 ∷ t) ≡ is_relative (path_prefix q ++ t)) → i + 1 ≡ limit → is_relative (path_prefix q) ≡ false → CountsPrefixes (AreParts limit) w (i + 1)
 unended w limit i p q lt way goes last wants =
     let len : length (take (i + 1) w) ≡ i + 1 = length-take-le (i + 1) w (omega arith) in
-    counts_stop w i lt (front w limit i p (omega arith) way) (λ more. let none : more.0 ≡ [] = nil_of more.0 (omega (arith, more.1.1, length-append (take (i + 1) w) more.0)) in true≢false (sym more.1.0 ∙ ap is_relative (further_is w more.0 i lt) ∙ way.leads (get_or w i 0 ∷ more.0) ∙ goes more.0 ∙ ap (λ r. is_relative (path_front q ++ r)) none ∙ ap is_relative (append-nil (path_front q)) ∙ wants))
+    counts_stop w i lt (prefix w limit i p (omega arith) way) (λ more. let none : more.0 ≡ [] = nil_of more.0 (omega (arith, more.1.1, length-append (take (i + 1) w) more.0)) in true≢false (sym more.1.0 ∙ ap is_relative (further_is w more.0 i lt) ∙ way.leads (get_or w i 0 ∷ more.0) ∙ goes more.0 ∙ ap (λ r. is_relative (path_prefix q ++ r)) none ∙ ap is_relative (append-nil (path_prefix q)) ∙ wants))
 
 -- the next byte leads on
-pub further : (w : List ℕ) (limit i : ℕ) (p q : PathPlace) → i < length w → IsUnderWay w limit i p → ((t : List ℕ) → is_relative (path_front p ++ get_or w i 0 ∷ t) ≡ is_relative (path_front q ++ t)) → i + 1 ≤ limit → (is_relative (path_front q) ≡ false → i + 1 < limit) → IsUnderWay w limit (i + 1) q
+pub further : (w : List ℕ) (limit i : ℕ) (p q : PathState) → i < length w → IsUnderWay w limit i p → ((t : List ℕ) → is_relative (path_prefix p ++ get_or w i 0 ∷ t) ≡ is_relative (path_prefix q ++ t)) → i + 1 ≤ limit → (is_relative (path_prefix q) ≡ false → i + 1 < limit) → IsUnderWay w limit (i + 1) q
 further w limit i p q lt way goes short room = record {
   leads = λ t. ap is_relative (further_is w t i lt) ∙ way.leads (get_or w i 0 ∷ t) ∙ goes t;
   short = short;
@@ -67,9 +67,9 @@ further w limit i p q lt way goes short room = record {
 }
 
 -- all bytes lead on
-pub ended : (w : List ℕ) (limit i : ℕ) (p : PathPlace) → i ≡ length w → IsUnderWay w limit i p → CountsFronts (AreParts limit) w (length w + 1)
+pub ended : (w : List ℕ) (limit i : ℕ) (p : PathState) → i ≡ length w → IsUnderWay w limit i p → CountsPrefixes (AreParts limit) w (length w + 1)
 ended w limit i p all way =
-    subst (λ n. CountsFronts (AreParts limit) w (n + 1)) all (counts_all w i all (front w limit i p (omega arith) way))
+    subst (λ n. CountsPrefixes (AreParts limit) w (n + 1)) all (counts_all w i all (prefix w limit i p (omega arith) way))
 
 -- ---- paths and subdirectories
 
@@ -83,9 +83,9 @@ path_rest : (t : List ℕ) → IsTrue (is_path t) → (x : List ℕ) × AreParts
 path_rest [] h = absurd (true≢false (sym h))
 path_rest (b ∷ bs) h =
     let both = and_parts (nat_le (length (b ∷ bs)) 4096 && is_slash b) (is_relative bs) h in
-    let front = and_parts (nat_le (length (b ∷ bs)) 4096) (is_slash b) both.0 in
-    let slash : b ≡ 47 = eqb-true b 47 front.1 in
-    (bs, (both.1, omega (arith, below (length (b ∷ bs)) 4096 front.0)), ap (λ c. c ∷ bs) slash)
+    let prefix = and_parts (nat_le (length (b ∷ bs)) 4096) (is_slash b) both.0 in
+    let slash : b ≡ 47 = eqb-true b 47 prefix.1 in
+    (bs, (both.1, omega (arith, below (length (b ∷ bs)) 4096 prefix.0)), ap (λ c. c ∷ bs) slash)
 
 pub path_behind : IsBehind (codes "/") (AreParts 4095) (λ t. IsTrue (is_path t))
 path_behind = record {
@@ -94,12 +94,12 @@ path_behind = record {
   some = (codes "a", (refl, omega arith));
 }
 
-pub path_counts : (w u : List ℕ) (n : ℕ) → w ≡ codes "/" ++ u → CountsFronts (AreParts 4095) u n → CountsFronts (λ t. IsTrue (is_path t)) w (n + 1)
+pub path_counts : (w u : List ℕ) (n : ℕ) → w ≡ codes "/" ++ u → CountsPrefixes (AreParts 4095) u n → CountsPrefixes (λ t. IsTrue (is_path t)) w (n + 1)
 path_counts w u n e h =
     let same : length (codes "/") + n ≡ n + 1 = omega arith in
-    subst (CountsFronts (λ t. IsTrue (is_path t)) w) same (counts_behind (codes "/") w u n path_behind e h)
+    subst (CountsPrefixes (λ t. IsTrue (is_path t)) w) same (counts_behind (codes "/") w u n path_behind e h)
 
-pub subdir_counts : (w : List ℕ) (n : ℕ) → CountsFronts (AreParts 4096) w n → CountsFronts (λ t. IsTrue (is_subdir t)) w n
+pub subdir_counts : (w : List ℕ) (n : ℕ) → CountsPrefixes (AreParts 4096) w n → CountsPrefixes (λ t. IsTrue (is_subdir t)) w n
 subdir_counts w n h =
     counts_same {P = AreParts 4096} {Q = λ t. IsTrue (is_subdir t)} w n (λ t p. rw (is_below (length t) 4096 p.1) p.0) (λ t q. let both = and_parts (nat_le (length t) 4096) (is_relative t) q in (both.1, below (length t) 4096 both.0)) h
 

@@ -10,14 +10,16 @@ use Rattle.std.proofs.lemmas.List.Splits.{slice_split_none, slice_split_at}
 use Rattle.cm_names.specs.declared.rights.Right.TheVariants.{Connect, Enumerate, Execute, GetAttributes, ModifyDirectory, ReadBytes, Traverse, UpdateAttributes, WriteBytes}
 use Rattle.cm_names.specs.declared.rights.RightsFault.{RightsFault}
 use Rattle.cm_names.specs.declared.rights.RightsFault.TheVariants.{RepeatedRight}
-use Rattle.cm_names.specs.Rights.{RightSet, only, union, reading, writing, executing, no_rights, index_of, rights_of_word, with_rights, with_word, rights_behind, rights_of, rights_if_faultless}
+use Rattle.cm_names.specs.Rights.{RightSet, only, union, reading, writing, executing, no_rights, index_of, rights_of_word, with_rights, with_word, rights_behind, rights_of}
+use Rattle.cm_names.specs.RightsInside.{rights_if_faultless}
 use Rattle.cm_names.proofs.sets.RightsLemmas.{rights_of_words}
 use Rattle.cm_command.specs.declared.tokens.WordFault.{WordFault}
 use Rattle.cm_command.specs.declared.tokens.WordFault.TheVariants.{Bad, Memory}
-use Rattle.cm_command.specs.Counts.{CountsFronts, IsWordFault, fault_behind}
-use Rattle.cm_command.specs.Words.{IsRightsText, IsUnused, right_words}
+use Rattle.cm_command.specs.Counts.{CountsPrefixes, IsWordFault, fault_behind}
+use Rattle.cm_command.specs.Words.{IsRightsText}
+use Rattle.cm_command.specs.WordsInside.{IsUnused, right_words}
 use Rattle.cm_command.proofs.counts.KindLemmas.{Each, of_each, now_of, now_at, now_within, all_now, counts_same, counts_either}
-use Rattle.cm_command.proofs.line.Machine.{Leads, Wants, Says, IsMachine, BeginsWithPiece, pieces, word_says, more_says, counts_piece, counts_more}
+use Rattle.cm_command.proofs.line.Machine.{PiecesLead, Wants, SaysText, IsMachine, BeginsWithPiece, pieces, word_says, more_says, counts_piece, counts_more}
 use Rattle.cm_command.proofs.bytes.Pieces.{Lacks}
 use Rattle.cm_command.proofs.written.WrittenLemmas.{lacks_by}
 
@@ -40,28 +42,28 @@ one_of_more ls i t lt h =
     Contains-push_cases (take i ls) (get_or ls i []) t (subst (λ xs. Contains xs t) (take_more ls i [] lt) h)
 
 -- the next word is used
-left_used : (used ls : List (List ℕ)) (w : List ℕ) (i m : ℕ) → i < length ls → list_any (bytes_eq (get_or ls i [])) used ≡ true → CountsFronts (IsLeft used (take i ls)) w m → CountsFronts (IsLeft used (take (i + 1) ls)) w m
+left_used : (used ls : List (List ℕ)) (w : List ℕ) (i m : ℕ) → i < length ls → list_any (bytes_eq (get_or ls i [])) used ≡ true → CountsPrefixes (IsLeft used (take i ls)) w m → CountsPrefixes (IsLeft used (take (i + 1) ls)) w m
 left_used used ls w i m lt is h =
     counts_same {P = IsLeft used (take i ls)} {Q = IsLeft used (take (i + 1) ls)} w m (λ t p. (one_more ls i t lt p.0, p.1)) (λ t q. (⊎_elim (λ x. x) (λ e. absurd (true≢false (sym is ∙ ap (λ x. list_any (bytes_eq x) used) e ∙ q.1))) (one_of_more ls i t lt q.0), q.1)) h
 
 -- the next word is none of the used ones
-left_more : (used ls : List (List ℕ)) (w : List ℕ) (i m n k : ℕ) → i < length ls → k ≡ max m n → list_any (bytes_eq (get_or ls i [])) used ≡ false → CountsFronts (IsLeft used (take i ls)) w m → CountsFronts (λ t. t ≡ get_or ls i []) w n → CountsFronts (IsLeft used (take (i + 1) ls)) w k
+left_more : (used ls : List (List ℕ)) (w : List ℕ) (i m n k : ℕ) → i < length ls → k ≡ max m n → list_any (bytes_eq (get_or ls i [])) used ≡ false → CountsPrefixes (IsLeft used (take i ls)) w m → CountsPrefixes (λ t. t ≡ get_or ls i []) w n → CountsPrefixes (IsLeft used (take (i + 1) ls)) w k
 left_more used ls w i m n k lt e is g h =
     counts_either {P = IsLeft used (take i ls)} {Q = λ t. t ≡ get_or ls i []} {R = IsLeft used (take (i + 1) ls)} w m n k (λ t p. (one_more ls i t lt p.0, p.1)) (λ t q. subst (IsLeft used (take (i + 1) ls)) (sym q) (last_one ls i lt, is)) (λ t r. ⊎_elim (λ x. inl (x, r.1)) (λ x. inr (sym x)) (one_of_more ls i t lt r.0)) e g h
 
 -- ---- the same of an array of words
 
-pub array_used : (used : List (List ℕ)) (ls : List (Bor (List ℕ))) (w : List ℕ) (d : Bor (List ℕ)) (i m : ℕ) → i < length ls → list_any (bytes_eq (get_or ls i d).now) used ≡ true → CountsFronts (IsLeft used (take i (map (λ l. l.now) ls))) w m → CountsFronts (IsLeft used (take (i + 1) (map (λ l. l.now) ls))) w m
+pub array_used : (used : List (List ℕ)) (ls : List (Bor (List ℕ))) (w : List ℕ) (d : Bor (List ℕ)) (i m : ℕ) → i < length ls → list_any (bytes_eq (get_or ls i d).now) used ≡ true → CountsPrefixes (IsLeft used (take i (map (λ l. l.now) ls))) w m → CountsPrefixes (IsLeft used (take (i + 1) (map (λ l. l.now) ls))) w m
 array_used used ls w d i m lt is h =
     left_used used (map now_of ls) w i m (now_within ls i lt) (ap (λ x. list_any (bytes_eq x) used) (now_at ls i d lt) ∙ is) h
 
-pub array_more : (used : List (List ℕ)) (ls : List (Bor (List ℕ))) (w : List ℕ) (d : Bor (List ℕ)) (i m n k : ℕ) → i < length ls → k ≡ max m n → list_any (bytes_eq (get_or ls i d).now) used ≡ false → CountsFronts (IsLeft used (take i (map (λ l. l.now) ls))) w m → CountsFronts (λ t. t ≡ (get_or ls i d).now) w n → CountsFronts (IsLeft used (take (i + 1) (map (λ l. l.now) ls))) w k
+pub array_more : (used : List (List ℕ)) (ls : List (Bor (List ℕ))) (w : List ℕ) (d : Bor (List ℕ)) (i m n k : ℕ) → i < length ls → k ≡ max m n → list_any (bytes_eq (get_or ls i d).now) used ≡ false → CountsPrefixes (IsLeft used (take i (map (λ l. l.now) ls))) w m → CountsPrefixes (λ t. t ≡ (get_or ls i d).now) w n → CountsPrefixes (IsLeft used (take (i + 1) (map (λ l. l.now) ls))) w k
 array_more used ls w d i m n k lt e is g h =
-    left_more used (map now_of ls) w i m n k (now_within ls i lt) e (ap (λ x. list_any (bytes_eq x) used) (now_at ls i d lt) ∙ is) g (subst (λ l. CountsFronts (λ t. t ≡ l) w n) (sym (now_at ls i d lt)) h)
+    left_more used (map now_of ls) w i m n k (now_within ls i lt) e (ap (λ x. list_any (bytes_eq x) used) (now_at ls i d lt) ∙ is) g (subst (λ l. CountsPrefixes (λ t. t ≡ l) w n) (sym (now_at ls i d lt)) h)
 
-pub array_whole : (used : List (List ℕ)) (ls : List (Bor (List ℕ))) (w : List ℕ) (i n : ℕ) → length ls ≤ i → map (λ l. l.now) ls ≡ right_words → CountsFronts (IsLeft used (take i (map (λ l. l.now) ls))) w n → CountsFronts (IsUnused used) w n
+pub array_whole : (used : List (List ℕ)) (ls : List (Bor (List ℕ))) (w : List ℕ) (i n : ℕ) → length ls ≤ i → map (λ l. l.now) ls ≡ right_words → CountsPrefixes (IsLeft used (take i (map (λ l. l.now) ls))) w n → CountsPrefixes (IsUnused used) w n
 array_whole used ls w i n le e h =
-    subst (λ xs. CountsFronts (IsLeft used xs) w n) (all_now ls i le ∙ e) h
+    subst (λ xs. CountsPrefixes (IsLeft used xs) w n) (all_now ls i le ∙ e) h
 
 -- there are as many as there are words
 pub within : (ls : List (Bor (List ℕ))) (i : ℕ) → map (λ l. l.now) ls ≡ right_words → i < 14 → i < length ls
@@ -138,7 +140,7 @@ record IsFresh (earlier : List (List ℕ)) (w : List ℕ) : Type 0 where
   known : rights_of_word w ≡ Some set
   fresh : list_any (bytes_eq w) earlier ≡ false
 
-fresh_word : (earlier front : List (List ℕ)) (w : List ℕ) (ws : List (List ℕ)) (r : RightSet) → rights_behind earlier (front ++ w ∷ ws) ≡ Ok r → IsFresh (earlier ++ front) w
+fresh_word : (earlier prefix : List (List ℕ)) (w : List ℕ) (ws : List (List ℕ)) (r : RightSet) → rights_behind earlier (prefix ++ w ∷ ws) ≡ Ok r → IsFresh (earlier ++ prefix) w
 fresh_word earlier [] w ws r h =
     let f = first_word earlier w ws r h in
     record { set = f.set; known = f.known; fresh = ap (list_any (bytes_eq w)) (append-nil earlier) ∙ f.fresh }
@@ -178,7 +180,7 @@ step_on used t good h =
     let more = good_more used t good h in
     (h, refl, (more.0, rights_of_words (used ++ t ∷ []) (some_word used t) ∙ more.1))
 
-leads_rights : (ws used : List (List ℕ)) (v : RightSet) → Leads steps ends used ws v → rights_of (used ++ ws) ≡ Ok v
+leads_rights : (ws used : List (List ℕ)) (v : RightSet) → PiecesLead steps ends used ws v → rights_of (used ++ ws) ≡ Ok v
 leads_rights [] used v h = ap rights_of (append-nil used) ∙ h
 leads_rights (w ∷ ws) used v h =
     ap rights_of (sym (regroup used w ws)) ∙ ap (λ a. rights_of (a ++ ws)) (sym h.1.1) ∙ leads_rights ws h.0 v h.2
@@ -186,7 +188,7 @@ leads_rights (w ∷ ws) used v h =
 long_more : (used : List (List ℕ)) (w : List ℕ) (ws : List (List ℕ)) → 0 < length (used ++ w ∷ ws)
 long_more used w ws = omega (arith, length-append used (w ∷ ws))
 
-rights_lead : (ws used : List (List ℕ)) (v : RightSet) → AreGood used → rights_of (used ++ ws) ≡ Ok v → Leads steps ends used ws v
+rights_lead : (ws used : List (List ℕ)) (v : RightSet) → AreGood used → rights_of (used ++ ws) ≡ Ok v → PiecesLead steps ends used ws v
 rights_lead [] used v good h = ap rights_of (sym (append-nil used)) ∙ h
 rights_lead (w ∷ ws) used v good h =
     let f = fresh_word [] used w ws v (sym (rights_of_words (used ++ w ∷ ws) (long_more used w ws)) ∙ h) in
@@ -196,10 +198,10 @@ rights_lead (w ∷ ws) used v good h =
 abbrev pub IsSomeRights : List ℕ → Type 0
 IsSomeRights t = (r : RightSet) × IsRightsText t r
 
-says_rights : (t : List ℕ) → Says 44 steps ends [] t → IsSomeRights t
+says_rights : (t : List ℕ) → SaysText 44 steps ends [] t → IsSomeRights t
 says_rights t h = (h.0, leads_rights (pieces 44 t) [] h.0 h.1)
 
-rights_say : (t : List ℕ) → IsSomeRights t → Says 44 steps ends [] t
+rights_say : (t : List ℕ) → IsSomeRights t → SaysText 44 steps ends [] t
 rights_say t h = (h.0, rights_lead (pieces 44 t) [] h.0 (no_rights, refl) h.1)
 
 -- ---- from piece to piece
@@ -208,9 +210,9 @@ rights_say t h = (h.0, rights_lead (pieces 44 t) [] h.0 (no_rights, refl) h.1)
 pub record IsOnward (whole : List ℕ) (used : List (List ℕ)) (place : ℕ) (rest : List ℕ) : Type 0 where
   good : AreGood used
   pub fits : place + length rest ≡ length whole
-  leads : (v : RightSet) → Leads steps ends used (pieces 44 rest) v → IsRightsText whole v
-  never : (Says 44 steps ends used rest → ⊥) → IsSomeRights whole → ⊥
-  counts : (n : ℕ) → CountsFronts (Says 44 steps ends used) rest n → CountsFronts IsSomeRights whole (place + n)
+  leads : (v : RightSet) → PiecesLead steps ends used (pieces 44 rest) v → IsRightsText whole v
+  never : (SaysText 44 steps ends used rest → ⊥) → IsSomeRights whole → ⊥
+  counts : (n : ℕ) → CountsPrefixes (SaysText 44 steps ends used) rest n → CountsPrefixes IsSomeRights whole (place + n)
 
 pub begins : (w : List ℕ) → IsOnward w [] 0 w
 begins w = record {
@@ -218,13 +220,13 @@ begins w = record {
   fits = omega arith;
   leads = λ v h. leads_rights (pieces 44 w) [] v h;
   never = λ not h. not (rights_say w h);
-  counts = λ n h. let same : n ≡ 0 + n = omega arith in subst (CountsFronts IsSomeRights w) same (counts_same w n says_rights rights_say h);
+  counts = λ n h. let same : n ≡ 0 + n = omega arith in subst (CountsPrefixes IsSomeRights w) same (counts_same w n says_rights rights_say h);
 }
 
-says_next : (used : List (List ℕ)) (p more : List ℕ) → Lacks 44 p → Says 44 steps ends used (p ++ 44 ∷ more) → Says 44 steps ends (used ++ p ∷ []) more
+says_next : (used : List (List ℕ)) (p more : List ℕ) → Lacks 44 p → SaysText 44 steps ends used (p ++ 44 ∷ more) → SaysText 44 steps ends (used ++ p ∷ []) more
 says_next used p more lacks h =
     let led = more_says 44 steps ends used p more lacks h in
-    subst (λ a. Says 44 steps ends a more) led.1.1 led.2
+    subst (λ a. SaysText 44 steps ends a more) led.1.1 led.2
 
 placed : (a b n : ℕ) → a + (b + 1 + n) ≡ a + b + 1 + n
 placed a b n = omega arith
@@ -236,14 +238,14 @@ further w used place rest p more on lacks unused e =
     record {
       good = good_more used p on.good unused;
       fits = omega (arith, on.fits, ap length e, length-append p (44 ∷ more));
-      leads = λ v h. on.leads v (subst (λ ps. Leads steps ends used ps v) (sym (ap (pieces 44) e ∙ slice_split_at (λ b. b == 44) p 44 more lacks refl)) (used ++ p ∷ [], st, h));
-      never = λ not h. on.never (λ says. not (says_next used p more lacks (subst (Says 44 steps ends used) e says))) h;
-      counts = λ n h. subst (CountsFronts IsSomeRights w) (placed place (length p) n) (on.counts (length p + 1 + n) (subst (λ t. CountsFronts (Says 44 steps ends used) t (length p + 1 + n)) (sym e) (counts_more 44 steps ends words used (used ++ p ∷ []) p more n st h)));
+      leads = λ v h. on.leads v (subst (λ ps. PiecesLead steps ends used ps v) (sym (ap (pieces 44) e ∙ slice_split_at (λ b. b == 44) p 44 more lacks refl)) (used ++ p ∷ [], st, h));
+      never = λ not h. on.never (λ says. not (says_next used p more lacks (subst (SaysText 44 steps ends used) e says))) h;
+      counts = λ n h. subst (CountsPrefixes IsSomeRights w) (placed place (length p) n) (on.counts (length p + 1 + n) (subst (λ t. CountsPrefixes (SaysText 44 steps ends used) t (length p + 1 + n)) (sym e) (counts_more 44 steps ends words used (used ++ p ∷ []) p more n st h)));
     }
 
-wants_piece : (used : List (List ℕ)) (rest p : List ℕ) → Lacks 44 p → BeginsWithPiece 44 p rest → Says 44 steps ends used rest → IsUnused used p
+wants_piece : (used : List (List ℕ)) (rest p : List ℕ) → Lacks 44 p → BeginsWithPiece 44 p rest → SaysText 44 steps ends used rest → IsUnused used p
 wants_piece used rest p lacks begins h =
-    ⊎_elim (λ e. (word_says 44 steps ends used p lacks (subst (Says 44 steps ends used) e h)).1.0) (λ m. (more_says 44 steps ends used p m.0 lacks (subst (Says 44 steps ends used) m.1 h)).1.0) begins
+    ⊎_elim (λ e. (word_says 44 steps ends used p lacks (subst (SaysText 44 steps ends used) e h)).1.0) (λ m. (more_says 44 steps ends used p m.0 lacks (subst (SaysText 44 steps ends used) m.1 h)).1.0) begins
 
 -- no unused word
 pub stuck : (w : List ℕ) (used : List (List ℕ)) (place : ℕ) (rest p : List ℕ) (e f : WordFault) → IsOnward w used place rest → Lacks 44 p → BeginsWithPiece 44 p rest → f ≡ fault_behind place e → IsWordFault (IsUnused used) p e → IsWordFault (λ t. (r : RightSet) × IsRightsText t r) w f
@@ -258,7 +260,7 @@ faultless (Err e) v h = absurd (none-some v h)
 -- the last word
 pub ended : (w : List ℕ) (used : List (List ℕ)) (place : ℕ) (rest p : List ℕ) (v : RightSet) → IsOnward w used place rest → Lacks 44 p → IsUnused used p → rest ≡ p → rights_if_faultless (rights_of (used ++ p ∷ [])) ≡ Some v → IsRightsText w v
 ended w used place rest p v on lacks unused e h =
-    on.leads v (subst (λ ps. Leads steps ends used ps v) (sym (ap (pieces 44) e ∙ slice_split_none (λ b. b == 44) p lacks)) (used ++ p ∷ [], step_on used p on.good unused, faultless (rights_of (used ++ p ∷ [])) v h))
+    on.leads v (subst (λ ps. PiecesLead steps ends used ps v) (sym (ap (pieces 44) e ∙ slice_split_none (λ b. b == 44) p lacks)) (used ++ p ∷ [], step_on used p on.good unused, faultless (rights_of (used ++ p ∷ [])) v h))
 
 pub never_faulty : (w : List ℕ) (used : List (List ℕ)) (place : ℕ) (rest p : List ℕ) → IsOnward w used place rest → IsUnused used p → rights_if_faultless (rights_of (used ++ p ∷ [])) ≡ None → ⊥
 never_faulty w used place rest p on unused h =

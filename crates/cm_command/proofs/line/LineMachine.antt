@@ -9,14 +9,14 @@ use Rattle.cm_names.specs.declared.availability.Availability.TheVariants as avai
 use Rattle.cm_names.specs.declared.dependency.Dependency.TheVariants as dependency
 use Rattle.cm_names.specs.declared.child.ChildName.{ChildName}
 use Rattle.cm_names.specs.declared.moniker.Moniker.{Moniker}
-use Rattle.cm_names.specs.declared.grammar.MonikerPlace.TheVariants.{Start}
+use Rattle.cm_names.specs.declared.grammar.MonikerState.TheVariants.{Start}
 use Rattle.cm_names.specs.declared.rights.RightsFault.{RightsFault}
 use Rattle.cm_names.specs.Name.{IsName, continues_name}
 use Rattle.cm_names.specs.Child.{in_collection}
-use Rattle.cm_names.specs.Moniker.{IsChild, IsMonikerTextOf}
+use Rattle.cm_names.specs.Moniker.{IsChildName, IsMonikerTextOf}
 use Rattle.cm_names.specs.Rights.{RightSet, rights_of, rights_of_word, no_rights, union, reading}
-use Rattle.cm_names.proofs.fronts.Fronts.{onward}
-use Rattle.cm_names.proofs.fronts.MonikerGrammar.{moniker_accepted}
+use Rattle.cm_names.proofs.prefixes.Prefixes.{onward}
+use Rattle.cm_names.proofs.prefixes.MonikerGrammar.{moniker_accepted}
 use Rattle.cm_names.proofs.texts.MonikerParts.{reads_one_way_lem as moniker_one_way}
 use Rattle.cm_decl.specs.declared.kind.Kind.{Kind}
 use Rattle.cm_decl.specs.declared.kind.Kind.TheVariants as kind
@@ -28,26 +28,26 @@ use Rattle.cm_world.specs.declared.event.Target.{Target}
 use Rattle.cm_world.specs.declared.event.Target.TheVariants as target
 use Rattle.cm_command.specs.declared.place.Verb.{Verb}
 use Rattle.cm_command.specs.declared.place.Verb.TheVariants as verb
-use Rattle.cm_command.specs.declared.place.Sentence.{Sentence}
+use Rattle.cm_command.specs.declared.place.ParsedLine.{ParsedLine}
 use Rattle.cm_command.specs.declared.place.Creation.{Creation}
-use Rattle.cm_command.specs.declared.place.Place.{Place}
-use Rattle.cm_command.specs.declared.place.Place.TheVariants as place
+use Rattle.cm_command.specs.declared.place.LineState.{LineState}
+use Rattle.cm_command.specs.declared.place.LineState.TheVariants as place
 use Rattle.cm_command.specs.declared.command.Command.TheVariants as command
 use Rattle.cm_command.specs.Numbers.{is_digit, IsNumberText, value_behind}
 use Rattle.cm_names.specs.Urls.{is_url_byte}
 use Rattle.cm_command.specs.Words.{IsUrlText, IsTargetText, IsOriginText, IsRightsText}
-use Rattle.cm_command.specs.Grammar.{Text, Adds, plain_give}
-use Rattle.cm_command.specs.Places.{verb_word, verbs, asks, behind_target, behind_builtin, directory_of, provides, with_give, Steps, Ends, created}
+use Rattle.cm_command.specs.Grammar.{LineBytes, AddsWord, plain_give}
+use Rattle.cm_command.specs.Places.{verb_word, verbs, asks, behind_target, behind_builtin, directory_of, provides, with_give, WordLeads, EndsLine, created}
 use Rattle.cm_command.proofs.bytes.Pieces.{Lacks}
 use Rattle.cm_command.proofs.line.Machine.{IsMachine, GoesOn, says_word, says_more}
-use Rattle.cm_command.specs.Pieces.{Leads}
+use Rattle.cm_command.specs.Pieces.{PiecesLead}
 use Rattle.cm_command.proofs.scripts.LaneLemmas.{decimal_lacks}
-use Rattle.cm_command.proofs.line.SpacelessWords.{lacks_same, lacks_front, verb_lacks, kind_lacks, target_lacks, origin_lacks, url_lacks, rights_lack}
+use Rattle.cm_command.proofs.line.SpacelessWords.{lacks_same, lacks_prefix, verb_lacks, kind_lacks, target_lacks, origin_lacks, url_lacks, rights_lack}
 use Rattle.cm_command.proofs.written.WrittenLemmas.{lacks_by, name_lacks, path_lacks, subdir_lacks}
 
 -- ---- what a word says is a function of it
 
-abbrev verb_of : Text → Option Verb
+abbrev verb_of : LineBytes → Option Verb
 verb_of w = find (λ v. bytes_eq w (verb_word v)) verbs
 
 verb_found : (v : Verb) → verb_of (verb_word v) ≡ Some v
@@ -72,7 +72,7 @@ verb_one v u e =
     let same : Some v ≡ Some u = sym (verb_found v) ∙ ap verb_of e ∙ verb_found u in
     cc same
 
-abbrev kind_of : Text → Kind
+abbrev kind_of : LineBytes → Kind
 kind_of w = if bytes_eq w (codes "protocol") then kind.Protocol else kind.Directory
 
 kind_found : (k : Kind) → k ≡ kind_of (kind_word k)
@@ -82,17 +82,17 @@ kind_found kind.Directory = refl
 kind_one : (k l : Kind) → kind_word k ≡ kind_word l → k ≡ l
 kind_one k l e = kind_found k ∙ ap kind_of e ∙ sym (kind_found l)
 
-abbrev child_of : List Text → ChildName
+abbrev child_of : List LineBytes → ChildName
 child_of [] = record { coll = None; name = [] }
 child_of (name ∷ []) = record { coll = None; name = name }
 child_of (coll ∷ name ∷ more) = record { coll = Some coll; name = name }
 
-child_found : (coll : Option Text) (name : Text) → IsName name → IfSome coll IsName → child_of (slice_split (λ b. b == 58) (in_collection coll name)) ≡ record { coll = coll; name = name }
+child_found : (coll : Option LineBytes) (name : LineBytes) → IsName name → IfSome coll IsName → child_of (slice_split (λ b. b == 58) (in_collection coll name)) ≡ record { coll = coll; name = name }
 child_found None name h g = ap child_of (slice_split_none (λ b. b == 58) name (name_lacks 58 refl name h))
 child_found (Some coll) name h g =
     ap child_of (slice_split_at (λ b. b == 58) coll 58 name (name_lacks 58 refl coll g) refl ∙ ap (λ x. coll ∷ x) (slice_split_none (λ b. b == 58) name (name_lacks 58 refl name h)))
 
-abbrev origin_of : Text → Origin
+abbrev origin_of : LineBytes → Origin
 origin_of w =
     if bytes_eq w (codes "parent") then origin.Parent
     else if bytes_eq w (codes "self") then origin.Own
@@ -100,7 +100,7 @@ origin_of w =
     else if bytes_eq w (codes "void") then origin.Void
     else origin.Child (child_of (slice_split (λ b. b == 58) (drop 1 w)))
 
-origin_found : (w : Text) (o : Origin) → IsOriginText w o → o ≡ origin_of w
+origin_found : (w : LineBytes) (o : Origin) → IsOriginText w o → o ≡ origin_of w
 origin_found w origin.Parent h = ap origin_of (sym h)
 origin_found w origin.Own h = ap origin_of (sym h)
 origin_found w origin.Framework h = ap origin_of (sym h)
@@ -108,16 +108,16 @@ origin_found w origin.Void h = ap origin_of (sym h)
 origin_found w (origin.Child c) h =
     sym (ap origin.Child (child_found c.coll c.name h.0.0 h.0.1)) ∙ ap origin_of (sym h.1)
 
-origin_one : (w : Text) (o p : Origin) → IsOriginText w o → IsOriginText w p → o ≡ p
+origin_one : (w : LineBytes) (o p : Origin) → IsOriginText w o → IsOriginText w p → o ≡ p
 origin_one w o p h g = origin_found w o h ∙ sym (origin_found w p g)
 
 -- no moniker begins with `@`
-no_at : (w digits : Text) (m : Moniker) → w ≡ 64 ∷ digits → IsMonikerTextOf w m → ⊥
+no_at : (w digits : LineBytes) (m : Moniker) → w ≡ 64 ∷ digits → IsMonikerTextOf w m → ⊥
 no_at w digits m e h =
     let on = onward Start 64 digits (moniker_accepted (64 ∷ digits) m (subst (λ t. IsMonikerTextOf t m) e h)) in
     none-some on.place on.is
 
-target_one : (w : Text) (a b : Target) → IsTargetText w a → IsTargetText w b → a ≡ b
+target_one : (w : LineBytes) (a b : Target) → IsTargetText w a → IsTargetText w b → a ≡ b
 target_one w (target.Named m) (target.Named n) h g = ap target.Named (moniker_one_way w m n h.0 g.0)
 target_one w (target.Named m) (target.Inc n) h g = absurd (no_at w g.0 m g.1 h.0)
 target_one w (target.Inc n) (target.Named m) h g = absurd (no_at w h.0 m h.1 g.0)
@@ -125,13 +125,13 @@ target_one w (target.Inc n) (target.Inc k) h g =
     let digits : h.0 ≡ g.0 = ap (drop 1) (sym h.1 ∙ g.1) in
     ap target.Inc (sym h.2.1 ∙ ap (value_behind 0) digits ∙ g.2.1)
 
-rights_one : (w : Text) (r s : RightSet) → IsRightsText w r → IsRightsText w s → r ≡ s
+rights_one : (w : LineBytes) (r s : RightSet) → IsRightsText w r → IsRightsText w s → r ≡ s
 rights_one w r s h g =
     let same : Ok r ≡ Ok s = sym h ∙ g in
     cc same
 
 -- the place of an addition in the order of what a group may add, which its second byte tells
-abbrev order_of : Text → ℕ
+abbrev order_of : LineBytes → ℕ
 order_of w =
     let b = get_or w 1 0 in
     if b == 115 then 0
@@ -140,21 +140,21 @@ order_of w =
     else if b == 101 then 3
     else 4
 
-order_found : {m : ℕ} {w : Text} {g h : Give} → Adds m w g h → m ≡ order_of w
-order_found (Adds.target is) = refl
-order_found (Adds.rights dir is) = refl
-order_found (Adds.subdir dir is) = refl
-order_found Adds.weak = refl
-order_found Adds.optional = refl
-order_found Adds.transitional = refl
-order_found Adds.same_as_target = refl
+order_found : {m : ℕ} {w : LineBytes} {g h : Give} → AddsWord m w g h → m ≡ order_of w
+order_found (AddsWord.target is) = refl
+order_found (AddsWord.rights dir is) = refl
+order_found (AddsWord.subdir dir is) = refl
+order_found AddsWord.weak = refl
+order_found AddsWord.optional = refl
+order_found AddsWord.transitional = refl
+order_found AddsWord.same_as_target = refl
 
 abbrev rights_or_none : Result RightSet RightsFault → RightSet
 rights_or_none (Ok r) = r
 rights_or_none (Err e) = no_rights
 
 -- what an addition makes of a give
-abbrev added_to : Text → Give → Give
+abbrev added_to : LineBytes → Give → Give
 added_to w g =
     let b = get_or w 1 0 in
     if b == 115 then record g { target_name = drop 3 w }
@@ -165,31 +165,31 @@ added_to w g =
     else if b == 114 then record g { availability = availability.Transitional }
     else record g { availability = availability.SameAsTarget }
 
-added_found : {m : ℕ} {w : Text} {g h : Give} → Adds m w g h → h ≡ added_to w g
-added_found (Adds.target is) = refl
-added_found {g = g} (Adds.rights dir is) = ap (λ r. record g { rights = Some (rights_or_none r) }) (sym is)
-added_found (Adds.subdir dir is) = refl
-added_found Adds.weak = refl
-added_found Adds.optional = refl
-added_found Adds.transitional = refl
-added_found Adds.same_as_target = refl
+added_found : {m : ℕ} {w : LineBytes} {g h : Give} → AddsWord m w g h → h ≡ added_to w g
+added_found (AddsWord.target is) = refl
+added_found {g = g} (AddsWord.rights dir is) = ap (λ r. record g { rights = Some (rights_or_none r) }) (sym is)
+added_found (AddsWord.subdir dir is) = refl
+added_found AddsWord.weak = refl
+added_found AddsWord.optional = refl
+added_found AddsWord.transitional = refl
+added_found AddsWord.same_as_target = refl
 
 -- `+` begins no addition
-no_plus : {m : ℕ} {w : Text} {g h : Give} → Adds m w g h → w ≡ codes "+" → ⊥
+no_plus : {m : ℕ} {w : LineBytes} {g h : Give} → AddsWord m w g h → w ≡ codes "+" → ⊥
 no_plus a e = true≢false (sym (ap (λ t. get_or t 0 0 == 43) e) ∙ not_plus a)
   where
-    not_plus : {m : ℕ} {w : Text} {g h : Give} → Adds m w g h → (get_or w 0 0 == 43) ≡ false
-    not_plus (Adds.target is) = refl
-    not_plus (Adds.rights dir is) = refl
-    not_plus (Adds.subdir dir is) = refl
-    not_plus Adds.weak = refl
-    not_plus Adds.optional = refl
-    not_plus Adds.transitional = refl
-    not_plus Adds.same_as_target = refl
+    not_plus : {m : ℕ} {w : LineBytes} {g h : Give} → AddsWord m w g h → (get_or w 0 0 == 43) ≡ false
+    not_plus (AddsWord.target is) = refl
+    not_plus (AddsWord.rights dir is) = refl
+    not_plus (AddsWord.subdir dir is) = refl
+    not_plus AddsWord.weak = refl
+    not_plus AddsWord.optional = refl
+    not_plus AddsWord.transitional = refl
+    not_plus AddsWord.same_as_target = refl
 
 -- ---- a word leads to one place
 
-additions_one : (c : Creation) (g : Give) (n : ℕ) (w : Text) (a b : Place) → Steps (place.Additions c g n) w a → Steps (place.Additions c g n) w b → a ≡ b
+additions_one : (c : Creation) (g : Give) (n : ℕ) (w : LineBytes) (a b : LineState) → WordLeads (place.Additions c g n) w a → WordLeads (place.Additions c g n) w b → a ≡ b
 additions_one c g n w a b (inl h) (inl k) = h.1 ∙ sym k.1
 additions_one c g n w a b (inl h) (inr k) = absurd (no_plus k.3 h.0)
 additions_one c g n w a b (inr h) (inl k) = absurd (no_plus h.3 k.0)
@@ -198,7 +198,7 @@ additions_one c g n w a b (inr h) (inr k) =
     let give : h.1 ≡ k.1 = added_found h.3 ∙ sym (added_found k.3) in
     h.4 ∙ ap (λ x. place.Additions c x (h.0 + 1)) give ∙ ap (λ m. place.Additions c k.1 (m + 1)) order ∙ sym k.4
 
-steps_one_way : (p : Place) (w : Text) (a b : Place) → Steps p w a → Steps p w b → a ≡ b
+steps_one_way : (p : LineState) (w : LineBytes) (a b : LineState) → WordLeads p w a → WordLeads p w b → a ≡ b
 steps_one_way place.Start w a b h k = h.2 ∙ ap place.Verb (verb_one h.0 k.0 (sym h.1 ∙ k.1)) ∙ sym k.2
 steps_one_way (place.Verb v) w a b h k = h.2 ∙ ap (behind_target v) (target_one w h.0 k.0 h.1 k.1) ∙ sym k.2
 steps_one_way (place.Listing t) w a b h k = h.1 ∙ sym k.1
@@ -225,16 +225,16 @@ steps_one_way (place.Whole s) w a b h k = absurd h
 
 -- ---- no word has a space
 
-adds_lack : {m : ℕ} {w : Text} {g h : Give} → Adds m w g h → Lacks 32 w
-adds_lack (Adds.target {name = name} is) = lacks_front (codes "as=") name (lacks_by 32 (codes "as=") refl) (name_lacks 32 refl name is)
-adds_lack (Adds.rights {w = w} {r = r} dir is) = lacks_front (codes "rights=") w (lacks_by 32 (codes "rights=") refl) (rights_lack w r is)
-adds_lack (Adds.subdir {w = w} dir is) = lacks_front (codes "subdir=") w (lacks_by 32 (codes "subdir=") refl) (subdir_lacks w is)
-adds_lack Adds.weak = lacks_by 32 (codes "weak") refl
-adds_lack Adds.optional = lacks_by 32 (codes "optional") refl
-adds_lack Adds.transitional = lacks_by 32 (codes "transitional") refl
-adds_lack Adds.same_as_target = lacks_by 32 (codes "same_as_target") refl
+adds_lack : {m : ℕ} {w : LineBytes} {g h : Give} → AddsWord m w g h → Lacks 32 w
+adds_lack (AddsWord.target {name = name} is) = lacks_prefix (codes "as=") name (lacks_by 32 (codes "as=") refl) (name_lacks 32 refl name is)
+adds_lack (AddsWord.rights {w = w} {r = r} dir is) = lacks_prefix (codes "rights=") w (lacks_by 32 (codes "rights=") refl) (rights_lack w r is)
+adds_lack (AddsWord.subdir {w = w} dir is) = lacks_prefix (codes "subdir=") w (lacks_by 32 (codes "subdir=") refl) (subdir_lacks w is)
+adds_lack AddsWord.weak = lacks_by 32 (codes "weak") refl
+adds_lack AddsWord.optional = lacks_by 32 (codes "optional") refl
+adds_lack AddsWord.transitional = lacks_by 32 (codes "transitional") refl
+adds_lack AddsWord.same_as_target = lacks_by 32 (codes "same_as_target") refl
 
-steps_clean : (p : Place) (w : Text) (a : Place) → Steps p w a → Lacks 32 w
+steps_clean : (p : LineState) (w : LineBytes) (a : LineState) → WordLeads p w a → Lacks 32 w
 steps_clean place.Start w a h = lacks_same w (verb_word h.0) h.1 (verb_lacks h.0)
 steps_clean (place.Verb v) w a h = target_lacks w h.0 h.1
 steps_clean (place.Listing t) w a h = name_lacks 32 refl w h.0
@@ -259,15 +259,15 @@ steps_clean (place.Whole s) w a h = absurd h
 
 -- ---- each place goes on
 
-abbrev Goes : Place → Type 0
-Goes p = GoesOn 32 Steps Ends p
+abbrev Goes : LineState → Type 0
+Goes p = GoesOn 32 WordLeads EndsLine p
 
-goes_by : (p q : Place) (w : Text) → Steps p w q → Goes q → Goes p
+goes_by : (p q : LineState) (w : LineBytes) → WordLeads p w q → Goes q → Goes p
 goes_by p q w st h =
     let clean = steps_clean p w q st in
-    inr (⊎_elim (λ e. (w, says_word 32 Steps Ends p q w e.0 clean st e.1)) (λ u. (w ++ 32 ∷ u.0, says_more 32 Steps Ends p q w u.0 clean st u.1)) h)
+    inr (⊎_elim (λ e. (w, says_word 32 WordLeads EndsLine p q w e.0 clean st e.1)) (λ u. (w ++ 32 ∷ u.0, says_more 32 WordLeads EndsLine p q w u.0 clean st u.1)) h)
 
-whole_goes : (s : Sentence) → Goes (place.Whole s)
+whole_goes : (s : ParsedLine) → Goes (place.Whole s)
 whole_goes s = inl (s, refl)
 
 pub name_a : IsName (codes "a")
@@ -284,14 +284,14 @@ abbrev pub root : Target
 root = target.Named (record { parts = [] })
 
 pub root_dot : IsTargetText (codes ".") root
-root_dot = (record { names = All-nil IsChild; written = inl refl }, omega arith)
+root_dot = (record { names = All-nil IsChildName; written = inl refl }, omega arith)
 
-creating_named_goes : (t : Target) (coll name : Text) → Goes (place.CreatingNamed t coll name)
+creating_named_goes : (t : Target) (coll name : LineBytes) → Goes (place.CreatingNamed t coll name)
 creating_named_goes t coll name =
     let c : Creation = record { parent = t; coll = coll; name = name; url = codes "a"; gives = [] } in
     goes_by (place.CreatingNamed t coll name) (place.Groups c) (codes "a") (url_a, refl) (inl (created c, refl))
 
-creating_in_goes : (t : Target) (coll : Text) → Goes (place.CreatingIn t coll)
+creating_in_goes : (t : Target) (coll : LineBytes) → Goes (place.CreatingIn t coll)
 creating_in_goes t coll =
     goes_by (place.CreatingIn t coll) (place.CreatingNamed t coll (codes "a")) (codes "a") (name_a, refl) (creating_named_goes t coll (codes "a"))
 
@@ -338,7 +338,7 @@ verb_goes : (v : Verb) → Goes (place.Verb v)
 verb_goes v =
     goes_by (place.Verb v) (behind_target v root) (codes ".") (root, root_dot, refl) (behind_target_goes v root)
 
-group_from_goes : (c : Creation) (k : Kind) (name : Text) → Goes (place.GroupFrom c k name)
+group_from_goes : (c : Creation) (k : Kind) (name : LineBytes) → Goes (place.GroupFrom c k name)
 group_from_goes c k name =
     let g : Give = plain_give k name origin.Parent in
     goes_by (place.GroupFrom c k name) (place.Additions c g 0) (codes "parent") (origin.Parent, refl, refl) (inl (created (with_give c g), refl))
@@ -351,15 +351,15 @@ group_kind_goes : (c : Creation) → Goes (place.GroupKind c)
 group_kind_goes c =
     goes_by (place.GroupKind c) (place.GroupName c kind.Protocol) (codes "protocol") (kind.Protocol, refl, refl) (group_name_goes c kind.Protocol)
 
-builtin_rights_goes : (name path : Text) → Goes (place.BuiltinRights name path)
+builtin_rights_goes : (name path : LineBytes) → Goes (place.BuiltinRights name path)
 builtin_rights_goes name path =
     goes_by (place.BuiltinRights name path) _ (codes "r*") (union reading no_rights, rights_r, refl) (whole_goes _)
 
-builtin_path_goes : (name : Text) → Goes (place.BuiltinPath name)
+builtin_path_goes : (name : LineBytes) → Goes (place.BuiltinPath name)
 builtin_path_goes name =
     goes_by (place.BuiltinPath name) (place.BuiltinRights name (codes "/a")) (codes "/a") (refl, refl) (builtin_rights_goes name (codes "/a"))
 
-behind_builtin_goes : (k : Kind) (name : Text) → Goes (behind_builtin k name)
+behind_builtin_goes : (k : Kind) (name : LineBytes) → Goes (behind_builtin k name)
 behind_builtin_goes kind.Protocol name = whole_goes _
 behind_builtin_goes kind.Directory name = builtin_path_goes name
 
@@ -367,7 +367,7 @@ builtin_name_goes : (k : Kind) → Goes (place.BuiltinName k)
 builtin_name_goes k =
     goes_by (place.BuiltinName k) (behind_builtin k (codes "a")) (codes "a") (name_a, refl) (behind_builtin_goes k (codes "a"))
 
-place_goes : (p : Place) → Goes p
+place_goes : (p : LineState) → Goes p
 place_goes place.Start = goes_by place.Start (place.Verb verb.Show) (codes "show") (verb.Show, refl, refl) (verb_goes verb.Show)
 place_goes (place.Verb v) = verb_goes v
 place_goes (place.Listing t) = listing_goes t
@@ -392,21 +392,21 @@ place_goes (place.Whole s) = whole_goes s
 
 -- ---- the machine
 
-pub line_machine : IsMachine 32 Steps Ends
+pub line_machine : IsMachine 32 WordLeads EndsLine
 line_machine = record {
   one_way = steps_one_way;
   clean = steps_clean;
   goes = λ p w a st. place_goes a;
 }
 
-ends_one_way : (p : Place) (s t : Sentence) → Ends p s → Ends p t → s ≡ t
+ends_one_way : (p : LineState) (s t : ParsedLine) → EndsLine p s → EndsLine p t → s ≡ t
 ends_one_way (place.Groups c) s t h k = h ∙ sym k
 ends_one_way (place.Additions c g n) s t h k = h ∙ sym k
 ends_one_way (place.Whole u) s t h k = h ∙ sym k
 ends_one_way p s t h k = absurd h
 
 -- words lead to one sentence at most
-pub leads_one_way : (ws : List Text) (p : Place) (s t : Sentence) → Leads Steps Ends p ws s → Leads Steps Ends p ws t → s ≡ t
+pub leads_one_way : (ws : List LineBytes) (p : LineState) (s t : ParsedLine) → PiecesLead WordLeads EndsLine p ws s → PiecesLead WordLeads EndsLine p ws t → s ≡ t
 leads_one_way [] p s t h k = ends_one_way p s t h k
 leads_one_way (w ∷ ws) p s t h k =
-    leads_one_way ws h.0 s t h.2 (subst (λ q. Leads Steps Ends q ws t) (steps_one_way p w k.0 h.0 k.1 h.1) k.2)
+    leads_one_way ws h.0 s t h.2 (subst (λ q. PiecesLead WordLeads EndsLine q ws t) (steps_one_way p w k.0 h.0 k.1 h.1) k.2)

@@ -2,47 +2,47 @@
 use Rattle.std.proofs.Common.{◌≡◌, [], ◌∷◌, ◌++◌, ◌==◌, Option, Some, None, Result, Ok, Err, IfSome, IfOk, refl, sym, ap, subst, ◌∙◌}
 use Rattle.std.proofs.lemmas.List.Splits.{slice_split_none, slice_split_at}
 use Rattle.cm_command.specs.declared.command.Command.{Command}
-use Rattle.cm_command.specs.declared.place.Place.{Place}
-use Rattle.cm_command.specs.declared.place.Place.TheVariants as place
-use Rattle.cm_command.specs.declared.place.Sentence.TheVariants as sentence
+use Rattle.cm_command.specs.declared.place.LineState.{LineState}
+use Rattle.cm_command.specs.declared.place.LineState.TheVariants as place
+use Rattle.cm_command.specs.declared.place.ParsedLine.TheVariants as sentence
 use Rattle.cm_command.specs.declared.place.Verb.{Verb}
 use Rattle.cm_command.specs.Words.{words_of}
-use Rattle.cm_command.specs.Grammar.{Text, CommandText}
-use Rattle.cm_command.specs.Pieces.{Leads}
-use Rattle.cm_command.specs.Places.{Steps, Ends, LeadsTo, verb_word}
+use Rattle.cm_command.specs.Grammar.{LineBytes, CommandText}
+use Rattle.cm_command.specs.Pieces.{PiecesLead}
+use Rattle.cm_command.specs.Places.{WordLeads, EndsLine, LeadsTo, verb_word}
 use Rattle.cm_command.proofs.bytes.Pieces.{Lacks, same}
 use Rattle.cm_command.proofs.line.LineWords.{commands, read}
 
-alone : (rest word : Text) → Lacks 32 word → rest ≡ word → words_of rest ≡ word ∷ []
+alone : (rest word : LineBytes) → Lacks 32 word → rest ≡ word → words_of rest ≡ word ∷ []
 alone rest word clean e = ap words_of e ∙ slice_split_none (λ b. b == 32) word clean
 
-further : (rest word more : Text) → Lacks 32 word → rest ≡ word ++ 32 ∷ more → words_of rest ≡ word ∷ words_of more
+further : (rest word more : LineBytes) → Lacks 32 word → rest ≡ word ++ 32 ∷ more → words_of rest ≡ word ∷ words_of more
 further rest word more clean e = ap words_of e ∙ slice_split_at (λ b. b == 32) word 32 more clean (same 32)
 
 -- the word is the last one
-pub by_last : (p q : Place) (rest word : Text) (o : Option Command) → Lacks 32 word → rest ≡ word → Steps p word q → IfSome o (λ c. Ends q (sentence.Command c)) → IfSome o (LeadsTo p rest)
+pub by_last : (p q : LineState) (rest word : LineBytes) (o : Option Command) → Lacks 32 word → rest ≡ word → WordLeads p word q → IfSome o (λ c. EndsLine q (sentence.Command c)) → IfSome o (LeadsTo p rest)
 by_last p q rest word None clean e st is = tt
 by_last p q rest word (Some c) clean e st is =
-    subst (λ ws. Leads Steps Ends p ws (sentence.Command c)) (sym (alone rest word clean e)) (q, st, is)
+    subst (λ ws. PiecesLead WordLeads EndsLine p ws (sentence.Command c)) (sym (alone rest word clean e)) (q, st, is)
 
-more_by : (p q : Place) (rest word more : Text) (o : Option Command) → Lacks 32 word → rest ≡ word ++ 32 ∷ more → Steps p word q → IfSome o (LeadsTo q more) → IfSome o (LeadsTo p rest)
+more_by : (p q : LineState) (rest word more : LineBytes) (o : Option Command) → Lacks 32 word → rest ≡ word ++ 32 ∷ more → WordLeads p word q → IfSome o (LeadsTo q more) → IfSome o (LeadsTo p rest)
 more_by p q rest word more None clean e st is = tt
 more_by p q rest word more (Some c) clean e st is =
-    subst (λ ws. Leads Steps Ends p ws (sentence.Command c)) (sym (further rest word more clean e)) (q, st, is)
+    subst (λ ws. PiecesLead WordLeads EndsLine p ws (sentence.Command c)) (sym (further rest word more clean e)) (q, st, is)
 
 -- words stand behind it
-pub by_more : {E : Type 0} (p q : Place) (rest word more : Text) (r : Result (Option Command) E) → Lacks 32 word → rest ≡ word ++ 32 ∷ more → Steps p word q → IfOk r (λ o. IfSome o (LeadsTo q more)) → IfOk r (λ o. IfSome o (LeadsTo p rest))
+pub by_more : {E : Type 0} (p q : LineState) (rest word more : LineBytes) (r : Result (Option Command) E) → Lacks 32 word → rest ≡ word ++ 32 ∷ more → WordLeads p word q → IfOk r (λ o. IfSome o (LeadsTo q more)) → IfOk r (λ o. IfSome o (LeadsTo p rest))
 by_more p q rest word more (Ok o) clean e st is = more_by p q rest word more o clean e st is
 by_more p q rest word more (Err x) clean e st is = is
 
-asked : (line : Text) (o : Option Command) → IfSome o (LeadsTo place.Start line) → IfSome o (CommandText line)
+asked : (line : LineBytes) (o : Option Command) → IfSome o (LeadsTo place.Start line) → IfSome o (CommandText line)
 asked line None is = tt
 asked line (Some c) is = read commands line (sentence.Command c) c refl is
 
-by_start : {E : Type 0} (line : Text) (r : Result (Option Command) E) → IfOk r (λ o. IfSome o (LeadsTo place.Start line)) → IfOk r (λ o. IfSome o (CommandText line))
+by_start : {E : Type 0} (line : LineBytes) (r : Result (Option Command) E) → IfOk r (λ o. IfSome o (LeadsTo place.Start line)) → IfOk r (λ o. IfSome o (CommandText line))
 by_start line (Ok o) is = asked line o is
 by_start line (Err x) is = is
 
 -- a verb stands before the rest
-pub by_verb : {E : Type 0} (v : Verb) (line word rest : Text) (r : Result (Option Command) E) → Lacks 32 word → line ≡ word ++ 32 ∷ rest → word ≡ verb_word v → IfOk r (λ o. IfSome o (LeadsTo (place.Verb v) rest)) → IfOk r (λ o. IfSome o (CommandText line))
+pub by_verb : {E : Type 0} (v : Verb) (line word rest : LineBytes) (r : Result (Option Command) E) → Lacks 32 word → line ≡ word ++ 32 ∷ rest → word ≡ verb_word v → IfOk r (λ o. IfSome o (LeadsTo (place.Verb v) rest)) → IfOk r (λ o. IfSome o (CommandText line))
 by_verb v line word rest r clean e it is = by_start line r (by_more place.Start (place.Verb v) line word rest r clean e (v, it, refl) is)

@@ -15,8 +15,9 @@ use Rattle.cm_world.specs.declared.event.Target.TheVariants as target
 use Rattle.cm_command.specs.declared.place.Verb.{Verb}
 use Rattle.cm_command.specs.declared.place.Verb.TheVariants as verb
 use Rattle.cm_names.specs.Urls.{is_url_byte}
-use Rattle.cm_command.specs.Words.{IsUrlText, IsTargetText, IsOriginText, IsRightsText, right_words}
-use Rattle.cm_command.specs.Grammar.{Text}
+use Rattle.cm_command.specs.Words.{IsUrlText, IsTargetText, IsOriginText, IsRightsText}
+use Rattle.cm_command.specs.WordsInside.{right_words}
+use Rattle.cm_command.specs.Grammar.{LineBytes}
 use Rattle.cm_command.specs.Places.{verb_word}
 use Rattle.cm_command.proofs.bytes.Pieces.{Lacks}
 use Rattle.cm_command.proofs.scripts.LaneLemmas.{decimal_lacks}
@@ -25,11 +26,11 @@ use Rattle.cm_command.proofs.counts.RightCounts.{is_word, first_word}
 use Rattle.cm_command.proofs.written.WrittenLemmas.{AllLack, lacks_by, moniker_lacks, child_lacks, joined_lack}
 
 -- the same of a text that is given by an equation
-pub lacks_same : (w t : Text) → w ≡ t → Lacks 32 t → Lacks 32 w
+pub lacks_same : (w t : LineBytes) → w ≡ t → Lacks 32 t → Lacks 32 w
 lacks_same w t e h = subst (Lacks 32) (sym e) h
 
-pub lacks_front : (front w : Text) → Lacks 32 front → Lacks 32 w → Lacks 32 (front ++ w)
-lacks_front front w h k = All-append (λ b. (b == 32) ≡ false) front w h k
+pub lacks_prefix : (prefix w : LineBytes) → Lacks 32 prefix → Lacks 32 w → Lacks 32 (prefix ++ w)
+lacks_prefix prefix w h k = All-append (λ b. (b == 32) ≡ false) prefix w h k
 
 pub verb_lacks : (v : Verb) → Lacks 32 (verb_word v)
 verb_lacks verb.Resolve = lacks_by 32 (codes "resolve") refl
@@ -52,12 +53,12 @@ pub kind_lacks : (k : Kind) → Lacks 32 (kind_word k)
 kind_lacks kind.Protocol = lacks_by 32 (codes "protocol") refl
 kind_lacks kind.Directory = lacks_by 32 (codes "directory") refl
 
-pub target_lacks : (w : Text) (a : Target) → IsTargetText w a → Lacks 32 w
+pub target_lacks : (w : LineBytes) (a : Target) → IsTargetText w a → Lacks 32 w
 target_lacks w (target.Named m) h = moniker_lacks w m h.0
 target_lacks w (target.Inc n) h =
     lacks_same w (64 ∷ h.0) h.1 (All-cons (λ b. (b == 32) ≡ false) 64 h.0 refl (decimal_lacks h.0 h.2.0))
 
-pub origin_lacks : (w : Text) (o : Origin) → IsOriginText w o → Lacks 32 w
+pub origin_lacks : (w : LineBytes) (o : Origin) → IsOriginText w o → Lacks 32 w
 origin_lacks w origin.Parent h = lacks_same w (codes "parent") h (lacks_by 32 (codes "parent") refl)
 origin_lacks w origin.Own h = lacks_same w (codes "self") h (lacks_by 32 (codes "self") refl)
 origin_lacks w origin.Framework h = lacks_same w (codes "framework") h (lacks_by 32 (codes "framework") refl)
@@ -77,17 +78,17 @@ spaceless : Each (Lacks 32) right_words
 spaceless =
     (lacks_by 32 (codes "connect") refl, (lacks_by 32 (codes "enumerate") refl, (lacks_by 32 (codes "execute") refl, (lacks_by 32 (codes "get_attributes") refl, (lacks_by 32 (codes "modify_directory") refl, (lacks_by 32 (codes "r*") refl, (lacks_by 32 (codes "read_bytes") refl, (lacks_by 32 (codes "rw*") refl, (lacks_by 32 (codes "rx*") refl, (lacks_by 32 (codes "traverse") refl, (lacks_by 32 (codes "update_attributes") refl, (lacks_by 32 (codes "w*") refl, (lacks_by 32 (codes "write_bytes") refl, (lacks_by 32 (codes "x*") refl, tt))))))))))))))
 
-words_lack : (earlier ws : List Text) (r : RightSet) → rights_behind earlier ws ≡ Ok r → AllLack 32 ws
+words_lack : (earlier ws : List LineBytes) (r : RightSet) → rights_behind earlier ws ≡ Ok r → AllLack 32 ws
 words_lack earlier [] r h = tt
 words_lack earlier (w ∷ ws) r h =
     let first = first_word earlier w ws r h in
     (of_each (Lacks 32) right_words w spaceless (is_word w first.set first.known), words_lack (earlier ++ w ∷ []) ws first.rest first.others)
 
-all_words_lack : (ws : List Text) (r : RightSet) → rights_of ws ≡ Ok r → AllLack 32 ws
+all_words_lack : (ws : List LineBytes) (r : RightSet) → rights_of ws ≡ Ok r → AllLack 32 ws
 unfolding rights_of
 all_words_lack [] r h = tt
 all_words_lack (w ∷ ws) r h = words_lack [] (w ∷ ws) r h
 
-pub rights_lack : (w : Text) (r : RightSet) → IsRightsText w r → Lacks 32 w
+pub rights_lack : (w : LineBytes) (r : RightSet) → IsRightsText w r → Lacks 32 w
 rights_lack w r h =
     subst (Lacks 32) (join_with_byte-slice_split 44 w) (joined_lack 44 refl (slice_split (λ b. b == 44) w) (all_words_lack (slice_split (λ b. b == 44) w) r h))

@@ -18,107 +18,107 @@ use Rattle.cm_command.specs.declared.command.Command.TheVariants as command
 use Rattle.cm_command.specs.declared.place.Verb.{Verb}
 use Rattle.cm_command.specs.declared.place.Verb.TheVariants as verb
 use Rattle.cm_command.specs.declared.place.Creation.{Creation}
-use Rattle.cm_command.specs.declared.place.Place.TheVariants as place
+use Rattle.cm_command.specs.declared.place.LineState.TheVariants as place
 use Rattle.cm_command.specs.declared.tokens.WordFault.{WordFault}
 use Rattle.cm_command.specs.declared.tokens.WordFault.TheVariants.{Bad, Memory}
-use Rattle.cm_command.specs.Numbers.{IsNumber}
+use Rattle.cm_command.specs.NumbersInside.{IsU64Text}
 use Rattle.cm_command.specs.Words.{IsUrlText, IsTargetText, IsOriginText, IsRightsText}
-use Rattle.cm_command.specs.Grammar.{Text, Adds}
+use Rattle.cm_command.specs.Grammar.{LineBytes, AddsWord}
 use Rattle.cm_command.specs.Additions.{IsAddition, IsSomeAddition}
-use Rattle.cm_command.specs.Counts.{CountsFronts, IsSureFault, IsWordFault}
+use Rattle.cm_command.specs.Counts.{CountsPrefixes, IsSureFault, IsWordFault}
 use Rattle.cm_command.specs.Pieces.{Wants}
-use Rattle.cm_command.specs.Places.{IsVerbWord, IsKindWord, verb_word, verbs, asks, behind_target, behind_builtin, directory_of, provides, create, give, with_give, Steps}
+use Rattle.cm_command.specs.Places.{IsVerbWord, IsKindWord, verb_word, verbs, asks, behind_target, behind_builtin, directory_of, provides, create, give, with_give, WordLeads}
 use Rattle.cm_command.proofs.counts.KindLemmas.{fault_same, counts_none, counts_same, counts_either}
 
-abbrev IsPath : Text → Type 0
+abbrev IsPath : LineBytes → Type 0
 IsPath t = IsTrue (is_path t)
 
-pub verb_fault : (w : Text) (e : WordFault) → IsWordFault IsVerbWord w e → IsWordFault (Wants Steps place.Start) w e
-verb_fault w e = fault_same {P = IsVerbWord} {Q = Wants Steps place.Start} w e (λ t v. (place.Verb v.0, (v.0, v.1, refl))) (λ t s. (s.1.0, s.1.1))
+pub verb_fault : (w : LineBytes) (e : WordFault) → IsWordFault IsVerbWord w e → IsWordFault (Wants WordLeads place.Start) w e
+verb_fault w e = fault_same {P = IsVerbWord} {Q = Wants WordLeads place.Start} w e (λ t v. (place.Verb v.0, (v.0, v.1, refl))) (λ t s. (s.1.0, s.1.1))
 
-pub target_fault : (v : Verb) (w : Text) (e : WordFault) → IsWordFault (λ t. (a : Target) × IsTargetText t a) w e → IsWordFault (Wants Steps (place.Verb v)) w e
+pub target_fault : (v : Verb) (w : LineBytes) (e : WordFault) → IsWordFault (λ t. (a : Target) × IsTargetText t a) w e → IsWordFault (Wants WordLeads (place.Verb v)) w e
 target_fault v w e =
-    fault_same {P = λ t. (a : Target) × IsTargetText t a} {Q = Wants Steps (place.Verb v)} w e (λ t a. (behind_target v a.0, (a.0, a.1, refl))) (λ t s. (s.1.0, s.1.1))
+    fault_same {P = λ t. (a : Target) × IsTargetText t a} {Q = Wants WordLeads (place.Verb v)} w e (λ t a. (behind_target v a.0, (a.0, a.1, refl))) (λ t s. (s.1.0, s.1.1))
 
-pub listing_fault : (a : Target) (w : Text) (e : WordFault) → IsWordFault IsName w e → IsWordFault (Wants Steps (place.Listing a)) w e
+pub listing_fault : (a : Target) (w : LineBytes) (e : WordFault) → IsWordFault IsName w e → IsWordFault (Wants WordLeads (place.Listing a)) w e
 listing_fault a w e =
-    fault_same {P = IsName} {Q = Wants Steps (place.Listing a)} w e (λ t is. (asks (command.ListChildren a t), (is, refl))) (λ t s. s.1.0)
+    fault_same {P = IsName} {Q = Wants WordLeads (place.Listing a)} w e (λ t is. (asks (command.ListChildren a t), (is, refl))) (λ t s. s.1.0)
 
-pub opening_fault : (a : Target) (w : Text) (e : WordFault) → IsWordFault (λ t. IsTrue (is_path t)) w e → IsWordFault (Wants Steps (place.Opening a)) w e
+pub opening_fault : (a : Target) (w : LineBytes) (e : WordFault) → IsWordFault (λ t. IsTrue (is_path t)) w e → IsWordFault (Wants WordLeads (place.Opening a)) w e
 opening_fault a w e =
-    fault_same {P = IsPath} {Q = Wants Steps (place.Opening a)} w e (λ t is. (asks (command.OpenUse a t), (is, refl))) (λ t s. s.1.0)
+    fault_same {P = IsPath} {Q = Wants WordLeads (place.Opening a)} w e (λ t is. (asks (command.OpenUse a t), (is, refl))) (λ t s. s.1.0)
 
-pub opening_exposed_fault : (a : Target) (w : Text) (e : WordFault) → IsWordFault IsName w e → IsWordFault (Wants Steps (place.OpeningExposed a)) w e
+pub opening_exposed_fault : (a : Target) (w : LineBytes) (e : WordFault) → IsWordFault IsName w e → IsWordFault (Wants WordLeads (place.OpeningExposed a)) w e
 opening_exposed_fault a w e =
-    fault_same {P = IsName} {Q = Wants Steps (place.OpeningExposed a)} w e (λ t is. (asks (command.OpenExposed a t), (is, refl))) (λ t s. s.1.0)
+    fault_same {P = IsName} {Q = Wants WordLeads (place.OpeningExposed a)} w e (λ t is. (asks (command.OpenExposed a t), (is, refl))) (λ t s. s.1.0)
 
-pub routing_fault : (a : Target) (w : Text) (e : WordFault) → IsWordFault (λ t. IsTrue (is_path t)) w e → IsWordFault (Wants Steps (place.Routing a)) w e
+pub routing_fault : (a : Target) (w : LineBytes) (e : WordFault) → IsWordFault (λ t. IsTrue (is_path t)) w e → IsWordFault (Wants WordLeads (place.Routing a)) w e
 routing_fault a w e =
-    fault_same {P = IsPath} {Q = Wants Steps (place.Routing a)} w e (λ t is. (asks (command.RouteOf a t), (is, refl))) (λ t s. s.1.0)
+    fault_same {P = IsPath} {Q = Wants WordLeads (place.Routing a)} w e (λ t is. (asks (command.RouteOf a t), (is, refl))) (λ t s. s.1.0)
 
-pub streaming_fault : (a : Target) (w : Text) (e : WordFault) → IsSureFault IsNumber w e → IsWordFault (Wants Steps (place.Streaming a)) w e
+pub streaming_fault : (a : Target) (w : LineBytes) (e : WordFault) → IsSureFault IsU64Text w e → IsWordFault (Wants WordLeads (place.Streaming a)) w e
 streaming_fault a w (Bad n) h =
-    fault_same {P = IsNumber} {Q = Wants Steps (place.Streaming a)} w (Bad n) (λ t is. (asks (command.Events a is.0), (is.0, is.1, is.2, refl))) (λ t s. (s.1.0, s.1.1, s.1.2)) h
+    fault_same {P = IsU64Text} {Q = Wants WordLeads (place.Streaming a)} w (Bad n) (λ t is. (asks (command.Events a is.0), (is.0, is.1, is.2, refl))) (λ t s. (s.1.0, s.1.1, s.1.2)) h
 streaming_fault a w Memory h = tt
 
-pub collection_fault : (a : Target) (w : Text) (e : WordFault) → IsWordFault IsName w e → IsWordFault (Wants Steps (place.Creating a)) w e
+pub collection_fault : (a : Target) (w : LineBytes) (e : WordFault) → IsWordFault IsName w e → IsWordFault (Wants WordLeads (place.Creating a)) w e
 collection_fault a w e =
-    fault_same {P = IsName} {Q = Wants Steps (place.Creating a)} w e (λ t is. (place.CreatingIn a t, (is, refl))) (λ t s. s.1.0)
+    fault_same {P = IsName} {Q = Wants WordLeads (place.Creating a)} w e (λ t is. (place.CreatingIn a t, (is, refl))) (λ t s. s.1.0)
 
-pub child_fault : (a : Target) (coll w : Text) (e : WordFault) → IsWordFault IsName w e → IsWordFault (Wants Steps (place.CreatingIn a coll)) w e
+pub child_fault : (a : Target) (coll w : LineBytes) (e : WordFault) → IsWordFault IsName w e → IsWordFault (Wants WordLeads (place.CreatingIn a coll)) w e
 child_fault a coll w e =
-    fault_same {P = IsName} {Q = Wants Steps (place.CreatingIn a coll)} w e (λ t is. (place.CreatingNamed a coll t, (is, refl))) (λ t s. s.1.0)
+    fault_same {P = IsName} {Q = Wants WordLeads (place.CreatingIn a coll)} w e (λ t is. (place.CreatingNamed a coll t, (is, refl))) (λ t s. s.1.0)
 
-pub url_fault : (a : Target) (coll name w : Text) (e : WordFault) → IsWordFault IsUrlText w e → IsWordFault (Wants Steps (place.CreatingNamed a coll name)) w e
+pub url_fault : (a : Target) (coll name w : LineBytes) (e : WordFault) → IsWordFault IsUrlText w e → IsWordFault (Wants WordLeads (place.CreatingNamed a coll name)) w e
 url_fault a coll name w e =
-    fault_same {P = IsUrlText} {Q = Wants Steps (place.CreatingNamed a coll name)} w e (λ t is. (create a coll name t, (is, refl))) (λ t s. s.1.0)
+    fault_same {P = IsUrlText} {Q = Wants WordLeads (place.CreatingNamed a coll name)} w e (λ t is. (create a coll name t, (is, refl))) (λ t s. s.1.0)
 
-pub group_fault : (c : Creation) (w : Text) (n : ℕ) → (w ≡ codes "+" → ⊥) → CountsFronts (λ t. t ≡ codes "+") w n → IsWordFault (Wants Steps (place.Groups c)) w (Bad n)
+pub group_fault : (c : Creation) (w : LineBytes) (n : ℕ) → (w ≡ codes "+" → ⊥) → CountsPrefixes (λ t. t ≡ codes "+") w n → IsWordFault (Wants WordLeads (place.Groups c)) w (Bad n)
 group_fault c w n never h =
-    fault_same {P = λ t. t ≡ codes "+"} {Q = Wants Steps (place.Groups c)} w (Bad n) (λ t is. (place.GroupKind c, (is, refl))) (λ t s. s.1.0) (never, h)
+    fault_same {P = λ t. t ≡ codes "+"} {Q = Wants WordLeads (place.Groups c)} w (Bad n) (λ t is. (place.GroupKind c, (is, refl))) (λ t s. s.1.0) (never, h)
 
-pub group_kind_fault : (c : Creation) (w : Text) (e : WordFault) → IsWordFault IsKindWord w e → IsWordFault (Wants Steps (place.GroupKind c)) w e
+pub group_kind_fault : (c : Creation) (w : LineBytes) (e : WordFault) → IsWordFault IsKindWord w e → IsWordFault (Wants WordLeads (place.GroupKind c)) w e
 group_kind_fault c w e =
-    fault_same {P = IsKindWord} {Q = Wants Steps (place.GroupKind c)} w e (λ t k. (place.GroupName c k.0, (k.0, k.1, refl))) (λ t s. (s.1.0, s.1.1))
+    fault_same {P = IsKindWord} {Q = Wants WordLeads (place.GroupKind c)} w e (λ t k. (place.GroupName c k.0, (k.0, k.1, refl))) (λ t s. (s.1.0, s.1.1))
 
-pub group_name_fault : (c : Creation) (k : Kind) (w : Text) (e : WordFault) → IsWordFault IsName w e → IsWordFault (Wants Steps (place.GroupName c k)) w e
+pub group_name_fault : (c : Creation) (k : Kind) (w : LineBytes) (e : WordFault) → IsWordFault IsName w e → IsWordFault (Wants WordLeads (place.GroupName c k)) w e
 group_name_fault c k w e =
-    fault_same {P = IsName} {Q = Wants Steps (place.GroupName c k)} w e (λ t is. (place.GroupFrom c k t, (is, refl))) (λ t s. s.1.0)
+    fault_same {P = IsName} {Q = Wants WordLeads (place.GroupName c k)} w e (λ t is. (place.GroupFrom c k t, (is, refl))) (λ t s. s.1.0)
 
-pub from_fault : (c : Creation) (k : Kind) (name w : Text) (e : WordFault) → IsWordFault (λ t. (o : Origin) × IsOriginText t o) w e → IsWordFault (Wants Steps (place.GroupFrom c k name)) w e
+pub from_fault : (c : Creation) (k : Kind) (name w : LineBytes) (e : WordFault) → IsWordFault (λ t. (o : Origin) × IsOriginText t o) w e → IsWordFault (Wants WordLeads (place.GroupFrom c k name)) w e
 from_fault c k name w e =
-    fault_same {P = λ t. (o : Origin) × IsOriginText t o} {Q = Wants Steps (place.GroupFrom c k name)} w e (λ t o. (give c k name o.0, (o.0, o.1, refl))) (λ t s. (s.1.0, s.1.1))
+    fault_same {P = λ t. (o : Origin) × IsOriginText t o} {Q = Wants WordLeads (place.GroupFrom c k name)} w e (λ t o. (give c k name o.0, (o.0, o.1, refl))) (λ t s. (s.1.0, s.1.1))
 
 -- an addition leads on
-pub target_adds : (c : Creation) (g : Give) (n : ℕ) (t name : Text) → IsAddition n g.kind t (addition.Target name) → Steps (place.Additions c g n) t (place.Additions c (record g { target_name = name }) 1)
+pub target_adds : (c : Creation) (g : Give) (n : ℕ) (t name : LineBytes) → IsAddition n g.kind t (addition.Target name) → WordLeads (place.Additions c g n) t (place.Additions c (record g { target_name = name }) 1)
 target_adds c g n t name h =
-    inr (0, record g { target_name = name }, h.0, subst (λ x. Adds 0 x g (record g { target_name = name })) (sym h.1.1) (Adds.target h.1.0), refl)
+    inr (0, record g { target_name = name }, h.0, subst (λ x. AddsWord 0 x g (record g { target_name = name })) (sym h.1.1) (AddsWord.target h.1.0), refl)
 
-pub rights_add : (c : Creation) (g : Give) (n : ℕ) (t : Text) (r : RightSet) → IsAddition n g.kind t (addition.Rights r) → Steps (place.Additions c g n) t (place.Additions c (record g { rights = Some r }) 2)
+pub rights_add : (c : Creation) (g : Give) (n : ℕ) (t : LineBytes) (r : RightSet) → IsAddition n g.kind t (addition.Rights r) → WordLeads (place.Additions c g n) t (place.Additions c (record g { rights = Some r }) 2)
 rights_add c g n t r h =
-    inr (1, record g { rights = Some r }, h.0, subst (λ x. Adds 1 x g (record g { rights = Some r })) (sym h.2.2) (Adds.rights h.1 h.2.1), refl)
+    inr (1, record g { rights = Some r }, h.0, subst (λ x. AddsWord 1 x g (record g { rights = Some r })) (sym h.2.2) (AddsWord.rights h.1 h.2.1), refl)
 
-pub subdir_adds : (c : Creation) (g : Give) (n : ℕ) (t s : Text) → IsAddition n g.kind t (addition.Subdir s) → Steps (place.Additions c g n) t (place.Additions c (record g { subdir = Some s }) 3)
+pub subdir_adds : (c : Creation) (g : Give) (n : ℕ) (t s : LineBytes) → IsAddition n g.kind t (addition.Subdir s) → WordLeads (place.Additions c g n) t (place.Additions c (record g { subdir = Some s }) 3)
 subdir_adds c g n t s h =
-    inr (2, record g { subdir = Some s }, h.0, subst (λ x. Adds 2 x g (record g { subdir = Some s })) (sym h.2.1) (Adds.subdir h.1 h.2.0), refl)
+    inr (2, record g { subdir = Some s }, h.0, subst (λ x. AddsWord 2 x g (record g { subdir = Some s })) (sym h.2.1) (AddsWord.subdir h.1 h.2.0), refl)
 
-pub weak_adds : (c : Creation) (g : Give) (n : ℕ) (t : Text) → IsAddition n g.kind t addition.Weak → Steps (place.Additions c g n) t (place.Additions c (record g { dependency = dependency.Weak }) 4)
+pub weak_adds : (c : Creation) (g : Give) (n : ℕ) (t : LineBytes) → IsAddition n g.kind t addition.Weak → WordLeads (place.Additions c g n) t (place.Additions c (record g { dependency = dependency.Weak }) 4)
 weak_adds c g n t h =
-    inr (3, record g { dependency = dependency.Weak }, h.0, subst (λ x. Adds 3 x g (record g { dependency = dependency.Weak })) (sym h.1) Adds.weak, refl)
+    inr (3, record g { dependency = dependency.Weak }, h.0, subst (λ x. AddsWord 3 x g (record g { dependency = dependency.Weak })) (sym h.1) AddsWord.weak, refl)
 
-pub optional_adds : (c : Creation) (g : Give) (n : ℕ) (t : Text) → IsAddition n g.kind t addition.Optional → Steps (place.Additions c g n) t (place.Additions c (record g { availability = availability.Optional }) 5)
+pub optional_adds : (c : Creation) (g : Give) (n : ℕ) (t : LineBytes) → IsAddition n g.kind t addition.Optional → WordLeads (place.Additions c g n) t (place.Additions c (record g { availability = availability.Optional }) 5)
 optional_adds c g n t h =
-    inr (4, record g { availability = availability.Optional }, h.0, subst (λ x. Adds 4 x g (record g { availability = availability.Optional })) (sym h.1) Adds.optional, refl)
+    inr (4, record g { availability = availability.Optional }, h.0, subst (λ x. AddsWord 4 x g (record g { availability = availability.Optional })) (sym h.1) AddsWord.optional, refl)
 
-pub transitional_adds : (c : Creation) (g : Give) (n : ℕ) (t : Text) → IsAddition n g.kind t addition.Transitional → Steps (place.Additions c g n) t (place.Additions c (record g { availability = availability.Transitional }) 5)
+pub transitional_adds : (c : Creation) (g : Give) (n : ℕ) (t : LineBytes) → IsAddition n g.kind t addition.Transitional → WordLeads (place.Additions c g n) t (place.Additions c (record g { availability = availability.Transitional }) 5)
 transitional_adds c g n t h =
-    inr (4, record g { availability = availability.Transitional }, h.0, subst (λ x. Adds 4 x g (record g { availability = availability.Transitional })) (sym h.1) Adds.transitional, refl)
+    inr (4, record g { availability = availability.Transitional }, h.0, subst (λ x. AddsWord 4 x g (record g { availability = availability.Transitional })) (sym h.1) AddsWord.transitional, refl)
 
-pub same_adds : (c : Creation) (g : Give) (n : ℕ) (t : Text) → IsAddition n g.kind t addition.SameAsTarget → Steps (place.Additions c g n) t (place.Additions c (record g { availability = availability.SameAsTarget }) 5)
+pub same_adds : (c : Creation) (g : Give) (n : ℕ) (t : LineBytes) → IsAddition n g.kind t addition.SameAsTarget → WordLeads (place.Additions c g n) t (place.Additions c (record g { availability = availability.SameAsTarget }) 5)
 same_adds c g n t h =
-    inr (4, record g { availability = availability.SameAsTarget }, h.0, subst (λ x. Adds 4 x g (record g { availability = availability.SameAsTarget })) (sym h.1) Adds.same_as_target, refl)
+    inr (4, record g { availability = availability.SameAsTarget }, h.0, subst (λ x. AddsWord 4 x g (record g { availability = availability.SameAsTarget })) (sym h.1) AddsWord.same_as_target, refl)
 
-adds : (c : Creation) (g : Give) (n : ℕ) (t : Text) (a : Addition) → IsAddition n g.kind t a → Wants Steps (place.Additions c g n) t
+adds : (c : Creation) (g : Give) (n : ℕ) (t : LineBytes) (a : Addition) → IsAddition n g.kind t a → Wants WordLeads (place.Additions c g n) t
 adds c g n t (addition.Target name) h = (place.Additions c (record g { target_name = name }) 1, target_adds c g n t name h)
 adds c g n t (addition.Rights r) h = (place.Additions c (record g { rights = Some r }) 2, rights_add c g n t r h)
 adds c g n t (addition.Subdir s) h = (place.Additions c (record g { subdir = Some s }) 3, subdir_adds c g n t s h)
@@ -131,38 +131,38 @@ adds c g n t addition.SameAsTarget h =
     (place.Additions c (record g { availability = availability.SameAsTarget }) 5, same_adds c g n t h)
 adds c g n t addition.Group h = (place.GroupKind (with_give c g), inl (h, refl))
 
-is_added : {m : ℕ} {t : Text} {g h : Give} → Adds m t g h → (n : ℕ) → n ≤ m → IsSomeAddition n g.kind t
-is_added (Adds.target {name = name} is) n le = (addition.Target name, (le, (is, refl)))
-is_added (Adds.rights {w = w} {r = r} dir is) n le = (addition.Rights r, (le, dir, (w, is, refl)))
-is_added (Adds.subdir {w = w} dir is) n le = (addition.Subdir w, (le, dir, (is, refl)))
-is_added Adds.weak n le = (addition.Weak, (le, refl))
-is_added Adds.optional n le = (addition.Optional, (le, refl))
-is_added Adds.transitional n le = (addition.Transitional, (le, refl))
-is_added Adds.same_as_target n le = (addition.SameAsTarget, (le, refl))
+is_added : {m : ℕ} {t : LineBytes} {g h : Give} → AddsWord m t g h → (n : ℕ) → n ≤ m → IsSomeAddition n g.kind t
+is_added (AddsWord.target {name = name} is) n le = (addition.Target name, (le, (is, refl)))
+is_added (AddsWord.rights {w = w} {r = r} dir is) n le = (addition.Rights r, (le, dir, (w, is, refl)))
+is_added (AddsWord.subdir {w = w} dir is) n le = (addition.Subdir w, (le, dir, (is, refl)))
+is_added AddsWord.weak n le = (addition.Weak, (le, refl))
+is_added AddsWord.optional n le = (addition.Optional, (le, refl))
+is_added AddsWord.transitional n le = (addition.Transitional, (le, refl))
+is_added AddsWord.same_as_target n le = (addition.SameAsTarget, (le, refl))
 
-wants_addition : (c : Creation) (g : Give) (n : ℕ) (t : Text) → Wants Steps (place.Additions c g n) t → IsSomeAddition n g.kind t
+wants_addition : (c : Creation) (g : Give) (n : ℕ) (t : LineBytes) → Wants WordLeads (place.Additions c g n) t → IsSomeAddition n g.kind t
 wants_addition c g n t (p, inl h) = (addition.Group, h.0)
 wants_addition c g n t (p, inr h) = is_added h.3 n h.2
 
-pub addition_fault : (c : Creation) (g : Give) (n : ℕ) (w : Text) (e : WordFault) → IsWordFault (IsSomeAddition n g.kind) w e → IsWordFault (Wants Steps (place.Additions c g n)) w e
+pub addition_fault : (c : Creation) (g : Give) (n : ℕ) (w : LineBytes) (e : WordFault) → IsWordFault (IsSomeAddition n g.kind) w e → IsWordFault (Wants WordLeads (place.Additions c g n)) w e
 addition_fault c g n w e =
-    fault_same {P = IsSomeAddition n g.kind} {Q = Wants Steps (place.Additions c g n)} w e (λ t a. adds c g n t a.0 a.1) (wants_addition c g n)
+    fault_same {P = IsSomeAddition n g.kind} {Q = Wants WordLeads (place.Additions c g n)} w e (λ t a. adds c g n t a.0 a.1) (wants_addition c g n)
 
-pub builtin_kind_fault : (w : Text) (e : WordFault) → IsWordFault IsKindWord w e → IsWordFault (Wants Steps place.BuiltinKind) w e
+pub builtin_kind_fault : (w : LineBytes) (e : WordFault) → IsWordFault IsKindWord w e → IsWordFault (Wants WordLeads place.BuiltinKind) w e
 builtin_kind_fault w e =
-    fault_same {P = IsKindWord} {Q = Wants Steps place.BuiltinKind} w e (λ t k. (place.BuiltinName k.0, (k.0, k.1, refl))) (λ t s. (s.1.0, s.1.1))
+    fault_same {P = IsKindWord} {Q = Wants WordLeads place.BuiltinKind} w e (λ t k. (place.BuiltinName k.0, (k.0, k.1, refl))) (λ t s. (s.1.0, s.1.1))
 
-pub builtin_name_fault : (k : Kind) (w : Text) (e : WordFault) → IsWordFault IsName w e → IsWordFault (Wants Steps (place.BuiltinName k)) w e
+pub builtin_name_fault : (k : Kind) (w : LineBytes) (e : WordFault) → IsWordFault IsName w e → IsWordFault (Wants WordLeads (place.BuiltinName k)) w e
 builtin_name_fault k w e =
-    fault_same {P = IsName} {Q = Wants Steps (place.BuiltinName k)} w e (λ t is. (behind_builtin k t, (is, refl))) (λ t s. s.1.0)
+    fault_same {P = IsName} {Q = Wants WordLeads (place.BuiltinName k)} w e (λ t is. (behind_builtin k t, (is, refl))) (λ t s. s.1.0)
 
-pub builtin_path_fault : (name w : Text) (e : WordFault) → IsWordFault (λ t. IsTrue (is_path t)) w e → IsWordFault (Wants Steps (place.BuiltinPath name)) w e
+pub builtin_path_fault : (name w : LineBytes) (e : WordFault) → IsWordFault (λ t. IsTrue (is_path t)) w e → IsWordFault (Wants WordLeads (place.BuiltinPath name)) w e
 builtin_path_fault name w e =
-    fault_same {P = IsPath} {Q = Wants Steps (place.BuiltinPath name)} w e (λ t is. (place.BuiltinRights name t, (is, refl))) (λ t s. s.1.0)
+    fault_same {P = IsPath} {Q = Wants WordLeads (place.BuiltinPath name)} w e (λ t is. (place.BuiltinRights name t, (is, refl))) (λ t s. s.1.0)
 
-pub builtin_rights_fault : (name path w : Text) (e : WordFault) → IsWordFault (λ t. (r : RightSet) × IsRightsText t r) w e → IsWordFault (Wants Steps (place.BuiltinRights name path)) w e
+pub builtin_rights_fault : (name path w : LineBytes) (e : WordFault) → IsWordFault (λ t. (r : RightSet) × IsRightsText t r) w e → IsWordFault (Wants WordLeads (place.BuiltinRights name path)) w e
 builtin_rights_fault name path w e =
-    fault_same {P = λ t. (r : RightSet) × IsRightsText t r} {Q = Wants Steps (place.BuiltinRights name path)} w e (λ t r. (provides (directory_of name path r.0), (r.0, r.1, refl))) (λ t s. (s.1.0, s.1.1))
+    fault_same {P = λ t. (r : RightSet) × IsRightsText t r} {Q = Wants WordLeads (place.BuiltinRights name path)} w e (λ t r. (provides (directory_of name path r.0), (r.0, r.1, refl))) (λ t s. (s.1.0, s.1.1))
 
 -- ---- verbs and kinds
 
@@ -185,13 +185,13 @@ verb_at verb.Exited = (13, omega arith, refl)
 verb_at verb.Events = (14, omega arith, refl)
 
 -- the word of one of the first n verbs
-abbrev pub IsFirstVerb : ℕ → Text → Type 0
+abbrev pub IsFirstVerb : ℕ → LineBytes → Type 0
 IsFirstVerb n t = (k : ℕ) × (k < n) × (t ≡ verb_word (get_or verbs k verb.Start))
 
-pub no_verb : (w : Text) → CountsFronts (IsFirstVerb 0) w 0
+pub no_verb : (w : LineBytes) → CountsPrefixes (IsFirstVerb 0) w 0
 no_verb w = counts_none w (λ t h. absurd (omega (arith, h.1)))
 
-pub none_first : (w : Text) → IsFirstVerb 0 w → ⊥
+pub none_first : (w : LineBytes) → IsFirstVerb 0 w → ⊥
 none_first w h = absurd (omega (arith, h.1))
 
 -- an element of the loop's list is that verb
@@ -202,40 +202,40 @@ below_or_last : (k n : ℕ) → k < n + 1 → (k < n) ⊎ (k ≡ n)
 below_or_last k n h = grind arith
 
 -- one verb more
-first_more : (t : Text) (i : ℕ) → IsFirstVerb (i + 1) t → IsFirstVerb i t ⊎ (t ≡ verb_word (get_or verbs i verb.Start))
+first_more : (t : LineBytes) (i : ℕ) → IsFirstVerb (i + 1) t → IsFirstVerb i t ⊎ (t ≡ verb_word (get_or verbs i verb.Start))
 first_more t i h =
     ⊎_elim (λ lt. inl (h.0, lt, h.2)) (λ last. inr (h.2 ∙ ap (λ j. verb_word (get_or verbs j verb.Start)) last)) (below_or_last h.0 i h.1)
 
-pub none_more : (w l : Text) (i : ℕ) (xs : List Verb) (d : Verb) → xs ≡ verbs → i < 15 → l ≡ verb_word (get_or xs i d) → (IsFirstVerb i w → ⊥) → (w ≡ l → ⊥) → IsFirstVerb (i + 1) w → ⊥
+pub none_more : (w l : LineBytes) (i : ℕ) (xs : List Verb) (d : Verb) → xs ≡ verbs → i < 15 → l ≡ verb_word (get_or xs i d) → (IsFirstVerb i w → ⊥) → (w ≡ l → ⊥) → IsFirstVerb (i + 1) w → ⊥
 none_more w l i xs d e lt is none other h =
     ⊎_elim none (λ same. other (same ∙ sym (ap verb_word (verb_there xs i d e lt)) ∙ sym is)) (first_more w i h)
 
-pub none_of_all : (w : Text) (i : ℕ) → 15 ≤ i → (IsFirstVerb i w → ⊥) → IsVerbWord w → ⊥
+pub none_of_all : (w : LineBytes) (i : ℕ) → 15 ≤ i → (IsFirstVerb i w → ⊥) → IsVerbWord w → ⊥
 none_of_all w i le none h =
     let at = verb_at h.0 in
     none (at.0, omega (arith, at.1), h.1 ∙ ap verb_word at.2)
 
-pub verb_more : (w l : Text) (i m n k : ℕ) (xs : List Verb) (d : Verb) → xs ≡ verbs → i < 15 → l ≡ verb_word (get_or xs i d) → k ≡ max m n → CountsFronts (IsFirstVerb i) w m → CountsFronts (λ t. t ≡ l) w n → CountsFronts (IsFirstVerb (i + 1)) w k
+pub verb_more : (w l : LineBytes) (i m n k : ℕ) (xs : List Verb) (d : Verb) → xs ≡ verbs → i < 15 → l ≡ verb_word (get_or xs i d) → k ≡ max m n → CountsPrefixes (IsFirstVerb i) w m → CountsPrefixes (λ t. t ≡ l) w n → CountsPrefixes (IsFirstVerb (i + 1)) w k
 verb_more w l i m n k xs d there lt is e h g =
     let same : l ≡ verb_word (get_or verbs i verb.Start) = is ∙ ap verb_word (verb_there xs i d there lt) in
     counts_either {P = IsFirstVerb i} {Q = λ t. t ≡ l} {R = IsFirstVerb (i + 1)} w m n k (λ t x. (x.0, omega (arith, x.1), x.2)) (λ t x. (i, omega arith, x ∙ same)) (λ t x. ⊎_elim (λ first. inl first) (λ last. inr (last ∙ sym same)) (first_more t i x)) e h g
 
-pub all_verbs : (w : Text) (i n : ℕ) → 15 ≤ i → i ≤ 15 → CountsFronts (IsFirstVerb i) w n → CountsFronts IsVerbWord w n
+pub all_verbs : (w : LineBytes) (i n : ℕ) → 15 ≤ i → i ≤ 15 → CountsPrefixes (IsFirstVerb i) w n → CountsPrefixes IsVerbWord w n
 all_verbs w i n le ge h =
     let e : i ≡ 15 = omega arith in
-    counts_same {P = IsFirstVerb 15} {Q = IsVerbWord} w n (λ t x. (get_or verbs x.0 verb.Start, x.2)) (λ t x. let at = verb_at x.0 in (at.0, at.1, x.1 ∙ ap verb_word at.2)) (subst (λ j. CountsFronts (IsFirstVerb j) w n) e h)
+    counts_same {P = IsFirstVerb 15} {Q = IsVerbWord} w n (λ t x. (get_or verbs x.0 verb.Start, x.2)) (λ t x. let at = verb_at x.0 in (at.0, at.1, x.1 ∙ ap verb_word at.2)) (subst (λ j. CountsPrefixes (IsFirstVerb j) w n) e h)
 
-pub kind_counts : (w : Text) (m n k : ℕ) → k ≡ max m n → CountsFronts (λ t. t ≡ codes "protocol") w m → CountsFronts (λ t. t ≡ codes "directory") w n → CountsFronts IsKindWord w k
+pub kind_counts : (w : LineBytes) (m n k : ℕ) → k ≡ max m n → CountsPrefixes (λ t. t ≡ codes "protocol") w m → CountsPrefixes (λ t. t ≡ codes "directory") w n → CountsPrefixes IsKindWord w k
 kind_counts w m n k e h g =
     counts_either {P = λ t. t ≡ codes "protocol"} {Q = λ t. t ≡ codes "directory"} {R = IsKindWord} w m n k (λ t x. (kind.Protocol, x)) (λ t x. (kind.Directory, x)) parts e h g
   where
-    kinds : (t : Text) (k : Kind) → t ≡ kind_word k → (t ≡ codes "protocol") ⊎ (t ≡ codes "directory")
+    kinds : (t : LineBytes) (k : Kind) → t ≡ kind_word k → (t ≡ codes "protocol") ⊎ (t ≡ codes "directory")
     kinds t kind.Protocol e = inl e
     kinds t kind.Directory e = inr e
 
-    parts : (t : Text) → IsKindWord t → (t ≡ codes "protocol") ⊎ (t ≡ codes "directory")
+    parts : (t : LineBytes) → IsKindWord t → (t ≡ codes "protocol") ⊎ (t ≡ codes "directory")
     parts t x = kinds t x.0 x.1
 
-pub no_kind : (w : Text) → (w ≡ codes "protocol" → ⊥) → (w ≡ codes "directory" → ⊥) → IsKindWord w → ⊥
+pub no_kind : (w : LineBytes) → (w ≡ codes "protocol" → ⊥) → (w ≡ codes "directory" → ⊥) → IsKindWord w → ⊥
 no_kind w p d (kind.Protocol, e) = p e
 no_kind w p d (kind.Directory, e) = d e

@@ -11,9 +11,9 @@ use Rattle.cm_command.specs.declared.script.Script.{Script}
 use Rattle.cm_command.specs.declared.script_reader.Draft.{Draft}
 use Rattle.cm_command.specs.Numbers.{is_digit, IsNumberText, value_behind}
 use Rattle.cm_command.specs.Words.{IsUrlText}
-use Rattle.cm_command.specs.Grammar.{Text, CommandText, IsCommandText, BuiltinText, BuiltinWords, ReadsOneWay}
+use Rattle.cm_command.specs.Grammar.{LineBytes, CommandText, IsCommandText, BuiltinText, BuiltinWords, LinesReadOneWay}
 use Rattle.cm_command.specs.Laws.{TextsAreOneScript, ScriptsHaveNoFault}
-use Rattle.cm_command.specs.Scripts.{is_blank, IsLane, IsNoLane, IsRepeated, Takes, LineFault, Reads, Faults, IsWhole, end_of}
+use Rattle.cm_command.specs.Scripts.{is_blank, IsLane, IsNoLane, IsRepeated, TakesScriptLine, LineFault, ReadsLines, Faults, IsWhole, end_of}
 use Rattle.cm_command.proofs.scripts.LaneLemmas.{decimal_lacks}
 use Rattle.cm_command.proofs.line.LineGrammar.{reads_one_way_lem}
 
@@ -23,18 +23,18 @@ use Rattle.cm_command.proofs.line.LineGrammar.{reads_one_way_lem}
 data Kind : Type 0 where
   BlankLine ManifestLine BuiltinLine RootLine SyncLine LaneLine : Kind
 
-abbrev kind_of : Text → Kind
+abbrev kind_of : LineBytes → Kind
 kind_of [] = Kind.BlankLine
 kind_of (b ∷ bs) = cond (b == 35) Kind.BlankLine (cond (b == 109) Kind.ManifestLine (cond (b == 98) Kind.BuiltinLine (cond (b == 114) Kind.RootLine (cond (b == 115) Kind.SyncLine Kind.LaneLine))))
 
-blank_kind : (t : Text) → IsTrue (is_blank t) → kind_of t ≡ Kind.BlankLine
+blank_kind : (t : LineBytes) → IsTrue (is_blank t) → kind_of t ≡ Kind.BlankLine
 blank_kind [] h = refl
 blank_kind (b ∷ bs) h = ap (λ v. cond v Kind.BlankLine (cond (b == 109) Kind.ManifestLine (cond (b == 98) Kind.BuiltinLine (cond (b == 114) Kind.RootLine (cond (b == 115) Kind.SyncLine Kind.LaneLine))))) h
 
 no_digit : (b k : ℕ) → IsTrue (is_digit b) → (k < 48) ⊎ (57 < k) → (b == k) ≡ false
 no_digit b k h o = grind (arith, rules)
 
-digit_kind : (b : ℕ) (bs : Text) → IsTrue (is_digit b) → kind_of (b ∷ bs) ≡ Kind.LaneLine
+digit_kind : (b : ℕ) (bs : LineBytes) → IsTrue (is_digit b) → kind_of (b ∷ bs) ≡ Kind.LaneLine
 digit_kind b bs h =
     let no35 : (b == 35) ≡ false = no_digit b 35 h (inl (omega arith)) in
     let no109 : (b == 109) ≡ false = no_digit b 109 h (inr (omega arith)) in
@@ -43,14 +43,14 @@ digit_kind b bs h =
     let no115 : (b == 115) ≡ false = no_digit b 115 h (inr (omega arith)) in
     rw (no35, no109, no98, no114, no115) refl
 
-lane_kind : (t : Text) (lane : ℕ) (rest : Text) → IsLane t lane rest → kind_of t ≡ Kind.LaneLine
+lane_kind : (t : LineBytes) (lane : ℕ) (rest : LineBytes) → IsLane t lane rest → kind_of t ≡ Kind.LaneLine
 lane_kind t lane rest h = ap kind_of h.whole ∙ by h.digits h.number
   where
-    by : (digits : Text) → IsNumberText digits lane → kind_of (digits ++ (codes " " ++ rest)) ≡ Kind.LaneLine
+    by : (digits : LineBytes) → IsNumberText digits lane → kind_of (digits ++ (codes " " ++ rest)) ≡ Kind.LaneLine
     by [] n = absurd n.0
     by (b ∷ bs) n = digit_kind b (bs ++ (codes " " ++ rest)) n.0.0
 
-one_lane : (t : Text) (m n : ℕ) (rest more : Text) → IsLane t m rest → IsLane t n more → (m ≡ n) × (rest ≡ more)
+one_lane : (t : LineBytes) (m n : ℕ) (rest more : LineBytes) → IsLane t m rest → IsLane t n more → (m ≡ n) × (rest ≡ more)
 one_lane t m n rest more h k =
     let a : slice_split (λ b. b == 32) t ≡ h.digits ∷ slice_split (λ b. b == 32) rest = ap (slice_split (λ b. b == 32)) h.whole ∙ slice_split_at (λ b. b == 32) h.digits 32 rest (decimal_lacks h.digits h.number.0) refl in
     let b : slice_split (λ b. b == 32) t ≡ k.digits ∷ slice_split (λ b. b == 32) more = ap (slice_split (λ b. b == 32)) k.whole ∙ slice_split_at (λ b. b == 32) k.digits 32 more (decimal_lacks k.digits k.number.0) refl in
@@ -59,53 +59,53 @@ one_lane t m n rest more h k =
     let behind : codes " " ++ rest ≡ codes " " ++ more = append_cancel_left k.digits _ _ whole in
     (sym h.number.1 ∙ ap (value_behind 0) same ∙ k.number.1, append_cancel_left (codes " ") rest more behind)
 
-pub words_one_way : (ws : List Text) (b c : Builtin) → BuiltinWords ws b → BuiltinWords ws c → b ≡ c
+pub words_one_way : (ws : List LineBytes) (b c : Builtin) → BuiltinWords ws b → BuiltinWords ws c → b ≡ c
 words_one_way ws b c (BuiltinWords.protocol h) (BuiltinWords.protocol k) = refl
 words_one_way ws b c (BuiltinWords.directory h p r) (BuiltinWords.directory k q s) = cc
 
 -- ---- a line makes one draft, and none where it has a fault
 
 -- a line outside blocks, by its kind
-data Took (n : ℕ) (t : Text) (d : Draft) : Kind → Draft → Type 0 where
+data Took (n : ℕ) (t : LineBytes) (d : Draft) : Kind → Draft → Type 0 where
   blank : IsTrue (is_blank t) → Took n t d Kind.BlankLine d
-  opens : {url : Text} → IsFalse d.begun → t ≡ codes "manifest " ++ url → IsUrlText url → Took n t d Kind.ManifestLine (record d { block = Some (record { line = n; url = url; bytes = [] }) })
-  builtin : {w : Text} {b : Builtin} → IsFalse d.begun → t ≡ codes "builtin " ++ w → BuiltinText w b → (IsRepeated d.builtins b → ⊥) → Took n t d Kind.BuiltinLine (record d { builtins = d.builtins ++ b ∷ [] })
-  root : {url : Text} → IsFalse d.begun → d.root ≡ None → t ≡ codes "root " ++ url → IsUrlText url → Took n t d Kind.RootLine (record d { root = Some url })
-  sync : {r : Text} → t ≡ codes "sync" → d.root ≡ Some r → Took n t d Kind.SyncLine (record d { phases = d.phases ++ d.phase ∷ []; phase = []; begun = true })
-  command : {r rest : Text} {lane : ℕ} {c : Command} → d.root ≡ Some r → IsLane t lane rest → lane ≤ 15 → CommandText rest c → Took n t d Kind.LaneLine (record d { phase = d.phase ++ record { line = n; lane = lane; command = c } ∷ []; begun = true })
+  opens : {url : LineBytes} → IsFalse d.begun → t ≡ codes "manifest " ++ url → IsUrlText url → Took n t d Kind.ManifestLine (record d { block = Some (record { line = n; url = url; bytes = [] }) })
+  builtin : {w : LineBytes} {b : Builtin} → IsFalse d.begun → t ≡ codes "builtin " ++ w → BuiltinText w b → (IsRepeated d.builtins b → ⊥) → Took n t d Kind.BuiltinLine (record d { builtins = d.builtins ++ b ∷ [] })
+  root : {url : LineBytes} → IsFalse d.begun → d.root ≡ None → t ≡ codes "root " ++ url → IsUrlText url → Took n t d Kind.RootLine (record d { root = Some url })
+  sync : {r : LineBytes} → t ≡ codes "sync" → d.root ≡ Some r → Took n t d Kind.SyncLine (record d { phases = d.phases ++ d.phase ∷ []; phase = []; begun = true })
+  command : {r rest : LineBytes} {lane : ℕ} {c : Command} → d.root ≡ Some r → IsLane t lane rest → lane ≤ 15 → CommandText rest c → Took n t d Kind.LaneLine (record d { phase = d.phase ++ record { line = n; lane = lane; command = c } ∷ []; begun = true })
 
 -- a line of an open block
-data Inside (t : Text) (d : Draft) (b : Block) : Draft → Type 0 where
+data Inside (t : LineBytes) (d : Draft) (b : Block) : Draft → Type 0 where
   closes : t ≡ codes "%%" → Inside t d b (record d { manifests = d.manifests ++ b ∷ []; block = None })
   inner : (t ≡ codes "%%" → ⊥) → Inside t d b (record d { block = Some (record b { bytes = b.bytes ++ (t ++ codes "\n") }) })
 
 some_none : {A : Type 0} {o : Option A} {x : A} → o ≡ Some x → o ≡ None → ⊥
 some_none e f = absurd (cc)
 
-outside : (n : ℕ) {t : Text} {d e : Draft} → Takes n t d e → d.block ≡ None → Took n t d (kind_of t) e
-outside n (Takes.closes is) shut = absurd (some_none is shut)
-outside n (Takes.inner is other) shut = absurd (some_none is shut)
-outside n {t} {d} (Takes.blank is b) shut = subst (λ k. Took n t d k d) (sym (blank_kind t b)) (Took.blank b)
-outside n (Takes.opens is early u) shut = Took.opens early refl u
-outside n (Takes.builtin is early h new) shut = Took.builtin early refl h new
-outside n (Takes.root is early first u) shut = Took.root early first refl u
-outside n (Takes.sync is r) shut = Took.sync refl r
-outside n {t} {d} {e} (Takes.command {rest = rest} {lane = lane} is r way low h) shut =
+outside : (n : ℕ) {t : LineBytes} {d e : Draft} → TakesScriptLine n t d e → d.block ≡ None → Took n t d (kind_of t) e
+outside n (TakesScriptLine.closes is) shut = absurd (some_none is shut)
+outside n (TakesScriptLine.inner is other) shut = absurd (some_none is shut)
+outside n {t} {d} (TakesScriptLine.blank is b) shut = subst (λ k. Took n t d k d) (sym (blank_kind t b)) (Took.blank b)
+outside n (TakesScriptLine.opens is early u) shut = Took.opens early refl u
+outside n (TakesScriptLine.builtin is early h new) shut = Took.builtin early refl h new
+outside n (TakesScriptLine.root is early first u) shut = Took.root early first refl u
+outside n (TakesScriptLine.sync is r) shut = Took.sync refl r
+outside n {t} {d} {e} (TakesScriptLine.command {rest = rest} {lane = lane} is r way low h) shut =
     subst (λ k. Took n t d k e) (sym (lane_kind t lane rest way)) (Took.command r way low h)
 
-inside : (n : ℕ) (b : Block) {t : Text} {d e : Draft} → Takes n t d e → d.block ≡ Some b → Inside t d b e
-inside n b {d = d} (Takes.closes {b = c} is) some =
+inside : (n : ℕ) (b : Block) {t : LineBytes} {d e : Draft} → TakesScriptLine n t d e → d.block ≡ Some b → Inside t d b e
+inside n b {d = d} (TakesScriptLine.closes {b = c} is) some =
     let same : c ≡ b = cc in subst (λ x. Inside (codes "%%") d b (record d { manifests = d.manifests ++ x ∷ []; block = None })) (sym same) (Inside.closes refl)
-inside n b {t} {d} (Takes.inner {b = c} is other) some =
+inside n b {t} {d} (TakesScriptLine.inner {b = c} is other) some =
     let same : c ≡ b = cc in subst (λ x. Inside t d b (record d { block = Some (record x { bytes = x.bytes ++ (t ++ codes "\n") }) })) (sym same) (Inside.inner other)
-inside n b (Takes.blank is h) some = absurd (some_none some is)
-inside n b (Takes.opens is early u) some = absurd (some_none some is)
-inside n b (Takes.builtin is early h new) some = absurd (some_none some is)
-inside n b (Takes.root is early first u) some = absurd (some_none some is)
-inside n b (Takes.sync is r) some = absurd (some_none some is)
-inside n b (Takes.command is r way low h) some = absurd (some_none some is)
+inside n b (TakesScriptLine.blank is h) some = absurd (some_none some is)
+inside n b (TakesScriptLine.opens is early u) some = absurd (some_none some is)
+inside n b (TakesScriptLine.builtin is early h new) some = absurd (some_none some is)
+inside n b (TakesScriptLine.root is early first u) some = absurd (some_none some is)
+inside n b (TakesScriptLine.sync is r) some = absurd (some_none some is)
+inside n b (TakesScriptLine.command is r way low h) some = absurd (some_none some is)
 
-one_took : ReadsOneWay → (n : ℕ) {t : Text} {d e f : Draft} {k : Kind} → Took n t d k e → Took n t d k f → e ≡ f
+one_took : LinesReadOneWay → (n : ℕ) {t : LineBytes} {d e f : Draft} {k : Kind} → Took n t d k e → Took n t d k f → e ≡ f
 one_took one n (Took.blank h) (Took.blank k) = refl
 one_took one n {d = d} (Took.opens {url = u} a e h) (Took.opens {url = v} b f k) =
     let same : u ≡ v = append_cancel_left (codes "manifest ") u v (sym e ∙ f) in
@@ -122,13 +122,13 @@ one_took one n {t} {d} (Took.command {rest = u} {lane = l} {c = a} r way low h) 
     let told : a ≡ b = one v a b (subst (λ w. CommandText w a) same.1 h) k in
     ap (λ x. record d { phase = d.phase ++ record { line = n; lane = x; command = a } ∷ []; begun = true }) same.0 ∙ ap (λ x. record d { phase = d.phase ++ record { line = n; lane = m; command = x } ∷ []; begun = true }) told
 
-one_inside : {t : Text} {d e f : Draft} {b : Block} → Inside t d b e → Inside t d b f → e ≡ f
+one_inside : {t : LineBytes} {d e f : Draft} {b : Block} → Inside t d b e → Inside t d b f → e ≡ f
 one_inside (Inside.closes h) (Inside.closes k) = refl
 one_inside (Inside.closes h) (Inside.inner k) = absurd (k h)
 one_inside (Inside.inner h) (Inside.closes k) = absurd (h k)
 one_inside (Inside.inner h) (Inside.inner k) = refl
 
-one_takes : ReadsOneWay → (n : ℕ) {t : Text} {d e f : Draft} → Takes n t d e → Takes n t d f → e ≡ f
+one_takes : LinesReadOneWay → (n : ℕ) {t : LineBytes} {d e f : Draft} → TakesScriptLine n t d e → TakesScriptLine n t d f → e ≡ f
 one_takes one n {t} {d} {e} {f} h k = by d.block refl
   where
     by : (o : Option Block) → d.block ≡ o → e ≡ f
@@ -137,26 +137,26 @@ one_takes one n {t} {d} {e} {f} h k = by d.block refl
 
 -- ---- a line with a fault makes no draft
 
-manifest_no : (n : ℕ) {t : Text} {d e : Draft} → Took n t d Kind.ManifestLine e → (IsTrue d.begun) ⊎ ((u : Text) × (t ≡ codes "manifest " ++ u) × (IsUrlText u → ⊥)) → ⊥
+manifest_no : (n : ℕ) {t : LineBytes} {d e : Draft} → Took n t d Kind.ManifestLine e → (IsTrue d.begun) ⊎ ((u : LineBytes) × (t ≡ codes "manifest " ++ u) × (IsUrlText u → ⊥)) → ⊥
 manifest_no n (Took.opens early e h) (inl late) = true≢false (sym late ∙ early)
 manifest_no n (Took.opens {url = u} early e h) (inr bad) =
     bad.2 (subst IsUrlText (append_cancel_left (codes "manifest ") u bad.0 (sym e ∙ bad.1)) h)
 
-builtin_no : (n : ℕ) {t : Text} {d e : Draft} → Took n t d Kind.BuiltinLine e → (IsTrue d.begun) ⊎ ((w : Text) × (t ≡ codes "builtin " ++ w) × ((b : Builtin) → BuiltinText w b → (IsRepeated d.builtins b → ⊥) → ⊥)) → ⊥
+builtin_no : (n : ℕ) {t : LineBytes} {d e : Draft} → Took n t d Kind.BuiltinLine e → (IsTrue d.begun) ⊎ ((w : LineBytes) × (t ≡ codes "builtin " ++ w) × ((b : Builtin) → BuiltinText w b → (IsRepeated d.builtins b → ⊥) → ⊥)) → ⊥
 builtin_no n (Took.builtin early e h new) (inl late) = true≢false (sym late ∙ early)
 builtin_no n (Took.builtin {w = w} {b = b} early e h new) (inr bad) =
     bad.2 b (subst (λ x. BuiltinText x b) (append_cancel_left (codes "builtin ") w bad.0 (sym e ∙ bad.1)) h) new
 
-root_no : (n : ℕ) {t : Text} {d e : Draft} → Took n t d Kind.RootLine e → (IsTrue d.begun) ⊎ (((r : Text) × (d.root ≡ Some r)) ⊎ ((u : Text) × (t ≡ codes "root " ++ u) × (IsUrlText u → ⊥))) → ⊥
+root_no : (n : ℕ) {t : LineBytes} {d e : Draft} → Took n t d Kind.RootLine e → (IsTrue d.begun) ⊎ (((r : LineBytes) × (d.root ≡ Some r)) ⊎ ((u : LineBytes) × (t ≡ codes "root " ++ u) × (IsUrlText u → ⊥))) → ⊥
 root_no n (Took.root early first e h) (inl late) = true≢false (sym late ∙ early)
 root_no n (Took.root early first e h) (inr (inl second)) = some_none second.1 first
 root_no n (Took.root {url = u} early first e h) (inr (inr bad)) =
     bad.2 (subst IsUrlText (append_cancel_left (codes "root ") u bad.0 (sym e ∙ bad.1)) h)
 
-sync_no : (n : ℕ) {t : Text} {d e : Draft} → Took n t d Kind.SyncLine e → d.root ≡ None → ⊥
+sync_no : (n : ℕ) {t : LineBytes} {d e : Draft} → Took n t d Kind.SyncLine e → d.root ≡ None → ⊥
 sync_no n (Took.sync e r) none = some_none r none
 
-lane_no : (n : ℕ) {t : Text} {d e : Draft} (lane : ℕ) (rest : Text) → IsLane t lane rest → Took n t d Kind.LaneLine e → (15 < lane) ⊎ ((d.root ≡ None) ⊎ (IsCommandText rest → ⊥)) → ⊥
+lane_no : (n : ℕ) {t : LineBytes} {d e : Draft} (lane : ℕ) (rest : LineBytes) → IsLane t lane rest → Took n t d Kind.LaneLine e → (15 < lane) ⊎ ((d.root ≡ None) ⊎ (IsCommandText rest → ⊥)) → ⊥
 lane_no n {t} lane rest way (Took.command {rest = more} {lane = m} r other low h) (inl high) =
     let same = one_lane t lane m rest more way other in
     let is : lane ≡ m = same.0 in omega (arith, is, low, high)
@@ -165,7 +165,7 @@ lane_no n {t} lane rest way (Took.command {rest = more} {lane = m} {c = c} r oth
     let same = one_lane t lane m rest more way other in
     bad (c, subst (λ w. CommandText w c) (sym same.1) h)
 
-other_no : (n : ℕ) {t : Text} {d e : Draft} {k : Kind} → IsNoLane t → Took n t d k e → ⊥
+other_no : (n : ℕ) {t : LineBytes} {d e : Draft} {k : Kind} → IsNoLane t → Took n t d k e → ⊥
 other_no n shut (Took.blank h) = true≢false (sym h ∙ shut.stands)
 other_no n shut (Took.opens {url = u} a e h) = shut.no_manifest (u, e)
 other_no n shut (Took.builtin {w = w} a e h new) = shut.no_builtin (w, e)
@@ -174,14 +174,14 @@ other_no n shut (Took.sync e r) = shut.no_sync e
 other_no n shut (Took.command {rest = rest} {lane = lane} r way low h) = shut.no_lane lane rest way
 
 -- the kind of a line that is known
-seen : (n : ℕ) {t : Text} {d e : Draft} (k : Kind) → kind_of t ≡ k → Took n t d (kind_of t) e → Took n t d k e
+seen : (n : ℕ) {t : LineBytes} {d e : Draft} (k : Kind) → kind_of t ≡ k → Took n t d (kind_of t) e → Took n t d k e
 seen n {t} {d} {e} k same h = subst (λ j. Took n t d j e) same h
 
-closed : {d : Draft} {t : Text} {number : ScriptNumber} {at : ℕ} → LineFault d t number at → d.block ≡ None
-closed (LineFault.late_manifest is late front) = is
-closed (LineFault.late_builtin is late front) = is
-closed (LineFault.late_root is late front) = is
-closed (LineFault.second_root is r front) = is
+closed : {d : Draft} {t : LineBytes} {number : ScriptNumber} {at : ℕ} → LineFault d t number at → d.block ≡ None
+closed (LineFault.late_manifest is late prefix) = is
+closed (LineFault.late_builtin is late prefix) = is
+closed (LineFault.late_root is late prefix) = is
+closed (LineFault.second_root is r prefix) = is
 closed (LineFault.bad_manifest is early bad far) = is
 closed (LineFault.bad_builtin is early bad far) = is
 closed (LineFault.bad_root is early first bad far) = is
@@ -192,11 +192,11 @@ closed (LineFault.too_many is way high) = is
 closed (LineFault.no_root is way low none) = is
 closed (LineFault.bad_command way is low r bad far) = is
 
-wrong : (n : ℕ) {d e : Draft} {t : Text} {number : ScriptNumber} {at : ℕ} → LineFault d t number at → Took n t d (kind_of t) e → ⊥
-wrong n (LineFault.late_manifest is late front) h = manifest_no n (seen n Kind.ManifestLine (ap kind_of front.1) h) (inl late)
-wrong n (LineFault.late_builtin is late front) h = builtin_no n (seen n Kind.BuiltinLine (ap kind_of front.1) h) (inl late)
-wrong n (LineFault.late_root is late front) h = root_no n (seen n Kind.RootLine (ap kind_of front.1) h) (inl late)
-wrong n (LineFault.second_root {r = r} is same front) h = root_no n (seen n Kind.RootLine (ap kind_of front.1) h) (inr (inl (r, same)))
+wrong : (n : ℕ) {d e : Draft} {t : LineBytes} {number : ScriptNumber} {at : ℕ} → LineFault d t number at → Took n t d (kind_of t) e → ⊥
+wrong n (LineFault.late_manifest is late prefix) h = manifest_no n (seen n Kind.ManifestLine (ap kind_of prefix.1) h) (inl late)
+wrong n (LineFault.late_builtin is late prefix) h = builtin_no n (seen n Kind.BuiltinLine (ap kind_of prefix.1) h) (inl late)
+wrong n (LineFault.late_root is late prefix) h = root_no n (seen n Kind.RootLine (ap kind_of prefix.1) h) (inl late)
+wrong n (LineFault.second_root {r = r} is same prefix) h = root_no n (seen n Kind.RootLine (ap kind_of prefix.1) h) (inr (inl (r, same)))
 wrong n (LineFault.bad_manifest {t = u} is early bad far) h = manifest_no n h (inr (u, refl, bad))
 wrong n (LineFault.bad_builtin {t = w} is early bad far) h = builtin_no n h (inr (w, refl, λ b told new. bad (b, told)))
 wrong n {d = d} (LineFault.repeated {t = w} {b = b} is early told again) h =
@@ -208,23 +208,23 @@ wrong n {t = t} (LineFault.too_many {rest = rest} {lane = lane} is way high) h =
 wrong n {t = t} (LineFault.no_root {rest = rest} {lane = lane} is way low none) h = lane_no n lane rest way (seen n Kind.LaneLine (lane_kind t lane rest way) h) (inr (inl none))
 wrong n {t = t} (LineFault.bad_command {rest = rest} {lane = lane} way is low r bad far) h = lane_no n lane rest way (seen n Kind.LaneLine (lane_kind t lane rest way) h) (inr (inr bad))
 
-no_take : (n : ℕ) {d e : Draft} {t : Text} {number : ScriptNumber} {at : ℕ} → LineFault d t number at → Takes n t d e → ⊥
+no_take : (n : ℕ) {d e : Draft} {t : LineBytes} {number : ScriptNumber} {at : ℕ} → LineFault d t number at → TakesScriptLine n t d e → ⊥
 no_take n f h = wrong n f (outside n h (closed f))
 
 -- ---- all lines
 
-one_reads : ReadsOneWay → (size : ℕ) {place n : ℕ} {d e f : Draft} {ts : List Text} → Reads size place n d ts e → Reads size place n d ts f → e ≡ f
-one_reads one size Reads.no_more Reads.no_more = refl
-one_reads one size {place} {n} {f = f} (Reads.one_more {t = t} {ts = ts} fits takes rest) (Reads.one_more {e = mid} other again more) =
-    one_reads one size rest (subst (λ m. Reads size (end_of size place t) (n + 1) m ts f) (sym (one_takes one n takes again)) more)
+one_reads : LinesReadOneWay → (size : ℕ) {place n : ℕ} {d e f : Draft} {ts : List LineBytes} → ReadsLines size place n d ts e → ReadsLines size place n d ts f → e ≡ f
+one_reads one size ReadsLines.no_more ReadsLines.no_more = refl
+one_reads one size {place} {n} {f = f} (ReadsLines.one_more {t = t} {ts = ts} fits takes rest) (ReadsLines.one_more {e = mid} other again more) =
+    one_reads one size rest (subst (λ m. ReadsLines size (end_of size place t) (n + 1) m ts f) (sym (one_takes one n takes again)) more)
 
-no_fault : ReadsOneWay → (size : ℕ) {place n : ℕ} {d e : Draft} {ts : List Text} {m at : ℕ} {number : ScriptNumber} → Reads size place n d ts e → (s : Script) → IsWhole e s → Faults size place n d ts m number at → ⊥
-no_fault one size Reads.no_more s whole (Faults.unclosed is) = some_none is whole.closed
-no_fault one size Reads.no_more s whole (Faults.rootless is none) = some_none whole.root none
-no_fault one size (Reads.one_more fits takes rest) s whole (Faults.too_long long) = let short = fits.line in omega (arith, long, short)
-no_fault one size (Reads.one_more fits takes rest) s whole (Faults.too_large short large) = let small = fits.script in omega (arith, large, small)
-no_fault one size {n = n} (Reads.one_more fits takes rest) s whole (Faults.here same f) = no_take n f takes
-no_fault one size {place} {n} {m = m} {at = at} {number = number} (Reads.one_more {t = t} {ts = ts} fits takes rest) s whole (Faults.later same again more) =
+no_fault : LinesReadOneWay → (size : ℕ) {place n : ℕ} {d e : Draft} {ts : List LineBytes} {m at : ℕ} {number : ScriptNumber} → ReadsLines size place n d ts e → (s : Script) → IsWhole e s → Faults size place n d ts m number at → ⊥
+no_fault one size ReadsLines.no_more s whole (Faults.unclosed is) = some_none is whole.closed
+no_fault one size ReadsLines.no_more s whole (Faults.rootless is none) = some_none whole.root none
+no_fault one size (ReadsLines.one_more fits takes rest) s whole (Faults.too_long long) = let short = fits.line in omega (arith, long, short)
+no_fault one size (ReadsLines.one_more fits takes rest) s whole (Faults.too_large short large) = let small = fits.script in omega (arith, large, small)
+no_fault one size {n = n} (ReadsLines.one_more fits takes rest) s whole (Faults.here same f) = no_take n f takes
+no_fault one size {place} {n} {m = m} {at = at} {number = number} (ReadsLines.one_more {t = t} {ts = ts} fits takes rest) s whole (Faults.later same again more) =
     no_fault one size rest s whole (subst (λ x. Faults size (end_of size place t) (n + 1) x ts m number at) (sym (one_takes one n takes again)) more)
 
 wholes : (d : Draft) (r s : Script) → IsWhole d r → IsWhole d s → r ≡ s

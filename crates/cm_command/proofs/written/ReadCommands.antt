@@ -22,8 +22,9 @@ use Rattle.cm_world.specs.declared.event.Target.{Target}
 use Rattle.cm_world.specs.declared.event.Target.TheVariants.{Named, Inc}
 use Rattle.cm_command.specs.declared.command.Command.{Command}
 use Rattle.cm_command.specs.Words.{IsTargetText, IsOriginText, IsRightsText}
-use Rattle.cm_command.specs.Grammar.{Text, CommandWords, Groups, Behind, Adds, plain_give}
-use Rattle.cm_command.specs.Written.{IsTarget, IsOrigin, HasParts, IsGive, IsWritable, WhatIsReadIsWritable}
+use Rattle.cm_command.specs.Grammar.{LineBytes, CommandWords, Groups, HasAdditions, AddsWord, plain_give}
+use Rattle.cm_command.specs.Written.{IsTarget, IsWritableOrigin, HasParts, IsWritableGive}
+use Rattle.cm_command.specs.WrittenInside.{IsWritable, WhatIsReadIsWritable}
 
 -- ---- rights
 
@@ -94,14 +95,14 @@ words_some [] r e = absurd (cc e)
 words_some (w ∷ ws) r e = behind_some (rights_of_word w) [] w (rights_behind ([] ++ w ∷ []) ws) r (word_some w) e
 
 -- rights that are read are not none
-pub rights_are : (t : Text) (r : RightSet) → IsRightsText t r → r ≢ no_rights
+pub rights_are : (t : LineBytes) (r : RightSet) → IsRightsText t r → r ≢ no_rights
 rights_are t r h =
     let some = words_some (slice_split (λ b. b == 44) t) r h in
     λ e. true≢false (sym some.1 ∙ ap (λ s. has s some.0) e ∙ none_has some.0)
 
 -- ---- targets and origins
 
-one_more : (t : Text) (b : ℕ) → length t ≤ length (b ∷ t)
+one_more : (t : LineBytes) (b : ℕ) → length t ≤ length (b ∷ t)
 one_more t b = omega arith
 
 -- without its slash a moniker is no longer
@@ -109,15 +110,15 @@ from_root : (cs : List ChildName) → length (text_of_parts cs) ≤ length (text
 from_root [] = let same : 1 ≤ 1 = omega arith in same
 from_root (c ∷ cs) = one_more (text_of_parts (c ∷ cs)) 47
 
-no_longer : (t : Text) (m : Moniker) → (t ≡ moniker_text m) ⊎ (t ≡ text_from_root m.parts) → length (moniker_text m) ≤ length t
+no_longer : (t : LineBytes) (m : Moniker) → (t ≡ moniker_text m) ⊎ (t ≡ text_from_root m.parts) → length (moniker_text m) ≤ length t
 no_longer t m (inl e) = omega (arith, ap length e)
 no_longer t m (inr e) = subst (λ u. length (moniker_text m) ≤ length u) (sym e) (from_root m.parts)
 
-target_is : (t : Text) (a : Target) → IsTargetText t a → IsTarget a
+target_is : (t : LineBytes) (a : Target) → IsTargetText t a → IsTarget a
 target_is t (Named m) h = (h.0.names, omega (arith, no_longer t m h.0.written, h.1))
 target_is t (Inc n) h = h.3
 
-origin_is : (t : Text) (o : Origin) → IsOriginText t o → IsOrigin o
+origin_is : (t : LineBytes) (o : Origin) → IsOriginText t o → IsWritableOrigin o
 origin_is t Parent h = tt
 origin_is t Own h = tt
 origin_is t Framework h = tt
@@ -130,42 +131,42 @@ plain_parts : (k : Kind) → HasParts k None None
 plain_parts kind.Protocol = (refl, refl)
 plain_parts kind.Directory = (tt, tt)
 
-plain_is : (k : Kind) (name : Text) (o : Origin) → IsName name → IsOrigin o → IsGive (plain_give k name o)
+plain_is : (k : Kind) (name : LineBytes) (o : Origin) → IsName name → IsWritableOrigin o → IsWritableGive (plain_give k name o)
 plain_is k name o is from = record { source_name = is; target_name = is; from = from; parts = plain_parts k }
 
-rights_stated : (k : Kind) (o : Option RightSet) (s : Option Text) (r : RightSet) → k ≡ kind.Directory → r ≢ no_rights → HasParts k o s → HasParts k (Some r) s
+rights_stated : (k : Kind) (o : Option RightSet) (s : Option LineBytes) (r : RightSet) → k ≡ kind.Directory → r ≢ no_rights → HasParts k o s → HasParts k (Some r) s
 rights_stated kind.Protocol o s r e some h = absurd (cc e)
 rights_stated kind.Directory o s r e some h = (some, h.1)
 
-subdir_stated : (k : Kind) (o : Option RightSet) (s : Option Text) (t : Text) → k ≡ kind.Directory → IsTrue (is_subdir t) → HasParts k o s → HasParts k o (Some t)
+subdir_stated : (k : Kind) (o : Option RightSet) (s : Option LineBytes) (t : LineBytes) → k ≡ kind.Directory → IsTrue (is_subdir t) → HasParts k o s → HasParts k o (Some t)
 subdir_stated kind.Protocol o s t e is h = absurd (cc e)
 subdir_stated kind.Directory o s t e is h = (h.0, is)
 
 -- a group that can be said can be said with one addition more
-added_is : {m : ℕ} {w : Text} {g h : Give} → Adds m w g h → IsGive g → IsGive h
-added_is (Adds.target is) p = record { source_name = p.source_name; target_name = is; from = p.from; parts = p.parts }
-added_is (Adds.rights {w = w} {r = r} {g = g} dir is) p =
+added_is : {m : ℕ} {w : LineBytes} {g h : Give} → AddsWord m w g h → IsWritableGive g → IsWritableGive h
+added_is (AddsWord.target is) p = record { source_name = p.source_name; target_name = is; from = p.from; parts = p.parts }
+added_is (AddsWord.rights {w = w} {r = r} {g = g} dir is) p =
     record { source_name = p.source_name; target_name = p.target_name; from = p.from; parts = rights_stated g.kind g.rights g.subdir r dir (rights_are w r is) p.parts }
-added_is (Adds.subdir {w = w} {g = g} dir is) p =
+added_is (AddsWord.subdir {w = w} {g = g} dir is) p =
     record { source_name = p.source_name; target_name = p.target_name; from = p.from; parts = subdir_stated g.kind g.rights g.subdir w dir is p.parts }
-added_is Adds.weak p = record { source_name = p.source_name; target_name = p.target_name; from = p.from; parts = p.parts }
-added_is Adds.optional p = record { source_name = p.source_name; target_name = p.target_name; from = p.from; parts = p.parts }
-added_is Adds.transitional p = record { source_name = p.source_name; target_name = p.target_name; from = p.from; parts = p.parts }
-added_is Adds.same_as_target p = record { source_name = p.source_name; target_name = p.target_name; from = p.from; parts = p.parts }
+added_is AddsWord.weak p = record { source_name = p.source_name; target_name = p.target_name; from = p.from; parts = p.parts }
+added_is AddsWord.optional p = record { source_name = p.source_name; target_name = p.target_name; from = p.from; parts = p.parts }
+added_is AddsWord.transitional p = record { source_name = p.source_name; target_name = p.target_name; from = p.from; parts = p.parts }
+added_is AddsWord.same_as_target p = record { source_name = p.source_name; target_name = p.target_name; from = p.from; parts = p.parts }
 
 mutual
-  groups_are : {ws : List Text} {gs : List Give} → Groups ws gs → All IsGive gs
-  groups_are Groups.no_group = All-nil IsGive
+  groups_are : {ws : List LineBytes} {gs : List Give} → Groups ws gs → All IsWritableGive gs
+  groups_are Groups.no_group = All-nil IsWritableGive
   groups_are (Groups.group {k = k} {name = name} {from = from} {origin = origin} is said rest) =
       behind_are rest (plain_is k name origin is (origin_is from origin said))
 
-  behind_are : {n : ℕ} {g : Give} {ws : List Text} {gs : List Give} → Behind n g ws gs → IsGive g → All IsGive gs
-  behind_are (Behind.whole {g = g} {gs = gs} rest) is = All-cons IsGive g gs is (groups_are rest)
-  behind_are (Behind.addition le adds rest) is = behind_are rest (added_is adds is)
+  behind_are : {n : ℕ} {g : Give} {ws : List LineBytes} {gs : List Give} → HasAdditions n g ws gs → IsWritableGive g → All IsWritableGive gs
+  behind_are (HasAdditions.whole {g = g} {gs = gs} rest) is = All-cons IsWritableGive g gs is (groups_are rest)
+  behind_are (HasAdditions.addition le adds rest) is = behind_are rest (added_is adds is)
 
 -- ---- commands
 
-command_is : {ws : List Text} {c : Command} → CommandWords ws c → IsWritable c
+command_is : {ws : List LineBytes} {c : Command} → CommandWords ws c → IsWritable c
 command_is (CommandWords.resolve {t = t} {a = a} h) = target_is t a h
 command_is (CommandWords.start {t = t} {a = a} h) = target_is t a h
 command_is (CommandWords.stop {t = t} {a = a} h) = target_is t a h

@@ -23,8 +23,9 @@ use Rattle.cm_command.specs.declared.command.Command.{Command}
 use Rattle.cm_command.specs.declared.command.Command.TheVariants as command
 use Rattle.cm_command.specs.Numbers.{is_digit, IsNumberText, value_behind}
 use Rattle.cm_command.specs.Words.{IsTargetText, IsOriginText}
-use Rattle.cm_command.specs.Grammar.{Text, CommandText, CommandWords, Groups, Behind, Adds, plain_give}
-use Rattle.cm_command.specs.Written.{target_text, origin_text, target_word, rights_word, subdir_word, dependency_word, availability_word, give_words, IsTarget, IsOrigin, HasParts, IsGive, WritesItsLine}
+use Rattle.cm_command.specs.Grammar.{LineBytes, CommandText, CommandWords, Groups, HasAdditions, AddsWord, plain_give}
+use Rattle.cm_command.specs.Written.{target_text, origin_text, target_word, rights_word, subdir_word, dependency_word, availability_word, give_words, IsTarget, IsWritableOrigin, HasParts, IsWritableGive}
+use Rattle.cm_command.specs.WrittenInside.{WritesItsLine}
 use Rattle.cm_command.proofs.bytes.Pieces.{Lacks, value_snoc}
 use Rattle.cm_command.proofs.counts.NumberCounts.{decimal_more}
 use Rattle.cm_command.proofs.scripts.LaneLemmas.{decimal_lacks}
@@ -57,66 +58,66 @@ target_reads (target.Inc n) h = (decimal n, refl, decimal_is n h, h)
 target_text_lacks : (a : Target) → IsTarget a → Lacks 32 (target_text a)
 target_text_lacks a h = target_lacks (target_text a) a (target_reads a h)
 
-origin_reads : (o : Origin) → IsOrigin o → IsOriginText (origin_text o) o
+origin_reads : (o : Origin) → IsWritableOrigin o → IsOriginText (origin_text o) o
 origin_reads origin.Parent h = refl
 origin_reads origin.Own h = refl
 origin_reads origin.Framework h = refl
 origin_reads origin.Void h = refl
 origin_reads (origin.Child c) h = (h, refl)
 
-origin_text_lacks : (o : Origin) → IsOrigin o → Lacks 32 (origin_text o)
+origin_text_lacks : (o : Origin) → IsWritableOrigin o → Lacks 32 (origin_text o)
 origin_text_lacks o h = origin_lacks (origin_text o) o (origin_reads o h)
 
 -- ---- groups: what each addition sets, from the last to the first
 
-abbrev give_of : Kind → Text → Origin → Text → Option RightSet → Option Text → Dependency → Availability → Give
+abbrev give_of : Kind → LineBytes → Origin → LineBytes → Option RightSet → Option LineBytes → Dependency → Availability → Give
 give_of k n o t r s d a =
     record { kind = k; source_name = n; from = o; target_name = t; rights = r; subdir = s; dependency = d; availability = a }
 
-with_availability : (m : ℕ) → m ≤ 4 → (k : Kind) (n : Text) (o : Origin) (t : Text) (r : Option RightSet) (s : Option Text) (d : Dependency) (a : Availability) (ws : List Text) (gs : List Give) → Groups ws gs → Behind m (give_of k n o t r s d availability.Required) (availability_word a ++ ws) (give_of k n o t r s d a ∷ gs)
-with_availability m le k n o t r s d availability.Required ws gs h = Behind.whole h
-with_availability m le k n o t r s d availability.Optional ws gs h = Behind.addition le Adds.optional (Behind.whole h)
-with_availability m le k n o t r s d availability.Transitional ws gs h = Behind.addition le Adds.transitional (Behind.whole h)
-with_availability m le k n o t r s d availability.SameAsTarget ws gs h = Behind.addition le Adds.same_as_target (Behind.whole h)
+with_availability : (m : ℕ) → m ≤ 4 → (k : Kind) (n : LineBytes) (o : Origin) (t : LineBytes) (r : Option RightSet) (s : Option LineBytes) (d : Dependency) (a : Availability) (ws : List LineBytes) (gs : List Give) → Groups ws gs → HasAdditions m (give_of k n o t r s d availability.Required) (availability_word a ++ ws) (give_of k n o t r s d a ∷ gs)
+with_availability m le k n o t r s d availability.Required ws gs h = HasAdditions.whole h
+with_availability m le k n o t r s d availability.Optional ws gs h = HasAdditions.addition le AddsWord.optional (HasAdditions.whole h)
+with_availability m le k n o t r s d availability.Transitional ws gs h = HasAdditions.addition le AddsWord.transitional (HasAdditions.whole h)
+with_availability m le k n o t r s d availability.SameAsTarget ws gs h = HasAdditions.addition le AddsWord.same_as_target (HasAdditions.whole h)
 
-with_dependency : (m : ℕ) → m ≤ 3 → (k : Kind) (n : Text) (o : Origin) (t : Text) (r : Option RightSet) (s : Option Text) (d : Dependency) (a : Availability) (ws : List Text) (gs : List Give) → Groups ws gs → Behind m (give_of k n o t r s dependency.Strong availability.Required) (dependency_word d ++ (availability_word a ++ ws)) (give_of k n o t r s d a ∷ gs)
+with_dependency : (m : ℕ) → m ≤ 3 → (k : Kind) (n : LineBytes) (o : Origin) (t : LineBytes) (r : Option RightSet) (s : Option LineBytes) (d : Dependency) (a : Availability) (ws : List LineBytes) (gs : List Give) → Groups ws gs → HasAdditions m (give_of k n o t r s dependency.Strong availability.Required) (dependency_word d ++ (availability_word a ++ ws)) (give_of k n o t r s d a ∷ gs)
 with_dependency m le k n o t r s dependency.Strong a ws gs h = with_availability m (omega arith) k n o t r s dependency.Strong a ws gs h
 with_dependency m le k n o t r s dependency.Weak a ws gs h =
-    Behind.addition le Adds.weak (with_availability (3 + 1) (omega arith) k n o t r s dependency.Weak a ws gs h)
+    HasAdditions.addition le AddsWord.weak (with_availability (3 + 1) (omega arith) k n o t r s dependency.Weak a ws gs h)
 
-with_subdir : (m : ℕ) → m ≤ 2 → (k : Kind) (n : Text) (o : Origin) (t : Text) (r : Option RightSet) (s : Option Text) (d : Dependency) (a : Availability) (ws : List Text) (gs : List Give) → HasParts k r s → Groups ws gs → Behind m (give_of k n o t r None dependency.Strong availability.Required) (subdir_word s ++ (dependency_word d ++ (availability_word a ++ ws))) (give_of k n o t r s d a ∷ gs)
+with_subdir : (m : ℕ) → m ≤ 2 → (k : Kind) (n : LineBytes) (o : Origin) (t : LineBytes) (r : Option RightSet) (s : Option LineBytes) (d : Dependency) (a : Availability) (ws : List LineBytes) (gs : List Give) → HasParts k r s → Groups ws gs → HasAdditions m (give_of k n o t r None dependency.Strong availability.Required) (subdir_word s ++ (dependency_word d ++ (availability_word a ++ ws))) (give_of k n o t r s d a ∷ gs)
 with_subdir m le k n o t r None d a ws gs p h = with_dependency m (omega arith) k n o t r None d a ws gs h
 with_subdir m le kind.Protocol n o t r (Some s) d a ws gs p h = absurd (cc p.1)
 with_subdir m le kind.Directory n o t r (Some s) d a ws gs p h =
-    Behind.addition le (Adds.subdir refl p.1) (with_dependency (2 + 1) (omega arith) kind.Directory n o t r (Some s) d a ws gs h)
+    HasAdditions.addition le (AddsWord.subdir refl p.1) (with_dependency (2 + 1) (omega arith) kind.Directory n o t r (Some s) d a ws gs h)
 
-with_rights : (m : ℕ) → m ≤ 1 → (k : Kind) (n : Text) (o : Origin) (t : Text) (r : Option RightSet) (s : Option Text) (d : Dependency) (a : Availability) (ws : List Text) (gs : List Give) → HasParts k r s → Groups ws gs → Behind m (give_of k n o t None None dependency.Strong availability.Required) (rights_word r ++ (subdir_word s ++ (dependency_word d ++ (availability_word a ++ ws)))) (give_of k n o t r s d a ∷ gs)
+with_rights : (m : ℕ) → m ≤ 1 → (k : Kind) (n : LineBytes) (o : Origin) (t : LineBytes) (r : Option RightSet) (s : Option LineBytes) (d : Dependency) (a : Availability) (ws : List LineBytes) (gs : List Give) → HasParts k r s → Groups ws gs → HasAdditions m (give_of k n o t None None dependency.Strong availability.Required) (rights_word r ++ (subdir_word s ++ (dependency_word d ++ (availability_word a ++ ws)))) (give_of k n o t r s d a ∷ gs)
 with_rights m le k n o t None s d a ws gs p h = with_subdir m (omega arith) k n o t None s d a ws gs p h
 with_rights m le kind.Protocol n o t (Some r) s d a ws gs p h = absurd (cc p.0)
 with_rights m le kind.Directory n o t (Some r) s d a ws gs p h =
-    Behind.addition le (Adds.rights refl (rights_read r p.0)) (with_subdir (1 + 1) (omega arith) kind.Directory n o t (Some r) s d a ws gs p h)
+    HasAdditions.addition le (AddsWord.rights refl (rights_read r p.0)) (with_subdir (1 + 1) (omega arith) kind.Directory n o t (Some r) s d a ws gs p h)
 
-bytes_eq-true : (t n : Text) → bytes_eq t n ≡ true → t ≡ n
+bytes_eq-true : (t n : LineBytes) → bytes_eq t n ≡ true → t ≡ n
 bytes_eq-true t n e = search (rules, bytes_eq-Decides)
 
-with_target : (b : Bool) (k : Kind) (n : Text) (o : Origin) (t : Text) (r : Option RightSet) (s : Option Text) (d : Dependency) (a : Availability) (ws : List Text) (gs : List Give) → bytes_eq t n ≡ b → IsName t → HasParts k r s → Groups ws gs → Behind 0 (give_of k n o n None None dependency.Strong availability.Required) (cond b [] ((codes "as=" ++ t) ∷ []) ++ (rights_word r ++ (subdir_word s ++ (dependency_word d ++ (availability_word a ++ ws))))) (give_of k n o t r s d a ∷ gs)
+with_target : (b : Bool) (k : Kind) (n : LineBytes) (o : Origin) (t : LineBytes) (r : Option RightSet) (s : Option LineBytes) (d : Dependency) (a : Availability) (ws : List LineBytes) (gs : List Give) → bytes_eq t n ≡ b → IsName t → HasParts k r s → Groups ws gs → HasAdditions 0 (give_of k n o n None None dependency.Strong availability.Required) (cond b [] ((codes "as=" ++ t) ∷ []) ++ (rights_word r ++ (subdir_word s ++ (dependency_word d ++ (availability_word a ++ ws))))) (give_of k n o t r s d a ∷ gs)
 with_target true k n o t r s d a ws gs e name p h =
-    subst (λ x. Behind 0 (give_of k n o x None None dependency.Strong availability.Required) (rights_word r ++ (subdir_word s ++ (dependency_word d ++ (availability_word a ++ ws)))) (give_of k n o t r s d a ∷ gs)) (bytes_eq-true t n e) (with_rights 0 (omega arith) k n o t r s d a ws gs p h)
+    subst (λ x. HasAdditions 0 (give_of k n o x None None dependency.Strong availability.Required) (rights_word r ++ (subdir_word s ++ (dependency_word d ++ (availability_word a ++ ws)))) (give_of k n o t r s d a ∷ gs)) (bytes_eq-true t n e) (with_rights 0 (omega arith) k n o t r s d a ws gs p h)
 with_target false k n o t r s d a ws gs e name p h =
-    Behind.addition (omega arith) (Adds.target name) (with_rights (0 + 1) (omega arith) k n o t r s d a ws gs p h)
+    HasAdditions.addition (omega arith) (AddsWord.target name) (with_rights (0 + 1) (omega arith) k n o t r s d a ws gs p h)
 
-group_reads : (g : Give) (ws : List Text) (gs : List Give) → IsGive g → Groups ws gs → Groups (give_words g ++ ws) (g ∷ gs)
+group_reads : (g : Give) (ws : List LineBytes) (gs : List Give) → IsWritableGive g → Groups ws gs → Groups (give_words g ++ ws) (g ∷ gs)
 group_reads g ws gs h rest =
-    Groups.group h.source_name (origin_reads g.from h.from) (subst (λ x. Behind 0 (plain_give g.kind g.source_name g.from) x (g ∷ gs)) (sym (simp append_assoc)) (with_target (bytes_eq g.target_name g.source_name) g.kind g.source_name g.from g.target_name g.rights g.subdir g.dependency g.availability ws gs refl h.target_name h.parts rest))
+    Groups.group h.source_name (origin_reads g.from h.from) (subst (λ x. HasAdditions 0 (plain_give g.kind g.source_name g.from) x (g ∷ gs)) (sym (simp append_assoc)) (with_target (bytes_eq g.target_name g.source_name) g.kind g.source_name g.from g.target_name g.rights g.subdir g.dependency g.availability ws gs refl h.target_name h.parts rest))
 
-groups_read : (gs : List Give) → All IsGive gs → Groups (flat_map give_words gs) gs
+groups_read : (gs : List Give) → All IsWritableGive gs → Groups (flat_map give_words gs) gs
 groups_read [] h = Groups.no_group
 groups_read (g ∷ gs) h =
     group_reads g (flat_map give_words gs) gs (h 0 g (omega arith)) (groups_read gs (λ k d lt. h (suc k) d (omega arith)))
 
 -- ---- no word of a group has a space
 
-target_word_lacks : (b : Bool) (t : Text) → IsName t → AllLack 32 (cond b [] ((codes "as=" ++ t) ∷ []))
+target_word_lacks : (b : Bool) (t : LineBytes) → IsName t → AllLack 32 (cond b [] ((codes "as=" ++ t) ∷ []))
 target_word_lacks true t h = tt
 target_word_lacks false t h =
     (All-append (λ b. (b == 32) ≡ false) (codes "as=") t (lacks_by 32 (codes "as=") refl) (name_lacks 32 refl t h), tt)
@@ -126,7 +127,7 @@ rights_word_lacks None = tt
 rights_word_lacks (Some r) =
     (All-append (λ b. (b == 32) ≡ false) (codes "rights=") (text_of r) (lacks_by 32 (codes "rights=") refl) (rights_lack r), tt)
 
-subdir_word_lacks : (k : Kind) (r : Option RightSet) (s : Option Text) → HasParts k r s → AllLack 32 (subdir_word s)
+subdir_word_lacks : (k : Kind) (r : Option RightSet) (s : Option LineBytes) → HasParts k r s → AllLack 32 (subdir_word s)
 subdir_word_lacks k r None h = tt
 subdir_word_lacks kind.Protocol r (Some s) h = absurd (cc h.1)
 subdir_word_lacks kind.Directory r (Some s) h =
@@ -142,11 +143,11 @@ availability_word_lacks availability.Optional = (lacks_by 32 (codes "optional") 
 availability_word_lacks availability.Transitional = (lacks_by 32 (codes "transitional") refl, tt)
 availability_word_lacks availability.SameAsTarget = (lacks_by 32 (codes "same_as_target") refl, tt)
 
-give_lacks : (g : Give) → IsGive g → AllLack 32 (give_words g)
+give_lacks : (g : Give) → IsWritableGive g → AllLack 32 (give_words g)
 give_lacks g h =
     (lacks_by 32 (codes "+") refl, (kind_lacks g.kind, (name_lacks 32 refl g.source_name h.source_name, (origin_text_lacks g.from h.from, all_lack-append 32 (target_word g) _ (target_word_lacks (bytes_eq g.target_name g.source_name) g.target_name h.target_name) (all_lack-append 32 (rights_word g.rights) _ (rights_word_lacks g.rights) (all_lack-append 32 (subdir_word g.subdir) _ (subdir_word_lacks g.kind g.rights g.subdir h.parts) (all_lack-append 32 (dependency_word g.dependency) (availability_word g.availability) (dependency_word_lacks g.dependency) (availability_word_lacks g.availability))))))))
 
-gives_lack : (gs : List Give) → All IsGive gs → AllLack 32 (flat_map give_words gs)
+gives_lack : (gs : List Give) → All IsWritableGive gs → AllLack 32 (flat_map give_words gs)
 gives_lack [] h = tt
 gives_lack (g ∷ gs) h =
     all_lack-append 32 (give_words g) (flat_map give_words gs) (give_lacks g (h 0 g (omega arith))) (gives_lack gs (λ k d lt. h (suc k) d (omega arith)))
@@ -154,7 +155,7 @@ gives_lack (g ∷ gs) h =
 -- ---- commands
 
 -- words of which none has a space are the words of the line
-as_line : (w : Text) (ws : List Text) (c : Command) → Lacks 32 w → AllLack 32 ws → CommandWords (w ∷ ws) c → CommandText (join_with_byte 32 (w ∷ ws)) c
+as_line : (w : LineBytes) (ws : List LineBytes) (c : Command) → Lacks 32 w → AllLack 32 ws → CommandWords (w ∷ ws) c → CommandText (join_with_byte 32 (w ∷ ws)) c
 as_line w ws c h t is = subst (λ x. CommandWords x c) (sym (split_join 32 w ws h t)) is
 
 pub writes_its_line_lem : WritesItsLine

@@ -6,14 +6,14 @@ use Rattle.std.proofs.lemmas.List.Splits.{slice_split_none, slice_split_at}
 use Rattle.std.proofs.lemmas.List.Elements.{All-cons, All-nil, All-append}
 use Rattle.cm_names.specs.declared.child.ChildName.{ChildName}
 use Rattle.cm_names.specs.declared.moniker.Moniker.{Moniker}
-use Rattle.cm_names.specs.declared.grammar.MonikerPlace.{MonikerPlace}
-use Rattle.cm_names.specs.declared.grammar.MonikerPlace.TheVariants.{Start, Whole, Root, Part, First, Colon, Second}
+use Rattle.cm_names.specs.declared.grammar.MonikerState.{MonikerState}
+use Rattle.cm_names.specs.declared.grammar.MonikerState.TheVariants.{Start, Whole, Root, Part, First, Colon, Second}
 use Rattle.cm_names.specs.Name.{IsName, continues_name}
 use Rattle.cm_names.specs.Child.{child_text}
-use Rattle.cm_names.specs.Moniker.{IsChild, IsMonikerTextOf}
-use Rattle.cm_names.specs.MonikerPlaces.{next, may_end}
-use Rattle.cm_names.proofs.fronts.Fronts.{Accepts, onward}
-use Rattle.cm_names.proofs.fronts.MonikerGrammar.{moniker_accepted, not_at}
+use Rattle.cm_names.specs.Moniker.{IsChildName, IsMonikerTextOf}
+use Rattle.cm_names.specs.MonikerStates.{next, may_end}
+use Rattle.cm_names.proofs.prefixes.Prefixes.{Accepts, onward}
+use Rattle.cm_names.proofs.prefixes.MonikerGrammar.{moniker_accepted, not_at}
 use Rattle.cm_names.proofs.texts.NameLemmas.{begins_continues}
 use Rattle.std.proofs.lemmas.Bool.{and_parts}
 use Rattle.std.proofs.lemmas.List.Splits.{join_with_byte-slice_split}
@@ -52,7 +52,7 @@ name_lacks k e [] h = absurd h
 name_lacks k e (b ∷ bs) h =
     All-cons (λ c. (c == k) ≡ false) b bs (not_at b k (begins_continues b h.1) e) (λ i d lt. not_at _ k (h.2 i d lt) e)
 
-space_stops : (p : MonikerPlace) → next p 32 ≡ None
+space_stops : (p : MonikerState) → next p 32 ≡ None
 space_stops Start = refl
 space_stops Whole = refl
 space_stops Root = refl
@@ -61,14 +61,14 @@ space_stops (First n) = refl
 space_stops Colon = refl
 space_stops (Second n) = refl
 
-no_space : (p q : MonikerPlace) (b : ℕ) → next p b ≡ Some q → (b == 32) ≡ false
+no_space : (p q : MonikerState) (b : ℕ) → next p b ≡ Some q → (b == 32) ≡ false
 no_space p q b h =
     elim (b == 32) as (λ x. (b == 32) ≡ x → x ≡ false) [
       | true ↦ λ e. absurd (none-some q (sym (space_stops p) ∙ sym (ap (next p) (eqb-true b 32 e)) ∙ h))
       | false ↦ λ e. refl
     ] refl
 
-accepted_lacks : (p : MonikerPlace) (t : List ℕ) → Accepts next may_end p t → Lacks 32 t
+accepted_lacks : (p : MonikerState) (t : List ℕ) → Accepts next may_end p t → Lacks 32 t
 accepted_lacks p [] h = All-nil (λ b. (b == 32) ≡ false)
 accepted_lacks p (b ∷ bs) h =
     let on = onward p b bs h in
@@ -77,9 +77,9 @@ accepted_lacks p (b ∷ bs) h =
 pub moniker_lacks : (t : List ℕ) (m : Moniker) → IsMonikerTextOf t m → Lacks 32 t
 moniker_lacks t m h = accepted_lacks Start t (moniker_accepted t m h)
 
-pub child_lacks : (c : ChildName) → IsChild c → Lacks 32 (child_text c)
+pub child_lacks : (c : ChildName) → IsChildName c → Lacks 32 (child_text c)
 child_lacks c h =
-    moniker_lacks (child_text c) (record { parts = c ∷ [] }) (record { names = All-cons IsChild c [] h (All-nil IsChild); written = inl refl })
+    moniker_lacks (child_text c) (record { parts = c ∷ [] }) (record { names = All-cons IsChildName c [] h (All-nil IsChildName); written = inl refl })
 
 -- ---- paths and rights
 
@@ -113,8 +113,8 @@ pub path_lacks : (t : List ℕ) → IsTrue (is_path t) → Lacks 32 t
 path_lacks [] h = All-nil (λ b. (b == 32) ≡ false)
 path_lacks (b ∷ bs) h =
     let both = and_parts (nat_le (length (b ∷ bs)) 4096 && is_slash b) (is_relative bs) h in
-    let front = and_parts (nat_le (length (b ∷ bs)) 4096) (is_slash b) both.0 in
-    let slash : b ≡ 47 = eqb-true b 47 front.1 in
+    let prefix = and_parts (nat_le (length (b ∷ bs)) 4096) (is_slash b) both.0 in
+    let slash : b ≡ 47 = eqb-true b 47 prefix.1 in
     All-cons (λ c. (c == 32) ≡ false) b bs (ap (λ c. c == 32) slash) (relative_lacks bs both.1)
 
 pub subdir_lacks : (t : List ℕ) → IsTrue (is_subdir t) → Lacks 32 t

@@ -4,8 +4,8 @@ use Rattle.std.proofs.lemmas.Bool.{or_parts}
 use Rattle.cm_decl.specs.declared.node.Node.{Node}
 use Rattle.cm_decl.specs.Same.{same_node}
 use Rattle.cm_decl.specs.NodeOrder.{node_at_most}
-use Rattle.cm_decl.specs.Cycle.{InCore, IsLeast, Follows, IsPickedCycle}
-use Rattle.cm_decl.specs.Reach.{Way, Reaches}
+use Rattle.cm_decl.specs.Cycle.{InCore, IsLeast, NextInCore, IsPickedCycle}
+use Rattle.cm_decl.specs.Reach.{DependencyPath, Reaches}
 use Rattle.cm_decl.proofs.Sameness.{and_first, and_second, same_node-refl}
 
 -- the order of nodes tells them apart
@@ -17,19 +17,19 @@ pub least_once : IsStrict → (P : Node → Type 0) (x y : Node) → IsLeast P x
 least_once strict P x y first second = strict x y (first.1 y second.0) (second.1 x first.0)
 
 abbrev On : (Node → Node → Bool) → Node → Node → Type 0
-On edge = Follows edge
+On edge = NextInCore edge
 
-pub follows_once : IsStrict → (edge : Node → Node → Bool) (x y z : Node) → Follows edge x y → Follows edge x z → y ≡ z
+pub follows_once : IsStrict → (edge : Node → Node → Bool) (x y z : Node) → NextInCore edge x y → NextInCore edge x z → y ≡ z
 follows_once strict edge x y z first second = least_once strict (λ v. InCore edge v × IsTrue (edge x v)) y z first second
 
 head_passes : (p : Node → Bool) (x : Node) (xs : List Node) → IsTrue (list_all p (x ∷ xs)) → IsTrue (p x) × IsTrue (list_all p xs)
 head_passes p x xs h = (and_first (p x) (list_all p xs) h, and_second (p x) (list_all p xs) h)
 
-move_start : (edge : Node → Node → Bool) (x y : Node) (ys : List Node) (u : Node) → x ≡ y → Way (On edge) x ys u → Way (On edge) y ys u
-move_start edge x y ys u e way = subst (λ z. Way (On edge) z ys u) e way
+move_start : (edge : Node → Node → Bool) (x y : Node) (ys : List Node) (u : Node) → x ≡ y → DependencyPath (On edge) x ys u → DependencyPath (On edge) y ys u
+move_start edge x y ys u e way = subst (λ z. DependencyPath (On edge) z ys u) e way
 
 -- what is reached from a place on a loop passes what the whole loop passes, and the loop's head is reached from it
-round : IsStrict → (edge : Node → Node → Bool) (head : Node) (others : List Node) → Way (On edge) head others head → (p : Node → Bool) → IsTrue (p head) → IsTrue (list_all p others) → (x : Node) (xs : List Node) → Way (On edge) x xs head → IsTrue (list_all p xs) → (ys : List Node) (u : Node) → Way (On edge) x ys u → IsTrue (p u) × Reaches (On edge) u head
+round : IsStrict → (edge : Node → Node → Bool) (head : Node) (others : List Node) → DependencyPath (On edge) head others head → (p : Node → Bool) → IsTrue (p head) → IsTrue (list_all p others) → (x : Node) (xs : List Node) → DependencyPath (On edge) x xs head → IsTrue (list_all p xs) → (ys : List Node) (u : Node) → DependencyPath (On edge) x ys u → IsTrue (p u) × Reaches (On edge) u head
 round strict edge head others loop p top all x [] on rest [] u step =
     let same : head ≡ u = follows_once strict edge x head u on step in
     (subst (λ z. IsTrue (p z)) same top, subst (λ z. Reaches (On edge) z head) same (others, loop))
@@ -44,12 +44,12 @@ round strict edge head others loop p top all x (z ∷ zs) on rest (y ∷ ys) u w
     round strict edge head others loop p top all z zs on.1 (head_passes p z zs rest).1 ys u (move_start edge y z ys u same way.1)
 
 -- the last step of a way leads to its end, which is therefore at most itself
-own_least : (edge : Node → Node → Bool) (x : Node) (xs : List Node) (y : Node) → Way (On edge) x xs y → IsTrue (node_at_most y y)
+own_least : (edge : Node → Node → Bool) (x : Node) (xs : List Node) (y : Node) → DependencyPath (On edge) x xs y → IsTrue (node_at_most y y)
 own_least edge x [] y on = on.1 y on.0
 own_least edge x (z ∷ zs) y way = own_least edge z zs y way.1
 
 -- two ways from one node: the same end, or one end is reached from the other
-fork : IsStrict → (edge : Node → Node → Bool) (s : Node) (xs ys : List Node) (a b : Node) → Way (On edge) s xs a → Way (On edge) s ys b → (a ≡ b) ⊎ (Reaches (On edge) a b ⊎ Reaches (On edge) b a)
+fork : IsStrict → (edge : Node → Node → Bool) (s : Node) (xs ys : List Node) (a b : Node) → DependencyPath (On edge) s xs a → DependencyPath (On edge) s ys b → (a ≡ b) ⊎ (Reaches (On edge) a b ⊎ Reaches (On edge) b a)
 fork strict edge s [] [] a b on to = inl (follows_once strict edge s a b on to)
 fork strict edge s [] (y ∷ ys) a b on to =
     inr (inl (ys, move_start edge y a ys b (follows_once strict edge s y a to.0 on) to.1))
@@ -64,7 +64,7 @@ left_missing h y ys e none =
     true≢false (sym (ap (λ b. b || list_any (same_node h) ys) here) ∙ none)
 
 -- two loops to one head that don't pass it before are one
-loop_once : IsStrict → (edge : Node → Node → Bool) (head x : Node) (xs ys : List Node) → Way (On edge) x xs head → Way (On edge) x ys head → list_any (same_node head) xs ≡ false → list_any (same_node head) ys ≡ false → xs ≡ ys
+loop_once : IsStrict → (edge : Node → Node → Bool) (head x : Node) (xs ys : List Node) → DependencyPath (On edge) x xs head → DependencyPath (On edge) x ys head → list_any (same_node head) xs ≡ false → list_any (same_node head) ys ≡ false → xs ≡ ys
 loop_once strict edge head x [] [] on to one two = refl
 loop_once strict edge head x [] (y ∷ ys) on to one two =
     absurd (left_missing head y ys (follows_once strict edge x y head to.0 on) two)
@@ -111,7 +111,7 @@ heads_once strict edge c d one two =
 pub picked_once : IsStrict → (edge : Node → Node → Bool) (c d : List Node) → IsPickedCycle edge c → IsPickedCycle edge d → c ≡ d
 picked_once strict edge c d one two =
     let heads : one.head ≡ two.head = heads_once strict edge c d one two in
-    let loop : Way (On edge) one.head two.others one.head = subst (λ h. Way (On edge) h two.others h) (sym heads) two.loop in
+    let loop : DependencyPath (On edge) one.head two.others one.head = subst (λ h. DependencyPath (On edge) h two.others h) (sym heads) two.loop in
     let once : list_any (same_node one.head) two.others ≡ false = subst (λ h. list_any (same_node h) two.others ≡ false) (sym heads) two.once in
     let others : one.others ≡ two.others = loop_once strict edge one.head one.head one.others two.others one.loop loop one.once once in
     one.whole ∙ ap (λ l. one.head ∷ l ++ one.head ∷ []) others ∙ ap (λ h. h ∷ two.others ++ h ∷ []) heads ∙ sym two.whole

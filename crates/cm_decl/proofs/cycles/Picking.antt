@@ -1,7 +1,7 @@
 use Rattle.std.proofs.Common.{◌≡◌, List, [], ◌∷◌, Bool, IsTrue}
 use Rattle.cm_decl.specs.declared.node.Node.{Node}
-use Rattle.cm_decl.specs.Cycle.{IsPickedCycle, Follows}
-use Rattle.cm_decl.specs.Reach.{Way, HasCycle}
+use Rattle.cm_decl.specs.Cycle.{IsPickedCycle, NextInCore}
+use Rattle.cm_decl.specs.Reach.{DependencyPath, HasCycle}
 use Rattle.cm_decl.proofs.orders.Comparing.{nodes_strict}
 use Rattle.cm_decl.proofs.cycles.Loops.{picked_once}
 
@@ -9,7 +9,7 @@ use Rattle.cm_decl.proofs.cycles.Loops.{picked_once}
 pub picks_once : (edge : Node → Node → Bool) (c d : List Node) → IsPickedCycle edge c → IsPickedCycle edge d → c ≡ d
 picks_once edge c d one two = picked_once nodes_strict edge c d one two
 
-ahead : (edge : Node → Node → Bool) (x : Node) (xs : List Node) (y : Node) → Way (Follows edge) x xs y → Way (λ a b. IsTrue (edge a b)) x xs y
+ahead : (edge : Node → Node → Bool) (x : Node) (xs : List Node) (y : Node) → DependencyPath (NextInCore edge) x xs y → DependencyPath (λ a b. IsTrue (edge a b)) x xs y
 ahead edge x [] y on = on.0.1
 ahead edge x (z ∷ zs) y way = (way.0.0.1, ahead edge z zs y way.1)
 

@@ -1,14 +1,14 @@
 use Rattle.std.proofs.Common.{List, [], ◌∷◌}
-use Rattle.cm_decl.specs.Reach.{Way, Reaches, NoCycle}
+use Rattle.cm_decl.specs.Reach.{DependencyPath, Reaches, NoCycle}
 
 -- two ways make one
-pub Way-append : {N : Type 0} (On : N → N → Type 0) (x : N) (xs : List N) (y : N) (ys : List N) (z : N) → Way On x xs y → Way On y ys z → Reaches On x z
-Way-append On x [] y ys z on way = (y ∷ ys, (on, way))
-Way-append On x (v ∷ vs) y ys z first second =
-    let rest : Reaches On v z = Way-append On v vs y ys z first.1 second in (v ∷ rest.0, (first.0, rest.1))
+pub DependencyPath-append : {N : Type 0} (On : N → N → Type 0) (x : N) (xs : List N) (y : N) (ys : List N) (z : N) → DependencyPath On x xs y → DependencyPath On y ys z → Reaches On x z
+DependencyPath-append On x [] y ys z on way = (y ∷ ys, (on, way))
+DependencyPath-append On x (v ∷ vs) y ys z first second =
+    let rest : Reaches On v z = DependencyPath-append On v vs y ys z first.1 second in (v ∷ rest.0, (first.0, rest.1))
 
 pub Reaches-trans : {N : Type 0} (On : N → N → Type 0) (x y z : N) → Reaches On x y → Reaches On y z → Reaches On x z
-Reaches-trans On x y z first second = Way-append On x first.0 y second.0 z first.1 second.1
+Reaches-trans On x y z first second = DependencyPath-append On x first.0 y second.0 z first.1 second.1
 
 -- no cycle where no step leads to a node from which one goes on
 pub acyclic_by_ends : {N : Type 0} (On : N → N → Type 0) → ((x y z : N) → On x y → On y z → ⊥) → NoCycle On

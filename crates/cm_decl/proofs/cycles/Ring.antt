@@ -8,7 +8,7 @@ use Rattle.cm_decl.specs.declared.node.Node.TheVariants.{Own, Child}
 use Rattle.cm_decl.specs.Same.{same_node}
 use Rattle.cm_decl.specs.NodeOrder.{node_at_most}
 use Rattle.cm_decl.specs.Graph.{is_strong_edge, StrongOn, static_name, is_node}
-use Rattle.cm_decl.specs.Cycle.{IsSupported, InCore, IsLeast, Follows, IsPickedCycle}
+use Rattle.cm_decl.specs.Cycle.{IsSupported, InCore, IsLeast, NextInCore, IsPickedCycle}
 use Rattle.cm_decl.specs.Reach.{NoCycle}
 use Rattle.cm_decl.specs.Examples.{two_ways, child_node, a, b}
 use Rattle.cm_decl.proofs.orders.Orders.{edge_nodes}
@@ -128,7 +128,7 @@ least_a = (
   ],
 )
 
-a_to_b : Follows (is_strong_edge (two_ways Strong) []) at_a at_b
+a_to_b : NextInCore (is_strong_edge (two_ways Strong) []) at_a at_b
 unfolding Ends
 a_to_b = (
   (core_b, refl),
@@ -138,7 +138,7 @@ a_to_b = (
   ],
 )
 
-b_to_a : Follows (is_strong_edge (two_ways Strong) []) at_b at_a
+b_to_a : NextInCore (is_strong_edge (two_ways Strong) []) at_b at_a
 unfolding Ends
 b_to_a = (
   (core_a, refl),

@@ -3,13 +3,14 @@ use Rattle.std.specs.Prelude.{ℕ, zero, suc, [], Option, None, find, option_map
 use Rattle.cm_decl.specs.declared.decl.Decl.{Decl}
 use Rattle.cm_decl.specs.declared.section.Section.{Section}
 use Rattle.cm_decl.specs.declared.section.Section.TheVariants.{Children, Collections, Capabilities, Uses, Offers, Exposes}
-use Rattle.cm_decl.specs.Rules.{Rule, rules, number_of}
+use Rattle.cm_decl.specs.Rules.{Rule, number_of}
+use Rattle.cm_decl.specs.RulesInside.{rules}
 use Rattle.cm_decl.specs.Clashes.{clash, or_else}
 use Rattle.cm_decl.specs.Breaks.{breaks}
-use Rattle.cm_decl.specs.Faults.{Fault}
+use Rattle.cm_decl.specs.Faults.{DeclFault}
 
 -- the fault of a row that breaks a rule
-abbrev pub fault_by : Decl → Section → ℕ → Rule → Fault
+abbrev pub fault_by : Decl → Section → ℕ → Rule → DeclFault
 fault_by d section i rule = record {
   number = number_of rule;
   section = section;
@@ -19,16 +20,16 @@ fault_by d section i rule = record {
 }
 
 -- the first fault at a row
-abbrev pub fault_at : Decl → Section → ℕ → Option Fault
+abbrev pub fault_at : Decl → Section → ℕ → Option DeclFault
 fault_at d section i = option_map (fault_by d section i) (find (λ rule. breaks d rule section i) rules)
 
 -- the first fault among the first n rows of a section
-abbrev pub fault_below : Decl → Section → ℕ → Option Fault
+abbrev pub fault_below : Decl → Section → ℕ → Option DeclFault
 fault_below d section zero = None
 fault_below d section (suc n) = or_else (fault_below d section n) (fault_at d section n)
 
 -- the first fault of all rows
-abbrev pub first_fault : Decl → Option Fault
+abbrev pub first_fault : Decl → Option DeclFault
 first_fault d =
     or_else (fault_below d Children (length d.children))
     (or_else (fault_below d Collections (length d.collections))

@@ -8,13 +8,15 @@ use Rattle.cm_decl.specs.declared.decl.Decl.{Decl}
 use Rattle.cm_decl.specs.declared.node.Node.{Node}
 use Rattle.cm_decl.specs.declared.section.Section.{Section}
 use Rattle.cm_decl.specs.declared.section.Section.TheVariants.{Manifest, Program, Children, Collections, Capabilities, Uses, Offers, Exposes, Environments, Graph}
-use Rattle.cm_decl.specs.Rules.{Rule, RepeatedName, UnknownRef, NotDeclared, TargetIsSource, RepeatedTarget, RepeatedPath, PathInside, RequiredVoid, rules, number_of}
+use Rattle.cm_decl.specs.Rules.{Rule, RepeatedName, UnknownRef, NotDeclared, TargetIsSource, RepeatedTarget, RepeatedPath, PathInside, RequiredVoid, number_of}
+use Rattle.cm_decl.specs.RulesInside.{rules}
 use Rattle.cm_decl.specs.declared.rows.Collection.{Collection}
-use Rattle.cm_decl.specs.Clashes.{Place, clash, or_else, first_row, first_before, same_child_name, same_collection_name, same_capability_name, same_target, same_expose, same_path, are_paths_nested}
+use Rattle.cm_decl.specs.Clashes.{RowPlace, clash, or_else, first_row, first_before, same_child_name, same_collection_name, same_capability_name, same_target, same_expose, same_path, are_paths_nested}
 use Rattle.cm_decl.specs.Breaks.{breaks, passes_at}
-use Rattle.cm_decl.specs.Faults.{Fault, Stands, section_rank, IsBefore, IsFirst, IsFirstIn, IsFaultless}
+use Rattle.cm_decl.specs.Faults.{DeclFault, IsBroken, section_rank, IsBefore, IsFirst, IsFaultless}
+use Rattle.cm_decl.specs.FaultsInside.{IsFirstIn}
 use Rattle.cm_decl.proofs.faults.Computed.{fault_by, fault_at, fault_below, first_fault}
-use Rattle.cm_decl.specs.Valid.{IsValid, IsFaultOf, cycle_fault}
+use Rattle.cm_decl.specs.Valid.{IsValid, IsDeclFault, cycle_fault}
 use Rattle.cm_decl.specs.Graph.{is_strong_edge}
 use Rattle.cm_decl.proofs.Sameness.{never}
 use Rattle.cm_decl.proofs.cycles.Picking.{picks_once, picked_is_cycle}
@@ -77,10 +79,10 @@ section_back Graph = refl
 pub same_section : (s t : Section) → section_rank s ≡ section_rank t → s ≡ t
 same_section s t e = sym (section_back s) ∙ ap section_of e ∙ section_back t
 
-fault : ℕ → Section → ℕ → Option Place → List Node → Fault
+fault : ℕ → Section → ℕ → Option RowPlace → List Node → DeclFault
 fault n s i p c = record { number = n; section = s; index = i; against = p; cycle = c }
 
-same_fault : (f g : Fault) → f.number ≡ g.number → f.section ≡ g.section → f.index ≡ g.index → f.against ≡ g.against → f.cycle ≡ g.cycle → f ≡ g
+same_fault : (f g : DeclFault) → f.number ≡ g.number → f.section ≡ g.section → f.index ≡ g.index → f.against ≡ g.against → f.cycle ≡ g.cycle → f ≡ g
 unfolding fault
 same_fault f g a b c d e =
     ap (λ n. fault n f.section f.index f.against f.cycle) a ∙
@@ -92,13 +94,13 @@ same_fault f g a b c d e =
 -- ---- the first of several
 
 -- the same part in other words
-pub in_other_words : (d : Decl) (P Q : Fault → Type 0) (o : Option Fault) → ((f : Fault) → P f → Q f) → ((f : Fault) → Stands d f → Q f → P f) → IsFirstIn d P o → IsFirstIn d Q o
+pub in_other_words : (d : Decl) (P Q : DeclFault → Type 0) (o : Option DeclFault) → ((f : DeclFault) → P f → Q f) → ((f : DeclFault) → IsBroken d f → Q f → P f) → IsFirstIn d P o → IsFirstIn d Q o
 in_other_words d P Q None there back first = λ g st q. first g st (back g st q)
 in_other_words d P Q (Some f) there back first =
     (first.0, there f first.1, λ g st q before. first.2 g st (back g st q) before)
 
 -- the first of two parts of which the one stands before the other
-pub first_of_both : (d : Decl) (P Q : Fault → Type 0) (o others : Option Fault) → ((f g : Fault) → P f → Q g → IsBefore g f → ⊥) → IsFirstIn d P o → IsFirstIn d Q others → IsFirstIn d (λ f. P f ⊎ Q f) (or_else o others)
+pub first_of_both : (d : Decl) (P Q : DeclFault → Type 0) (o others : Option DeclFault) → ((f g : DeclFault) → P f → Q g → IsBefore g f → ⊥) → IsFirstIn d P o → IsFirstIn d Q others → IsFirstIn d (λ f. P f ⊎ Q f) (or_else o others)
 first_of_both d P Q (Some f) others apart first second = (
   first.0,
   inl first.1,
@@ -164,17 +166,17 @@ least_rule p =
     (least_step p RequiredVoid _ (p RequiredVoid) refl (none_from p))))))))
 
 -- at a row, below a row of a section, in a section, and from a section on
-abbrev pub At : Section → ℕ → Fault → Type 0
+abbrev pub At : Section → ℕ → DeclFault → Type 0
 At s i f = (f.section ≡ s) × (f.index ≡ i)
 
-abbrev pub Below : Section → ℕ → Fault → Type 0
+abbrev pub Below : Section → ℕ → DeclFault → Type 0
 Below s n f = (f.section ≡ s) × (f.index < n)
 
-abbrev pub From : ℕ → Fault → Type 0
+abbrev pub From : ℕ → DeclFault → Type 0
 From k f = k ≤ section_rank f.section
 
 -- a fault that stands at a row breaks its rule there
-broken_at : (d : Decl) (s : Section) (i : ℕ) (g : Fault) (st : Stands d g) → At s i g → IsTrue (breaks d st.rule s i)
+broken_at : (d : Decl) (s : Section) (i : ℕ) (g : DeclFault) (st : IsBroken d g) → At s i g → IsTrue (breaks d st.rule s i)
 broken_at d s i g st here =
     subst (λ t. IsTrue (breaks d st.rule t i)) here.0 (subst (λ j. IsTrue (breaks d st.rule g.section j)) here.1 st.broken)
 
@@ -197,20 +199,20 @@ pub first_at_row : (d : Decl) (s : Section) (i : ℕ) → IsFirstIn d (At s i) (
 first_at_row d s i = row_by d s i (find (λ r. breaks d r s i) rules) (least_rule (λ r. breaks d r s i))
 
 -- one row more
-pub first_below_more : (d : Decl) (s : Section) (n : ℕ) (o others : Option Fault) → IsFirstIn d (Below s n) o → IsFirstIn d (At s n) others → IsFirstIn d (Below s (n + 1)) (or_else o others)
+pub first_below_more : (d : Decl) (s : Section) (n : ℕ) (o others : Option DeclFault) → IsFirstIn d (Below s n) o → IsFirstIn d (At s n) others → IsFirstIn d (Below s (n + 1)) (or_else o others)
 first_below_more d s n o others first second =
     in_other_words d (λ f. Below s n f ⊎ At s n f) (Below s (n + 1)) (or_else o others)
     (λ f part. elim part as (λ _. Below s (n + 1) f) [ inl p ↦ (p.0, omega arith) | inr q ↦ (q.0, omega arith) ])
     (λ f st part. split f part)
     (first_of_both d (Below s n) (At s n) o others (λ f g p q before. apart f g p q before) first second)
   where
-    split : (f : Fault) → Below s (n + 1) f → Below s n f ⊎ At s n f
+    split : (f : DeclFault) → Below s (n + 1) f → Below s n f ⊎ At s n f
     split f part = elim (cases_lt f.index n) as (λ _. Below s n f ⊎ At s n f) [
       | inl l ↦ inl (part.0, l)
       | inr g ↦ inr (part.0, omega arith)
     ]
 
-    apart : (f g : Fault) → Below s n f → At s n g → IsBefore g f → ⊥
+    apart : (f g : DeclFault) → Below s n f → At s n g → IsBefore g f → ⊥
     apart f g p q (inl lower) =
         let one : section_rank f.section ≡ section_rank s = ap section_rank p.0 in
         let two : section_rank g.section ≡ section_rank s = ap section_rank q.0 in absurd (omega arith)
@@ -280,13 +282,13 @@ broken_within d PathInside Uses i h = clash_within Uses are_paths_nested d.uses 
 broken_within d rule s i h = never h
 
 -- the faults of a section stand at its rows
-pub first_in_section : (d : Decl) (s : Section) (o : Option Fault) → IsFirstIn d (Below s (rows_of d s)) o → IsFirstIn d (λ f. f.section ≡ s) o
+pub first_in_section : (d : Decl) (s : Section) (o : Option DeclFault) → IsFirstIn d (Below s (rows_of d s)) o → IsFirstIn d (λ f. f.section ≡ s) o
 first_in_section d s o first =
     in_other_words d (Below s (rows_of d s)) (λ f. f.section ≡ s) o (λ f part. part.0)
     (λ f st same. (same, subst (λ t. f.index < rows_of d t) same (broken_within d st.rule f.section f.index st.broken))) first
 
 -- a section, and those behind it
-pub first_from : (d : Decl) (s : Section) (k : ℕ) (o others : Option Fault) → section_rank s ≡ k → IsFirstIn d (λ f. f.section ≡ s) o → IsFirstIn d (From (k + 1)) others → IsFirstIn d (From k) (or_else o others)
+pub first_from : (d : Decl) (s : Section) (k : ℕ) (o others : Option DeclFault) → section_rank s ≡ k → IsFirstIn d (λ f. f.section ≡ s) o → IsFirstIn d (From (k + 1)) others → IsFirstIn d (From k) (or_else o others)
 first_from d s k o others at first second =
     in_other_words d (λ f. (f.section ≡ s) ⊎ From (k + 1) f) (From k) (or_else o others)
     (λ f part. elim part as (λ _. From k f) [
@@ -296,21 +298,21 @@ first_from d s k o others at first second =
     (λ f st part. split f part)
     (first_of_both d (λ f. f.section ≡ s) (From (k + 1)) o others (λ f g p q before. apart f g p q before) first second)
   where
-    split : (f : Fault) → From k f → (f.section ≡ s) ⊎ From (k + 1) f
+    split : (f : DeclFault) → From k f → (f.section ≡ s) ⊎ From (k + 1) f
     split f part = elim (cases_order k (section_rank f.section)) as (λ _. (f.section ≡ s) ⊎ From (k + 1) f) [
       | inl e ↦ inl (same_section f.section s (sym e ∙ sym at))
       | inr (inl l) ↦ inr (omega arith)
       | inr (inr g) ↦ absurd (omega arith)
     ]
 
-    apart : (f g : Fault) → f.section ≡ s → From (k + 1) g → IsBefore g f → ⊥
+    apart : (f g : DeclFault) → f.section ≡ s → From (k + 1) g → IsBefore g f → ⊥
     apart f g p q (inl lower) =
         let same : section_rank f.section ≡ section_rank s = ap section_rank p in absurd (omega arith)
     apart f g p q (inr (e, rest)) =
         let same : section_rank f.section ≡ section_rank s = ap section_rank p in absurd (omega arith)
 
 -- behind the exposes nothing stands
-none_behind : (d : Decl) (f : Fault) (s : Section) → f.section ≡ s → Stands d f → 8 ≤ section_rank s → ⊥
+none_behind : (d : Decl) (f : DeclFault) (s : Section) → f.section ≡ s → IsBroken d f → 8 ≤ section_rank s → ⊥
 none_behind d f Environments e st behind =
     let there : f.index < 0 = subst (λ t. f.index < rows_of d t) e (broken_within d st.rule f.section f.index st.broken) in omega arith
 none_behind d f Graph e st behind =
@@ -321,7 +323,7 @@ computed_section : (d : Decl) (s : Section) → IsFirstIn d (λ f. f.section ≡
 computed_section d s = first_in_section d s (fault_below d s (rows_of d s)) (first_below d s (rows_of d s))
 
 -- so the exposes are the last part
-pub first_from_exposes : (d : Decl) (o : Option Fault) → IsFirstIn d (λ f. f.section ≡ Exposes) o → IsFirstIn d (From 7) o
+pub first_from_exposes : (d : Decl) (o : Option DeclFault) → IsFirstIn d (λ f. f.section ≡ Exposes) o → IsFirstIn d (From 7) o
 first_from_exposes d o first =
     in_other_words d (λ f. f.section ≡ Exposes) (From 7) o
     (λ f part. let same : section_rank f.section ≡ 7 = ap section_rank part in omega arith)
@@ -341,21 +343,21 @@ computed_from d =
     (first_from_exposes d _ (computed_section d Exposes))))))
 
 -- before the children nothing stands
-none_before : (d : Decl) (f : Fault) (s : Section) → f.section ≡ s → Stands d f → section_rank s < 2 → ⊥
+none_before : (d : Decl) (f : DeclFault) (s : Section) → f.section ≡ s → IsBroken d f → section_rank s < 2 → ⊥
 none_before d f Manifest e st before =
     let there : f.index < 0 = subst (λ t. f.index < rows_of d t) e (broken_within d st.rule f.section f.index st.broken) in omega arith
 none_before d f Program e st before =
     let there : f.index < 0 = subst (λ t. f.index < rows_of d t) e (broken_within d st.rule f.section f.index st.broken) in omega arith
 none_before d f s e st before = omega arith
 
-from_children : (d : Decl) (f : Fault) → Stands d f → From 2 f
+from_children : (d : Decl) (f : DeclFault) → IsBroken d f → From 2 f
 from_children d f st = elim (cases_lt (section_rank f.section) 2) as (λ _. From 2 f) [
   | inl l ↦ absurd (none_before d f f.section refl st l)
   | inr g ↦ g
 ]
 
 -- what is first from the children on is first
-pub first_of_all : (d : Decl) (f : Fault) → IsFirstIn d (From 2) (Some f) → IsFirst d f
+pub first_of_all : (d : Decl) (f : DeclFault) → IsFirstIn d (From 2) (Some f) → IsFirst d f
 first_of_all d f first = record {
   stands = first.0;
   none_before = λ g st before. first.2 g st (from_children d g st) before;
@@ -365,7 +367,7 @@ pub none_of_all : (d : Decl) → IsFirstIn d (From 2) None → IsFaultless d
 none_of_all d first = λ f st. first f st (from_children d f st)
 
 -- the computed fault is the first that stands, and where none is computed none stands
-pub computes_some : (d : Decl) (f : Fault) → first_fault d ≡ Some f → IsFirst d f
+pub computes_some : (d : Decl) (f : DeclFault) → first_fault d ≡ Some f → IsFirst d f
 computes_some d f e = first_of_all d f (subst (λ o. IsFirstIn d (From 2) o) e (computed_from d))
 
 pub computes_none : (d : Decl) → first_fault d ≡ None → IsFaultless d
@@ -377,14 +379,14 @@ no_less : (a b : ℕ) → (a < b → ⊥) → (b < a → ⊥) → a ≡ b
 no_less a b f g = elim (cases_order a b) as (λ _. a ≡ b) [ inl e ↦ e | inr (inl l) ↦ absurd (f l) | inr (inr l) ↦ absurd (g l) ]
 
 -- what stands at one place under one number is one fault
-same_stands : (d : Decl) (f g : Fault) → Stands d f → Stands d g → f.section ≡ g.section → f.index ≡ g.index → f.number ≡ g.number → f ≡ g
+same_stands : (d : Decl) (f g : DeclFault) → IsBroken d f → IsBroken d g → f.section ≡ g.section → f.index ≡ g.index → f.number ≡ g.number → f ≡ g
 same_stands d f g one two sections indexes numbers =
     let rule : one.rule ≡ two.rule = same_rule one.rule two.rule (sym one.numbered ∙ numbers ∙ two.numbered) in
     let against : f.against ≡ g.against = one.clashing ∙ ap (λ r. clash d r f.section f.index) rule ∙ ap (λ s. clash d two.rule s f.index) sections ∙ ap (λ i. clash d two.rule g.section i) indexes ∙ sym two.clashing in
     let cycle : f.cycle ≡ g.cycle = one.no_cycle ∙ sym two.no_cycle in
     same_fault f g numbers sections indexes against cycle
 
-first_once : (d : Decl) (f g : Fault) → IsFirst d f → IsFirst d g → f ≡ g
+first_once : (d : Decl) (f g : DeclFault) → IsFirst d f → IsFirst d g → f ≡ g
 first_once d f g one two =
     let behind : IsBefore f g → ⊥ = two.none_before f one.stands in
     let before : IsBefore g f → ⊥ = one.none_before g two.stands in
@@ -394,7 +396,7 @@ first_once d f g one two =
     same_stands d f g one.stands two.stands (same_section f.section g.section ranks) indexes numbers
 
 -- a declaration has at most one fault
-pub fault_once : (d : Decl) (f g : Fault) → IsFaultOf d f → IsFaultOf d g → f ≡ g
+pub fault_once : (d : Decl) (f g : DeclFault) → IsDeclFault d f → IsDeclFault d g → f ≡ g
 fault_once d f g (inl one) (inl two) = first_once d f g one two
 fault_once d f g (inl one) (inr two) = absurd (two.faultless f one.stands)
 fault_once d f g (inr one) (inl two) = absurd (one.faultless g two.stands)
@@ -402,6 +404,6 @@ fault_once d f g (inr one) (inr two) =
     one.whole ∙ ap cycle_fault (picks_once (is_strong_edge d []) f.cycle g.cycle one.picked two.picked) ∙ sym two.whole
 
 -- and a valid one has none
-pub valid_faultless : (d : Decl) (f : Fault) → IsValid d → IsFaultOf d f → ⊥
+pub valid_faultless : (d : Decl) (f : DeclFault) → IsValid d → IsDeclFault d f → ⊥
 valid_faultless d f valid (inl one) = valid.faultless f one.stands
 valid_faultless d f valid (inr one) = valid.acyclic (picked_is_cycle (is_strong_edge d []) f.cycle one.picked)

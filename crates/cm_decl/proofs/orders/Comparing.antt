@@ -6,7 +6,8 @@ use Rattle.cm_names.specs.declared.child.ChildName.{ChildName}
 use Rattle.cm_names.specs.Child.{child_text}
 use Rattle.cm_decl.specs.declared.node.Node.{Node}
 use Rattle.cm_decl.specs.declared.node.Node.TheVariants.{Own, Child}
-use Rattle.cm_decl.specs.NodeOrder.{coll_length, text_cmp, node_cmp, node_cmp_total, node_at_most}
+use Rattle.cm_decl.specs.NodeOrder.{coll_length, text_cmp, node_cmp, node_at_most}
+use Rattle.cm_decl.specs.NodeOrderInside.{node_cmp_total}
 
 both_equal : (r s : Ordering) → ordering_then r s ≡ Equal → (r ≡ Equal) × (s ≡ Equal)
 both_equal Less s e = absurd (true≢false (sym (ap is_eq e)))

@@ -5,9 +5,10 @@ use Rattle.cm_decl.specs.declared.decl.Decl.{Decl}
 use Rattle.cm_decl.specs.declared.node.DynChild.{DynChild}
 use Rattle.cm_decl.specs.declared.node.Node.{Node}
 use Rattle.cm_decl.specs.Same.{same_node}
-use Rattle.cm_decl.specs.Reach.{Way, NoCycle}
-use Rattle.cm_decl.specs.Realm.{Directly}
-use Rattle.cm_decl.specs.Graph.{IsOrder, realm, is_node, is_from_node, sources_of, StrongOn}
+use Rattle.cm_decl.specs.Reach.{DependencyPath, NoCycle}
+use Rattle.cm_decl.specs.RealmGraph.{Directly}
+use Rattle.cm_decl.specs.Graph.{is_node, is_from_node, sources_of, StrongOn}
+use Rattle.cm_decl.specs.GraphInside.{IsTopologicalOrder, realm}
 use Rattle.std.specs.List.{list_any}
 use Rattle.cm_decl.proofs.Sameness.{and_first, and_second, same_node_exact}
 
@@ -40,7 +41,7 @@ pub stands_somewhere : (x : Node) (order : List Node) → count_by (same_node x)
 stands_somewhere x order h = stands_in x order (length-filter (same_node x) order ∙ h)
 
 -- what is reached from a node stands behind it
-behind : (d : Decl) (dynamic : List DynChild) (order : List Node) → IsOrder (realm d dynamic) order → (x : Node) (i : ℕ) → slice_get order i ≡ Some x → (between : List Node) (y : Node) (j : ℕ) → slice_get order j ≡ Some y → Way (Directly (realm d dynamic)) x between y → i < j
+behind : (d : Decl) (dynamic : List DynChild) (order : List Node) → IsTopologicalOrder (realm d dynamic) order → (x : Node) (i : ℕ) → slice_get order i ≡ Some x → (between : List Node) (y : Node) (j : ℕ) → slice_get order j ≡ Some y → DependencyPath (Directly (realm d dynamic)) x between y → i < j
 behind d dynamic order is x i at [] y j there on = is.before x y i j at there on
 behind d dynamic order is x i at (z ∷ zs) y j there way =
     let middle : (k : ℕ) × (slice_get order k ≡ Some z) = stands_somewhere z order (is.once z ∙ ap (λ b. if b then 1 else 0) (direct_nodes d dynamic x z way.0).1) in
@@ -48,12 +49,12 @@ behind d dynamic order is x i at (z ∷ zs) y j there way =
     let rest : middle.0 < j = behind d dynamic order is z middle.0 middle.1 zs y j there way.1 in
     omega arith
 
-first_node : (d : Decl) (dynamic : List DynChild) (x : Node) (between : List Node) (y : Node) → Way (Directly (realm d dynamic)) x between y → IsTrue (is_node d dynamic x)
+first_node : (d : Decl) (dynamic : List DynChild) (x : Node) (between : List Node) (y : Node) → DependencyPath (Directly (realm d dynamic)) x between y → IsTrue (is_node d dynamic x)
 first_node d dynamic x [] y on = (direct_nodes d dynamic x y on).0
 first_node d dynamic x (z ∷ zs) y way = (direct_nodes d dynamic x z way.0).0
 
 -- a realm graph that has an order has no cycle
-pub ordered_acyclic : (d : Decl) (dynamic : List DynChild) (order : List Node) → IsOrder (realm d dynamic) order → NoCycle (Directly (realm d dynamic))
+pub ordered_acyclic : (d : Decl) (dynamic : List DynChild) (order : List Node) → IsTopologicalOrder (realm d dynamic) order → NoCycle (Directly (realm d dynamic))
 ordered_acyclic d dynamic order is (x, (between, way)) =
     let here : (i : ℕ) × (slice_get order i ≡ Some x) = stands_somewhere x order (is.once x ∙ ap (λ b. if b then 1 else 0) (first_node d dynamic x between x way)) in
     let lower : here.0 < here.0 = behind d dynamic order is x here.0 here.1 between x here.0 here.1 way in

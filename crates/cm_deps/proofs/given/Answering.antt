@@ -16,19 +16,20 @@ use Rattle.cm_decl.specs.declared.node.Node.TheVariants.{Own, Child}
 use Rattle.cm_decl.specs.declared.origin.Origin.{Origin}
 use Rattle.cm_decl.specs.declared.origin.Origin.TheVariants as origin
 use Rattle.cm_decl.specs.Same.{same_node}
-use Rattle.cm_decl.specs.Realm.{Directly}
-use Rattle.cm_decl.specs.Graph.{is_node, is_from_node, realm, DependsOn, WouldDirectly, WouldDepend}
+use Rattle.cm_decl.specs.RealmGraph.{Directly}
+use Rattle.cm_decl.specs.Graph.{is_node, is_from_node}
+use Rattle.cm_decl.specs.GraphInside.{realm, DependsOn, WouldDirectly, WouldDepend}
 use Rattle.cm_decl.proofs.orders.Orders.{direct_nodes}
 use Rattle.cm_decl.proofs.Sameness.{and_first, and_second, or_split, same_node-refl, same_node_exact}
 use Rattle.cm_deps.specs.Edges.{holds, row}
-use Rattle.cm_deps.specs.Nodes.{at, IsNodes, IsNumber}
+use Rattle.cm_deps.specs.Nodes.{at, IsNodes, IsNodeNumber}
 use Rattle.cm_deps.specs.Sources.{is_source, strong_sources, offers_of}
-use Rattle.cm_deps.specs.Leads.{number_of, leads_to, source_leads}
-use Rattle.cm_deps.specs.Graph.{IsReached}
+use Rattle.cm_deps.specs.LeadsToLeast.{number_of, leads_to, source_leads}
+use Rattle.cm_deps.specs.Graph.{IsReachability}
 use Rattle.cm_deps.proofs.listed.Listing.{same_nat, nat_eq-refl, or_left, or_right}
 use Rattle.cm_deps.proofs.loops.Ways.{last_step}
 use Rattle.cm_deps.proofs.numbers.Numbering.{number_once}
-use Rattle.cm_deps.proofs.numbers.Rising.{rising_keys}
+use Rattle.cm_deps.proofs.numbers.Increasing.{increasing_keys}
 use Rattle.cm_deps.proofs.numbers.Placing.{found_at, at_found}
 use Rattle.cm_deps.proofs.given.Sourcing.{sources_append}
 use Rattle.cm_deps.proofs.numbers.Realms.{own_first}
@@ -49,7 +50,7 @@ pub no_node : (d : Decl) (dynamic : List DynChild) (nodes : List Node) (x : Node
 no_node d dynamic nodes x is absent has = true≢false (sym (is.all x ∙ has) ∙ absent)
 
 -- by numbers
-pub depends_by_number : (d : Decl) (dynamic : List DynChild) (nodes : List Node) (reached : List (List ℕ)) (x y : Node) (from to : ℕ) → IsReached d dynamic nodes reached → IsNumber nodes x from → IsNumber nodes y to → IsTrue (holds (row reached from) to) ↔ DependsOn d dynamic x y
+pub depends_by_number : (d : Decl) (dynamic : List DynChild) (nodes : List Node) (reached : List (List ℕ)) (x y : Node) (from to : ℕ) → IsReachability d dynamic nodes reached → IsNodeNumber nodes x from → IsNodeNumber nodes y to → IsTrue (holds (row reached from) to) ↔ DependsOn d dynamic x y
 depends_by_number d dynamic nodes reached x y from to is first second =
     let both : IsTrue (holds (row reached from) to) ↔ DependsOn d dynamic (at nodes from) (at nodes to) = is from to first.inside second.inside in (
       (λ held. subst (λ v. DependsOn d dynamic v y) first.there (subst (λ v. DependsOn d dynamic (at nodes from) v) second.there (both.0 held))),
@@ -76,15 +77,15 @@ any_held p xs i held passes =
 abbrev pub Onward : Decl → List DynChild → Node → Node → Type 0
 Onward d dynamic first y = (first ≡ y) ⊎ DependsOn d dynamic first y
 
-pub leads_onward : (d : Decl) (dynamic : List DynChild) (nodes : List Node) (reached : List (List ℕ)) (y : Node) (from to : ℕ) → IsReached d dynamic nodes reached → from < length nodes → IsNumber nodes y to → IsTrue (leads_to reached to from) → Onward d dynamic (at nodes from) y
+pub leads_onward : (d : Decl) (dynamic : List DynChild) (nodes : List Node) (reached : List (List ℕ)) (y : Node) (from to : ℕ) → IsReachability d dynamic nodes reached → from < length nodes → IsNodeNumber nodes y to → IsTrue (leads_to reached to from) → Onward d dynamic (at nodes from) y
 leads_onward d dynamic nodes reached y from to is low there h = elim (or_split (nat_eq from to) (holds (row reached from) to) h) as (λ _. Onward d dynamic (at nodes from) y) [
   | inl same ↦ inl (ap (at nodes) (same_nat from to same) ∙ there.there)
   | inr held ↦ inr ((depends_by_number d dynamic nodes reached (at nodes from) y from to is (record { inside = low; there = refl }) there).0 held)
 ]
 
-pub onward_leads : (d : Decl) (dynamic : List DynChild) (nodes : List Node) (reached : List (List ℕ)) (x y : Node) (from to : ℕ) → IsNodes (is_node d dynamic) nodes → IsReached d dynamic nodes reached → IsNumber nodes x from → IsNumber nodes y to → Onward d dynamic x y → IsTrue (leads_to reached to from)
+pub onward_leads : (d : Decl) (dynamic : List DynChild) (nodes : List Node) (reached : List (List ℕ)) (x y : Node) (from to : ℕ) → IsNodes (is_node d dynamic) nodes → IsReachability d dynamic nodes reached → IsNodeNumber nodes x from → IsNodeNumber nodes y to → Onward d dynamic x y → IsTrue (leads_to reached to from)
 onward_leads d dynamic nodes reached x y from to sorted is here there (inl same) =
-    or_left (nat_eq from to) (holds (row reached from) to) (subst (λ k. IsTrue (nat_eq from k)) (number_once nodes (rising_keys nodes sorted.rising) from to here.inside there.inside (here.there ∙ same ∙ sym there.there)) (nat_eq-refl from))
+    or_left (nat_eq from to) (holds (row reached from) to) (subst (λ k. IsTrue (nat_eq from k)) (number_once nodes (increasing_keys nodes sorted.increasing) from to here.inside there.inside (here.there ∙ same ∙ sym there.there)) (nat_eq-refl from))
 onward_leads d dynamic nodes reached x y from to sorted is here there (inr way) =
     or_right (nat_eq from to) (holds (row reached from) to) ((depends_by_number d dynamic nodes reached x y from to is here there).1 way)
 
@@ -115,11 +116,11 @@ source_place d dynamic nodes is origin.Framework i some = absurd (let never : �
 source_place d dynamic nodes is origin.Void i some = absurd (let never : ⊥ = cc in never)
 
 -- a source that is a node has its number
-pub source_found : (d : Decl) (dynamic : List DynChild) (nodes : List Node) → IsNodes (is_node d dynamic) nodes → (s : Origin) (x : Node) (i : ℕ) → IsTrue (is_from_node x s) → IsNumber nodes x i → number_of nodes s ≡ Some i
+pub source_found : (d : Decl) (dynamic : List DynChild) (nodes : List Node) → IsNodes (is_node d dynamic) nodes → (s : Origin) (x : Node) (i : ℕ) → IsTrue (is_from_node x s) → IsNodeNumber nodes x i → number_of nodes s ≡ Some i
 source_found d dynamic nodes is origin.Own x i from there =
     let own : (0 < length nodes) × (at nodes 0 ≡ Own) = own_first d dynamic nodes is in
     let same : Own ≡ x = same_node_exact Own x from in
-    ap Some (number_once nodes (rising_keys nodes is.rising) 0 i own.0 there.inside (own.1 ∙ same ∙ sym there.there))
+    ap Some (number_once nodes (increasing_keys nodes is.increasing) 0 i own.0 there.inside (own.1 ∙ same ∙ sym there.there))
 source_found d dynamic nodes is (origin.Child c) x i from there = by (position (λ y. same_node y (Child c)) nodes) refl
   where
     same : Child c ≡ x
@@ -129,7 +130,7 @@ source_found d dynamic nodes is (origin.Child c) x i from there = by (position (
     by None e = absurd (position_none (λ y. same_node y (Child c)) nodes i there.inside (subst (λ v. IsTrue (same_node v (Child c))) (same ∙ sym there.there) (same_node-refl (Child c))) e)
     by (Some k) e =
         let place : (k < length nodes) × IsTrue (same_node (at nodes k) (Child c)) = position_at (λ y. same_node y (Child c)) nodes k e in
-        e ∙ ap Some (number_once nodes (rising_keys nodes is.rising) k i place.0 there.inside (same_node_exact (at nodes k) (Child c) place.1 ∙ same ∙ sym there.there))
+        e ∙ ap Some (number_once nodes (increasing_keys nodes is.increasing) k i place.0 there.inside (same_node_exact (at nodes k) (Child c) place.1 ∙ same ∙ sym there.there))
 source_found d dynamic nodes is origin.Parent x i from there = absurd (true≢false (sym from))
 source_found d dynamic nodes is origin.Framework x i from there = absurd (true≢false (sym from))
 source_found d dynamic nodes is origin.Void x i from there = absurd (true≢false (sym from))
@@ -142,12 +143,12 @@ sources_of_both d coll gives x = ap (list_any (is_from_node x)) (sources_append 
 node_of_number : (d : Decl) (dynamic : List DynChild) (nodes : List Node) → IsNodes (is_node d dynamic) nodes → (i : ℕ) → i < length nodes → IsTrue (is_node d dynamic (at nodes i))
 node_of_number d dynamic nodes is i low = sym (is.all (at nodes i)) ∙ at_found (at nodes i) nodes i low refl
 
-pub would_own : (d : Decl) (dynamic : List DynChild) (coll : List ℕ) (gives : List Give) (nodes : List Node) (reached : List (List ℕ)) (y : Node) (to : ℕ) → IsNodes (is_node d dynamic) nodes → IsReached d dynamic nodes reached → IsNumber nodes y to → IsTrue (leads_to reached to 0) → WouldDepend d dynamic coll gives y
+pub would_own : (d : Decl) (dynamic : List DynChild) (coll : List ℕ) (gives : List Give) (nodes : List Node) (reached : List (List ℕ)) (y : Node) (to : ℕ) → IsNodes (is_node d dynamic) nodes → IsReachability d dynamic nodes reached → IsNodeNumber nodes y to → IsTrue (leads_to reached to 0) → WouldDepend d dynamic coll gives y
 would_own d dynamic coll gives nodes reached y to sorted is there h =
     let own : (0 < length nodes) × (at nodes 0 ≡ Own) = own_first d dynamic nodes sorted in
     record { first = at nodes 0; direct = inr own.1; onward = leads_onward d dynamic nodes reached y 0 to is own.0 there h }
 
-pub would_offer : (d : Decl) (dynamic : List DynChild) (coll : List ℕ) (gives : List Give) (nodes : List Node) (reached : List (List ℕ)) (numbers : List ℕ) (y : Node) (to : ℕ) → IsNodes (is_node d dynamic) nodes → IsReached d dynamic nodes reached → ((j : ℕ) → holds numbers j ≡ is_source nodes (strong_sources (offers_of d.offers coll)) j) → IsNumber nodes y to → IsTrue (list_any (leads_to reached to) numbers) → WouldDepend d dynamic coll gives y
+pub would_offer : (d : Decl) (dynamic : List DynChild) (coll : List ℕ) (gives : List Give) (nodes : List Node) (reached : List (List ℕ)) (numbers : List ℕ) (y : Node) (to : ℕ) → IsNodes (is_node d dynamic) nodes → IsReachability d dynamic nodes reached → ((j : ℕ) → holds numbers j ≡ is_source nodes (strong_sources (offers_of d.offers coll)) j) → IsNodeNumber nodes y to → IsTrue (list_any (leads_to reached to) numbers) → WouldDepend d dynamic coll gives y
 would_offer d dynamic coll gives nodes reached numbers y to sorted is lists there h =
     let found : (i : ℕ) × ((q : ℕ → Bool) → IsTrue (q i) → IsTrue (list_any q numbers)) × IsTrue (leads_to reached to i) = any_some (leads_to reached to) numbers h in
     let both : IsTrue (nat_lt found.0 (length nodes) && list_any (is_from_node (at nodes found.0)) (strong_sources (offers_of d.offers coll))) = sym (lists found.0) ∙ found.1 (nat_eq found.0) (nat_eq-refl found.0) in
@@ -160,7 +161,7 @@ would_offer d dynamic coll gives nodes reached numbers y to sorted is lists ther
       onward = leads_onward d dynamic nodes reached y found.0 to is low there found.2;
     }
 
-pub would_give : (d : Decl) (dynamic : List DynChild) (coll : List ℕ) (gives : List Give) (nodes : List Node) (reached : List (List ℕ)) (y : Node) (to : ℕ) → IsNodes (is_node d dynamic) nodes → IsReached d dynamic nodes reached → IsNumber nodes y to → IsTrue (list_any (source_leads nodes reached to) (strong_sources gives)) → WouldDepend d dynamic coll gives y
+pub would_give : (d : Decl) (dynamic : List DynChild) (coll : List ℕ) (gives : List Give) (nodes : List Node) (reached : List (List ℕ)) (y : Node) (to : ℕ) → IsNodes (is_node d dynamic) nodes → IsReachability d dynamic nodes reached → IsNodeNumber nodes y to → IsTrue (list_any (source_leads nodes reached to) (strong_sources gives)) → WouldDepend d dynamic coll gives y
 would_give d dynamic coll gives nodes reached y to sorted is there h =
     let found : (s : Origin) × ((q : Origin → Bool) → IsTrue (q s) → IsTrue (list_any q (strong_sources gives))) × IsTrue (source_leads nodes reached to s) = any_some (source_leads nodes reached to) (strong_sources gives) h in
     by found.0 found.1 (number_of nodes found.0) refl found.2
@@ -178,18 +179,18 @@ would_give d dynamic coll gives nodes reached y to sorted is there h =
         }
 
 -- one of the three holds
-pub would_split : (d : Decl) (dynamic : List DynChild) (coll : List ℕ) (gives : List Give) (nodes : List Node) (reached : List (List ℕ)) (numbers : List ℕ) (y : Node) (to : ℕ) → IsNodes (is_node d dynamic) nodes → IsReached d dynamic nodes reached → ((j : ℕ) → holds numbers j ≡ is_source nodes (strong_sources (offers_of d.offers coll)) j) → IsNumber nodes y to → WouldDepend d dynamic coll gives y → IsTrue (leads_to reached to 0) ⊎ (IsTrue (list_any (leads_to reached to) numbers) ⊎ IsTrue (list_any (source_leads nodes reached to) (strong_sources gives)))
+pub would_split : (d : Decl) (dynamic : List DynChild) (coll : List ℕ) (gives : List Give) (nodes : List Node) (reached : List (List ℕ)) (numbers : List ℕ) (y : Node) (to : ℕ) → IsNodes (is_node d dynamic) nodes → IsReachability d dynamic nodes reached → ((j : ℕ) → holds numbers j ≡ is_source nodes (strong_sources (offers_of d.offers coll)) j) → IsNodeNumber nodes y to → WouldDepend d dynamic coll gives y → IsTrue (leads_to reached to 0) ⊎ (IsTrue (list_any (leads_to reached to) numbers) ⊎ IsTrue (list_any (source_leads nodes reached to) (strong_sources gives)))
 would_split d dynamic coll gives nodes reached numbers y to sorted is lists there would = by would.first would.direct would.onward
   where
     given : (x : Node) → (i : ℕ) × (i < length nodes) × (at nodes i ≡ x) → Onward d dynamic x y → IsTrue (list_any (is_from_node x) (strong_sources gives)) → IsTrue (list_any (source_leads nodes reached to) (strong_sources gives))
     given x place onward h =
         let found : (s : Origin) × ((q : Origin → Bool) → IsTrue (q s) → IsTrue (list_any q (strong_sources gives))) × IsTrue (is_from_node x s) = any_some (is_from_node x) (strong_sources gives) h in
-        let here : IsNumber nodes x place.0 = record { inside = place.1; there = place.2 } in
+        let here : IsNodeNumber nodes x place.0 = record { inside = place.1; there = place.2 } in
         found.1 (source_leads nodes reached to) (ap (λ o. option_map_or (leads_to reached to) o false) (source_found d dynamic nodes sorted found.0 x place.0 found.2 here) ∙ onward_leads d dynamic nodes reached x y place.0 to sorted is here there onward)
 
     offered : (x : Node) → (i : ℕ) × (i < length nodes) × (at nodes i ≡ x) → Onward d dynamic x y → IsTrue (list_any (is_from_node x) (strong_sources (offers_of d.offers coll))) → IsTrue (list_any (leads_to reached to) numbers)
     offered x place onward h =
-        let here : IsNumber nodes x place.0 = record { inside = place.1; there = place.2 } in
+        let here : IsNodeNumber nodes x place.0 = record { inside = place.1; there = place.2 } in
         any_held (leads_to reached to) numbers place.0
         (lists place.0 ∙ and_pair (nat_lt place.0 (length nodes)) (list_any (is_from_node (at nodes place.0)) (strong_sources (offers_of d.offers coll))) (lt-ltb place.0 (length nodes) place.1) (subst (λ v. IsTrue (list_any (is_from_node v) (strong_sources (offers_of d.offers coll)))) (sym place.2) h))
         (onward_leads d dynamic nodes reached x y place.0 to sorted is here there onward)

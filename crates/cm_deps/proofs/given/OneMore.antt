@@ -10,15 +10,16 @@ use Rattle.cm_decl.specs.declared.node.DynChild.{DynChild}
 use Rattle.cm_decl.specs.declared.node.Node.{Node}
 use Rattle.cm_decl.specs.declared.node.Node.TheVariants.{Own, Child}
 use Rattle.cm_decl.specs.Same.{same_node, same_child}
-use Rattle.cm_decl.specs.Realm.{Realm, Directly}
+use Rattle.cm_decl.specs.RealmGraph.{RealmGraph, Directly}
 use Rattle.cm_decl.specs.Reach.{Reaches, NoCycle}
-use Rattle.cm_decl.specs.Graph.{is_node, nodes, static_node, dynamic_node, is_from_node, sources_of, child_sources, gives_of, offers_to, realm, StrongOn, DependsOn, WouldDirectly, WouldDepend}
+use Rattle.cm_decl.specs.Graph.{is_node, nodes, static_node, dynamic_node, is_from_node, sources_of, child_sources, gives_of, offers_to, StrongOn}
+use Rattle.cm_decl.specs.GraphInside.{realm, DependsOn, WouldDirectly, WouldDepend}
 use Rattle.cm_decl.proofs.orders.Orders.{edge_nodes}
 use Rattle.cm_decl.proofs.Sameness.{and_first, and_second, or_split, same_node-refl, same_node_exact}
 use Rattle.cm_deps.specs.Laws.{IsFurther}
 use Rattle.cm_deps.specs.Sources.{strong_sources, offers_of}
 use Rattle.cm_deps.proofs.listed.Listing.{or_left, or_right}
-use Rattle.cm_deps.proofs.loops.Ways.{Way-map, Reaches-along, last_step}
+use Rattle.cm_deps.proofs.loops.Ways.{DependencyPath-map, Reaches-along, last_step}
 use Rattle.cm_deps.proofs.given.Sourcing.{given_other, given_same, sources_append}
 
 -- the nodes, with one more
@@ -28,7 +29,7 @@ more_nodes d dynamic k x =
     list_any-append (λ y. same_node y x) (nodes d dynamic) (Child k.name ∷ [])
 
 -- the realm graph with the child
-abbrev pub after : Decl → List DynChild → DynChild → Realm Node
+abbrev pub after : Decl → List DynChild → DynChild → RealmGraph Node
 after d dynamic k = realm d (dynamic ++ k ∷ [])
 
 not_own : (c : ChildName) → Child c ≡ Own → ⊥
@@ -79,7 +80,7 @@ edge_new d dynamic collection k is x y edge =
 
 reach_old : (d : Decl) (dynamic : List DynChild) (collection : List ℕ) (k : DynChild) → IsFurther d dynamic collection k → (x y : Node) → (x ≡ Child k.name → ⊥) → Reaches (StrongOn d (dynamic ++ k ∷ [])) x y → Reaches (StrongOn d dynamic) x y
 reach_old d dynamic collection k is x y apart way =
-    (map (λ v. v) way.0, Way-map (StrongOn d (dynamic ++ k ∷ [])) (StrongOn d dynamic) (λ v. v) (λ v. v ≡ Child k.name → ⊥) (λ a b far on. (unused_edge d dynamic collection k is a b on, edge_old d dynamic collection k is a b far on)) x apart way.0 y way.1)
+    (map (λ v. v) way.0, DependencyPath-map (StrongOn d (dynamic ++ k ∷ [])) (StrongOn d dynamic) (λ v. v) (λ v. v ≡ Child k.name → ⊥) (λ a b far on. (unused_edge d dynamic collection k is a b on, edge_old d dynamic collection k is a b far on)) x apart way.0 y way.1)
 
 reach_new : (d : Decl) (dynamic : List DynChild) (collection : List ℕ) (k : DynChild) → IsFurther d dynamic collection k → (x y : Node) → Reaches (StrongOn d dynamic) x y → Reaches (StrongOn d (dynamic ++ k ∷ [])) x y
 reach_new d dynamic collection k is x y way = Reaches-along (StrongOn d dynamic) (StrongOn d (dynamic ++ k ∷ [])) (edge_new d dynamic collection k is) x y way
@@ -165,7 +166,7 @@ would_first d dynamic collection k is acyclic y (inr own) = inr (record {
 
 depends_old : (d : Decl) (dynamic : List DynChild) (collection : List ℕ) (k : DynChild) → IsFurther d dynamic collection k → NoCycle (StrongOn d dynamic) → (x y : Node) → (x ≡ Child k.name → ⊥) → DependsOn d (dynamic ++ k ∷ []) x y → DependsOn d dynamic x y
 depends_old d dynamic collection k is acyclic x y apart way =
-    (map (λ v. v) way.0, Way-map (Directly (after d dynamic k)) (Directly (realm d dynamic)) (λ v. v) (λ v. v ≡ Child k.name → ⊥) (λ a b far on. (direct_into d dynamic collection k is a b on, direct_old d dynamic collection k is acyclic a b far on)) x apart way.0 y way.1)
+    (map (λ v. v) way.0, DependencyPath-map (Directly (after d dynamic k)) (Directly (realm d dynamic)) (λ v. v) (λ v. v ≡ Child k.name → ⊥) (λ a b far on. (direct_into d dynamic collection k is a b on, direct_old d dynamic collection k is acyclic a b far on)) x apart way.0 y way.1)
 
 depends_would : (d : Decl) (dynamic : List DynChild) (collection : List ℕ) (k : DynChild) → IsFurther d dynamic collection k → NoCycle (StrongOn d dynamic) → (y : Node) → DependsOn d (dynamic ++ k ∷ []) (Child k.name) y → WouldDepend d dynamic collection k.gives y
 depends_would d dynamic collection k is acyclic y ([], direct) = record { first = y; direct = first_would d dynamic collection k is y direct; onward = inl refl }

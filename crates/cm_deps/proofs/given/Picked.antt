@@ -14,34 +14,36 @@ use Rattle.cm_decl.specs.declared.node.DynChild.{DynChild}
 use Rattle.cm_decl.specs.declared.node.Node.{Node}
 use Rattle.cm_decl.specs.declared.node.Node.TheVariants.{Own}
 use Rattle.cm_decl.specs.Same.{same_node}
-use Rattle.cm_decl.specs.NodeOrder.{node_cmp, node_cmp_total}
+use Rattle.cm_decl.specs.NodeOrder.{node_cmp}
+use Rattle.cm_decl.specs.NodeOrderInside.{node_cmp_total}
 use Rattle.cm_decl.specs.Reach.{NoCycle}
 use Rattle.cm_decl.specs.Cycle.{IsPickedCycle}
-use Rattle.cm_decl.specs.Graph.{nodes, is_node, is_from_node, sources_of, is_strong_edge, realm, StrongOn}
+use Rattle.cm_decl.specs.Graph.{nodes, is_node, is_from_node, sources_of, is_strong_edge, StrongOn}
+use Rattle.cm_decl.specs.GraphInside.{realm}
 use Rattle.cm_decl.proofs.orders.Comparing.{node_cmp_exact}
 use Rattle.cm_decl.proofs.Sameness.{same_node-refl, same_node_exact, or_split}
-use Rattle.cm_deps.specs.Edges.{holds, IsPeeled}
-use Rattle.cm_deps.specs.Nodes.{at, IsRising, IsNodes}
+use Rattle.cm_deps.specs.Edges.{holds, IsToposorted}
+use Rattle.cm_deps.specs.Nodes.{at, IsIncreasing, IsNodes}
 use Rattle.cm_deps.specs.Sources.{IsEdges}
 use Rattle.cm_deps.proofs.listed.Listing.{same_nat, nat_eq-refl, or_left, or_right, holds_push}
 use Rattle.cm_deps.proofs.numbers.Numbering.{ring_picked}
-use Rattle.cm_deps.proofs.listed.Falling.{IsRealmOf}
+use Rattle.cm_deps.proofs.listed.Topological.{IsRealmOf}
 use Rattle.cm_deps.proofs.numbers.Depending.{listed_acyclic}
 use Rattle.cm_deps.proofs.numbers.Placing.{any_alike}
 use Rattle.cm_deps.proofs.numbers.Realms.{realm_of}
-use Rattle.cm_deps.proofs.numbers.Existing.{below, can_be_peeled, has_ring}
+use Rattle.cm_deps.proofs.numbers.Existing.{below, can_be_toposorted, has_ring}
 
--- ---- nodes in rising order
+-- ---- nodes in increasing order
 
 -- all that is greater than a node is greater than one that is less
 all_above : (y k : Node) (xs : List Node) → node_cmp y k ≡ Less → AllByRecursion (λ z. node_cmp k z ≡ Less) xs → AllByRecursion (λ z. node_cmp y z ≡ Less) xs
 all_above y k [] less all = tt
 all_above y k (x ∷ xs) less all = (node_cmp_total.trans y k x less all.0, all_above y k xs less all.1)
 
--- nodes in rising order, with one more
+-- nodes in increasing order, with one more
 record Put (ks : List Node) (k : Node) : Type 0 where
   keys : List Node
-  rising : IsRising keys
+  increasing : IsIncreasing keys
   all : (x : Node) → list_any (same_node x) keys ≡ (same_node x k || list_any (same_node x) ks)
   above : (y : Node) → node_cmp y k ≡ Less → AllByRecursion (λ z. node_cmp y z ≡ Less) ks → AllByRecursion (λ z. node_cmp y z ≡ Less) keys
 
@@ -50,21 +52,21 @@ or_swap true true r = refl
 or_swap true false r = refl
 or_swap false q r = refl
 
-put : (ks : List Node) → IsRising ks → (k : Node) → Put ks k
+put : (ks : List Node) → IsIncreasing ks → (k : Node) → Put ks k
 unfolding IsStrictlySortedBy
-put [] rising k = record { keys = k ∷ []; rising = (tt, tt); all = λ x. refl; above = λ y less all. (less, tt) }
-put (x ∷ xs) rising k = by (node_cmp k x) refl (put xs (sorted_tail node_cmp x xs rising) k)
+put [] increasing k = record { keys = k ∷ []; increasing = (tt, tt); all = λ x. refl; above = λ y less all. (less, tt) }
+put (x ∷ xs) increasing k = by (node_cmp k x) refl (put xs (sorted_tail node_cmp x xs increasing) k)
   where
     by : (o : Ordering) → node_cmp k x ≡ o → Put xs k → Put (x ∷ xs) k
     by Less e rest = record {
       keys = k ∷ x ∷ xs;
-      rising = ((e, all_above k x xs e rising.0), rising);
+      increasing = ((e, all_above k x xs e increasing.0), increasing);
       all = λ y. refl;
       above = λ y less all. (less, all);
     }
     by Equal e rest = record {
       keys = x ∷ xs;
-      rising = rising;
+      increasing = increasing;
       all = λ y. sym (or_self_left (same_node y x) (list_any (same_node y) xs)) ∙ ap (λ v. same_node y v || (same_node y x || list_any (same_node y) xs)) (sym (node_cmp_exact k x e));
       above = λ y less all. all;
     }
@@ -72,19 +74,19 @@ put (x ∷ xs) rising k = by (node_cmp k x) refl (put xs (sorted_tail node_cmp x
         let behind : node_cmp x k ≡ Less = node_cmp_total.antisymm x k ∙ ap ordering_reverse e in
         record {
           keys = x ∷ rest.keys;
-          rising = (rest.above x behind rising.0, rest.rising);
+          increasing = (rest.above x behind increasing.0, rest.increasing);
           all = λ y. ap (λ v. same_node y x || v) (rest.all y) ∙ or_swap (same_node y x) (same_node y k) (list_any (same_node y) xs);
           above = λ y less all. (all.0, rest.above y less all.1);
         }
 
 -- each list of nodes can be sorted
-sorted : (xs : List Node) → (ks : List Node) × IsRising ks × ((x : Node) → list_any (same_node x) ks ≡ list_any (same_node x) xs)
+sorted : (xs : List Node) → (ks : List Node) × IsIncreasing ks × ((x : Node) → list_any (same_node x) ks ≡ list_any (same_node x) xs)
 unfolding IsStrictlySortedBy
 sorted [] = ([], tt, λ x. refl)
 sorted (y ∷ ys) =
-    let rest : (ks : List Node) × IsRising ks × ((x : Node) → list_any (same_node x) ks ≡ list_any (same_node x) ys) = sorted ys in
+    let rest : (ks : List Node) × IsIncreasing ks × ((x : Node) → list_any (same_node x) ks ≡ list_any (same_node x) ys) = sorted ys in
     let more : Put rest.0 y = put rest.0 rest.1 y in
-    (more.keys, more.rising, λ x. more.all x ∙ ap (λ v. same_node x y || v) (rest.2 x))
+    (more.keys, more.increasing, λ x. more.all x ∙ ap (λ v. same_node x y || v) (rest.2 x))
 
 same_turned : (x y : Node) → same_node x y ≡ same_node y x
 same_turned x y = both_ways (same_node x y) (same_node y x)
@@ -93,8 +95,8 @@ same_turned x y = both_ways (same_node x y) (same_node y x)
 
 nodes_of : (d : Decl) (dynamic : List DynChild) → (ks : List Node) × IsNodes (is_node d dynamic) ks
 nodes_of d dynamic =
-    let all : (ks : List Node) × IsRising ks × ((x : Node) → list_any (same_node x) ks ≡ list_any (same_node x) (nodes d dynamic)) = sorted (nodes d dynamic) in
-    (all.0, record { rising = all.1; all = λ x. all.2 x ∙ any_alike (same_node x) (λ y. same_node y x) (same_turned x) (nodes d dynamic) })
+    let all : (ks : List Node) × IsIncreasing ks × ((x : Node) → list_any (same_node x) ks ≡ list_any (same_node x) (nodes d dynamic)) = sorted (nodes d dynamic) in
+    (all.0, record { increasing = all.1; all = λ x. all.2 x ∙ any_alike (same_node x) (λ y. same_node y x) (same_turned x) (nodes d dynamic) })
 
 -- ---- their edges
 
@@ -141,8 +143,8 @@ acyclic_or_picked d dynamic =
     let ks : (ks : List Node) × IsNodes (is_node d dynamic) ks = nodes_of d dynamic in
     let rows : (rows : List (List ℕ)) × IsEdges d dynamic ks.0 rows = edges_of d dynamic ks.0 in
     let r : IsRealmOf ks.0 rows.0 (realm d dynamic) = realm_of d dynamic ks.0 rows.0 ks.1 rows.1 in
-    let peeled : (order : List ℕ) × IsPeeled rows.0 order = can_be_peeled rows.0 in
-    elim (has_ring rows.0 peeled.0 r.numbered.below peeled.1) as (λ _. NoCycle (StrongOn d dynamic) ⊎ ((cycle : List Node) × IsPickedCycle (is_strong_edge d dynamic) cycle)) [
-      | inl all ↦ inl (listed_acyclic ks.0 rows.0 (realm d dynamic) peeled.0 r peeled.1.grown all)
-      | inr ring ↦ inr (map (at ks.0) ring.0 ++ at ks.0 (get_or ring.0 0 0) ∷ [], ring_picked ks.0 (is_strong_edge d dynamic) rows.0 peeled.0 ring.0 r.numbered peeled.1 ring.1)
+    let toposorted : (order : List ℕ) × IsToposorted rows.0 order = can_be_toposorted rows.0 in
+    elim (has_ring rows.0 toposorted.0 r.numbered.below toposorted.1) as (λ _. NoCycle (StrongOn d dynamic) ⊎ ((cycle : List Node) × IsPickedCycle (is_strong_edge d dynamic) cycle)) [
+      | inl all ↦ inl (listed_acyclic ks.0 rows.0 (realm d dynamic) toposorted.0 r toposorted.1.grown all)
+      | inr ring ↦ inr (map (at ks.0) ring.0 ++ at ks.0 (get_or ring.0 0 0) ∷ [], ring_picked ks.0 (is_strong_edge d dynamic) rows.0 toposorted.0 ring.0 r.numbered toposorted.1 ring.1)
     ]

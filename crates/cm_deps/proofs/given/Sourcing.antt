@@ -25,11 +25,11 @@ use Rattle.cm_decl.specs.Same.{same_node, same_child}
 use Rattle.cm_decl.specs.Graph.{node_of, is_from_node, is_strong, sources_of, child_sources, gives_of, offers_to, target_of}
 use Rattle.cm_decl.proofs.Sameness.{and_first, and_second, same_node-refl, same_node_exact, same_child_exact}
 use Rattle.cm_deps.specs.Edges.{holds, row}
-use Rattle.cm_deps.specs.Nodes.{at, IsRising, IsNumber}
+use Rattle.cm_deps.specs.Nodes.{at, IsIncreasing, IsNodeNumber}
 use Rattle.cm_deps.specs.Sources.{is_source, Lists, ListsMore, IsEdges, strong_sources, offers_of}
 use Rattle.cm_deps.proofs.listed.Listing.{same_nat, nat_eq-refl, holds_push}
 use Rattle.cm_deps.proofs.numbers.Numbering.{number_once}
-use Rattle.cm_deps.proofs.numbers.Rising.{rising_keys}
+use Rattle.cm_deps.proofs.numbers.Increasing.{increasing_keys}
 use Rattle.cm_deps.proofs.numbers.Placing.{at_found}
 
 -- ---- one source
@@ -51,21 +51,21 @@ source_absent nodes source x some absent j = source_node nodes source x some j �
     by false h = refl
 
 -- one that is has one number
-pub source_number : (nodes : List Node) (source : Origin) (x : Node) (i : ℕ) → IsRising nodes → node_of source ≡ Some x → IsNumber nodes x i → (j : ℕ) → nat_eq j i ≡ is_source nodes (source ∷ []) j
-source_number nodes source x i rising some is j = both_ways (nat_eq j i) (nat_lt j (length nodes) && same_node x (at nodes j))
+pub source_number : (nodes : List Node) (source : Origin) (x : Node) (i : ℕ) → IsIncreasing nodes → node_of source ≡ Some x → IsNodeNumber nodes x i → (j : ℕ) → nat_eq j i ≡ is_source nodes (source ∷ []) j
+source_number nodes source x i increasing some is j = both_ways (nat_eq j i) (nat_lt j (length nodes) && same_node x (at nodes j))
     (λ h. subst (λ k. IsTrue (nat_lt k (length nodes) && same_node x (at nodes k))) (sym (same_nat j i h))
     (and_pair (nat_lt i (length nodes)) (same_node x (at nodes i)) (lt-ltb i (length nodes) is.inside) (subst (λ v. IsTrue (same_node x v)) (sym is.there) (same_node-refl x))))
     (λ h. (let low : j < length nodes = ltb-true j (length nodes) (and_first (nat_lt j (length nodes)) (same_node x (at nodes j)) h) in
     let same : x ≡ at nodes j = same_node_exact x (at nodes j) (and_second (nat_lt j (length nodes)) (same_node x (at nodes j)) h) in
-    let one : j ≡ i = number_once nodes (rising_keys nodes rising) j i low is.inside (sym same ∙ sym is.there) in
+    let one : j ≡ i = number_once nodes (increasing_keys nodes increasing) j i low is.inside (sym same ∙ sym is.there) in
     subst (λ k. IsTrue (nat_eq j k)) one (nat_eq-refl j))) ∙ sym (source_node nodes source x some j)
 
 pub added_none : (nodes : List Node) (source : Origin) (old : List ℕ) → ((j : ℕ) → is_source nodes (source ∷ []) j ≡ false) → ListsMore nodes (source ∷ []) old old
 added_none nodes source old none j = sym (or-false (holds old j)) ∙ ap (λ v. holds old j || v) (sym (none j))
 
-pub added_number : (nodes : List Node) (source : Origin) (x : Node) (i : ℕ) (old new : List ℕ) → IsRising nodes → node_of source ≡ Some x → IsNumber nodes x i → new ≡ old ++ i ∷ [] → ListsMore nodes (source ∷ []) old new
-added_number nodes source x i old new rising some is pushed j =
-    ap (λ l. holds l j) pushed ∙ holds_push old i j ∙ ap (λ v. holds old j || v) (source_number nodes source x i rising some is j)
+pub added_number : (nodes : List Node) (source : Origin) (x : Node) (i : ℕ) (old new : List ℕ) → IsIncreasing nodes → node_of source ≡ Some x → IsNodeNumber nodes x i → new ≡ old ++ i ∷ [] → ListsMore nodes (source ∷ []) old new
+added_number nodes source x i old new increasing some is pushed j =
+    ap (λ l. holds l j) pushed ∙ holds_push old i j ∙ ap (λ v. holds old j || v) (source_number nodes source x i increasing some is j)
 
 -- ---- the sources of rows
 
@@ -209,8 +209,8 @@ given_same d before k =
     ap (λ l. strong_sources (offers_to d k.name ++ l)) gives ∙ ap strong_sources (sym (append_assoc (offers_to d k.name) (gives_of before k.name) k.gives)) ∙ sources_append (offers_to d k.name ++ gives_of before k.name) k.gives
 
 -- the row of its node has the sources of what it was given more
-pub given_more : (d : Decl) (nodes : List Node) (dynamic : List DynChild) (n : ℕ) (k : DynChild) (rows : List (List ℕ)) (place : ℕ) (new : List ℕ) → IsRising nodes → n < length dynamic → k ≡ get_or dynamic n k → IsNumber nodes (Child k.name) place → IsEdges d (take n dynamic) nodes rows → ListsMore nodes (strong_sources k.gives) (row rows place) new → IsEdges d (take (n + 1) dynamic) nodes (set rows place new)
-given_more d nodes dynamic n k rows place new rising low here is edges more = record {
+pub given_more : (d : Decl) (nodes : List Node) (dynamic : List DynChild) (n : ℕ) (k : DynChild) (rows : List (List ℕ)) (place : ℕ) (new : List ℕ) → IsIncreasing nodes → n < length dynamic → k ≡ get_or dynamic n k → IsNodeNumber nodes (Child k.name) place → IsEdges d (take n dynamic) nodes rows → ListsMore nodes (strong_sources k.gives) (row rows place) new → IsEdges d (take (n + 1) dynamic) nodes (set rows place new)
+given_more d nodes dynamic n k rows place new increasing low here is edges more = record {
   size = length-set rows place new ∙ edges.size;
   sources = λ i inside. subst (λ l. Lists nodes (sources_of d l (at nodes i)) (row (set rows place new) i)) (sym whole) (by i inside (nat_eq i place) refl);
 }
@@ -228,7 +228,7 @@ given_more d nodes dynamic n k rows place new rising low here is edges more = re
         (λ j. more j ∙ ap (λ v. v || is_source nodes (strong_sources k.gives) j) (subst (λ x. Lists nodes (sources_of d (take n dynamic) x) (row rows place)) is.there (edges.sources place is.inside) j) ∙
         sym (source_append nodes (sources_of d (take n dynamic) (Child k.name)) (strong_sources k.gives) j)))))
     by i inside false e =
-        let apart : at nodes i ≡ Child k.name → ⊥ = λ one. true≢false (sym (subst (λ v. IsTrue (nat_eq i v)) (number_once nodes (rising_keys nodes rising) i place inside is.inside (one ∙ sym is.there)) (nat_eq-refl i)) ∙ e) in
+        let apart : at nodes i ≡ Child k.name → ⊥ = λ one. true≢false (sym (subst (λ v. IsTrue (nat_eq i v)) (number_once nodes (increasing_keys nodes increasing) i place inside is.inside (one ∙ sym is.there)) (nat_eq-refl i)) ∙ e) in
         let ne : i ≢ place = λ one. true≢false (sym (subst (λ v. IsTrue (nat_eq i v)) one (nat_eq-refl i)) ∙ e) in
         subst (λ l. Lists nodes (sources_of d (take n dynamic ++ k ∷ []) (at nodes i)) l) (sym (get_or-set_other rows place i new [] ne))
         (same_lists nodes (sources_of d (take n dynamic) (at nodes i)) (sources_of d (take n dynamic ++ k ∷ []) (at nodes i)) (row rows i) (sym (given_other d (take n dynamic) k (at nodes i) apart)) (edges.sources i inside))

@@ -2,7 +2,7 @@ use Rattle.std.proofs.Common.{◌≡◌, ◌≢◌, ℕ, zero, suc, ◌+◌, ◌
 use Rattle.std.proofs.lemmas.List.{length-set, length-append, get_or-set_same, get_or-set_other}
 use Rattle.std.proofs.lemmas.Bool.{cases_lt}
 use Rattle.cm_deps.specs.Edges.{holds, row, IsBelow, Covers}
-use Rattle.cm_deps.proofs.listed.Listing.{same_nat, nat_eq-refl, or_left, or_right, holds_push, front_more}
+use Rattle.cm_deps.proofs.listed.Listing.{same_nat, nat_eq-refl, or_left, or_right, holds_push, prefix_more}
 
 -- an empty list more
 pub row_push : (rows : List (List ℕ)) → ((x : ℕ) → row rows x ≡ []) → (x : ℕ) → row (rows ++ [] ∷ []) x ≡ []
@@ -57,7 +57,7 @@ put_holds rows node x within y z false other =
 pub adding_more : (x : ℕ) (nodes : List ℕ) (k : ℕ) (old new : List (List ℕ)) → k < length nodes → IsAdding x (take k nodes) old new → get_or nodes k 0 < length new → IsAdding x (take (k + 1) nodes) old (set new (get_or nodes k 0) (row new (get_or nodes k 0) ++ x ∷ []))
 adding_more x nodes k old new low state within = record {
   size = length-set new (get_or nodes k 0) (row new (get_or nodes k 0) ++ x ∷ []) ∙ state.size;
-  added = front_more (λ y. IsTrue (holds (row next y) x)) nodes k low (λ y held. longer y x (state.added y held)) here;
+  added = prefix_more (λ y. IsTrue (holds (row next y) x)) nodes k low (λ y held. longer y x (state.added y held)) here;
   kept = λ y z held. longer y z (state.kept y z held);
   only = λ y z held none. last y z held none (put_holds new (get_or nodes k 0) x within y z (nat_eq y (get_or nodes k 0)) refl);
 }

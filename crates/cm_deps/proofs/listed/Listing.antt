@@ -9,7 +9,7 @@ pub use Rattle.std.proofs.lemmas.Bool.{eqb-true as same_nat, or_left, or_right}
 pub use Rattle.std.proofs.Math.Bool.{or-false as or_none}
 use Rattle.std.proofs.lemmas.Bool.Decides.{nat_tests}
 use Rattle.std.proofs.lemmas.List.Sums.{sum_by-set}
-use Rattle.cm_deps.specs.Edges.{holds, is_set, row, IsNext, IsGrown, IsListing, IsSettled, Extends}
+use Rattle.cm_deps.specs.Edges.{holds, is_set, row, IsNext, IsReverseTopological, IsListing, IsSettled, Extends}
 
 pub nat_eq-refl : (x : ℕ) → IsTrue (nat_eq x x)
 nat_eq-refl x = grind (arith, nat_tests)
@@ -52,12 +52,12 @@ each_passes p (x ∷ xs) h y here = by (p x) refl (nat_eq y x) refl (each_passes
         let there : IsTrue (holds xs y) = rw other at here in later rest y there
 
 -- one node more
-pub grown_push : (after : List (List ℕ)) (order : List ℕ) (y : ℕ) → IsGrown after order → IsNext after order y → IsGrown after (order ++ y ∷ [])
+pub grown_push : (after : List (List ℕ)) (order : List ℕ) (y : ℕ) → IsReverseTopological after order → IsNext after order y → IsReverseTopological after (order ++ y ∷ [])
 grown_push after order y grown next k x at = elim (snoc_at order y k x at) as (λ _. IsNext after (take k (order ++ y ∷ [])) x) [
   | inl old ↦ (let within : k < length order = slice_get_within order k x old in
-      subst (λ front. IsNext after front x) (sym (take-append-le k order (y ∷ []) (omega arith))) (grown k x old))
+      subst (λ prefix. IsNext after prefix x) (sym (take-append-le k order (y ∷ []) (omega arith))) (grown k x old))
   | inr last ↦ (let whole : take k (order ++ y ∷ []) ≡ order = take-append-le k order (y ∷ []) (omega arith) ∙ take_all k order (omega arith) in
-      subst (λ front. IsNext after front x) (sym whole) (subst (λ z. IsNext after order z) (sym last.1) next))
+      subst (λ prefix. IsNext after prefix x) (sym whole) (subst (λ z. IsNext after order z) (sym last.1) next))
 ]
 
 -- a list extends itself
@@ -117,12 +117,12 @@ holds_at (x ∷ xs) zero within = or_left (nat_eq x x) (holds xs x) (nat_eq-refl
 holds_at (x ∷ xs) (suc k) within = or_right (nat_eq (get_or xs k 0) x) (holds xs (get_or xs k 0)) (holds_at xs k (omega arith))
 
 -- what is so of the elements before an index and of that at it is so of those up to it
-pub front_more : (P : ℕ → Type 0) (xs : List ℕ) (k : ℕ) → k < length xs → ((y : ℕ) → IsTrue (holds (take k xs) y) → P y) → P (get_or xs k 0) → (y : ℕ) → IsTrue (holds (take (k + 1) xs) y) → P y
-front_more P xs k within front here y held = by (nat_eq y (get_or xs k 0)) refl
+pub prefix_more : (P : ℕ → Type 0) (xs : List ℕ) (k : ℕ) → k < length xs → ((y : ℕ) → IsTrue (holds (take k xs) y) → P y) → P (get_or xs k 0) → (y : ℕ) → IsTrue (holds (take (k + 1) xs) y) → P y
+prefix_more P xs k within prefix here y held = by (nat_eq y (get_or xs k 0)) refl
   where
     split : holds (take (k + 1) xs) y ≡ (holds (take k xs) y || nat_eq y (get_or xs k 0))
     split = ap (λ l. holds l y) (take_more xs k 0 within) ∙ holds_push (take k xs) (get_or xs k 0) y
 
     by : (b : Bool) → nat_eq y (get_or xs k 0) ≡ b → P y
     by true same = subst P (sym (same_nat y (get_or xs k 0) same)) here
-    by false other = front y (sym (or_none (holds (take k xs) y)) ∙ ap (λ b. holds (take k xs) y || b) (sym other) ∙ sym split ∙ held)
+    by false other = prefix y (sym (or_none (holds (take k xs) y)) ∙ ap (λ b. holds (take k xs) y || b) (sym other) ∙ sym split ∙ held)

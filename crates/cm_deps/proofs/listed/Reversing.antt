@@ -3,8 +3,8 @@ use Rattle.std.specs.Prelude.{reverse}
 use Rattle.std.proofs.Math.Bool.{or_comm}
 use Rattle.std.proofs.lemmas.List.{reverse-append, take_more, take_all}
 use Rattle.std.proofs.lemmas.Option.{slice_get-get_or}
-use Rattle.cm_deps.specs.Edges.{holds, IsNext, IsGrown}
-use Rattle.cm_deps.specs.Implied.{IsFalling}
+use Rattle.cm_deps.specs.Edges.{holds, IsNext, IsReverseTopological}
+use Rattle.cm_deps.specs.Implied.{IsTopological}
 use Rattle.cm_deps.proofs.listed.Listing.{holds_push}
 
 reverse_push : (xs : List ℕ) (y : ℕ) → reverse (xs ++ y ∷ []) ≡ y ∷ reverse xs
@@ -16,18 +16,18 @@ holds_reverse [] x = refl
 holds_reverse (y ∷ ys) x =
     ap (λ l. holds l x) (reverse-append (y ∷ []) ys) ∙ holds_push (reverse ys) y x ∙ ap (λ b. b || nat_eq x y) (holds_reverse ys x) ∙ or_comm (holds ys x) (nat_eq x y)
 
-falls_front : (rows : List (List ℕ)) (order : List ℕ) → IsGrown rows order → (k : ℕ) → k ≤ length order → IsFalling rows (reverse (take k order))
-falls_front rows order grown zero low = tt
-falls_front rows order grown (suc k) low =
+falls_prefix : (rows : List (List ℕ)) (order : List ℕ) → IsReverseTopological rows order → (k : ℕ) → k ≤ length order → IsTopological rows (reverse (take k order))
+falls_prefix rows order grown zero low = tt
+falls_prefix rows order grown (suc k) low =
     let within : k < length order = omega arith in
     let more : suc k ≡ k + 1 = omega arith in
-    let front : take (suc k) order ≡ take k order ++ get_or order k 0 ∷ [] = ap (λ n. take n order) more ∙ take_more order k 0 within in
+    let prefix : take (suc k) order ≡ take k order ++ get_or order k 0 ∷ [] = ap (λ n. take n order) more ∙ take_more order k 0 within in
     let next : IsNext rows (take k order) (get_or order k 0) = grown k (get_or order k 0) (slice_get-get_or order k 0 within) in
-    let whole : reverse (take (suc k) order) ≡ get_or order k 0 ∷ reverse (take k order) = ap reverse front ∙ reverse_push (take k order) (get_or order k 0) in
-    subst (λ l. IsFalling rows l) (sym whole)
-    (holds_reverse (take k order) (get_or order k 0) ∙ next.new, (λ y on. holds_reverse (take k order) y ∙ next.ready y on), falls_front rows order grown k (omega arith))
+    let whole : reverse (take (suc k) order) ≡ get_or order k 0 ∷ reverse (take k order) = ap reverse prefix ∙ reverse_push (take k order) (get_or order k 0) in
+    subst (λ l. IsTopological rows l) (sym whole)
+    (holds_reverse (take k order) (get_or order k 0) ∙ next.new, (λ y on. holds_reverse (take k order) y ∙ next.ready y on), falls_prefix rows order grown k (omega arith))
 
 -- a list in which each stands behind what it depends on falls when it is reversed
-pub reverse_falls : (rows : List (List ℕ)) (order : List ℕ) → IsGrown rows order → IsFalling rows (reverse order)
+pub reverse_falls : (rows : List (List ℕ)) (order : List ℕ) → IsReverseTopological rows order → IsTopological rows (reverse order)
 reverse_falls rows order grown =
-    subst (λ l. IsFalling rows (reverse l)) (take_all (length order) order (let all : length order ≤ length order = omega arith in all)) (falls_front rows order grown (length order) (let all : length order ≤ length order = omega arith in all))
+    subst (λ l. IsTopological rows (reverse l)) (take_all (length order) order (let all : length order ≤ length order = omega arith in all)) (falls_prefix rows order grown (length order) (let all : length order ≤ length order = omega arith in all))

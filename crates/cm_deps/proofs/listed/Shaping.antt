@@ -1,18 +1,18 @@
 use Rattle.std.proofs.Common.{◌≡◌, ◌≢◌, ℕ, ◌<◌, List, [], ◌∷◌, ◌++◌, length, Bool, true, false, not, ◌&&◌, true≢false, Some, refl, sym, ◌∙◌, ap, subst, IsTrue, inl, inr, ◌⊎◌, arith, nat_eq}
 use Rattle.std.specs.Prelude.{reverse, if◌then◌else◌, slice_get}
 use Rattle.std.proofs.lemmas.List.Folds.{list_any-append}
-use Rattle.cm_decl.specs.Reach.{Way, Reaches}
+use Rattle.cm_decl.specs.Reach.{DependencyPath, Reaches}
 use Rattle.cm_decl.proofs.Sameness.{or_split}
-use Rattle.cm_deps.specs.Edges.{holds, is_set, row, On, IsBelow, IsPeeled, IsReach}
-use Rattle.cm_deps.specs.Implied.{IsApart, IsFull, IsOrdered, row_with}
+use Rattle.cm_deps.specs.Edges.{holds, is_set, row, On, IsBelow, IsToposorted, IsReach}
+use Rattle.cm_deps.specs.Implied.{IsApart, IsFull, IsOrderedGraph, row_with}
 use Rattle.cm_deps.proofs.listed.Listing.{same_nat, nat_eq-refl, or_left, or_right, or_none}
 use Rattle.cm_deps.proofs.listed.Gathering.{held_inside}
 use Rattle.cm_deps.proofs.loops.Cores.{held_at}
-use Rattle.cm_deps.proofs.listed.Falling.{full_listed}
+use Rattle.cm_deps.proofs.listed.Topological.{full_listed}
 use Rattle.cm_deps.proofs.listed.Reversing.{holds_reverse, reverse_falls}
 
 -- what the first node reaches is inside
-pub way_end : (after : List (List ℕ)) (n : ℕ) → IsBelow after n → (x : ℕ) (xs : List ℕ) (y : ℕ) → Way (On after) x xs y → y < n
+pub way_end : (after : List (List ℕ)) (n : ℕ) → IsBelow after n → (x : ℕ) (xs : List ℕ) (y : ℕ) → DependencyPath (On after) x xs y → y < n
 way_end after n below x [] y on = below x y on
 way_end after n below x (z ∷ zs) y way = way_end after n below z zs y way.1
 
@@ -72,16 +72,16 @@ full_of after reached near full below some same state = record {
     split i j low on = row_split i (row after i) (is_set near i) j (ap (λ l. holds l j) (sym (state.rows i low)) ∙ on)
 
 -- where all are listed by the strong edges, they have an order by all edges
-pub ordered : (after : List (List ℕ)) (listed reached : List ℕ) (full : List (List ℕ)) (order : List ℕ) → IsBelow after (length after) → 0 < length after → IsPeeled after listed → ((x : ℕ) → x < length after → IsTrue (holds listed x)) → IsReach after 0 reached → IsFull after reached full → IsPeeled full order → IsOrdered after full (reverse order)
-ordered after listed reached full order below some peeled all reach edges again = record {
+pub ordered : (after : List (List ℕ)) (listed reached : List ℕ) (full : List (List ℕ)) (order : List ℕ) → IsBelow after (length after) → 0 < length after → IsToposorted after listed → ((x : ℕ) → x < length after → IsTrue (holds listed x)) → IsReach after 0 reached → IsFull after reached full → IsToposorted full order → IsOrderedGraph after full (reverse order)
+ordered after listed reached full order below some toposorted all reach edges again = record {
   listed = listed;
-  peeled = peeled;
+  toposorted = toposorted;
   all = all;
   reached = reached;
   reach = reach;
   edges = edges;
   falling = reverse_falls full order again.grown;
-  whole = λ x inside. holds_reverse order x ∙ full_listed after reached full listed order some below reach edges peeled.grown all again x inside;
+  whole = λ x inside. holds_reverse order x ∙ full_listed after reached full listed order some below reach edges toposorted.grown all again x inside;
   inside = λ x held. low x (held_at order x (sym (holds_reverse order x) ∙ held));
 }
   where

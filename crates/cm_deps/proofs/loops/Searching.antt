@@ -3,14 +3,14 @@ use Rattle.std.specs.Prelude.{count_by, cond, replicate}
 use Rattle.std.proofs.lemmas.List.{length-append, length-replicate, length-set, append-nil, take-append-le, take_all, take_more}
 use Rattle.std.proofs.lemmas.List.Sums.{sum_by-set}
 use Rattle.std.proofs.lemmas.List.Folds.{list_any-append}
-use Rattle.cm_decl.specs.Reach.{Way, Reaches}
+use Rattle.cm_decl.specs.Reach.{DependencyPath, Reaches}
 use Rattle.cm_decl.proofs.cycles.Reaching.{Reaches-trans}
-use Rattle.cm_deps.specs.Edges.{holds, is_set, row, On, IsBelow, IsReach, IsSeen, IsAdded, Extends}
-use Rattle.cm_deps.proofs.listed.Listing.{or_left, or_right, holds_push, flag_more, front_more, holds_at, extends_on, nat_eq-refl}
-use Rattle.cm_deps.proofs.listed.Peeling.{none_set, all_open}
+use Rattle.cm_deps.specs.Edges.{holds, is_set, row, On, IsBelow, IsReach, IsVisited, IsAdded, Extends}
+use Rattle.cm_deps.proofs.listed.Listing.{or_left, or_right, holds_push, flag_more, prefix_more, holds_at, extends_on, nat_eq-refl}
+use Rattle.cm_deps.proofs.listed.Toposorting.{none_set, all_open}
 
 -- a node that isn't there yet is put there
-pub seen_more : (seen : List Bool) (found : List ℕ) (x : ℕ) → IsSeen seen found → x < length seen → is_set seen x ≡ false → IsSeen (set seen x true) (found ++ x ∷ [])
+pub seen_more : (seen : List Bool) (found : List ℕ) (x : ℕ) → IsVisited seen found → x < length seen → is_set seen x ≡ false → IsVisited (set seen x true) (found ++ x ∷ [])
 seen_more seen found x state inside new = record {
   listed = flag_more seen found x inside state.listed;
   counted = fewer;
@@ -24,7 +24,7 @@ seen_more seen found x state inside new = record {
         let one : count_by not (set seen x true) + 1 ≡ count_by not seen + 0 = rw new at moved in
         omega (arith, length-append found (x ∷ []), state.counted, length-set seen x true)
 
-pub seen_none : (n : ℕ) → IsSeen (replicate n false) []
+pub seen_none : (n : ℕ) → IsVisited (replicate n false) []
 seen_none n = record {
   listed = λ x. none_set n x;
   counted = omega (arith, all_open n, length-replicate n false);
@@ -53,12 +53,12 @@ pub searching_more : (after : List (List ℕ)) (start : ℕ) (found longer : Lis
 searching_more after start found longer head low state step = record {
   within = omega (arith, ap length step.longer.1, length-append found step.longer.0);
   first = λ y on. holds_longer found longer y step.longer (state.first y on);
-  closed = λ x y held on. front_more (λ z. On after z y → IsTrue (holds longer y)) found head low (λ z there on_z. holds_longer found longer y step.longer (state.closed z y there on_z)) (λ on_node. step.added y on_node) x (sym (ap (λ l. holds l x) front) ∙ held) on;
+  closed = λ x y held on. prefix_more (λ z. On after z y → IsTrue (holds longer y)) found head low (λ z there on_z. holds_longer found longer y step.longer (state.closed z y there on_z)) (λ on_node. step.added y on_node) x (sym (ap (λ l. holds l x) prefix) ∙ held) on;
   sound = λ y held. from y held (holds found y) refl;
 }
   where
-    front : take (head + 1) longer ≡ take (head + 1) found
-    front = ap (take (head + 1)) step.longer.1 ∙ take-append-le (head + 1) found step.longer.0 (omega arith)
+    prefix : take (head + 1) longer ≡ take (head + 1) found
+    prefix = ap (take (head + 1)) step.longer.1 ∙ take-append-le (head + 1) found step.longer.0 (omega arith)
 
     from : (y : ℕ) → IsTrue (holds longer y) → (b : Bool) → holds found y ≡ b → Reaches (On after) start y
     from y held true there = state.sound y there
@@ -72,7 +72,7 @@ searched after start found head all state = record {
   only = state.sound;
 }
   where
-    from : (x : ℕ) → ((z : ℕ) → On after x z → IsTrue (holds found z)) → (between : List ℕ) (y : ℕ) → Way (On after) x between y → IsTrue (holds found y)
+    from : (x : ℕ) → ((z : ℕ) → On after x z → IsTrue (holds found z)) → (between : List ℕ) (y : ℕ) → DependencyPath (On after) x between y → IsTrue (holds found y)
     from x next [] y on = next y on
     from x next (z ∷ zs) y way = from z (λ w on. state.closed z w (ap (λ l. holds l z) (take_all head found all) ∙ next z way.0) on) zs y way.1
 
@@ -86,7 +86,7 @@ added_none found = record {
 -- one node more was put there
 pub added_more : (nodes : List ℕ) (k : ℕ) (old found longer : List ℕ) → k < length nodes → IsAdded (take k nodes) old found → IsTrue (holds longer (get_or nodes k 0)) → ((y : ℕ) → IsTrue (holds longer y) → holds found y ≡ false → y ≡ get_or nodes k 0) → Extends found longer → IsAdded (take (k + 1) nodes) old longer
 added_more nodes k old found longer low state here new more = record {
-  added = front_more (λ y. IsTrue (holds longer y)) nodes k low (λ y held. holds_longer found longer y more (state.added y held)) here;
+  added = prefix_more (λ y. IsTrue (holds longer y)) nodes k low (λ y held. holds_longer found longer y more (state.added y held)) here;
   only = λ y held out. from y held out (holds found y) refl;
   longer = extends_on old found longer state.longer more;
 }

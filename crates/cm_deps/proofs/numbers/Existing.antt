@@ -5,12 +5,12 @@ use Rattle.std.proofs.lemmas.Bool.{cases_lt, not-true}
 use Rattle.std.proofs.lemmas.List.{length-append, length-map, length-drop, get_or-map, get_or_past, get_or_append_left}
 use Rattle.std.proofs.Math.Seq.{get_or-append_seam}
 use Rattle.cm_decl.proofs.Sameness.{or_split}
-use Rattle.cm_deps.specs.Edges.{holds, is_set, row, On, IsBelow, IsListing, IsPeeled}
-use Rattle.cm_deps.specs.Ring.{IsLeastLeft, IsFirstLeft, IsWalk, IsTurned, IsRing, GoesOn}
+use Rattle.cm_deps.specs.Edges.{holds, is_set, row, On, IsBelow, IsListing, IsToposorted}
+use Rattle.cm_deps.specs.Ring.{IsLeastLeft, IsFirstLeft, IsWalk, IsRotated, IsRing, EachHasUnlisted}
 use Rattle.cm_deps.proofs.listed.Listing.{same_nat, nat_eq-refl, or_left, or_right, one_fails, listing_more}
-use Rattle.cm_deps.proofs.listed.Peeling.{listing_none}
+use Rattle.cm_deps.proofs.listed.Toposorting.{listing_none}
 use Rattle.cm_deps.proofs.loops.Cores.{held_at}
-use Rattle.cm_deps.proofs.loops.Rings.{none_left, peeled_goes_on, IsWalking, walking_none, walking_more, walked_back, walked_all, ring_found}
+use Rattle.cm_deps.proofs.loops.Rings.{none_left, toposorted_goes_on, IsWalking, walking_none, walking_more, walked_back, walked_all, ring_found}
 
 -- ---- numbers below a bound
 
@@ -53,7 +53,7 @@ first_below p (suc n) = elim (first_below p n) as (λ _. ((x : ℕ) → x < suc 
       | inr from ↦ (let same : n ≡ x = omega arith in subst (λ v. IsTrue (p v)) same here)
     ])
 
--- ---- each numbered graph can be peeled
+-- ---- each numbered graph can be toposorted
 
 is_ready : List (List ℕ) → List Bool → ℕ → Bool
 is_ready after queued x = not (is_set queued x) && list_all (is_set queued) (row after x)
@@ -66,7 +66,7 @@ both_hold : (p q : Bool) → IsTrue (not p && q) → (p ≡ false) × (q ≡ tru
 both_hold true q h = absurd (true≢false (sym h))
 both_hold false q h = (refl, h)
 
-stuck : (after : List (List ℕ)) (order : List ℕ) (queued : List Bool) → IsListing after order queued queued → ((x : ℕ) → x < length after → is_ready after queued x ≡ false) → IsPeeled after order
+stuck : (after : List (List ℕ)) (order : List ℕ) (queued : List Bool) → IsListing after order queued queued → ((x : ℕ) → x < length after → is_ready after queued x ≡ false) → IsToposorted after order
 unfolding is_ready
 stuck after order queued state none = record {
   grown = state.grown;
@@ -75,26 +75,26 @@ stuck after order queued state none = record {
       (waits.0, waits.1, sym (state.listed waits.0) ∙ waits.2));
 }
 
-peel_on : (after : List (List ℕ)) (fuel : ℕ) (order : List ℕ) (queued : List Bool) → IsListing after order queued queued → length after ≤ length order + fuel → (peeled : List ℕ) × IsPeeled after peeled
+toposort_on : (after : List (List ℕ)) (fuel : ℕ) (order : List ℕ) (queued : List Bool) → IsListing after order queued queued → length after ≤ length order + fuel → (toposorted : List ℕ) × IsToposorted after toposorted
 unfolding is_ready
-peel_on after zero order queued state enough = (
+toposort_on after zero order queued state enough = (
   order,
   stuck after order queued state (λ x inside.
       let counted : count_by not queued + length order ≡ length after = state.counted in
       let set_x : IsTrue (is_set queued x) = none_left queued x (omega arith) (omega (arith, state.queued_size)) in
       ap (λ b. not b && list_all (is_set queued) (row after x)) set_x),
 )
-peel_on after (suc fuel) order queued state enough = elim (some_below (is_ready after queued) (length after)) as (λ _. (peeled : List ℕ) × IsPeeled after peeled) [
+toposort_on after (suc fuel) order queued state enough = elim (some_below (is_ready after queued) (length after)) as (λ _. (toposorted : List ℕ) × IsToposorted after toposorted) [
   | inl none ↦ (order, stuck after order queued state none)
   | inr found ↦ (let both : (is_set queued found.0 ≡ false) × (list_all (is_set queued) (row after found.0) ≡ true) = both_hold (is_set queued found.0) (list_all (is_set queued) (row after found.0)) found.2 in
       let next : IsListing after (order ++ found.0 ∷ []) (set queued found.0 true) queued = listing_more after order queued queued found.0 state found.1 both.0 both.1 in
-      peel_on after fuel (order ++ found.0 ∷ []) (set queued found.0 true)
+      toposort_on after fuel (order ++ found.0 ∷ []) (set queued found.0 true)
       (record { queued_size = next.queued_size; grown = next.grown; listed = next.listed; known = λ x here. sym (next.listed x) ∙ here; counted = next.counted })
       (omega (arith, length-append order (found.0 ∷ []))))
 ]
 
-pub can_be_peeled : (after : List (List ℕ)) → (order : List ℕ) × IsPeeled after order
-can_be_peeled after = peel_on after (length after) [] (replicate (length after) false) (listing_none after (length after) refl) (omega arith)
+pub can_be_toposorted : (after : List (List ℕ)) → (order : List ℕ) × IsToposorted after order
+can_be_toposorted after = toposort_on after (length after) [] (replicate (length after) false) (listing_none after (length after) refl) (omega arith)
 
 -- ---- the loop
 
@@ -119,9 +119,9 @@ at_place (y ∷ ys) (suc k) x here = at_place ys k x here
 
 -- ---- flags of what is listed
 
-inside_of : (after : List (List ℕ)) (order : List ℕ) (y : ℕ) → IsPeeled after order → IsTrue (holds order y) → y < length after
-inside_of after order y peeled held =
-    let place : (k : ℕ) × (k < length order) × (slice_get order k ≡ Some y) = held_at order y held in (peeled.grown place.0 y place.2).inside
+inside_of : (after : List (List ℕ)) (order : List ℕ) (y : ℕ) → IsToposorted after order → IsTrue (holds order y) → y < length after
+inside_of after order y toposorted held =
+    let place : (k : ℕ) × (k < length order) × (slice_get order k ≡ Some y) = held_at order y held in (toposorted.grown place.0 y place.2).inside
 
 -- the number that stands at a place below the bound is that place
 at_below : (n i : ℕ) → i < n → get_or (below n) i 0 ≡ i
@@ -208,7 +208,7 @@ least_of (z ∷ zs) p y held left = by (p z) refl (list_any (λ v. not (p v)) zs
       | inr later ↦ true≢false (sym (open_some zs p y later left) ∙ none)
     ])
 
-walk_on : (after : List (List ℕ)) (listed : List Bool) (start : ℕ) → IsBelow after (length after) → GoesOn after (is_set listed) → (fuel : ℕ) (seen : List Bool) (passed : List ℕ) (node steps : ℕ) → IsWalking after listed start seen passed node steps → length after ≤ steps + fuel → (all : List ℕ) × (last : ℕ) × IsWalk after (is_set listed) start all last
+walk_on : (after : List (List ℕ)) (listed : List Bool) (start : ℕ) → IsBelow after (length after) → EachHasUnlisted after (is_set listed) → (fuel : ℕ) (seen : List Bool) (passed : List ℕ) (node steps : ℕ) → IsWalking after listed start seen passed node steps → length after ≤ steps + fuel → (all : List ℕ) × (last : ℕ) × IsWalk after (is_set listed) start all last
 walk_on after listed start low goes zero seen passed node steps state enough = (passed, node, walked_all after listed start seen passed node steps state (omega arith))
 walk_on after listed start low goes (suc fuel) seen passed node steps state enough = by (is_set seen node) refl (walk_on after listed start low goes fuel)
   where
@@ -220,7 +220,7 @@ walk_on after listed start low goes (suc fuel) seen passed node steps state enou
         rest (set seen node true) (passed ++ node ∷ []) least.0 (steps + 1) (walking_more after listed start seen passed node steps least.0 low state new least.1) (omega arith)
 
 -- a list that isn't empty, begun at its least
-can_be_turned : (nodes : List ℕ) → 0 < length nodes → (ring : List ℕ) × IsTurned nodes ring
+can_be_turned : (nodes : List ℕ) → 0 < length nodes → (ring : List ℕ) × IsRotated nodes ring
 can_be_turned [] some = absurd (omega arith)
 can_be_turned (x ∷ xs) some =
     let least : (m : ℕ) × IsLeastLeft (x ∷ xs) (λ v. false) m = least_of (x ∷ xs) (λ v. false) x (or_left (nat_eq x x) (holds xs x) (nat_eq-refl x)) refl in
@@ -235,21 +235,21 @@ can_be_turned (x ∷ xs) some =
       },
     )
 
--- where not all are listed, there is a picked loop
-pub has_ring : (after : List (List ℕ)) (order : List ℕ) → IsBelow after (length after) → IsPeeled after order → ((x : ℕ) → x < length after → IsTrue (holds order x)) ⊎ ((ring : List ℕ) × IsRing after (holds order) ring)
-has_ring after order low peeled = by (first_below (is_set flags) (length after))
+-- where not all are listed, there is a picked cycle
+pub has_ring : (after : List (List ℕ)) (order : List ℕ) → IsBelow after (length after) → IsToposorted after order → ((x : ℕ) → x < length after → IsTrue (holds order x)) ⊎ ((ring : List ℕ) × IsRing after (holds order) ring)
+has_ring after order low toposorted = by (first_below (is_set flags) (length after))
   where
     flags : List Bool
     flags = map (holds order) (below (length after))
 
     same : (x : ℕ) → is_set flags x ≡ holds order x
-    same x = flags_same (length after) order (λ y held. inside_of after order y peeled held) x
+    same x = flags_same (length after) order (λ y held. inside_of after order y toposorted held) x
 
     by : ((x : ℕ) → x < length after → IsTrue (is_set flags x)) ⊎ ((x : ℕ) × IsFirstLeft (length after) (is_set flags) x) → ((x : ℕ) → x < length after → IsTrue (holds order x)) ⊎ ((ring : List ℕ) × IsRing after (holds order) ring)
     by (inl all) = inl (λ x inside. sym (same x) ∙ all x inside)
     by (inr (start, first)) =
-        let walk : (passed : List ℕ) × (node : ℕ) × IsWalk after (is_set flags) start passed node = walk_on after flags start low (peeled_goes_on after order (is_set flags) same peeled) (length after) (replicate (length after) false) [] start 0 (walking_none after flags start (length after) refl first.inside first.left) (omega arith) in
+        let walk : (passed : List ℕ) × (node : ℕ) × IsWalk after (is_set flags) start passed node = walk_on after flags start low (toposorted_goes_on after order (is_set flags) same toposorted) (length after) (replicate (length after) false) [] start 0 (walking_none after flags start (length after) refl first.inside first.left) (omega arith) in
         let place : (k : ℕ) × (k < length walk.0) × (slice_get walk.0 k ≡ Some walk.1) = held_at walk.0 walk.1 walk.2.back in
         let here : get_or walk.0 place.0 0 ≡ walk.1 = at_place walk.0 place.0 walk.1 place.2 in
-        let turned : (ring : List ℕ) × IsTurned (drop place.0 walk.0) ring = can_be_turned (drop place.0 walk.0) (omega (arith, length-drop place.0 walk.0, place.1)) in
+        let turned : (ring : List ℕ) × IsRotated (drop place.0 walk.0) ring = can_be_turned (drop place.0 walk.0) (omega (arith, length-drop place.0 walk.0, place.1)) in
         inr (turned.0, ring_found after order flags start walk.1 walk.0 turned.0 place.0 same first walk.2 place.1 here turned.1)

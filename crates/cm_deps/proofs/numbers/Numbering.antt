@@ -5,22 +5,23 @@ use Rattle.std.specs.Ordering.{is_le, ordering_reverse}
 use Rattle.std.proofs.lemmas.Bool.{cases_lt, not-true}
 use Rattle.cm_decl.specs.declared.node.Node.{Node}
 use Rattle.cm_decl.specs.Same.{same_node}
-use Rattle.cm_decl.specs.NodeOrder.{node_cmp, node_cmp_total, node_at_most}
-use Rattle.cm_decl.specs.Reach.{Way, Reaches}
-use Rattle.cm_decl.specs.Cycle.{InCore, IsLeast, Follows, IsPickedCycle}
+use Rattle.cm_decl.specs.NodeOrder.{node_cmp, node_at_most}
+use Rattle.cm_decl.specs.NodeOrderInside.{node_cmp_total}
+use Rattle.cm_decl.specs.Reach.{DependencyPath, Reaches}
+use Rattle.cm_decl.specs.Cycle.{InCore, IsLeast, NextInCore, IsPickedCycle}
 use Rattle.cm_decl.proofs.Sameness.{and_first, and_second, or_split, same_node-refl, same_node_exact}
-use Rattle.cm_deps.specs.Edges.{holds, On, IsBelow, IsPeeled, Waits}
-use Rattle.cm_deps.specs.Ring.{Leads, IsFirstLeft, IsRing}
+use Rattle.cm_deps.specs.Edges.{holds, On, IsBelow, IsToposorted, Waits}
+use Rattle.cm_deps.specs.Ring.{LeadsToLeast, IsFirstLeft, IsRing}
 pub use Rattle.cm_deps.specs.Nodes.{at}
 use Rattle.cm_deps.proofs.listed.Listing.{same_nat, nat_eq-refl, or_left, or_right}
 use Rattle.cm_deps.proofs.loops.Cores.{listed_unsupported}
-use Rattle.cm_deps.proofs.loops.Ways.{Way-map, Way-inside}
+use Rattle.cm_deps.proofs.loops.Ways.{DependencyPath-map, DependencyPath-inside}
 
--- the nodes stand in rising order, and the numbered graph is the graph of them
+-- the nodes stand in increasing order, and the numbered graph is the graph of them
 pub record IsNumbered (nodes : List Node) (edge : Node → Node → Bool) (after : List (List ℕ)) : Type 0 where
   pub size : length after ≡ length nodes
   pub below : IsBelow after (length after)
-  pub rising : (i j : ℕ) → i < j → j < length nodes → node_cmp (at nodes i) (at nodes j) ≡ Less
+  pub increasing : (i j : ℕ) → i < j → j < length nodes → node_cmp (at nodes i) (at nodes j) ≡ Less
   pub on : (i j : ℕ) → On after i j → IsTrue (edge (at nodes i) (at nodes j))
   pub from : (x y : Node) → IsTrue (edge x y) → (i : ℕ) × (j : ℕ) × (at nodes i ≡ x) × (at nodes j ≡ y) × On after i j
 
@@ -48,18 +49,18 @@ at_self x = by (node_cmp x x) refl
 
 -- a node has one number
 pub number_once : (nodes : List Node) → ((i j : ℕ) → i < j → j < length nodes → node_cmp (at nodes i) (at nodes j) ≡ Less) → (i j : ℕ) → i < length nodes → j < length nodes → at nodes i ≡ at nodes j → i ≡ j
-number_once nodes rising i j low high same = elim (cases_lt i j) as (λ _. i ≡ j) [
-  | inl before ↦ absurd (never_less (at nodes i) (at nodes j) same (rising i j before high))
+number_once nodes increasing i j low high same = elim (cases_lt i j) as (λ _. i ≡ j) [
+  | inl before ↦ absurd (never_less (at nodes i) (at nodes j) same (increasing i j before high))
   | inr from ↦ (elim (cases_lt j i) as (λ _. i ≡ j) [
-    | inl behind ↦ absurd (never_less (at nodes j) (at nodes i) (sym same) (rising j i behind low))
+    | inl behind ↦ absurd (never_less (at nodes j) (at nodes i) (sym same) (increasing j i behind low))
     | inr to ↦ omega arith
   ])
 ]
 
 -- numbers rise with their nodes
 pub number_at_most : (nodes : List Node) → ((i j : ℕ) → i < j → j < length nodes → node_cmp (at nodes i) (at nodes j) ≡ Less) → (i j : ℕ) → i ≤ j → j < length nodes → IsTrue (node_at_most (at nodes i) (at nodes j))
-number_at_most nodes rising i j low high = elim (cases_lt i j) as (λ _. IsTrue (node_at_most (at nodes i) (at nodes j))) [
-  | inl before ↦ ap is_le (rising i j before high)
+number_at_most nodes increasing i j low high = elim (cases_lt i j) as (λ _. IsTrue (node_at_most (at nodes i) (at nodes j))) [
+  | inl before ↦ ap is_le (increasing i j before high)
   | inr from ↦ (let same : i ≡ j = omega arith in subst (λ k. IsTrue (node_at_most (at nodes i) (at nodes k))) same (at_self (at nodes i)))
 ]
 
@@ -106,18 +107,18 @@ edge_at nodes edge after numbered i low y h =
     let ends : (k : ℕ) × (j : ℕ) × (at nodes k ≡ at nodes i) × (at nodes j ≡ y) × On after k j = numbered.from (at nodes i) y h in
     let first : ends.0 < length after = on_inside after ends.0 ends.1 ends.4 in
     let second : ends.1 < length after = numbered.below ends.0 ends.1 ends.4 in
-    let same : ends.0 ≡ i = number_once nodes numbered.rising ends.0 i (omega (arith, numbered.size)) low ends.2 in
+    let same : ends.0 ≡ i = number_once nodes numbered.increasing ends.0 i (omega (arith, numbered.size)) low ends.2 in
     (ends.1, omega (arith, numbered.size), ends.3, subst (λ k. On after k ends.1) same ends.4)
 
 -- what isn't listed is in the core
-pub left_in_core : (nodes : List Node) (edge : Node → Node → Bool) (after : List (List ℕ)) (order : List ℕ) → IsNumbered nodes edge after → IsPeeled after order → (i : ℕ) → i < length nodes → holds order i ≡ false → InCore edge (at nodes i)
-left_in_core nodes edge after order numbered peeled i low left =
+pub left_in_core : (nodes : List Node) (edge : Node → Node → Bool) (after : List (List ℕ)) (order : List ℕ) → IsNumbered nodes edge after → IsToposorted after order → (i : ℕ) → i < length nodes → holds order i ≡ false → InCore edge (at nodes i)
+left_in_core nodes edge after order numbered toposorted i low left =
     (left_of nodes (holds order), left_node nodes (holds order) i low left, λ x is. onward x is)
   where
     onward : (x : Node) → IsTrue (left_of nodes (holds order) x) → (y : Node) × IsTrue (left_of nodes (holds order) y) × IsTrue (edge x y)
     onward x is =
         let number : (k : ℕ) × (k < length nodes) × (at nodes k ≡ x) × (holds order k ≡ false) = left_number nodes (holds order) x is in
-        let waits : Waits after order number.0 = peeled.rest number.0 (omega (arith, numbered.size)) number.3 in
+        let waits : Waits after order number.0 = toposorted.rest number.0 (omega (arith, numbered.size)) number.3 in
         let inside : waits.0 < length after = numbered.below number.0 waits.0 waits.1 in (
           at nodes waits.0,
           left_node nodes (holds order) waits.0 (omega (arith, numbered.size)) waits.2,
@@ -125,8 +126,8 @@ left_in_core nodes edge after order numbered peeled i low left =
         )
 
 -- what is in the core isn't listed
-pub core_left : (nodes : List Node) (edge : Node → Node → Bool) (after : List (List ℕ)) (order : List ℕ) → IsNumbered nodes edge after → IsPeeled after order → (x : Node) → InCore edge x → (i : ℕ) × (i < length nodes) × (at nodes i ≡ x) × (holds order i ≡ false)
-core_left nodes edge after order numbered peeled x core =
+pub core_left : (nodes : List Node) (edge : Node → Node → Bool) (after : List (List ℕ)) (order : List ℕ) → IsNumbered nodes edge after → IsToposorted after order → (x : Node) → InCore edge x → (i : ℕ) × (i < length nodes) × (at nodes i ≡ x) × (holds order i ≡ false)
+core_left nodes edge after order numbered toposorted x core =
     let next : (y : Node) × IsTrue (core.0 y) × IsTrue (edge x y) = core.2 x core.1 in
     let ends : (i : ℕ) × (j : ℕ) × (at nodes i ≡ x) × (at nodes j ≡ next.0) × On after i j = numbered.from x next.0 next.2 in
     let inside : ends.0 < length after = on_inside after ends.0 ends.1 ends.4 in
@@ -141,34 +142,34 @@ core_left nodes edge after order numbered peeled x core =
         (there.0, node_member core.0 nodes there.0 there.1 (subst (λ z. IsTrue (core.0 z)) (sym there.2) next.1), there.3)
 
     by : (i : ℕ) → IsTrue (member core.0 nodes i) → (b : Bool) → holds order i ≡ b → holds order i ≡ false
-    by i is true listed = absurd (listed_unsupported after order peeled.grown (member core.0 nodes) supported i listed is)
+    by i is true listed = absurd (listed_unsupported after order toposorted.grown (member core.0 nodes) supported i listed is)
     by i is false left = left
 
 -- the same of a number
-pub core_number : (nodes : List Node) (edge : Node → Node → Bool) (after : List (List ℕ)) (order : List ℕ) → IsNumbered nodes edge after → IsPeeled after order → (i : ℕ) → i < length nodes → InCore edge (at nodes i) → holds order i ≡ false
-core_number nodes edge after order numbered peeled i low core =
-    let found : (k : ℕ) × (k < length nodes) × (at nodes k ≡ at nodes i) × (holds order k ≡ false) = core_left nodes edge after order numbered peeled (at nodes i) core in
-    let same : found.0 ≡ i = number_once nodes numbered.rising found.0 i found.1 low found.2 in
+pub core_number : (nodes : List Node) (edge : Node → Node → Bool) (after : List (List ℕ)) (order : List ℕ) → IsNumbered nodes edge after → IsToposorted after order → (i : ℕ) → i < length nodes → InCore edge (at nodes i) → holds order i ≡ false
+core_number nodes edge after order numbered toposorted i low core =
+    let found : (k : ℕ) × (k < length nodes) × (at nodes k ≡ at nodes i) × (holds order k ≡ false) = core_left nodes edge after order numbered toposorted (at nodes i) core in
+    let same : found.0 ≡ i = number_once nodes numbered.increasing found.0 i found.1 low found.2 in
     subst (λ k. holds order k ≡ false) same found.3
 
 -- the least of what isn't listed is the least of the core
-pub first_least : (nodes : List Node) (edge : Node → Node → Bool) (after : List (List ℕ)) (order : List ℕ) → IsNumbered nodes edge after → IsPeeled after order → (start : ℕ) → IsFirstLeft (length after) (holds order) start → IsLeast (InCore edge) (at nodes start)
-first_least nodes edge after order numbered peeled start first =
-    (left_in_core nodes edge after order numbered peeled start (omega (arith, numbered.size, first.inside)) first.left, λ y core. least y core)
+pub first_least : (nodes : List Node) (edge : Node → Node → Bool) (after : List (List ℕ)) (order : List ℕ) → IsNumbered nodes edge after → IsToposorted after order → (start : ℕ) → IsFirstLeft (length after) (holds order) start → IsLeast (InCore edge) (at nodes start)
+first_least nodes edge after order numbered toposorted start first =
+    (left_in_core nodes edge after order numbered toposorted start (omega (arith, numbered.size, first.inside)) first.left, λ y core. least y core)
   where
     least : (y : Node) → InCore edge y → IsTrue (node_at_most (at nodes start) y)
     least y core =
-        let found : (k : ℕ) × (k < length nodes) × (at nodes k ≡ y) × (holds order k ≡ false) = core_left nodes edge after order numbered peeled y core in
+        let found : (k : ℕ) × (k < length nodes) × (at nodes k ≡ y) × (holds order k ≡ false) = core_left nodes edge after order numbered toposorted y core in
         let low : start ≤ found.0 = elim (cases_lt found.0 start) as (λ _. start ≤ found.0) [
           | inl before ↦ absurd (true≢false (sym (first.first found.0 before) ∙ found.3))
           | inr from ↦ from
         ] in
-        subst (λ z. IsTrue (node_at_most (at nodes start) z)) found.2 (number_at_most nodes numbered.rising start found.0 low found.1)
+        subst (λ z. IsTrue (node_at_most (at nodes start) z)) found.2 (number_at_most nodes numbered.increasing start found.0 low found.1)
 
 -- where a number leads to another, its node is followed by the other's
-pub leads_follows : (nodes : List Node) (edge : Node → Node → Bool) (after : List (List ℕ)) (order : List ℕ) → IsNumbered nodes edge after → IsPeeled after order → (i j : ℕ) → i < length nodes → Leads after (holds order) i j → (j < length nodes) × Follows edge (at nodes i) (at nodes j)
-leads_follows nodes edge after order numbered peeled i j low leads =
-    (inside, ((left_in_core nodes edge after order numbered peeled j inside leads.left, numbered.on i j leads.on), λ z both. least z both))
+pub leads_follows : (nodes : List Node) (edge : Node → Node → Bool) (after : List (List ℕ)) (order : List ℕ) → IsNumbered nodes edge after → IsToposorted after order → (i j : ℕ) → i < length nodes → LeadsToLeast after (holds order) i j → (j < length nodes) × NextInCore edge (at nodes i) (at nodes j)
+leads_follows nodes edge after order numbered toposorted i j low leads =
+    (inside, ((left_in_core nodes edge after order numbered toposorted j inside leads.left, numbered.on i j leads.on), λ z both. least z both))
   where
     inside : j < length nodes
     inside = let there : j < length after = numbered.below i j leads.on in omega (arith, numbered.size)
@@ -176,11 +177,11 @@ leads_follows nodes edge after order numbered peeled i j low leads =
     least : (z : Node) → InCore edge z × IsTrue (edge (at nodes i) z) → IsTrue (node_at_most (at nodes j) z)
     least z both =
         let there : (k : ℕ) × (k < length nodes) × (at nodes k ≡ z) × On after i k = edge_at nodes edge after numbered i low z both.1 in
-        let left : holds order there.0 ≡ false = core_number nodes edge after order numbered peeled there.0 there.1 (subst (InCore edge) (sym there.2) both.0) in
-        subst (λ v. IsTrue (node_at_most (at nodes j) v)) there.2 (number_at_most nodes numbered.rising j there.0 (leads.least there.0 there.3 left) there.1)
+        let left : holds order there.0 ≡ false = core_number nodes edge after order numbered toposorted there.0 there.1 (subst (InCore edge) (sym there.2) both.0) in
+        subst (λ v. IsTrue (node_at_most (at nodes j) v)) there.2 (number_at_most nodes numbered.increasing j there.0 (leads.least there.0 there.3 left) there.1)
 
 -- the nodes of a way are inside
-pub way_inside : (after : List (List ℕ)) (listed : ℕ → Bool) (n : ℕ) → IsBelow after n → (x : ℕ) (xs : List ℕ) (y : ℕ) → Way (Leads after listed) x xs y → (z : ℕ) → IsTrue (holds xs z) → z < n
+pub way_inside : (after : List (List ℕ)) (listed : ℕ → Bool) (n : ℕ) → IsBelow after n → (x : ℕ) (xs : List ℕ) (y : ℕ) → DependencyPath (LeadsToLeast after listed) x xs y → (z : ℕ) → IsTrue (holds xs z) → z < n
 way_inside after listed n below x [] y way z held = absurd (true≢false (sym held))
 way_inside after listed n below x (v ∷ vs) y way z held = elim (or_split (nat_eq z v) (holds vs z) held) as (λ _. z < n) [
   | inl here ↦ subst (λ k. k < n) (sym (same_nat z v here)) (below x v way.0.on)
@@ -188,44 +189,44 @@ way_inside after listed n below x (v ∷ vs) y way z held = elim (or_split (nat_
 ]
 
 once_at : (nodes : List Node) → ((i j : ℕ) → i < j → j < length nodes → node_cmp (at nodes i) (at nodes j) ≡ Less) → (h : ℕ) → h < length nodes → (xs : List ℕ) → ((z : ℕ) → IsTrue (holds xs z) → z < length nodes) → holds xs h ≡ false → list_any (same_node (at nodes h)) (map (at nodes) xs) ≡ false
-once_at nodes rising h low [] inside out = refl
-once_at nodes rising h low (x ∷ xs) inside out = by (once_at nodes rising h low xs) (same_node (at nodes h) (at nodes x)) refl (nat_eq h x) refl
+once_at nodes increasing h low [] inside out = refl
+once_at nodes increasing h low (x ∷ xs) inside out = by (once_at nodes increasing h low xs) (same_node (at nodes h) (at nodes x)) refl (nat_eq h x) refl
   where
     by : (((z : ℕ) → IsTrue (holds xs z) → z < length nodes) → holds xs h ≡ false → list_any (same_node (at nodes h)) (map (at nodes) xs) ≡ false) → (b : Bool) → same_node (at nodes h) (at nodes x) ≡ b → (e : Bool) → nat_eq h x ≡ e → (same_node (at nodes h) (at nodes x) || list_any (same_node (at nodes h)) (map (at nodes) xs)) ≡ false
     by later b same true here = let never : true ≡ false = rw here at out in absurd (true≢false never)
     by later true same false apart =
-        let one : h ≡ x = number_once nodes rising h x low (inside x (or_left (nat_eq x x) (holds xs x) (nat_eq-refl x))) (same_node_exact (at nodes h) (at nodes x) same) in
+        let one : h ≡ x = number_once nodes increasing h x low (inside x (or_left (nat_eq x x) (holds xs x) (nat_eq-refl x))) (same_node_exact (at nodes h) (at nodes x) same) in
         absurd (true≢false (sym (subst (λ z. IsTrue (nat_eq h z)) one (nat_eq-refl h)) ∙ apart))
     by later false other false apart =
         let fewer : holds xs h ≡ false = rw apart at out in
         rw other (later (λ z held. inside z (or_right (nat_eq z x) (holds xs z) held)) fewer)
 
 least_at : (nodes : List Node) → ((i j : ℕ) → i < j → j < length nodes → node_cmp (at nodes i) (at nodes j) ≡ Less) → (h : ℕ) → (xs : List ℕ) → ((z : ℕ) → IsTrue (holds xs z) → z < length nodes) → ((z : ℕ) → IsTrue (holds xs z) → h ≤ z) → IsTrue (list_all (node_at_most (at nodes h)) (map (at nodes) xs))
-least_at nodes rising h [] inside least = refl
-least_at nodes rising h (x ∷ xs) inside least =
+least_at nodes increasing h [] inside least = refl
+least_at nodes increasing h (x ∷ xs) inside least =
     let here : IsTrue (holds (x ∷ xs) x) = or_left (nat_eq x x) (holds xs x) (nat_eq-refl x) in
-    let first : IsTrue (node_at_most (at nodes h) (at nodes x)) = number_at_most nodes rising h x (least x here) (inside x here) in
-    rw first (least_at nodes rising h xs (λ z held. inside z (or_right (nat_eq z x) (holds xs z) held)) (λ z held. least z (or_right (nat_eq z x) (holds xs z) held)))
+    let first : IsTrue (node_at_most (at nodes h) (at nodes x)) = number_at_most nodes increasing h x (least x here) (inside x here) in
+    rw first (least_at nodes increasing h xs (λ z held. inside z (or_right (nat_eq z x) (holds xs z) held)) (λ z held. least z (or_right (nat_eq z x) (holds xs z) held)))
 
 -- the nodes of the ring, and its first once more, are the picked cycle
-pub ring_picked : (nodes : List Node) (edge : Node → Node → Bool) (after : List (List ℕ)) (order ring : List ℕ) → IsNumbered nodes edge after → IsPeeled after order → IsRing after (holds order) ring → IsPickedCycle edge (map (at nodes) ring ++ at nodes (get_or ring 0 0) ∷ [])
-ring_picked nodes edge after order ring numbered peeled is = record {
+pub ring_picked : (nodes : List Node) (edge : Node → Node → Bool) (after : List (List ℕ)) (order ring : List ℕ) → IsNumbered nodes edge after → IsToposorted after order → IsRing after (holds order) ring → IsPickedCycle edge (map (at nodes) ring ++ at nodes (get_or ring 0 0) ∷ [])
+ring_picked nodes edge after order ring numbered toposorted is = record {
   start = at nodes is.start;
-  least_of_core = first_least nodes edge after order numbered peeled is.start is.first;
+  least_of_core = first_least nodes edge after order numbered toposorted is.start is.first;
   head = at nodes is.head;
   others = map (at nodes) is.others;
-  reached = elim is.reached as (λ _. (at nodes is.start ≡ at nodes is.head) ⊎ Reaches (Follows edge) (at nodes is.start) (at nodes is.head)) [
+  reached = elim is.reached as (λ _. (at nodes is.start ≡ at nodes is.head) ⊎ Reaches (NextInCore edge) (at nodes is.start) (at nodes is.head)) [
     | inl same ↦ inl (ap (at nodes) same)
     | inr way ↦ inr (map (at nodes) way.0, follow is.start begins way.0 is.head way.1)
   ];
   loop = follow is.head top is.others is.head is.loop;
-  once = once_at nodes numbered.rising is.head top is.others inside is.once;
-  least = least_at nodes numbered.rising is.head is.others inside is.least;
+  once = once_at nodes numbered.increasing is.head top is.others inside is.once;
+  least = least_at nodes numbered.increasing is.head is.others inside is.least;
   whole = ap (λ l. map (at nodes) l ++ at nodes (get_or l 0 0) ∷ []) is.whole;
 }
   where
-    follow : (x : ℕ) → x < length nodes → (xs : List ℕ) (y : ℕ) → Way (Leads after (holds order)) x xs y → Way (Follows edge) (at nodes x) (map (at nodes) xs) (at nodes y)
-    follow = Way-map (Leads after (holds order)) (Follows edge) (at nodes) (λ k. k < length nodes) (λ i j low leads. leads_follows nodes edge after order numbered peeled i j low leads)
+    follow : (x : ℕ) → x < length nodes → (xs : List ℕ) (y : ℕ) → DependencyPath (LeadsToLeast after (holds order)) x xs y → DependencyPath (NextInCore edge) (at nodes x) (map (at nodes) xs) (at nodes y)
+    follow = DependencyPath-map (LeadsToLeast after (holds order)) (NextInCore edge) (at nodes) (λ k. k < length nodes) (λ i j low leads. leads_follows nodes edge after order numbered toposorted i j low leads)
 
     begins : is.start < length nodes
     begins = omega (arith, numbered.size, is.first.inside)
@@ -236,7 +237,7 @@ ring_picked nodes edge after order ring numbered peeled is = record {
     top : is.head < length nodes
     top = elim is.reached as (λ _. is.head < length nodes) [
       | inl same ↦ subst (λ k. k < length nodes) same begins
-      | inr way ↦ Way-inside (Leads after (holds order)) (λ k. k < length nodes) (λ i j low leads. below i j leads.on) is.start begins way.0 is.head way.1
+      | inr way ↦ DependencyPath-inside (LeadsToLeast after (holds order)) (λ k. k < length nodes) (λ i j low leads. below i j leads.on) is.start begins way.0 is.head way.1
     ]
 
     inside : (z : ℕ) → IsTrue (holds is.others z) → z < length nodes

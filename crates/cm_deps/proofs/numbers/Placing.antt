@@ -16,11 +16,12 @@ use Rattle.cm_decl.specs.declared.node.DynChild.{DynChild}
 use Rattle.cm_decl.specs.declared.node.Node.{Node}
 use Rattle.cm_decl.specs.declared.node.Node.TheVariants.{Own}
 use Rattle.cm_decl.specs.Same.{same_node}
-use Rattle.cm_decl.specs.NodeOrder.{node_cmp, node_cmp_total}
+use Rattle.cm_decl.specs.NodeOrder.{node_cmp}
+use Rattle.cm_decl.specs.NodeOrderInside.{node_cmp_total}
 use Rattle.cm_decl.specs.Graph.{is_node, static_node, dynamic_node}
 use Rattle.cm_decl.proofs.orders.Comparing.{node_cmp_exact}
 use Rattle.cm_decl.proofs.Sameness.{same_node-refl, same_node_exact, or_split}
-use Rattle.cm_deps.specs.Nodes.{at, IsRising, IsNumber}
+use Rattle.cm_deps.specs.Nodes.{at, IsIncreasing, IsNodeNumber}
 use Rattle.cm_deps.proofs.listed.Listing.{or_right}
 
 equal_self : (x : Node) → node_cmp x x ≡ Equal
@@ -105,14 +106,14 @@ at_found x [] i low here = absurd (omega arith)
 at_found x (y ∷ ys) zero low here = subst (λ v. IsTrue (same_node x v || list_any (same_node x) ys)) (sym here) (ap (λ v. v || list_any (same_node x) ys) (same_node-refl x))
 at_found x (y ∷ ys) (suc i) low here = or_right (same_node x y) (list_any (same_node x) ys) (at_found x ys i (omega arith) here)
 
-pub number_some : (nodes : List Node) (x : Node) (r : Result ℕ ℕ) → IsSearchInRange r (length nodes) → IfOk r (HoldsAt (λ y. node_cmp y x ≡ Equal) nodes) → IfSome (result_ok r) (IsNumber nodes x)
+pub number_some : (nodes : List Node) (x : Node) (r : Result ℕ ℕ) → IsSearchInRange r (length nodes) → IfOk r (HoldsAt (λ y. node_cmp y x ≡ Equal) nodes) → IfSome (result_ok r) (IsNodeNumber nodes x)
 number_some nodes x (Ok i) inside equal = record { inside = inside; there = node_cmp_exact (at nodes i) x (equal Own) }
 number_some nodes x (Err i) inside equal = tt
 
 -- nodes that rise compare to a node as less, then as equal, then as greater
-rises : (nodes : List Node) (x : Node) → IsRising nodes → IsNonDecreasingBy (λ y. ordering_index (node_cmp y x)) nodes
-rises nodes x rising i j d low high = elim (cases_lt i j) as (λ _. ordering_index (node_cmp (get_or nodes i d) x) ≤ ordering_index (node_cmp (get_or nodes j d) x)) [
-  | inl before ↦ step (node_cmp (get_or nodes j d) x) refl (Less-from_sorted node_cmp nodes i j d rising before high)
+rises : (nodes : List Node) (x : Node) → IsIncreasing nodes → IsNonDecreasingBy (λ y. ordering_index (node_cmp y x)) nodes
+rises nodes x increasing i j d low high = elim (cases_lt i j) as (λ _. ordering_index (node_cmp (get_or nodes i d) x) ≤ ordering_index (node_cmp (get_or nodes j d) x)) [
+  | inl before ↦ step (node_cmp (get_or nodes j d) x) refl (Less-from_sorted node_cmp nodes i j d increasing before high)
   | inr from ↦ (let same : i ≡ j = omega arith in subst (λ k. ordering_index (node_cmp (get_or nodes i d) x) ≤ ordering_index (node_cmp (get_or nodes k d) x)) same (omega arith))
 ]
   where
@@ -126,16 +127,16 @@ rises nodes x rising i j d low high = elim (cases_lt i j) as (λ _. ordering_ind
     step Equal e less = let first : node_cmp (get_or nodes i d) x ≡ Less = subst (λ v. node_cmp (get_or nodes i d) v ≡ Less) (node_cmp_exact (get_or nodes j d) x e) less in rw (first, e) (omega arith)
     step Greater e less = rw e (small (node_cmp (get_or nodes i d) x))
 
-pub number_none : (nodes : List Node) (x : Node) (r : Result ℕ ℕ) → IsRising nodes → IsBinarySearchResult (λ y. node_cmp y x) nodes r → IfNone (result_ok r) (list_any (same_node x) nodes ≡ false)
-number_none nodes x (Ok i) rising found = tt
-number_none nodes x (Err i) rising parts = by (list_any (same_node x) nodes) refl
+pub number_none : (nodes : List Node) (x : Node) (r : Result ℕ ℕ) → IsIncreasing nodes → IsBinarySearchResult (λ y. node_cmp y x) nodes r → IfNone (result_ok r) (list_any (same_node x) nodes ≡ false)
+number_none nodes x (Ok i) increasing found = tt
+number_none nodes x (Err i) increasing parts = by (list_any (same_node x) nodes) refl
   where
     apart : (k : ℕ) → k < length nodes → at nodes k ≡ x → ⊥
     apart k low here =
         let equal : node_cmp (at nodes k) x ≡ Equal = subst (λ v. node_cmp v x ≡ Equal) (sym here) (equal_self x) in
         elim (cases_lt k i) as (λ _. ⊥) [
-          | inl before ↦ (let less : node_cmp (at nodes k) x ≡ Less = (parts (rises nodes x rising)).0 k Own (omega arith) before in cc)
-          | inr behind ↦ (let greater : node_cmp (at nodes k) x ≡ Greater = (parts (rises nodes x rising)).1 k Own behind low in cc)
+          | inl before ↦ (let less : node_cmp (at nodes k) x ≡ Less = (parts (rises nodes x increasing)).0 k Own (omega arith) before in cc)
+          | inr behind ↦ (let greater : node_cmp (at nodes k) x ≡ Greater = (parts (rises nodes x increasing)).1 k Own behind low in cc)
         ]
 
     by : (b : Bool) → list_any (same_node x) nodes ≡ b → list_any (same_node x) nodes ≡ false

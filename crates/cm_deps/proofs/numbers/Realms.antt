@@ -9,14 +9,15 @@ use Rattle.cm_decl.specs.declared.node.DynChild.{DynChild}
 use Rattle.cm_decl.specs.declared.node.Node.{Node}
 use Rattle.cm_decl.specs.declared.node.Node.TheVariants.{Own, Child}
 use Rattle.cm_decl.specs.NodeOrder.{node_cmp}
-use Rattle.cm_decl.specs.Graph.{is_node, is_from_node, sources_of, is_strong_edge, realm}
+use Rattle.cm_decl.specs.Graph.{is_node, is_from_node, sources_of, is_strong_edge}
+use Rattle.cm_decl.specs.GraphInside.{realm}
 use Rattle.cm_decl.proofs.Sameness.{and_first, and_second}
 use Rattle.cm_deps.specs.Edges.{On}
 use Rattle.cm_deps.specs.Nodes.{at, IsNodes}
 use Rattle.cm_deps.specs.Sources.{IsEdges}
 use Rattle.cm_deps.proofs.listed.Gathering.{held_inside}
-use Rattle.cm_deps.proofs.numbers.Rising.{rising_keys}
-use Rattle.cm_deps.proofs.listed.Falling.{IsRealmOf}
+use Rattle.cm_deps.proofs.numbers.Increasing.{increasing_keys}
+use Rattle.cm_deps.proofs.listed.Topological.{IsRealmOf}
 use Rattle.cm_deps.proofs.numbers.Placing.{found_at, at_found}
 
 -- nothing is less than the component itself
@@ -34,7 +35,7 @@ realm_of d dynamic nodes rows is edges = record {
   numbered = record {
     size = edges.size;
     below = λ i j on. (let high : j < length nodes = (held i j on).1 in omega (arith, edges.size));
-    rising = rising_keys nodes is.rising;
+    increasing = increasing_keys nodes is.increasing;
     on = λ i j on. (let both : (i < length nodes) × (j < length nodes) × IsTrue (list_any (is_from_node (at nodes j)) (sources_of d dynamic (at nodes i))) = held i j on in
         and_pair (list_any (is_from_node (at nodes j)) (sources_of d dynamic (at nodes i)) && is_node d dynamic (at nodes i)) (is_node d dynamic (at nodes j)) (and_pair (list_any (is_from_node (at nodes j)) (sources_of d dynamic (at nodes i))) (is_node d dynamic (at nodes i)) both.2 (node i both.0)) (node j both.1));
     from = from;
@@ -52,7 +53,7 @@ realm_of d dynamic nodes rows is edges = record {
 
     first : at nodes 0 ≡ Own
     first = elim (cases_lt 0 own.0) as (λ _. at nodes 0 ≡ Own) [
-      | inl behind ↦ absurd (own_least (at nodes 0) (subst (λ x. node_cmp (at nodes 0) x ≡ Less) own.2 (rising_keys nodes is.rising 0 own.0 behind own.1)))
+      | inl behind ↦ absurd (own_least (at nodes 0) (subst (λ x. node_cmp (at nodes 0) x ≡ Less) own.2 (increasing_keys nodes is.increasing 0 own.0 behind own.1)))
       | inr here ↦ (let zero_is : own.0 ≡ 0 = omega arith in subst (λ k. at nodes k ≡ Own) zero_is own.2)
     ]
 
@@ -83,6 +84,6 @@ pub own_first : (d : Decl) (dynamic : List DynChild) (nodes : List Node) → IsN
 own_first d dynamic nodes is =
     let own : (i : ℕ) × (i < length nodes) × (at nodes i ≡ Own) = found_at Own nodes (is.all Own) in
     elim (cases_lt 0 own.0) as (λ _. (0 < length nodes) × (at nodes 0 ≡ Own)) [
-      | inl behind ↦ absurd (own_least (at nodes 0) (subst (λ x. node_cmp (at nodes 0) x ≡ Less) own.2 (rising_keys nodes is.rising 0 own.0 behind own.1)))
+      | inl behind ↦ absurd (own_least (at nodes 0) (subst (λ x. node_cmp (at nodes 0) x ≡ Less) own.2 (increasing_keys nodes is.increasing 0 own.0 behind own.1)))
       | inr here ↦ (let zero_is : own.0 ≡ 0 = omega arith in subst (λ k. (k < length nodes) × (at nodes k ≡ Own)) zero_is (own.1, own.2))
     ]

@@ -6,8 +6,9 @@ use Rattle.cm_names.specs.declared.child.ChildName.{ChildName}
 use Rattle.cm_decl.specs.declared.node.DynChild.{DynChild}
 use Rattle.cm_decl.proofs.Sameness.{and_first, and_second}
 use Rattle.cm_world.specs.declared.row.Row.{Row}
-use Rattle.cm_world.specs.Rows.{row_of, has_parent, is_behind, child_behind}
-use Rattle.cm_world.specs.Sound.{IsRising}
+use Rattle.cm_world.specs.Rows.{row_of, has_parent}
+use Rattle.cm_world.specs.RowsInside.{is_behind, child_behind}
+use Rattle.cm_world.specs.Sound.{IncarnationsIncrease}
 use Rattle.cm_world.specs.Create.{dynamic_by, dynamic_of, dynamic_children}
 use Rattle.cm_world.proofs.trees.Finding.{some_same, none_some, find-passes}
 use Rattle.cm_walk.proofs.descents.Behind.{behind_more}
@@ -78,12 +79,12 @@ living_by true r o h = refl
 living_by false r o h = h
 
 -- the rows behind one have higher incarnations
-above_all : (a next : ℕ) (rows : List Row) → ((s : ℕ) → IsSome (row_of rows s) → a < s) → IsRising next rows → AllBehind (Some a) rows
+above_all : (a next : ℕ) (rows : List Row) → ((s : ℕ) → IsSome (row_of rows s) → a < s) → IncarnationsIncrease next rows → AllBehind (Some a) rows
 unfolding AllBehind
-above_all a next [] above rising = tt
-above_all a next (r ∷ rs) above rising = (
+above_all a next [] above increasing = tt
+above_all a next (r ∷ rs) above increasing = (
   lt-ltb a r.inc (above r.inc (living r rs)),
-  above_all a next rs (λ s lives. above s (living_by (r.inc == s) r (row_of rs s) lives)) rising.1,
+  above_all a next rs (λ s lives. above s (living_by (r.inc == s) r (row_of rs s) lives)) increasing.1,
 )
 
 behind_all : (after : Option ℕ) (a : ℕ) (rows : List Row) → is_behind after a ≡ true → AllBehind (Some a) rows → AllBehind after rows
@@ -98,12 +99,12 @@ record IsFirst (rows : List Row) (p : ℕ) (after : Option ℕ) (s : Row) : Type
   lives : row_of rows s.inc ≡ Some s
   split : filter_map (taken p after) rows ≡ cons_option (sibling_of s) (filter_map (taken p (Some s.inc)) rows)
 
-first_here : (next p : ℕ) (after : Option ℕ) (r : Row) (rs : List Row) → IsRising next (r ∷ rs) → follows p after r ≡ true → IsFirst (r ∷ rs) p after r
+first_here : (next p : ℕ) (after : Option ℕ) (r : Row) (rs : List Row) → IncarnationsIncrease next (r ∷ rs) → follows p after r ≡ true → IsFirst (r ∷ rs) p after r
 unfolding follows taken
-first_here next p after r rs rising passes =
+first_here next p after r rs increasing passes =
     let parent : has_parent p r ≡ true = and_first (has_parent p r) (is_behind after r.inc) passes in
     let behind : is_behind after r.inc ≡ true = and_second (has_parent p r) (is_behind after r.inc) passes in
-    let higher : AllBehind (Some r.inc) rs = above_all r.inc next rs rising.0.1 rising.1 in
+    let higher : AllBehind (Some r.inc) rs = above_all r.inc next rs increasing.0.1 increasing.1 in
     record {
       lives = ap (λ b. cond b (Some r) (row_of rs r.inc)) (eq-eqb r.inc r.inc refl);
       split =
@@ -116,10 +117,10 @@ first_here next p after r rs rising passes =
           ));
     }
 
-first_later : (next p : ℕ) (after : Option ℕ) (r s : Row) (rs : List Row) → IsRising next (r ∷ rs) → follows p after r ≡ false → IsFirst rs p after s → IsFirst (r ∷ rs) p after s
+first_later : (next p : ℕ) (after : Option ℕ) (r s : Row) (rs : List Row) → IncarnationsIncrease next (r ∷ rs) → follows p after r ≡ false → IsFirst rs p after s → IsFirst (r ∷ rs) p after s
 unfolding taken
-first_later next p after r s rs rising misses first =
-    let less : r.inc < s.inc = rising.0.1 s.inc (ap is_some first.lives) in
+first_later next p after r s rs increasing misses first =
+    let less : r.inc < s.inc = increasing.0.1 s.inc (ap is_some first.lives) in
     record {
       lives = ap (λ b. cond b (Some r) (row_of rs s.inc)) (ne_eqb r.inc s.inc (λ same. absurd (omega arith))) ∙ first.lives;
       split =
@@ -128,13 +129,13 @@ first_later next p after r s rs rising misses first =
           ∙ sym (ap (cons_option (sibling_of s)) (ap (λ b. cons_option (cond b (dynamic_of p r) None) (filter_map (taken p (Some s.inc)) rs)) (le-ltb s.inc r.inc (omega arith))));
     }
 
-first_by : (t : Bool) (next p : ℕ) (after : Option ℕ) (r s : Row) (rs : List Row) → follows p after r ≡ t → IsRising next (r ∷ rs) → (find (follows p after) rs ≡ Some s → IsFirst rs p after s) → cond t (Some r) (find (follows p after) rs) ≡ Some s → IsFirst (r ∷ rs) p after s
-first_by true next p after r s rs passes rising more e = subst (IsFirst (r ∷ rs) p after) (some_same r s e) (first_here next p after r rs rising passes)
-first_by false next p after r s rs misses rising more e = first_later next p after r s rs rising misses (more e)
+first_by : (t : Bool) (next p : ℕ) (after : Option ℕ) (r s : Row) (rs : List Row) → follows p after r ≡ t → IncarnationsIncrease next (r ∷ rs) → (find (follows p after) rs ≡ Some s → IsFirst rs p after s) → cond t (Some r) (find (follows p after) rs) ≡ Some s → IsFirst (r ∷ rs) p after s
+first_by true next p after r s rs passes increasing more e = subst (IsFirst (r ∷ rs) p after) (some_same r s e) (first_here next p after r rs increasing passes)
+first_by false next p after r s rs misses increasing more e = first_later next p after r s rs increasing misses (more e)
 
-first_found : (rows : List Row) (next p : ℕ) (after : Option ℕ) (s : Row) → IsRising next rows → find (follows p after) rows ≡ Some s → IsFirst rows p after s
-first_found [] next p after s rising e = absurd (none_some s e)
-first_found (r ∷ rs) next p after s rising e = first_by (follows p after r) next p after r s rs refl rising (first_found rs next p after s rising.1) e
+first_found : (rows : List Row) (next p : ℕ) (after : Option ℕ) (s : Row) → IncarnationsIncrease next rows → find (follows p after) rows ≡ Some s → IsFirst rows p after s
+first_found [] next p after s increasing e = absurd (none_some s e)
+first_found (r ∷ rs) next p after s increasing e = first_by (follows p after r) next p after r s rs refl increasing (first_found rs next p after s increasing.1) e
 
 found_by : (o : Option Row) (i : ℕ) → option_map (λ r. r.inc) o ≡ Some i → (s : Row) × (o ≡ Some s) × (s.inc ≡ i)
 found_by None i e = absurd (none_some i e)
@@ -145,11 +146,11 @@ joined None xs = refl
 joined (Some x) xs = refl
 
 -- the children behind an incarnation are the next one, if it is in a collection and isn't doomed, and those behind it
-pub next_behind : (rows : List Row) (next p i : ℕ) (after : Option ℕ) → IsRising next rows → child_behind rows p after ≡ Some i → siblings_behind rows p after ≡ option_to_list (option_and_then sibling_of (row_of rows i)) ++ siblings_behind rows p (Some i)
+pub next_behind : (rows : List Row) (next p i : ℕ) (after : Option ℕ) → IncarnationsIncrease next rows → child_behind rows p after ≡ Some i → siblings_behind rows p after ≡ option_to_list (option_and_then sibling_of (row_of rows i)) ++ siblings_behind rows p (Some i)
 unfolding follows taken
-next_behind rows next p i after rising e =
+next_behind rows next p i after increasing e =
     let found : (s : Row) × (find (follows p after) rows ≡ Some s) × (s.inc ≡ i) = found_by (find (follows p after) rows) i e in
-    let first : IsFirst rows p after found.0 = first_found rows next p after found.0 rising found.1 in
+    let first : IsFirst rows p after found.0 = first_found rows next p after found.0 increasing found.1 in
     first.split
     ∙ joined (sibling_of found.0) (siblings_behind rows p (Some found.0.inc))
     ∙ sym (ap (λ o. option_to_list (option_and_then sibling_of o) ++ siblings_behind rows p (Some found.0.inc)) first.lives)
@@ -173,11 +174,11 @@ none_behind rows p after e = none_left rows p after e
 -- ---- the loop over the children
 
 -- one child more
-pub one_more : (rows : List Row) (next p i : ℕ) (after : Option ℕ) (seen more all : List DynChild) (found : Option DynChild) → IsRising next rows → child_behind rows p after ≡ Some i → found ≡ option_and_then sibling_of (row_of rows i) → more ≡ seen ++ option_to_list found → seen ++ siblings_behind rows p after ≡ all → more ++ siblings_behind rows p (Some i) ≡ all
-one_more rows next p i after seen more all found rising e is pushed so_far =
+pub one_more : (rows : List Row) (next p i : ℕ) (after : Option ℕ) (seen more all : List DynChild) (found : Option DynChild) → IncarnationsIncrease next rows → child_behind rows p after ≡ Some i → found ≡ option_and_then sibling_of (row_of rows i) → more ≡ seen ++ option_to_list found → seen ++ siblings_behind rows p after ≡ all → more ++ siblings_behind rows p (Some i) ≡ all
+one_more rows next p i after seen more all found increasing e is pushed so_far =
     ap (λ xs. xs ++ siblings_behind rows p (Some i)) (pushed ∙ ap (λ o. seen ++ option_to_list o) is)
     ∙ append_assoc seen (option_to_list (option_and_then sibling_of (row_of rows i))) (siblings_behind rows p (Some i))
-    ∙ sym (ap (λ xs. seen ++ xs) (next_behind rows next p i after rising e))
+    ∙ sym (ap (λ xs. seen ++ xs) (next_behind rows next p i after increasing e))
     ∙ so_far
 
 -- behind the last one these are all
@@ -193,20 +194,20 @@ low_by : (t : Bool) (next i : ℕ) (r s : Row) (o : Option Row) → r.inc < next
 low_by true next i r s o low more e = subst (λ x. x.inc < next) (some_same r s e) low
 low_by false next i r s o low more e = more e
 
-low : (rows : List Row) (next p : ℕ) (after : Option ℕ) (s : Row) → IsRising next rows → find (follows p after) rows ≡ Some s → s.inc < next
-low [] next p after s rising e = absurd (none_some s e)
-low (r ∷ rs) next p after s rising e = low_by (follows p after r) next p r s (find (follows p after) rs) rising.0.0 (low rs next p after s rising.1) e
+low : (rows : List Row) (next p : ℕ) (after : Option ℕ) (s : Row) → IncarnationsIncrease next rows → find (follows p after) rows ≡ Some s → s.inc < next
+low [] next p after s increasing e = absurd (none_some s e)
+low (r ∷ rs) next p after s increasing e = low_by (follows p after r) next p r s (find (follows p after) rs) increasing.0.0 (low rs next p after s increasing.1) e
 
 fewer_by : (after : Option ℕ) (next i : ℕ) → is_behind after i ≡ true → i < next → ahead next (Some i) < ahead next after
 fewer_by None next i h less = omega arith
 fewer_by (Some j) next i h less = let higher : j < i = ltb-true j i h in omega arith
 
 -- fewer lie ahead of the next child
-pub fewer_ahead : (rows : List Row) (next p i : ℕ) (after : Option ℕ) → IsRising next rows → child_behind rows p after ≡ Some i → ahead next (Some i) < ahead next after
+pub fewer_ahead : (rows : List Row) (next p i : ℕ) (after : Option ℕ) → IncarnationsIncrease next rows → child_behind rows p after ≡ Some i → ahead next (Some i) < ahead next after
 unfolding follows
-fewer_ahead rows next p i after rising e =
+fewer_ahead rows next p i after increasing e =
     let found : (s : Row) × (find (follows p after) rows ≡ Some s) × (s.inc ≡ i) = found_by (find (follows p after) rows) i e in
     let passes : IsTrue (follows p after found.0) = find-passes (follows p after) rows found.0 found.1 in
     fewer_by after next i
     (subst (λ j. is_behind after j ≡ true) found.2 (and_second (has_parent p found.0) (is_behind after found.0.inc) passes))
-    (subst (λ j. j < next) found.2 (low rows next p after found.0 rising found.1))
+    (subst (λ j. j < next) found.2 (low rows next p after found.0 increasing found.1))

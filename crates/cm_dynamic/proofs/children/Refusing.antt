@@ -11,7 +11,7 @@ use Rattle.cm_world.specs.declared.reply.Reply.TheVariants.{Gone, Closing, Need,
 use Rattle.cm_world.specs.Rows.{child_of, decl_of, is_gone, is_closed}
 use Rattle.cm_world.specs.Create.{dynamic_name, dynamic_with, collection_of, refused_gives, refused_name, refused_by, refused_create, Creates, CreatesUnless, CreatesUnder}
 use Rattle.cm_world.proofs.trees.Finding.{none_some}
-use Rattle.cm_dynamic.specs.Replies.{create_reply, AnswersCreate, AnswersGraph, Refuses}
+use Rattle.cm_dynamic.specs.Replies.{create_reply, AnswersCreate, AnswersGraph, RefusesChange}
 use Rattle.cm_dynamic.specs.declared.create.MayCreate.{MayCreate}
 
 -- no child of that name is there
@@ -43,7 +43,7 @@ resolved rows p d coll name gives here kept e =
 -- ---- an answer
 
 -- that of a refusal
-pub is_refused : (rows : List Row) (free p : ℕ) (coll name : List ℕ) (gives : List Give) (answer : MayCreate) → Refuses (Some answer) (refused_create rows p coll name gives) → AnswersCreate rows free p coll name gives answer
+pub is_refused : (rows : List Row) (free p : ℕ) (coll name : List ℕ) (gives : List Give) (answer : MayCreate) → RefusesChange (Some answer) (refused_create rows p coll name gives) → AnswersCreate rows free p coll name gives answer
 is_refused rows free p coll name gives answer refuses = λ limit next tells.
     subst (λ o. CreatesUnless limit rows next p (dynamic_name coll name) gives o (create_reply next answer)) (refuses next) refl
 
@@ -53,14 +53,14 @@ needs_by false true p e = none_some (Closing p) e
 needs_by false false p e = none_some (Need p) e
 
 -- a parent that isn't refused is resolved
-pub is_resolved : (rows : List Row) (p : ℕ) (coll name : List ℕ) (gives : List Give) → Refuses None (refused_create rows p coll name gives) → decl_of rows p ≡ None → ⊥
+pub is_resolved : (rows : List Row) (p : ℕ) (coll name : List ℕ) (gives : List Give) → RefusesChange None (refused_create rows p coll name gives) → decl_of rows p ≡ None → ⊥
 unfolding create_by
 is_resolved rows p coll name gives refuses none =
     needs_by (is_gone rows p) (is_closed rows p) p
     (refuses 0 ∙ ap (λ o. cond (is_gone rows p) (Some (Gone p)) (cond (is_closed rows p) (Some (Closing p)) (create_by rows p coll name gives o))) none)
 
 -- that of the realm graph and the room
-pub is_by_graph : (rows : List Row) (free p : ℕ) (coll name : List ℕ) (gives : List Give) (d : Decl) (c : ChildName) (made children : List DynChild) (answer : MayCreate) → Refuses None (refused_create rows p coll name gives) → decl_of rows p ≡ Some d → c ≡ dynamic_name coll name → made ≡ dynamic_with rows p c gives → children ≡ made → AnswersGraph d children free answer → AnswersCreate rows free p coll name gives answer
+pub is_by_graph : (rows : List Row) (free p : ℕ) (coll name : List ℕ) (gives : List Give) (d : Decl) (c : ChildName) (made children : List DynChild) (answer : MayCreate) → RefusesChange None (refused_create rows p coll name gives) → decl_of rows p ≡ Some d → c ≡ dynamic_name coll name → made ≡ dynamic_with rows p c gives → children ≡ made → AnswersGraph d children free answer → AnswersCreate rows free p coll name gives answer
 is_by_graph rows free p coll name gives d c made children answer refuses found named are same by_graph = λ limit next tells.
     subst (λ o. CreatesUnless limit rows next p (dynamic_name coll name) gives o (create_reply next answer)) (refuses next)
     (subst (λ o. CreatesUnder limit rows next o (dynamic_with rows p (dynamic_name coll name) gives) (create_reply next answer)) (sym found)

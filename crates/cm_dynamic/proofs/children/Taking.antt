@@ -11,7 +11,7 @@ use Rattle.cm_world.specs.declared.reply.Reply.TheVariants.{Gone, Closing, Need,
 use Rattle.cm_world.specs.Rows.{child_of, decl_of, is_gone, is_closed}
 use Rattle.cm_world.specs.Create.{dynamic_name, collection_of, is_child_there, refused_gives, refused_name, refused_by, refused_create, CreatesUnless}
 use Rattle.cm_world.proofs.trees.Finding.{none_some}
-use Rattle.cm_dynamic.specs.Laws.{CanTake, ParentsCanTake}
+use Rattle.cm_dynamic.specs.Laws.{CanTakeChild, ParentsCanTake}
 use Rattle.cm_dynamic.specs.Replies.{TellsRoom}
 use Rattle.cm_dynamic.proofs.graphs.Graphs.{some_limit}
 
@@ -59,7 +59,11 @@ says_all rows p coll name gives =
     says_open (is_gone rows p) (is_closed rows p) (decl_of rows p) (child_of rows p (dynamic_name coll name)) p
     (elim (decl_of rows p) as (λ _. Option Reply) [ None ↦ Some (Need p) | Some d ↦ refused_by rows p d coll name gives ]) (says_decl (decl_of rows p) rows p coll name gives)
 
-taken_by : (o : Option Reply) (limit next p : ℕ) (rows : List Row) (coll name : List ℕ) (gives : List Give) → Says (decl_of rows p) (child_of rows p (dynamic_name coll name)) o → CreatesUnless limit rows next p (dynamic_name coll name) gives o (Created next) → CanTake rows p coll name
+-- a child that nothing refuses before the realm graph has a name that is in no use
+pub unused_name : (rows : List Row) (p : ℕ) (coll name : List ℕ) (gives : List Give) → refused_create rows p coll name gives ≡ None → child_of rows p (dynamic_name coll name) ≡ None
+unused_name rows p coll name gives e = (says_all rows p coll name gives).unused e
+
+taken_by : (o : Option Reply) (limit next p : ℕ) (rows : List Row) (coll name : List ℕ) (gives : List Give) → Says (decl_of rows p) (child_of rows p (dynamic_name coll name)) o → CreatesUnless limit rows next p (dynamic_name coll name) gives o (Created next) → CanTakeChild rows p coll name
 taken_by (Some refusal) limit next p rows coll name gives said e = absurd (said.fits next (ap Some (sym e)))
 taken_by None limit next p rows coll name gives said e = record { resolved = said.resolved refl; unused = said.unused refl }
 

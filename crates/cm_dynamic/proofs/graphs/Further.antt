@@ -10,13 +10,13 @@ use Rattle.cm_decl.specs.declared.node.DynChild.{DynChild}
 use Rattle.cm_decl.specs.declared.node.Node.{Node}
 use Rattle.cm_decl.specs.declared.node.Node.TheVariants.{Own, Child}
 use Rattle.cm_decl.specs.Same.{same_child, same_node}
-use Rattle.cm_decl.specs.Reach.{Way, NoCycle}
+use Rattle.cm_decl.specs.Reach.{DependencyPath, NoCycle}
 use Rattle.cm_decl.specs.Graph.{is_node, is_strong, is_from_node, static_node, dynamic_node, offers_to, gives_of, sources_of, StrongOn}
 use Rattle.cm_decl.proofs.Sameness.{and_first, and_second, or_split, never, same_child_exact}
 use Rattle.cm_world.specs.declared.row.Row.{Row}
 use Rattle.cm_world.specs.Rows.{has_parent}
 use Rattle.cm_world.specs.Create.{dynamic_name, dynamic_by, dynamic_children}
-use Rattle.cm_dynamic.specs.Apart.{is_from_created, is_plain_give, is_plain_offer, is_plain_use, AreApart}
+use Rattle.cm_dynamic.specs.Apart.{is_from_created, is_plain_give, is_plain_offer, is_plain_use, NoneOfKind}
 use Rattle.cm_dynamic.proofs.graphs.Rings.{all_join, IsKept, one_kept, is_static, some_not_none, unbound, static_source, own_static, plain_offers}
 
 -- ---- lists
@@ -26,7 +26,7 @@ or_assoc true b c = refl
 or_assoc false b c = refl
 
 -- what is kept of two lists
-any_kept : {A B : Type 0} (q : B → Bool) (f : A → B) (t : A → Bool) (xs ys : List A) → list_any q (map f (filter t (xs ++ ys))) ≡ (list_any q (map f (filter t xs)) || list_any q (map f (filter t ys)))
+pub any_kept : {A B : Type 0} (q : B → Bool) (f : A → B) (t : A → Bool) (xs ys : List A) → list_any q (map f (filter t (xs ++ ys))) ≡ (list_any q (map f (filter t xs)) || list_any q (map f (filter t ys)))
 any_kept q f t [] ys = refl
 any_kept q f t (x ∷ xs) ys = by (t x) refl (any_kept q f t xs ys) where
   by : (b : Bool) → t x ≡ b → list_any q (map f (filter t (xs ++ ys))) ≡ (list_any q (map f (filter t xs)) || list_any q (map f (filter t ys))) → list_any q (map f (filter t (x ∷ (xs ++ ys)))) ≡ (list_any q (map f (filter t (x ∷ xs))) || list_any q (map f (filter t ys)))
@@ -57,7 +57,7 @@ created_name coll name gives = refl
 
 -- ---- the nodes and what they come from
 
-any_sibling : (q : Give → Bool) (c : ChildName) (y : Node) (ks : List DynChild) → IsTrue (list_all is_created ks) → IsTrue (list_any (is_from_node y) (map (λ g. g.from) (filter q (gives_of ks c)))) → IsTrue (list_any (λ n. same_node n (Child c)) (map dynamic_node ks)) × IsTrue (is_some c.coll)
+pub any_sibling : (q : Give → Bool) (c : ChildName) (y : Node) (ks : List DynChild) → IsTrue (list_all is_created ks) → IsTrue (list_any (is_from_node y) (map (λ g. g.from) (filter q (gives_of ks c)))) → IsTrue (list_any (λ n. same_node n (Child c)) (map dynamic_node ks)) × IsTrue (is_some c.coll)
 any_sibling q c y [] all any = never any
 any_sibling q c y (k ∷ ks) all any = by (same_child k.name c) refl (any_sibling q c y ks (and_second (is_created k) (list_all is_created ks) all)) where
   by : (b : Bool) → same_child k.name c ≡ b → (IsTrue (list_any (is_from_node y) (map (λ g. g.from) (filter q (gives_of ks c)))) → IsTrue (list_any (λ n. same_node n (Child c)) (map dynamic_node ks)) × IsTrue (is_some c.coll)) → IsTrue (list_any (λ n. same_node n (Child c)) (map dynamic_node (k ∷ ks))) × IsTrue (is_some c.coll)
@@ -97,7 +97,7 @@ module _ (d : Decl) (old : List DynChild) (k : DynChild)
       one_kept (is_from_node y) (λ g. g.from) (λ g. is_strong g.dependency) is_plain_give gs any all_plain in
       true≢false (sym (static_source y one.item.from one.here (unbound (is_strong one.item.dependency) (is_from_created one.item.from) one.passes one.all)) ∙ created)
 
-  declared : AreApart d []
+  declared : NoneOfKind d []
   declared = record { offers = offers; usages = usages; children = refl }
 
   plain_last : (c : ChildName) → IsTrue (list_all is_plain_give (gives_of (k ∷ []) c))
@@ -152,14 +152,14 @@ module _ (d : Decl) (old : List DynChild) (k : DynChild)
 
   -- ---- from children of collections to children of collections
 
-  begins_old : (x : Node) (zs : List Node) (y : Node) → is_static y ≡ false → Way (StrongOn d (old ++ k ∷ [])) x zs y → IsTrue (is_node d old x) × (is_static x ≡ false)
+  begins_old : (x : Node) (zs : List Node) (y : Node) → is_static y ≡ false → DependencyPath (StrongOn d (old ++ k ∷ [])) x zs y → IsTrue (is_node d old x) × (is_static x ≡ false)
   begins_old x [] y created way =
       let it : IsOld d old x y = from_old x y created (comes x y way) in (it.node, it.created)
   begins_old x (z ∷ zs) y created way =
       let rest : IsTrue (is_node d old z) × (is_static z ≡ false) = begins_old z zs y created way.1 in
       let it : IsOld d old x z = from_old x z rest.1 (comes x z way.0) in (it.node, it.created)
 
-  way_created : (x : Node) (zs : List Node) (y : Node) → is_static y ≡ false → IsTrue (is_node d old y) → Way (StrongOn d (old ++ k ∷ [])) x zs y → Way (StrongOn d old) x zs y
+  way_created : (x : Node) (zs : List Node) (y : Node) → is_static y ≡ false → IsTrue (is_node d old y) → DependencyPath (StrongOn d (old ++ k ∷ [])) x zs y → DependencyPath (StrongOn d old) x zs y
   way_created x [] y created node way =
       let it : IsOld d old x y = from_old x y created (comes x y way) in edge x y it.source it.node node
   way_created x (z ∷ zs) y created node way =
@@ -211,7 +211,7 @@ module _ (d : Decl) (old : List DynChild) (k : DynChild)
   edge_static x y static strong =
       edge x y (sym (ap (list_any (is_from_node y)) (same_sources x static)) ∙ comes x y strong) (still_node x static (first_there x y strong)) (still_node y (to_static x y static strong) (second_there x y strong))
 
-  way_static : (x : Node) (zs : List Node) (y : Node) → IsTrue (is_static x) → Way (StrongOn d (old ++ k ∷ [])) x zs y → Way (StrongOn d old) x zs y
+  way_static : (x : Node) (zs : List Node) (y : Node) → IsTrue (is_static x) → DependencyPath (StrongOn d (old ++ k ∷ [])) x zs y → DependencyPath (StrongOn d old) x zs y
   way_static x [] y static way = edge_static x y static way
   way_static x (z ∷ zs) y static way = (edge_static x z static way.0, way_static z zs y (to_static x z static way.0) way.1)
 

@@ -15,7 +15,7 @@ use Rattle.cm_decl.specs.declared.node.Node.TheVariants.{Own, Child}
 use Rattle.cm_decl.specs.Same.{same_node}
 use Rattle.cm_decl.specs.Graph.{is_strong, is_from_child, is_from_node, target_of, offers_to, own_sources}
 use Rattle.cm_decl.proofs.Sameness.{and_first, and_second, or_split, never, same_node_exact}
-use Rattle.cm_dynamic.specs.Apart.{is_from_created, is_plain_give, is_plain_use, AreApart}
+use Rattle.cm_dynamic.specs.Apart.{is_from_created, is_plain_give, is_plain_use, NoneOfKind}
 
 -- ---- lists
 
@@ -78,7 +78,7 @@ static_source y origin.Parent is plain = never is
 static_source y origin.Framework is plain = never is
 static_source y origin.Void is plain = never is
 
-module _ (d : Decl) (dynamic : List DynChild) (apart : AreApart d dynamic) where
+module _ (d : Decl) (dynamic : List DynChild) (apart : NoneOfKind d dynamic) where
   pub plain_offers : (c : ChildName) → IsTrue (list_all is_plain_give (offers_to d c))
   plain_offers c = all_kept is_plain_give (λ o. o.give) (λ o. bytes_eq o.to (target_of c)) d.offers apart.offers
 

@@ -9,22 +9,23 @@ use Rattle.cm_world.specs.declared.frame.Frame.{Frame}
 use Rattle.cm_world.specs.declared.reply.Entry.{Entry}
 use Rattle.cm_world.proofs.trees.Finding.{some_same}
 use Rattle.cm_command.specs.declared.script.Line.{Line}
-use Rattle.cm_gate.specs.declared.asked.Asked.{Asked}
+use Rattle.cm_gate.specs.declared.asked.GateCall.{GateCall}
 use Rattle.cm_manager.specs.Asking.{no_frame, frame_of}
-use Rattle.cm_manager.specs.Work.{Shelf}
+use Rattle.cm_manager.specs.Work.{Manifests}
 use Rattle.cm_manager.specs.Contract.{RealmPass, GatesView}
 use Rattle.cm_manager.specs.Closed.{HasEnds}
 use Rattle.cm_manager.proofs.left.HavingEnds.{grown_has_ends}
 use Rattle.cm_lanes.specs.declared.said.Said.{Said}
 use Rattle.cm_lanes.specs.declared.said.Lanes.{Lanes}
 use Rattle.cm_lanes.specs.declared.lane.Lane.{Lane}
-use Rattle.cm_lanes.specs.declared.parts.Parts.{Parts}
-use Rattle.cm_lanes.specs.Script.{Answered, said_of, answers_of, Follows, IsPhase, ArePhases, none_left, one_first}
-use Rattle.cm_manager.specs.Kept.{AreSixteen, GoesOn, Keeps, KeepsEach, frame_at, gates_view}
-use Rattle.cm_lanes.specs.Lanes.{Ran, RanOrNot}
+use Rattle.cm_lanes.specs.declared.parts.LaneParts.{LaneParts}
+use Rattle.cm_lanes.specs.Script.{AnsweredLine, answers_of, PerformsLines, IsPhase, ArePhases, none_left, one_first}
+use Rattle.cm_lanes.specs.ScriptInside.{said_of}
+use Rattle.cm_manager.specs.Kept.{AreSixteen, ExtendsPass, KeepsPass, KeepsEach, frame_at, gates_view}
+use Rattle.cm_lanes.specs.Lanes.{RanLanes, RanOrNot}
 use Rattle.cm_lanes.specs.Phases.{told_to, AreLanes, lane_frames, frame_in_lane, LanesRan}
-use Rattle.cm_lanes.specs.Parts.{AreParts, HasPassIn, IsNew}
-use Rattle.cm_lanes.specs.Weave.{Queue}
+use Rattle.cm_lanes.specs.LaneParts.{AreLaneParts, HasPassIn, IsFreshLane}
+use Rattle.cm_lanes.specs.Merge.{Queue}
 
 -- a slice that took the place of a whole vector
 pub whole_slice : {A : Type 0} (xs ys : List A) (n : ℕ) → n ≡ length xs → length ys ≡ length xs → take n (ys ++ drop (length ys) xs) ≡ ys
@@ -32,10 +33,10 @@ whole_slice xs ys n is_n long =
     ap (λ (l : List _). take n (ys ++ l)) (drop_all (length ys) xs (omega (arith, long))) ∙ ap (take n) (append-nil ys) ∙ take_all n ys (omega (arith, is_n, long))
 
 -- phases over other frames
-phase_same : (f g : ℕ → Frame) (a : List Answered) (h₀ h₁ : List Entry) → ((c : ℕ) → c < 16 → f c ≡ g c) → IsPhase f a h₀ h₁ → IsPhase g a h₀ h₁
-phase_same f g a h₀ h₁ same is = record { grows = is.grows; lanes = λ c lt. subst (λ (x : Frame). Follows x c (answers_of c a) h₀ h₁) (same c lt) (is.lanes c lt) }
+phase_same : (f g : ℕ → Frame) (a : List AnsweredLine) (h₀ h₁ : List Entry) → ((c : ℕ) → c < 16 → f c ≡ g c) → IsPhase f a h₀ h₁ → IsPhase g a h₀ h₁
+phase_same f g a h₀ h₁ same is = record { grows = is.grows; lanes = λ c lt. subst (λ (x : Frame). PerformsLines x c (answers_of c a) h₀ h₁) (same c lt) (is.lanes c lt) }
 
-pub phases_same : (f g : ℕ → Frame) (all : List (List Answered)) (h₀ h₁ : List Entry) → ((c : ℕ) → c < 16 → f c ≡ g c) → ArePhases f all h₀ h₁ → ArePhases g all h₀ h₁
+pub phases_same : (f g : ℕ → Frame) (all : List (List AnsweredLine)) (h₀ h₁ : List Entry) → ((c : ℕ) → c < 16 → f c ≡ g c) → ArePhases f all h₀ h₁ → ArePhases g all h₀ h₁
 phases_same f g [] h₀ h₁ same none_left = ArePhases.none_left
 phases_same f g (a ∷ rest_of) h₀ h₁ same (one_first {h₁ = h} first rest) = ArePhases.one_first (phase_same f g a h₀ h same first) (phases_same f g rest_of h h₁ same rest)
 
@@ -79,13 +80,13 @@ module _ {G : Type 0} where
     none_more : (k : ℕ) → 0 + k ≡ k
     none_more k = grind arith
 
-module _ {G : Type 0} (log_of : G → Option (List Asked)) (faults_of : G → ℕ) (shelf : Shelf) (phases : List (List Line)) (xs ys : List (Lane G)) (is : LanesRan log_of faults_of shelf phases xs ys) where
+module _ {G : Type 0} (log_of : G → Option (List GateCall)) (faults_of : G → ℕ) (manifests : Manifests) (phases : List (List Line)) (xs ys : List (Lane G)) (is : LanesRan log_of faults_of manifests phases xs ys) where
   -- each lane has its pass back
   pub have_passes : length xs ≡ 16 → All HasPassIn ys
   have_passes count k d lt = (let r = is.each k d (omega (arith, is.long, count)) in record { pass = r.q; there = r.now })
 
   -- what each lane was told, where nothing was lost
-  pub told_each : (parts : Parts G) → length xs ≡ 16 → All IsNew xs → AreParts ys parts → parts.lost ≡ false → (k : ℕ) (q : Queue) → k < 16 → (get_or parts.said.items k q).items ≡ told_to k is.answered
+  pub told_each : (parts : LaneParts G) → length xs ≡ 16 → All IsFreshLane xs → AreLaneParts ys parts → parts.lost ≡ false → (k : ℕ) (q : Queue) → k < 16 → (get_or parts.said.items k q).items ≡ told_to k is.answered
   told_each parts count new are kept k q lt = said_at (some_lane ys (is.long ∙ count)) where
     said_at : Lane G → (get_or parts.said.items k q).items ≡ told_to k is.answered
     said_at d =
@@ -105,11 +106,11 @@ module _ {G : Type 0} (log_of : G → Option (List Asked)) (faults_of : G → �
         frame_here ls c d e lt there = ap frame_in_lane (slice_get-get_or ls c e lt) ∙ ap (λ (o : Option RealmPass). elim o as (λ _. Frame) [ None ↦ no_frame | Some p ↦ frame_of p ]) there
 
   -- the histories that the passes go on to
-  begin_all : (passes : List RealmPass) → length xs ≡ 16 → map (λ l. l.pass) xs ≡ map Some passes → Lane G → All (GoesOn is.first) passes
+  begin_all : (passes : List RealmPass) → length xs ≡ 16 → map (λ l. l.pass) xs ≡ map Some passes → Lane G → All (ExtendsPass is.first) passes
   begin_all passes count made e k d lt =
       let long = as_long (λ (l : Lane G). l.pass) Some xs passes made in
       let b = is.begins k e (omega (arith, count, long)) in
-      subst (GoesOn is.first) (some_same _ _ (sym b.there ∙ pass_at xs passes k e d made lt)) b.goes_on
+      subst (ExtendsPass is.first) (some_same _ _ (sym b.there ∙ pass_at xs passes k e d made lt)) b.goes_on
 
   met_all : (passes : List RealmPass) → length xs ≡ 16 → map (λ l. l.pass) ys ≡ map Some passes → Lane G → All (λ (q : RealmPass). q.seen ≡ is.last) passes
   met_all passes count made e k d lt =
@@ -118,7 +119,7 @@ module _ {G : Type 0} (log_of : G → Option (List Asked)) (faults_of : G → �
       ap (λ (q : RealmPass). q.seen) (some_same _ _ (sym (pass_at ys passes k e d made lt) ∙ r.now)) ∙ r.seen
 
   -- the lane's pass and gates as they stand in lists
-  kept_at : (old new : List RealmPass) (gates₀ gates₁ : List G) (e : Lane G) (k : ℕ) (p q : RealmPass) (g h : G) → length xs ≡ 16 → map (λ l. l.pass) xs ≡ map Some old → map (λ l. l.pass) ys ≡ map Some new → map (λ l. l.gates) xs ≡ gates₀ → map (λ l. l.gates) ys ≡ gates₁ → slice_get old k ≡ Some p → slice_get new k ≡ Some q → slice_get gates₀ k ≡ Some g → slice_get gates₁ k ≡ Some h → Keeps shelf p q (gates_view log_of faults_of g) (gates_view log_of faults_of h)
+  kept_at : (old new : List RealmPass) (gates₀ gates₁ : List G) (e : Lane G) (k : ℕ) (p q : RealmPass) (g h : G) → length xs ≡ 16 → map (λ l. l.pass) xs ≡ map Some old → map (λ l. l.pass) ys ≡ map Some new → map (λ l. l.gates) xs ≡ gates₀ → map (λ l. l.gates) ys ≡ gates₁ → slice_get old k ≡ Some p → slice_get new k ≡ Some q → slice_get gates₀ k ≡ Some g → slice_get gates₁ k ≡ Some h → KeepsPass manifests p q (gates_view log_of faults_of g) (gates_view log_of faults_of h)
   kept_at old new gates₀ gates₁ e k p q g h count made back gates_made gates_back p_is q_is g_is h_is =
       let long = as_long (λ (l : Lane G). l.pass) Some xs old made in
       let lt : k < length old = slice_get_within old k p p_is in
@@ -128,13 +129,13 @@ module _ {G : Type 0} (log_of : G → Option (List Asked)) (faults_of : G → �
       let q_same : r.q ≡ q = some_same _ _ (sym r.now ∙ pass_at ys new k e q back lt_new) ∙ get_or_from_slice_get new k q q q_is in
       let g_same : (get_or xs k e).gates ≡ g = at_map (λ (l : Lane G). l.gates) xs gates₀ k e g gates_made (omega (arith, long, lt)) ∙ get_or_from_slice_get gates₀ k g g g_is in
       let h_same : (get_or ys k e).gates ≡ h = at_map (λ (l : Lane G). l.gates) ys gates₁ k e h gates_back (omega (arith, is.long, long, lt)) ∙ get_or_from_slice_get gates₁ k h h h_is in
-      subst (λ (h : G). Keeps shelf p q (gates_view log_of faults_of g) (gates_view log_of faults_of h)) h_same
-      (subst (λ (g : G). Keeps shelf p q (gates_view log_of faults_of g) (gates_view log_of faults_of (get_or ys k e).gates)) g_same
-      (subst (λ (q : RealmPass). Keeps shelf p q (gates_view log_of faults_of (get_or xs k e).gates) (gates_view log_of faults_of (get_or ys k e).gates)) q_same
-      (subst (λ (p : RealmPass). Keeps shelf p r.q (gates_view log_of faults_of (get_or xs k e).gates) (gates_view log_of faults_of (get_or ys k e).gates)) p_same r.keeps)))
+      subst (λ (h : G). KeepsPass manifests p q (gates_view log_of faults_of g) (gates_view log_of faults_of h)) h_same
+      (subst (λ (g : G). KeepsPass manifests p q (gates_view log_of faults_of g) (gates_view log_of faults_of (get_or ys k e).gates)) g_same
+      (subst (λ (q : RealmPass). KeepsPass manifests p q (gates_view log_of faults_of (get_or xs k e).gates) (gates_view log_of faults_of (get_or ys k e).gates)) q_same
+      (subst (λ (p : RealmPass). KeepsPass manifests p r.q (gates_view log_of faults_of (get_or xs k e).gates) (gates_view log_of faults_of (get_or ys k e).gates)) p_same r.keeps)))
 
   -- what comes back
-  pub ran_by : (passes : List RealmPass) (gates : List G) (back : Lanes G) → length xs ≡ 16 → map (λ l. l.pass) xs ≡ map Some passes → map (λ l. l.gates) xs ≡ gates → map (λ l. l.pass) ys ≡ map Some back.passes → map (λ l. l.gates) ys ≡ back.gates → IfSome back.said (λ said. said ≡ flat_map (λ p. map said_of p) is.answered) → Lane G → Ran log_of faults_of shelf phases passes gates back
+  pub ran_by : (passes : List RealmPass) (gates : List G) (back : Lanes G) → length xs ≡ 16 → map (λ l. l.pass) xs ≡ map Some passes → map (λ l. l.gates) xs ≡ gates → map (λ l. l.pass) ys ≡ map Some back.passes → map (λ l. l.gates) ys ≡ back.gates → IfSome back.said (λ said. said ≡ flat_map (λ p. map said_of p) is.answered) → Lane G → RanLanes log_of faults_of manifests phases passes gates back
   ran_by passes gates back count made gates_made back_made back_gates said e = record {
     first = is.first;
     last = is.last;
@@ -172,14 +173,14 @@ map_same f (x ∷ xs) (y ∷ ys) long same =
     let rest = map_same f xs ys (cc long) (λ k d lt. same (suc k) d (grind (arith, lt))) in
     cc (here, rest)
 
-module _ {G : Type 0} (log_of : G → Option (List Asked)) (faults_of : G → ℕ) (shelf : Shelf) (old new : List RealmPass) (gates₀ gates₁ : List G) where
+module _ {G : Type 0} (log_of : G → Option (List GateCall)) (faults_of : G → ℕ) (manifests : Manifests) (old new : List RealmPass) (gates₀ gates₁ : List G) where
   -- one pass with the gates at its place
   record KeptAt (k : ℕ) (d : RealmPass) : Type 0 where
     g : GatesView
     h : GatesView
-    keeps : Keeps shelf (get_or old k d) (get_or new k d) g h
+    keeps : KeepsPass manifests (get_or old k d) (get_or new k d) g h
 
-  kept_pair : KeepsEach log_of faults_of shelf old new gates₀ gates₁ → length gates₀ ≡ length old → (k : ℕ) (d : RealmPass) → k < length old → KeptAt k d
+  kept_pair : KeepsEach log_of faults_of manifests old new gates₀ gates₁ → length gates₀ ≡ length old → (k : ℕ) (d : RealmPass) → k < length old → KeptAt k d
   kept_pair is many k d lt =
       let g = there_at gates₀ k (omega (arith, many, lt)) in
       let h = there_at gates₁ k (omega (arith, is.gates, many, lt)) in
@@ -189,13 +190,13 @@ module _ {G : Type 0} (log_of : G → Option (List Asked)) (faults_of : G → �
         keeps = is.each k (get_or old k d) (get_or new k d) g.0 h.0 (slice_get-get_or old k d lt) (slice_get-get_or new k d (omega (arith, is.passes, lt))) g.1 h.1;
       }
 
-  pub sixteen_after : (turn : LockView) → AreSixteen turn old → KeepsEach log_of faults_of shelf old new gates₀ gates₁ → length gates₀ ≡ length old → AreSixteen turn new
+  pub sixteen_after : (turn : LockView) → AreSixteen turn old → KeepsEach log_of faults_of manifests old new gates₀ gates₁ → length gates₀ ≡ length old → AreSixteen turn new
   sixteen_after turn are is many = record {
     lock = λ k d lt. (kept_pair is many k d (omega (arith, is.passes, lt))).keeps.lock ∙ are.lock k d (omega (arith, is.passes, lt));
     callers = map_same (λ (p : RealmPass). p.caller) old new is.passes (λ k d lt. (kept_pair is many k d lt).keeps.caller) ∙ are.callers;
   }
 
-  pub ended_after : KeepsEach log_of faults_of shelf old new gates₀ gates₁ → length gates₀ ≡ length old → All (λ (p : RealmPass). HasEnds p.mine) old → All (λ (p : RealmPass). HasEnds p.mine) new
+  pub ended_after : KeepsEach log_of faults_of manifests old new gates₀ gates₁ → length gates₀ ≡ length old → All (λ (p : RealmPass). HasEnds p.mine) old → All (λ (p : RealmPass). HasEnds p.mine) new
   ended_after is many ends k d lt =
       let kept = kept_pair is many k d (omega (arith, is.passes, lt)) in
       grown_has_ends (get_or old k d).mine kept.keeps.part (get_or new k d).mine (ends k d (omega (arith, is.passes, lt))) kept.keeps.closed kept.keeps.mine
@@ -204,14 +205,14 @@ pub sixteen_long : (turn : LockView) (passes : List RealmPass) → AreSixteen tu
 sixteen_long turn passes are = sym (length-map passes (λ (p : RealmPass). p.caller)) ∙ ap (λ (l : List ℕ). length l) are.callers ∙ length-range_with_len 0 16
 
 -- what holds of the passes whether lines were performed or not
-pub back_sixteen : {G : Type 0} (log_of : G → Option (List Asked)) (faults_of : G → ℕ) (shelf : Shelf) (phases : List (List Line)) (turn : LockView) (passes : List RealmPass) (gates : List G) (back : Lanes G) → length gates ≡ 16 → AreSixteen turn passes → RanOrNot log_of faults_of shelf phases passes gates back → AreSixteen turn back.passes
-back_sixteen log_of faults_of shelf phases turn passes gates back many are (inl ran) = sixteen_after log_of faults_of shelf passes back.passes gates back.gates turn are ran.kept (many ∙ sym (sixteen_long turn passes are))
-back_sixteen log_of faults_of shelf phases turn passes gates back many are (inr none) = subst (AreSixteen turn) (sym none.same_passes) are
+pub back_sixteen : {G : Type 0} (log_of : G → Option (List GateCall)) (faults_of : G → ℕ) (manifests : Manifests) (phases : List (List Line)) (turn : LockView) (passes : List RealmPass) (gates : List G) (back : Lanes G) → length gates ≡ 16 → AreSixteen turn passes → RanOrNot log_of faults_of manifests phases passes gates back → AreSixteen turn back.passes
+back_sixteen log_of faults_of manifests phases turn passes gates back many are (inl ran) = sixteen_after log_of faults_of manifests passes back.passes gates back.gates turn are ran.kept (many ∙ sym (sixteen_long turn passes are))
+back_sixteen log_of faults_of manifests phases turn passes gates back many are (inr none) = subst (AreSixteen turn) (sym none.same_passes) are
 
-pub back_ended : {G : Type 0} (log_of : G → Option (List Asked)) (faults_of : G → ℕ) (shelf : Shelf) (phases : List (List Line)) (turn : LockView) (passes : List RealmPass) (gates : List G) (back : Lanes G) → length gates ≡ 16 → AreSixteen turn passes → RanOrNot log_of faults_of shelf phases passes gates back → All (λ (p : RealmPass). HasEnds p.mine) passes → All (λ (p : RealmPass). HasEnds p.mine) back.passes
-back_ended log_of faults_of shelf phases turn passes gates back many are (inl ran) ends = ended_after log_of faults_of shelf passes back.passes gates back.gates ran.kept (many ∙ sym (sixteen_long turn passes are)) ends
-back_ended log_of faults_of shelf phases turn passes gates back many are (inr none) ends = subst (λ (l : List RealmPass). All (λ (p : RealmPass). HasEnds p.mine) l) (sym none.same_passes) ends
+pub back_ended : {G : Type 0} (log_of : G → Option (List GateCall)) (faults_of : G → ℕ) (manifests : Manifests) (phases : List (List Line)) (turn : LockView) (passes : List RealmPass) (gates : List G) (back : Lanes G) → length gates ≡ 16 → AreSixteen turn passes → RanOrNot log_of faults_of manifests phases passes gates back → All (λ (p : RealmPass). HasEnds p.mine) passes → All (λ (p : RealmPass). HasEnds p.mine) back.passes
+back_ended log_of faults_of manifests phases turn passes gates back many are (inl ran) ends = ended_after log_of faults_of manifests passes back.passes gates back.gates ran.kept (many ∙ sym (sixteen_long turn passes are)) ends
+back_ended log_of faults_of manifests phases turn passes gates back many are (inr none) ends = subst (λ (l : List RealmPass). All (λ (p : RealmPass). HasEnds p.mine) l) (sym none.same_passes) ends
 
-pub back_gates : {G : Type 0} (log_of : G → Option (List Asked)) (faults_of : G → ℕ) (shelf : Shelf) (phases : List (List Line)) (passes : List RealmPass) (gates : List G) (back : Lanes G) → length gates ≡ 16 → RanOrNot log_of faults_of shelf phases passes gates back → length back.gates ≡ 16
-back_gates log_of faults_of shelf phases passes gates back many (inl ran) = ran.kept.gates ∙ many
-back_gates log_of faults_of shelf phases passes gates back many (inr none) = ap (λ (l : List _). length l) none.same_gates ∙ many
+pub back_gates : {G : Type 0} (log_of : G → Option (List GateCall)) (faults_of : G → ℕ) (manifests : Manifests) (phases : List (List Line)) (passes : List RealmPass) (gates : List G) (back : Lanes G) → length gates ≡ 16 → RanOrNot log_of faults_of manifests phases passes gates back → length back.gates ≡ 16
+back_gates log_of faults_of manifests phases passes gates back many (inl ran) = ran.kept.gates ∙ many
+back_gates log_of faults_of manifests phases passes gates back many (inr none) = ap (λ (l : List _). length l) none.same_gates ∙ many

@@ -4,21 +4,21 @@ use Rattle.std.proofs.lemmas.List.{map-append, length-append}
 use Rattle.std.proofs.lemmas.List.Elements.{All-push, All-nil}
 use Rattle.cm_manager.specs.Contract.{RealmPass}
 use Rattle.cm_lanes.specs.declared.lane.Lane.{Lane}
-use Rattle.cm_lanes.specs.declared.parts.Parts.{Parts}
-use Rattle.cm_lanes.specs.Parts.{AreParts, HasRoomIn, IsEmpty, IsNew, PutsParts}
+use Rattle.cm_lanes.specs.declared.parts.LaneParts.{LaneParts}
+use Rattle.cm_lanes.specs.LaneParts.{AreLaneParts, LanePartsHaveRoom, NoLaneParts, IsFreshLane, PutsLaneParts}
 
 one_more : (n : ℕ) → suc n ≡ n + 1
 one_more n = grind arith
 
 module _ {G : Type 0} where
-  -- lanes were made of the front of the passes and the gates
+  -- lanes were made of the prefix of the passes and the gates
   pub record Making (passes : List RealmPass) (gates : List G) (capacity : ℕ) (lanes : List (Lane G)) (passes_left : List RealmPass) (gates_left : List G) : Type 0 where
     pub done : List RealmPass
     pub whole : passes ≡ done ++ passes_left
     pub passes_are : map (λ l. l.pass) lanes ≡ map Some done
     pub gates_are : map (λ l. l.gates) lanes ++ gates_left ≡ gates
     pub as_many : length gates_left ≡ length passes_left
-    pub new : All IsNew lanes
+    pub new : All IsFreshLane lanes
     pub room : length lanes + length passes_left ≤ capacity
 
   pub making_none : (passes : List RealmPass) (gates : List G) (capacity : ℕ) (lanes : List (Lane G)) → lanes ≡ [] → length gates ≡ length passes → length passes ≤ capacity → Making passes gates capacity lanes passes gates
@@ -28,11 +28,11 @@ module _ {G : Type 0} where
     passes_are = ap (map (λ l. l.pass)) none;
     gates_are = ap (λ (l : List (Lane G)). map (λ l. l.gates) l ++ gates) none;
     as_many = as_many;
-    new = subst (All IsNew) (sym none) (All-nil IsNew);
+    new = subst (All IsFreshLane) (sym none) (All-nil IsFreshLane);
     room = subst (λ (l : List (Lane G)). length l + length passes ≤ capacity) (sym none) (grind (arith, room));
   }
 
-  pub making_more : (passes : List RealmPass) (gates : List G) (capacity : ℕ) (lanes : List (Lane G)) (p : RealmPass) (g : G) (lane : Lane G) (passes_left ps : List RealmPass) (gates_left gs : List G) → Making passes gates capacity lanes passes_left gates_left → passes_left ≡ p ∷ ps → gates_left ≡ g ∷ gs → lane.pass ≡ Some p → lane.gates ≡ g → IsNew lane → Making passes gates capacity (lanes ++ lane ∷ []) ps gs
+  pub making_more : (passes : List RealmPass) (gates : List G) (capacity : ℕ) (lanes : List (Lane G)) (p : RealmPass) (g : G) (lane : Lane G) (passes_left ps : List RealmPass) (gates_left gs : List G) → Making passes gates capacity lanes passes_left gates_left → passes_left ≡ p ∷ ps → gates_left ≡ g ∷ gs → lane.pass ≡ Some p → lane.gates ≡ g → IsFreshLane lane → Making passes gates capacity (lanes ++ lane ∷ []) ps gs
   making_more passes gates capacity lanes p g lane passes_left ps gates_left gs is ps_is gs_is pass_is gates_is new =
       let counts : suc (length gs) ≡ suc (length ps) = sym (ap (λ (l : List G). length l) gs_is) ∙ is.as_many ∙ ap (λ (l : List RealmPass). length l) ps_is in
       let left : length passes_left ≡ suc (length ps) = ap (λ (l : List RealmPass). length l) ps_is in
@@ -42,7 +42,7 @@ module _ {G : Type 0} where
         passes_are = map-append (λ (l : Lane G). l.pass) lanes (lane ∷ []) ∙ ap (λ (l : List (Option RealmPass)). l ++ lane.pass ∷ []) is.passes_are ∙ ap (λ (x : Option RealmPass). map Some is.done ++ x ∷ []) pass_is ∙ sym (map-append Some is.done (p ∷ []));
         gates_are = ap (λ (l : List G). l ++ gs) (map-append (λ (l : Lane G). l.gates) lanes (lane ∷ [])) ∙ append_assoc (map (λ l. l.gates) lanes) (lane.gates ∷ []) gs ∙ ap (λ (x : G). map (λ (l : Lane G). l.gates) lanes ++ x ∷ gs) gates_is ∙ ap (λ (l : List G). map (λ (l : Lane G). l.gates) lanes ++ l) (sym gs_is) ∙ is.gates_are;
         as_many = cc counts;
-        new = All-push IsNew lanes lane is.new new;
+        new = All-push IsFreshLane lanes lane is.new new;
         room = fits (length lanes) (length passes_left) (length ps) (length (lanes ++ lane ∷ [])) capacity left (length-append lanes (lane ∷ [])) is.room;
       } where
         fits : (a b c n capacity : ℕ) → b ≡ suc c → n ≡ a + 1 → a + b ≤ capacity → n + c ≤ capacity
@@ -61,14 +61,14 @@ module _ {G : Type 0} where
 
   -- ---- taken apart
 
-  -- the front of the lanes is taken apart
-  pub record Taking (lanes left : List (Lane G)) (parts : Parts G) : Type 0 where
+  -- the prefix of the lanes is taken apart
+  pub record Taking (lanes left : List (Lane G)) (parts : LaneParts G) : Type 0 where
     pub done : List (Lane G)
     pub whole : lanes ≡ done ++ left
-    pub are : AreParts done parts
-    pub room : HasRoomIn (length left) parts
+    pub are : AreLaneParts done parts
+    pub room : LanePartsHaveRoom (length left) parts
 
-  pub taking_none : (lanes : List (Lane G)) (parts : Parts G) → IsEmpty parts → HasRoomIn (length lanes) parts → Taking lanes lanes parts
+  pub taking_none : (lanes : List (Lane G)) (parts : LaneParts G) → NoLaneParts parts → LanePartsHaveRoom (length lanes) parts → Taking lanes lanes parts
   taking_none lanes parts empty room = record {
     done = [];
     whole = refl;
@@ -76,7 +76,7 @@ module _ {G : Type 0} where
     room = room;
   }
 
-  pub taking_more : (lanes left ls : List (Lane G)) (l : Lane G) (parts parts' : Parts G) → Taking lanes left parts → left ≡ l ∷ ls → PutsParts l parts parts' → Taking lanes ls parts'
+  pub taking_more : (lanes left ls : List (Lane G)) (l : Lane G) (parts parts' : LaneParts G) → Taking lanes left parts → left ≡ l ∷ ls → PutsLaneParts l parts parts' → Taking lanes ls parts'
   taking_more lanes left ls l parts parts' is left_is puts = record {
     done = is.done ++ l ∷ [];
     whole = is.whole ∙ ap (λ (x : List (Lane G)). is.done ++ x) left_is ∙ sym (append_assoc is.done (l ∷ []) ls);
@@ -86,9 +86,9 @@ module _ {G : Type 0} where
       said = puts.said ∙ ap (λ x. x ++ l.said ∷ []) is.are.said ∙ sym (map-append (λ (l : Lane G). l.said) is.done (l ∷ []));
       kept = λ kept. (let both = puts.kept kept in All-push (λ (l : Lane G). l.lost ≡ false) is.done l (is.are.kept both.0) both.1);
     };
-    room = puts.room (length ls) (subst (λ (n : ℕ). HasRoomIn n parts) (ap (λ (x : List (Lane G)). length x) left_is ∙ one_more (length ls)) is.room);
+    room = puts.room (length ls) (subst (λ (n : ℕ). LanePartsHaveRoom n parts) (ap (λ (x : List (Lane G)). length x) left_is ∙ one_more (length ls)) is.room);
   }
 
-  pub taking_all : (lanes left : List (Lane G)) (parts : Parts G) → Taking lanes left parts → length left ≡ 0 → AreParts lanes parts
-  taking_all lanes [] parts is none = subst (λ (l : List (Lane G)). AreParts l parts) (sym (is.whole ∙ append-nil is.done)) is.are
+  pub taking_all : (lanes left : List (Lane G)) (parts : LaneParts G) → Taking lanes left parts → length left ≡ 0 → AreLaneParts lanes parts
+  taking_all lanes [] parts is none = subst (λ (l : List (Lane G)). AreLaneParts l parts) (sym (is.whole ∙ append-nil is.done)) is.are
   taking_all lanes (x ∷ xs) parts is none = absurd (cc none)

@@ -8,28 +8,29 @@ use Rattle.cm_world.specs.declared.frame.Frame.{Frame}
 use Rattle.cm_world.specs.declared.reply.Entry.{Entry}
 use Rattle.cm_command.specs.declared.script.Line.{Line}
 use Rattle.cm_manager.specs.Asking.{frame_of, frame_in}
-use Rattle.cm_manager.specs.Turns.{Later}
+use Rattle.cm_manager.specs.Turns.{IsLaterHistory}
 use Rattle.cm_manager.specs.Calls.{Calls}
-use Rattle.cm_manager.specs.Work.{Shelf}
-use Rattle.cm_manager.specs.Contract.{RealmPass, GatesView, Performs}
+use Rattle.cm_manager.specs.Work.{Manifests}
+use Rattle.cm_manager.specs.Contract.{RealmPass, GatesView, IsWholeCall}
 use Rattle.cm_lanes.specs.declared.said.Said.{Said}
-use Rattle.cm_lanes.specs.Script.{Answered, said_of, answered_lines, lines_of, Follows, rests, performs}
-use Rattle.cm_manager.specs.Kept.{IsOwnPass, Keeps}
+use Rattle.cm_lanes.specs.Script.{AnsweredLine, answered_lines, PerformsLines, rests, performs}
+use Rattle.cm_lanes.specs.ScriptInside.{said_of, lines_of}
+use Rattle.cm_manager.specs.Kept.{IsOwnPass, KeepsPass}
 use Rattle.cm_lanes.specs.Lane.{GrewUnless, PutsUnless}
 use Rattle.cm_manager.proofs.calling.Joining.{later-trans}
 use Rattle.cm_manager.proofs.calling.Keeping.{keeps_nothing, keeps_trans, keeps_helps, starts_same}
 
 -- between two lines: what is performed from here on is performed behind what was
-pub record Performing (shelf : Shelf) (lines : List Line) (p q : RealmPass) (g h : GatesView) (said₀ said₁ : List Said) (lost : Bool) : Type 0 where
-  pub keeps : Keeps shelf p q g h
-  pub answers : List Answered
+pub record Performing (manifests : Manifests) (lines : List Line) (p q : RealmPass) (g h : GatesView) (said₀ said₁ : List Said) (lost : Bool) : Type 0 where
+  pub keeps : KeepsPass manifests p q g h
+  pub answers : List AnsweredLine
   pub own_lines : answered_lines answers ≡ lines_of p.caller lines
-  pub goes_on : (rest : List Answered) (end : List Entry) → Follows (frame_of p) p.caller rest q.seen end → Follows (frame_of p) p.caller (answers ++ rest) p.seen end
+  pub goes_on : (rest : List AnsweredLine) (end : List Entry) → PerformsLines (frame_of p) p.caller rest q.seen end → PerformsLines (frame_of p) p.caller (answers ++ rest) p.seen end
   pub said : GrewUnless lost said₀ said₁ (map said_of answers)
 
-pub performing_none : (shelf : Shelf) (p : RealmPass) (g : GatesView) (said : List Said) → IsOwnPass p → Performing shelf [] p p g g said said false
-performing_none shelf p g said own = record {
-  keeps = keeps_nothing shelf p g own;
+pub performing_none : (manifests : Manifests) (p : RealmPass) (g : GatesView) (said : List Said) → IsOwnPass p → Performing manifests [] p p g g said said false
+performing_none manifests p g said own = record {
+  keeps = keeps_nothing manifests p g own;
   answers = [];
   own_lines = refl;
   goes_on = λ rest end follows. follows;
@@ -45,26 +46,26 @@ said_then before now a b d more s old puts kept =
     let e = puts kept in
     e.1 ∙ ap (λ (l : List Said). l ++ s ∷ []) (old e.0) ∙ append_assoc a more (s ∷ [])
 
-pub performing_more : (shelf : Shelf) (lines : List Line) (l : Line) (p q r : RealmPass) (g h k : GatesView) (said₀ said₁ said₂ : List Said) (before now : Bool) (a : Result Answer Refusal) → Performing shelf lines p q g h said₀ said₁ before → (l.lane == p.caller) ≡ true → Performs shelf (frame_of q) l.command q r h k a → PutsUnless before now said₁ said₂ (said_of (record { line = l; result = a })) → Performing shelf (lines ++ l ∷ []) p r g k said₀ said₂ now
-performing_more shelf lines l p q r g h k said₀ said₁ said₂ before now a is own way puts =
-    let x : Answered = record { line = l; result = a } in
+pub performing_more : (manifests : Manifests) (lines : List Line) (l : Line) (p q r : RealmPass) (g h k : GatesView) (said₀ said₁ said₂ : List Said) (before now : Bool) (a : Result Answer Refusal) → Performing manifests lines p q g h said₀ said₁ before → (l.lane == p.caller) ≡ true → IsWholeCall manifests (frame_of q) l.command q r h k a → PutsUnless before now said₁ said₂ (said_of (record { line = l; result = a })) → Performing manifests (lines ++ l ∷ []) p r g k said₀ said₂ now
+performing_more manifests lines l p q r g h k said₀ said₁ said₂ before now a is own way puts =
+    let x : AnsweredLine = record { line = l; result = a } in
     let calls : Calls (frame_of p) p.caller l.command q.seen r.seen a =
     subst (λ (f : Frame). Calls f p.caller l.command q.seen r.seen a) (ap frame_in is.keeps.frame)
     (subst (λ (c : ℕ). Calls (frame_of q) c l.command q.seen r.seen a) is.keeps.caller way.way) in
     record {
-      keeps = keeps_trans shelf p q r g h k is.keeps (keeps_helps shelf (frame_of q) (λ a₀ a₁. Calls (frame_of q) q.caller l.command a₀ a₁ a) q r h k way);
+      keeps = keeps_trans manifests p q r g h k is.keeps (keeps_helps manifests (frame_of q) (λ a₀ a₁. Calls (frame_of q) q.caller l.command a₀ a₁ a) q r h k way);
       answers = is.answers ++ x ∷ [];
-      own_lines = map-append (λ (y : Answered). y.line) is.answers (x ∷ []) ∙ ap (λ (ls : List Line). ls ++ l ∷ []) is.own_lines ∙ sym (lines_more p.caller lines l true own);
-      goes_on = λ rest end follows. subst (λ (ys : List Answered). Follows (frame_of p) p.caller ys p.seen end) (sym (append_assoc is.answers (x ∷ []) rest)) (is.goes_on (x ∷ rest) end (Follows.performs calls follows));
+      own_lines = map-append (λ (y : AnsweredLine). y.line) is.answers (x ∷ []) ∙ ap (λ (ls : List Line). ls ++ l ∷ []) is.own_lines ∙ sym (lines_more p.caller lines l true own);
+      goes_on = λ rest end follows. subst (λ (ys : List AnsweredLine). PerformsLines (frame_of p) p.caller ys p.seen end) (sym (append_assoc is.answers (x ∷ []) rest)) (is.goes_on (x ∷ rest) end (PerformsLines.performs calls follows));
       said = subst (λ (m : List Said). GrewUnless now said₀ said₂ m) (sym (map-append said_of is.answers (x ∷ []))) (said_then before now said₀ said₁ said₂ (map said_of is.answers) (said_of x) is.said puts);
     }
 
-pub performing_all : (shelf : Shelf) (lines : List Line) (p q : RealmPass) (g h : GatesView) (said₀ said₁ : List Said) (lost : Bool) → (is : Performing shelf lines p q g h said₀ said₁ lost) → Follows (frame_of p) p.caller is.answers p.seen q.seen
-performing_all shelf lines p q g h said₀ said₁ lost is =
-    subst (λ (ys : List Answered). Follows (frame_of p) p.caller ys p.seen q.seen) (append-nil is.answers)
-    (is.goes_on [] q.seen (Follows.rests (record { grows = starts_same q.seen; own = refl })))
+pub performing_all : (manifests : Manifests) (lines : List Line) (p q : RealmPass) (g h : GatesView) (said₀ said₁ : List Said) (lost : Bool) → (is : Performing manifests lines p q g h said₀ said₁ lost) → PerformsLines (frame_of p) p.caller is.answers p.seen q.seen
+performing_all manifests lines p q g h said₀ said₁ lost is =
+    subst (λ (ys : List AnsweredLine). PerformsLines (frame_of p) p.caller ys p.seen q.seen) (append-nil is.answers)
+    (is.goes_on [] q.seen (PerformsLines.rests (record { grows = starts_same q.seen; own = refl })))
 
 -- who has performed lines has performed them at a later place of the history too
-pub follows_later : (f : Frame) (c : ℕ) (xs : List Answered) (a b d : List Entry) → Follows f c xs a b → Later c b d → Follows f c xs a d
-follows_later f c xs a b d (rests l) k = Follows.rests (later-trans c a b d l k)
-follows_later f c xs a b d (performs calls rest) k = Follows.performs calls (follows_later f c _ _ b d rest k)
+pub follows_later : (f : Frame) (c : ℕ) (xs : List AnsweredLine) (a b d : List Entry) → PerformsLines f c xs a b → IsLaterHistory c b d → PerformsLines f c xs a d
+follows_later f c xs a b d (rests l) k = PerformsLines.rests (later-trans c a b d l k)
+follows_later f c xs a b d (performs calls rest) k = PerformsLines.performs calls (follows_later f c _ _ b d rest k)

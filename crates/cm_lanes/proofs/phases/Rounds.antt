@@ -18,14 +18,14 @@ no_more : (xs ys : List Entry) → xs ++ ys ≡ xs → ys ≡ []
 no_more [] ys e = e
 no_more (x ∷ xs) ys e = no_more xs ys (ap (λ (l : List Entry). Rattle.std.specs.Prelude.drop 1 l) e)
 
-no_front : (xs ys : List Entry) → xs ++ ys ≡ [] → xs ≡ []
-no_front [] ys e = refl
-no_front (x ∷ xs) ys e = absurd (cc e)
+no_prefix : (xs ys : List Entry) → xs ++ ys ≡ [] → xs ≡ []
+no_prefix [] ys e = refl
+no_prefix (x ∷ xs) ys e = absurd (cc e)
 
 pub starts_both : (a b : List Entry) → StartsWith a b → StartsWith b a → a ≡ b
 starts_both a b ab ba =
     let none = no_more b (ab.0 ++ ba.0) (sym (append_assoc b ab.0 ba.0) ∙ ap (λ (l : List Entry). l ++ ba.0) (sym ab.1) ∙ sym ba.1) in
-    ab.1 ∙ ap (λ (l : List Entry). b ++ l) (no_front ab.0 ba.0 none) ∙ append-nil b
+    ab.1 ∙ ap (λ (l : List Entry). b ++ l) (no_prefix ab.0 ba.0 none) ∙ append-nil b
 
 -- what two passes say of their meeting
 pub met_both : {G : Type 0} (a b : Lane G) (p q p' q' : RealmPass) → a.pass ≡ Some p → b.pass ≡ Some q → p' ≡ seen_up_to p'.seen p → q' ≡ seen_up_to q'.seen q → p'.seen ≡ q'.seen → IsOwnPass p' → IsOwnPass q' → (StartsWith q.seen p.seen × (p'.seen ≡ q.seen)) ⊎ (StartsWith p.seen q.seen × (p'.seen ≡ p.seen)) → MetBoth a b (record a { pass = Some p' }) (record b { pass = Some q' })

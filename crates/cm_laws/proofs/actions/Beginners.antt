@@ -16,9 +16,9 @@ use Rattle.cm_world.specs.Step.{MayEnd, is_join}
 use Rattle.cm_world.specs.After.{after}
 use Rattle.cm_world.specs.Legal.{replay}
 use Rattle.cm_world.proofs.trees.Histories.{replay-push}
-use Rattle.cm_laws.specs.Story.{Story, world_of, Tells, entry_of}
+use Rattle.cm_laws.specs.Story.{Story, world_of, AddsEntry, entry_of}
 use Rattle.cm_laws.specs.Laws.{AreOthers, IsJoined, BeginnersMayEnd, JoinersAreJoined, OthersLeaveEnds, OthersLeaveJoins}
-use Rattle.cm_laws.specs.Shutdowns.{PickersMayEnd}
+use Rattle.cm_laws.specs.ShutdownsInside.{PickersMayEnd}
 use Rattle.cm_laws.proofs.actions.Numbers.{IsCounted, counted_history}
 use Rattle.cm_laws.proofs.actions.Begun.{may_end_begun, may_end_picked}
 use Rattle.cm_laws.proofs.actions.Others.{may_end_stays, join_stays}
@@ -26,7 +26,7 @@ use Rattle.cm_laws.proofs.actions.Others.{may_end_stays, join_stays}
 -- ---- one step
 
 -- the tree behind it
-pub told_world : (old new : Story) (caller : ℕ) (event : Event) (r : Reply) → Tells old new caller event r → world_of new ≡ after (world_of old) (entry_of caller event r)
+pub told_world : (old new : Story) (caller : ℕ) (event : Event) (r : Reply) → AddsEntry old new caller event r → world_of new ≡ after (world_of old) (entry_of caller event r)
 unfolding world_of
 told_world old new caller event r tells =
     ap (λ f. replay (start f) new.entries) tells.frame
@@ -87,12 +87,12 @@ others_leave_joins w (e ∷ es) caller a none mine =
     others_leave_joins (after w e) es caller a both.1 (join_stays caller a w e both.0 mine)
 
 -- one step of another
-pub still_may_end : (old new : Story) (other caller a : ℕ) (event : Event) (r : Reply) (finish : Finish) → Tells old new other event r → (other ≡ caller → ⊥) → MayEnd (world_of old).acts caller a finish → MayEnd (world_of new).acts caller a finish
+pub still_may_end : (old new : Story) (other caller a : ℕ) (event : Event) (r : Reply) (finish : Finish) → AddsEntry old new other event r → (other ≡ caller → ⊥) → MayEnd (world_of old).acts caller a finish → MayEnd (world_of new).acts caller a finish
 still_may_end old new other caller a event r finish tells differ may =
     subst (λ (v : World). MayEnd v.acts caller a finish) (sym (told_world old new other event r tells))
     (may_end_stays caller a finish (world_of old) (entry_of other event r) tells.step differ may)
 
-pub still_joined : (old new : Story) (other caller a : ℕ) (event : Event) (r : Reply) → Tells old new other event r → (other ≡ caller → ⊥) → IsJoined (world_of old) caller a → IsJoined (world_of new) caller a
+pub still_joined : (old new : Story) (other caller a : ℕ) (event : Event) (r : Reply) → AddsEntry old new other event r → (other ≡ caller → ⊥) → IsJoined (world_of old) caller a → IsJoined (world_of new) caller a
 still_joined old new other caller a event r tells differ mine =
     subst (λ (v : World). IsJoined v caller a) (sym (told_world old new other event r tells))
     (join_stays caller a (world_of old) (entry_of other event r) differ mine)

@@ -18,10 +18,12 @@ use Rattle.cm_world.specs.World.{World, start, act_of, outcome_of}
 use Rattle.cm_world.specs.Begin.{begin_reply}
 use Rattle.cm_world.specs.End.{put_outcome, ended}
 use Rattle.cm_world.specs.Step.{MayEnd, IsEnabled, Allowed}
-use Rattle.cm_world.specs.After.{new_act, with_end_of, moved, moves, after}
+use Rattle.cm_world.specs.After.{new_act, with_end_of, moved, after}
+use Rattle.cm_world.specs.AfterInside.{moves}
 use Rattle.cm_world.specs.Legal.{IsStep, Legal, replay}
 use Rattle.cm_world.proofs.trees.Finding.{none_some, some_same, find-passes}
-use Rattle.cm_laws.specs.Lasting.{begun_by, joined_by, ended_by, awaited_by, IsBegun, IsEnded, IsAwaited, KeepsOutcomes, OutcomesAreOne}
+use Rattle.cm_laws.specs.Lasting.{begun_by, joined_by, ended_by, awaited_by, IsBegun, IsEnded, IsAwaited, KeepsOutcomes}
+use Rattle.cm_laws.specs.LastingInside.{OutcomesAreOne}
 use Rattle.cm_laws.proofs.actions.Tasks.{by_test, find_left, find_last, find_split, only_by, edit_at, edit_other, unused}
 use Rattle.cm_laws.proofs.actions.Numbers.{IsCounted, counted_after, counted_history}
 use Rattle.cm_laws.proofs.actions.Begun.{begun_action}
@@ -353,11 +355,11 @@ module _ (es : List Entry) (w : World) (e : Entry) (it : Follows es w) where
         pends = pends_after w e (news_by (after w e).acts acts) (grown_known w.acts (after w e).acts w.rows (grows_by (after w e).acts acts) it.pends);
       }
 
-follows_all : (front es : List Entry) (w : World) → Follows front w → Legal w es → Follows (front ++ es) (replay w es)
-follows_all front [] w it legal = subst (λ l. Follows l w) (sym (append-nil front)) it
-follows_all front (e ∷ es) w it legal =
-    subst (λ l. Follows l (replay (after w e) es)) (append_assoc front (e ∷ []) es)
-    (follows_all (front ++ e ∷ []) es (after w e) (follows_after front w e it legal.0) legal.1)
+follows_all : (prefix es : List Entry) (w : World) → Follows prefix w → Legal w es → Follows (prefix ++ es) (replay w es)
+follows_all prefix [] w it legal = subst (λ l. Follows l w) (sym (append-nil prefix)) it
+follows_all prefix (e ∷ es) w it legal =
+    subst (λ l. Follows l (replay (after w e) es)) (append_assoc prefix (e ∷ []) es)
+    (follows_all (prefix ++ e ∷ []) es (after w e) (follows_after prefix w e it legal.0) legal.1)
 
 follows_start : (f : Frame) → Follows [] (start f)
 follows_start f = record {
@@ -371,7 +373,7 @@ follows_history f es legal = follows_all [] es (start f) (follows_start f) legal
 
 -- ---- the law
 
-module _ (front : List Entry) (w : World) (e : Entry) (it : Follows front w) where
+module _ (prefix : List Entry) (w : World) (e : Entry) (it : Follows prefix w) where
   -- a number that begins was free
   was_free : (bs : List Act) (a : ℕ) → ActsOn w bs e.caller e.event e.reply → begun_by e.reply ≡ Some a → act_of w.acts a ≡ None
   was_free bs a (starts kind i begins no_end same) says =
@@ -393,10 +395,10 @@ module _ (front : List Entry) (w : World) (e : Entry) (it : Follows front w) whe
   open_yet a f may told =
       none_some told.0 (sym may.pending ∙ sym (ap (option_and_then (λ x. x.outcome)) may.there) ∙ told.1)
 
-  own_begin : (a : ℕ) (f : Finish) → MayEnd w.acts e.caller a f → IsBegun front a e.caller
-  own_begin a f may = subst (IsBegun front a) may.own (it.remembers.begun a may.act may.there)
+  own_begin : (a : ℕ) (f : Finish) → MayEnd w.acts e.caller a f → IsBegun prefix a e.caller
+  own_begin a f may = subst (IsBegun prefix a) may.own (it.remembers.begun a may.act may.there)
 
-  kept_outcome : (a : ℕ) (o : Option Outcome) (r : Reply) → outcome_of w.acts a ≡ o → option_map reply.Ended o ≡ Some r → IsAwaited front a r
+  kept_outcome : (a : ℕ) (o : Option Outcome) (r : Reply) → outcome_of w.acts a ≡ o → option_map reply.Ended o ≡ Some r → IsAwaited prefix a r
   kept_outcome a None r is says = absurd (none_some r says)
   kept_outcome a (Some o) r is says = record {
     outcome = o;
@@ -404,13 +406,13 @@ module _ (front : List Entry) (w : World) (e : Entry) (it : Follows front w) whe
     replied = sym (some_same (reply.Ended o) r says);
   }
 
-  begun_known : (a : ℕ) → IsKnown w.acts a → (caller : ℕ) × IsBegun front a caller
+  begun_known : (a : ℕ) → IsKnown w.acts a → (caller : ℕ) × IsBegun prefix a caller
   begun_known a known = (known.0.by, it.remembers.begun a known.0 known.1)
 
-  begun_joined : (a : ℕ) → IsJoining w a → (caller : ℕ) × IsBegun front a caller
+  begun_joined : (a : ℕ) → IsJoining w a → (caller : ℕ) × IsBegun prefix a caller
   begun_joined a joins = begun_known a (joined_known w.rows w.next_action joins.at joins.kind a w.acts it.pends joins.begins)
 
-  keeps_outcomes : IsStep w e → KeepsOutcomes front e
+  keeps_outcomes : IsStep w e → KeepsOutcomes prefix e
   keeps_outcomes step =
       let acts : ActsOn w (after w e).acts e.caller e.event e.reply = acts_after w e step in
       record {
@@ -429,4 +431,4 @@ module _ (front : List Entry) (w : World) (e : Entry) (it : Follows front w) whe
 pub outcomes_are_one : OutcomesAreOne
 outcomes_are_one f es legal =
     of_each_entry KeepsOutcomes (start f) es legal
-    (λ front e before step. keeps_outcomes front (replay (start f) front) e (follows_history f front before) step)
+    (λ prefix e before step. keeps_outcomes prefix (replay (start f) prefix) e (follows_history f prefix before) step)

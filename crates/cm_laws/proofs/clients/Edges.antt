@@ -19,7 +19,7 @@ use Rattle.cm_world.specs.declared.row.Row.{Row}
 use Rattle.cm_world.specs.Rows.{row_of, is_live, decl_of, child_of}
 use Rattle.cm_world.specs.Level.{is_child_row, is_level_node, child_row_sources, level_sources, is_from_row, LevelStrong}
 use Rattle.cm_world.specs.Sound.{IsOrderly}
-use Rattle.cm_world.specs.Next.{is_offer_to, offer_of, give_of, give_or, offered}
+use Rattle.cm_world.specs.NextStation.{is_offer_to, offer_of, give_of, give_or, offered}
 use Rattle.cm_world.proofs.trees.Finding.{none_some, some_same, find-passes}
 use Rattle.cm_order.specs.Kids.{IsKid}
 use Rattle.cm_order.proofs.trees.Trees.{or_left, or_right, and_pair, eq_some}

@@ -10,8 +10,9 @@ use Rattle.cm_world.specs.Sound.{IsSound}
 use Rattle.cm_world.specs.Step.{Allowed}
 use Rattle.cm_world.specs.Legal.{replay}
 use Rattle.cm_world.proofs.trees.Finding.{none_some, some_same}
-use Rattle.cm_laws.specs.Clients.{picked_by, HasClientsShut, ClientsStopFirst}
-use Rattle.cm_laws.specs.Shutdowns.{TreesStaySound}
+use Rattle.cm_laws.specs.Clients.{picked_by, HasClientsShut}
+use Rattle.cm_laws.specs.ClientsInside.{ClientsStopFirst}
+use Rattle.cm_laws.specs.ShutdownsInside.{TreesStaySound}
 use Rattle.cm_laws.proofs.entries.Entries.{of_each_entry}
 use Rattle.cm_laws.proofs.clients.Shut.{client_shut}
 
@@ -32,7 +33,7 @@ stopping_clients w y sound may = record {
 -- where trees stay sound, clients stop first
 pub clients_stop_first : TreesStaySound → ClientsStopFirst
 clients_stop_first stay f es legal =
-    of_each_entry (λ front e. (y : ℕ) → picked_by e.event e.reply ≡ Some y → HasClientsShut (replay (start f) front) y) (start f) es legal
-    (λ front e before step y picks.
-    stopping_clients (replay (start f) front) y (stay f front before)
-    (picked_stops (replay (start f) front) e.caller e.event e.reply y step.allowed picks))
+    of_each_entry (λ prefix e. (y : ℕ) → picked_by e.event e.reply ≡ Some y → HasClientsShut (replay (start f) prefix) y) (start f) es legal
+    (λ prefix e before step y picks.
+    stopping_clients (replay (start f) prefix) y (stay f prefix before)
+    (picked_stops (replay (start f) prefix) e.caller e.event e.reply y step.allowed picks))

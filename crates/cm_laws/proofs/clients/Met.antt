@@ -19,7 +19,7 @@ use Rattle.cm_world.specs.Clients.{IsClient}
 use Rattle.cm_world.specs.Sound.{IsOrderly, IsParent}
 use Rattle.cm_world.specs.Ending.{is_from_parent, KeepsDown}
 use Rattle.cm_world.specs.Stations.{Station, use_station, offer_station, expose_station, capability_station}
-use Rattle.cm_world.specs.Next.{To, Ends, next_of, next_by}
+use Rattle.cm_world.specs.NextStation.{To, Ends, next_of, next_by}
 use Rattle.cm_world.specs.Route.{Named, First, NoUse, IsChain, last_of}
 use Rattle.cm_world.proofs.trees.Finding.{none_some, some_same}
 use Rattle.cm_world.proofs.trees.Walks.{child_lives, steps_fall, begins_down}
@@ -88,7 +88,7 @@ module _ (rows : List Row) (builtins : List Builtin) (next : ℕ) (orderly : IsO
   -- the child that a name finds
   child_kid : (p j : ℕ) (c : ChildName) → child_of rows p c ≡ Some j → IsKid rows p j
   child_kid p j c found =
-      let child : (r : Row) × (row_of rows j ≡ Some r) × (r.parent ≡ Some p) = child_lives rows next p j c orderly.rising found in
+      let child : (r : Row) × (row_of rows j ≡ Some r) × (r.parent ≡ Some p) = child_lives rows next p j c orderly.increasing found in
       record { row = child.0; lives = child.1; parent = child.2 }
 
   -- ---- down

@@ -12,7 +12,7 @@ use Rattle.cm_world.specs.declared.route.Provider.{Provider}
 use Rattle.cm_world.specs.declared.route.Provider.TheVariants as provider
 use Rattle.cm_world.specs.Rows.{row_of, decl_of, child_of}
 use Rattle.cm_world.specs.Stations.{Station, offer_station, expose_station, capability_station, builtin_station, framework_station}
-use Rattle.cm_world.specs.Next.{To, next_of, next_by, from_above, next_above, by_builtin, builtin_of, offered_by, by_offer, offered, from_child, exposed_by, by_expose, give_of, by_capability}
+use Rattle.cm_world.specs.NextStation.{To, next_of, next_by, from_above, next_above, by_builtin, builtin_of, offered_by, by_offer, offered, from_child, exposed_by, by_expose, give_of, by_capability}
 use Rattle.cm_world.specs.Route.{provider_of}
 use Rattle.cm_world.proofs.trees.Chains.{same_station}
 

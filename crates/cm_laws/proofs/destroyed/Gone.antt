@@ -35,7 +35,8 @@ use Rattle.cm_world.proofs.trees.Finding.{some_same}
 use Rattle.cm_world.proofs.trees.Histories.{replay-append, replay-push, Legal-split}
 use Rattle.cm_table.proofs.tree.Rows.{lives_below}
 use Rattle.cm_order.proofs.trees.Trees.{climb, or_left, or_right, true_not_false, flip_not, below_cases, below_lives, below_self}
-use Rattle.cm_laws.specs.Destroying.{named_in, asked_of, is_removing, IsDoomed, IsDestroyed, IsPurged, IsShunned, IsForgotten, KeepsGone, LeavesGone, DoomedAreDestroyed, DestroyedStayGone}
+use Rattle.cm_laws.specs.Destroying.{named_in, asked_of, is_removing, IsDoomed, IsDestroyed, IsPurged, IsShunned, IsForgotten, KeepsGone, LeavesGone}
+use Rattle.cm_laws.specs.DestroyingInside.{DoomedAreDestroyed, DestroyedStayGone}
 use Rattle.cm_laws.proofs.entries.Entries.{of_each_entry}
 use Rattle.cm_laws.proofs.sound.Above.{above_here, above_up, above_lasts}
 use Rattle.cm_laws.proofs.sound.Purges.{stood}
@@ -152,34 +153,34 @@ dooms_gone w e i healthy it =
     let orderly : IsOrderly (after w e).rows (after w e).next_inc = healthy.sound.orderly in
     let found : (r : Row) × (row_of (after w e).rows i ≡ Some r) × (r.doomed ≡ true) = row_behind w e i it in
     record {
-      known = lives_below (after w e).rows (after w e).next_inc i found.0 orderly.rising found.1;
+      known = lives_below (after w e).rows (after w e).next_inc i found.0 orderly.increasing found.1;
       gone = doomed_gone (after w e).rows i (above_here (λ r. r.doomed) (after w e).rows (after w e).next_inc orderly i found.0 found.1 found.2);
     }
 
 pub doomed_are_destroyed : DoomedAreDestroyed
 doomed_are_destroyed f es i legal it =
-    let w : World = replay (start f) it.front in
-    let both : Legal (start f) it.front × Legal w (it.entry ∷ it.rest) = Legal-split (start f) it.front (it.entry ∷ it.rest) (subst (Legal (start f)) it.whole legal) in
-    let healthy : IsHealthy (after w it.entry) = healthy_after w it.entry (healthy_history f it.front both.0) both.1.0 in
+    let w : World = replay (start f) it.prefix in
+    let both : Legal (start f) it.prefix × Legal w (it.entry ∷ it.rest) = Legal-split (start f) it.prefix (it.entry ∷ it.rest) (subst (Legal (start f)) it.whole legal) in
+    let healthy : IsHealthy (after w it.entry) = healthy_after w it.entry (healthy_history f it.prefix both.0) both.1.0 in
     let found : (r : Row) × (row_of (after w it.entry).rows i ≡ Some r) × (r.doomed ≡ true) = row_behind w it.entry i it.dooms in
     record {
-      first = it.front ++ it.entry ∷ [];
+      first = it.prefix ++ it.entry ∷ [];
       rest = it.rest;
-      whole = it.whole ∙ sym (append_assoc it.front (it.entry ∷ []) it.rest);
+      whole = it.whole ∙ sym (append_assoc it.prefix (it.entry ∷ []) it.rest);
       top = i;
-      doomed = record { front = it.front; entry = it.entry; rest = []; whole = refl; dooms = it.dooms };
+      doomed = record { prefix = it.prefix; entry = it.entry; rest = []; whole = refl; dooms = it.dooms };
       below =
-          subst (λ v. IsTrue (is_below v.rows i i)) (sym (replay-push (start f) it.front it.entry))
+          subst (λ v. IsTrue (is_below v.rows i i)) (sym (replay-push (start f) it.prefix it.entry))
           (below_self (after w it.entry).rows (after w it.entry).next_inc healthy.sound.orderly i found.0 found.1);
     }
 
 -- what was doomed is gone in the tree that is left
 doomed_stays : (f : Frame) (es : List Entry) (i : ℕ) → Legal (start f) es → IsDoomed f es i → IsGone (replay (start f) es) i
 doomed_stays f es i legal it =
-    let w : World = replay (start f) it.front in
-    let both : Legal (start f) it.front × Legal w (it.entry ∷ it.rest) = Legal-split (start f) it.front (it.entry ∷ it.rest) (subst (Legal (start f)) it.whole legal) in
-    let healthy : IsHealthy (after w it.entry) = healthy_after w it.entry (healthy_history f it.front both.0) both.1.0 in
-    subst (λ v. IsGone v i) (sym (ap (replay (start f)) it.whole ∙ replay-append (start f) it.front (it.entry ∷ it.rest)))
+    let w : World = replay (start f) it.prefix in
+    let both : Legal (start f) it.prefix × Legal w (it.entry ∷ it.rest) = Legal-split (start f) it.prefix (it.entry ∷ it.rest) (subst (Legal (start f)) it.whole legal) in
+    let healthy : IsHealthy (after w it.entry) = healthy_after w it.entry (healthy_history f it.prefix both.0) both.1.0 in
+    subst (λ v. IsGone v i) (sym (ap (replay (start f)) it.whole ∙ replay-append (start f) it.prefix (it.entry ∷ it.rest)))
     (stays (λ v. IsGone v i) (gone_after i) (after w it.entry) it.rest healthy both.1.1 (dooms_gone w it.entry i healthy it.dooms))
 
 -- what is at or below a row that is gone is gone
@@ -205,7 +206,7 @@ destroyed_gone f es i legal it =
     subst (λ v. IsGone v i) (sym (ap (replay (start f)) it.whole ∙ replay-append (start f) it.first it.rest))
     (stays (λ v. IsGone v i) (gone_after i) (replay (start f) it.first) it.rest healthy both.1
     (record {
-      known = lives_below (replay (start f) it.first).rows (replay (start f) it.first).next_inc i row.0 healthy.sound.orderly.rising row.1;
+      known = lives_below (replay (start f) it.first).rows (replay (start f) it.first).next_inc i row.0 healthy.sound.orderly.increasing row.1;
       gone = gone_below (replay (start f) it.first).rows (replay (start f) it.first).next_inc it.top i healthy.sound.orderly top.gone it.below;
     }))
 
@@ -245,7 +246,7 @@ purged_dead i top lost e purges purged among w healthy step =
     let allowed : reply.Purged lost ≡ purge_reply w.rows top = subst (λ r. r ≡ purge_reply w.rows top) purged (subst (λ x. Allowed w e.caller x e.reply) purges step.allowed) in
     let below : IsTrue (is_below w.rows top i) = listed_below w.rows top i lost allowed among in
     let row : (r : Row) × (row_of w.rows i ≡ Some r) = below_lives w.rows w.next_inc orderly top i below in
-    let low : i < w.next_inc = lives_below w.rows w.next_inc i row.0 orderly.rising row.1 in
+    let low : i < w.next_inc = lives_below w.rows w.next_inc i row.0 orderly.increasing row.1 in
     record {
       known = known_still w (after w e) (goes_after w e step) i low;
       dead = ap (λ rows. is_live rows i) (purged_rows w e top lost purges purged) ∙ left_by below (row_of (others_than w.rows top) i) refl;
@@ -380,10 +381,10 @@ module _ (w : World) (e : Entry) (healthy : IsHealthy w) (root : IsTrue (stands 
 pub destroyed_stay_gone : DestroyedStayGone
 destroyed_stay_gone f es legal =
     of_each_entry (KeepsGone f) (start f) es legal
-    (λ front e before step.
+    (λ prefix e before step.
     record {
-      destroyed = λ i it. shunned (replay (start f) front) e (healthy_history f front before) (root_stays f front before) step i (destroyed_gone f front i before it);
-      purged = λ i it. forgotten (replay (start f) front) e (healthy_history f front before) (root_stays f front before) step i (purged_stays f front i before it);
+      destroyed = λ i it. shunned (replay (start f) prefix) e (healthy_history f prefix before) (root_stays f prefix before) step i (destroyed_gone f prefix i before it);
+      purged = λ i it. forgotten (replay (start f) prefix) e (healthy_history f prefix before) (root_stays f prefix before) step i (purged_stays f prefix i before it);
     })
 
 -- no moniker leads to a row that is gone

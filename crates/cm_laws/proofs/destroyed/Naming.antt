@@ -133,15 +133,15 @@ module _ (rows : List Row) (next : ℕ) (orderly : IsOrderly rows next) where
 
   -- ---- a find
 
-  found_child : (front : List ChildName) (i : ℕ) (c : ChildName) (cs : List ChildName) (o : Option ℕ) → child_of rows i c ≡ o → ((j : ℕ) → child_of rows i c ≡ Some j → IsTrue (well (found_from rows j (front ++ c ∷ []) cs))) → IsTrue (well (elim o as (λ _. Reply) [ None ↦ reply.NotFound (record { parts = front }) | Some j ↦ found_from rows j (front ++ c ∷ []) cs ]))
-  found_child front i c cs None e more = refl
-  found_child front i c cs (Some j) e more = more j e
+  found_child : (prefix : List ChildName) (i : ℕ) (c : ChildName) (cs : List ChildName) (o : Option ℕ) → child_of rows i c ≡ o → ((j : ℕ) → child_of rows i c ≡ Some j → IsTrue (well (found_from rows j (prefix ++ c ∷ []) cs))) → IsTrue (well (elim o as (λ _. Reply) [ None ↦ reply.NotFound (record { parts = prefix }) | Some j ↦ found_from rows j (prefix ++ c ∷ []) cs ]))
+  found_child prefix i c cs None e more = refl
+  found_child prefix i c cs (Some j) e more = more j e
 
-  found_well : (i : ℕ) (front cs : List ChildName) → IsTrue (stands rows i) → IsTrue (well (found_from rows i front cs))
-  found_well i front [] here = one (stands rows i) here
-  found_well i front (c ∷ cs) here =
+  found_well : (i : ℕ) (prefix cs : List ChildName) → IsTrue (stands rows i) → IsTrue (well (found_from rows i prefix cs))
+  found_well i prefix [] here = one (stands rows i) here
+  found_well i prefix (c ∷ cs) here =
       either (names_well rows next) (is_resolved rows i) _ _
-      (found_child front i c cs (child_of rows i c) refl (λ j e. found_well j (front ++ c ∷ []) cs (child_stands rows next orderly i j c e here)))
+      (found_child prefix i c cs (child_of rows i c) refl (λ j e. found_well j (prefix ++ c ∷ []) cs (child_stands rows next orderly i j c e here)))
       (either (names_well rows next) (is_closed rows i) (reply.Shut i) (reply.Need i) (one (stands rows i) here) (one (stands rows i) here))
 
   -- ---- a begin
@@ -241,7 +241,7 @@ module _ (rows : List Row) (next : ℕ) (orderly : IsOrderly rows next) where
 
   each_lives : IsTrue (list_all (λ r. is_live rows r.inc) rows)
   each_lives =
-      all_rows rows next (λ r. is_live rows r.inc) orderly.rising
+      all_rows rows next (λ r. is_live rows r.inc) orderly.increasing
       (λ i r lives. ap (is_live rows) (row_of-inc rows i r lives) ∙ live i r lives)
 
   purge_well : (i : ℕ) → IsTrue (well (reply.Purged (map (lost_of rows) (subtree rows i))))
@@ -274,7 +274,7 @@ module _ (rows : List Row) (next : ℕ) (orderly : IsOrderly rows next) where
   listed_well p coll here =
       list_all-map (stands rows) (λ k. k.inc) (filter_map (kid_of p coll) rows)
       ∙ all_made (λ (k : Kid). stands rows k.inc) (kid_of p coll) rows
-      (all_rows rows next (λ r. option_map_or (λ (k : Kid). stands rows k.inc) (kid_of p coll r) true) orderly.rising
+      (all_rows rows next (λ r. option_map_or (λ (k : Kid). stands rows k.inc) (kid_of p coll r) true) orderly.increasing
       (λ i r lives. kid_by_well p coll i r r.name lives here))
 
   unready_well : (i : ℕ) → IsTrue (well_or (unready rows i))

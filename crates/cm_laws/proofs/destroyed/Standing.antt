@@ -32,7 +32,7 @@ use Rattle.cm_world.specs.declared.route.Walked.TheVariants as walked
 use Rattle.cm_world.specs.Rows.{row_of, decl_of, child_of, has_parent, has_name, some_above, is_gone}
 use Rattle.cm_world.specs.Sound.{IsOrderly, IsParent}
 use Rattle.cm_world.specs.Stations.{Station, use_station, offer_station, expose_station, bare_hop}
-use Rattle.cm_world.specs.Next.{Next, To, Ends, Needs, FromVoid, NoChild, Misses, by_builtin, builtin_of, by_offer, offered, offered_by, next_above, from_above, by_expose, give_of, exposed_by, from_child, by_capability, capability_of, next_from, next_by, next_of}
+use Rattle.cm_world.specs.NextStation.{NextStation, To, Ends, Needs, FromVoid, NoChild, Misses, by_builtin, builtin_of, by_offer, offered, offered_by, next_above, from_above, by_expose, give_of, exposed_by, from_child, by_capability, capability_of, next_from, next_by, next_of}
 use Rattle.cm_world.specs.Route.{Named, First, NoUse, NoneExposed, named_by, IsChain, provider_of, route_of, weak_availability, weak_rights, unless_fitting, unless_within, is_offer_or_expose, standing as available, asked_rights, said_by, trial_by, IsDecided, IsWalkedFrom, IsWalked}
 use Rattle.cm_world.proofs.trees.Finding.{none_some, some_same, row_of-inc, find-passes}
 use Rattle.cm_world.proofs.trees.Walks.{find-lives}
@@ -90,7 +90,7 @@ module _ (rows : List Row) (next : ℕ) (orderly : IsOrderly rows next) where
       let passes : IsTrue (test r) = find-passes test rows r f in
       let named : IsTrue (has_parent p r && has_name c r) = and_first (has_parent p r && has_name c r) (not r.doomed) passes in
       subst (λ i. IsTrue (stands rows i)) (some_same r.inc j e)
-      (stands_down r.inc p r (find-lives test rows next r orderly.rising f) (some_eq r.parent p (and_first (has_parent p r) (has_name c r) named)) (flip_not r.doomed (and_second (has_parent p r && has_name c r) (not r.doomed) passes)) h)
+      (stands_down r.inc p r (find-lives test rows next r orderly.increasing f) (some_eq r.parent p (and_first (has_parent p r) (has_name c r) named)) (flip_not r.doomed (and_second (has_parent p r && has_name c r) (not r.doomed) passes)) h)
 
   -- a child that is found by its name
   pub child_stands : (p j : ℕ) (c : ChildName) → child_of rows p c ≡ Some j → IsTrue (stands rows p) → IsTrue (stands rows j)
@@ -98,7 +98,7 @@ module _ (rows : List Row) (next : ℕ) (orderly : IsOrderly rows next) where
 
   -- ---- what comes behind a station
 
-  abbrev next_stands : Next → Bool
+  abbrev next_stands : NextStation → Bool
   next_stands (To t) = stands rows t.hop.inc
   next_stands (Needs j) = stands rows j
   next_stands (Misses hop reason) = stands rows hop.inc
@@ -173,13 +173,13 @@ module _ (rows : List Row) (next : ℕ) (orderly : IsOrderly rows next) where
   decided_stands None = true
   decided_stands (Some v) = walked_stands v
 
-  abbrev front_stands : List Station → Bool
-  front_stands front = list_all (λ t. stands rows t.hop.inc) front
+  abbrev prefix_stands : List Station → Bool
+  prefix_stands prefix = list_all (λ t. stands rows t.hop.inc) prefix
 
-  front_push : (front : List Station) (s : Station) → IsTrue (front_stands front) → IsTrue (stands rows s.hop.inc) → IsTrue (front_stands (front ++ s ∷ []))
-  front_push front s before here =
-      list_all-append (λ t. stands rows t.hop.inc) front (s ∷ [])
-      ∙ and_pair (front_stands front) (front_stands (s ∷ [])) before (one (stands rows s.hop.inc) here)
+  prefix_push : (prefix : List Station) (s : Station) → IsTrue (prefix_stands prefix) → IsTrue (stands rows s.hop.inc) → IsTrue (prefix_stands (prefix ++ s ∷ []))
+  prefix_push prefix s before here =
+      list_all-append (λ t. stands rows t.hop.inc) prefix (s ∷ [])
+      ∙ and_pair (prefix_stands prefix) (prefix_stands (s ∷ [])) before (one (stands rows s.hop.inc) here)
 
   provider_stands : (h : Hop) (k : StepKind) → h.step ≡ k → IsTrue (stands rows h.inc) → IsTrue (list_all (stands rows) (incs_of_provider (provider_of h)))
   provider_stands h step.CapabilityHop e here = rw e (one (stands rows h.inc) here)
@@ -189,22 +189,22 @@ module _ (rows : List Row) (next : ℕ) (orderly : IsOrderly rows next) where
   provider_stands h step.ExposeHop e here = rw e refl
   provider_stands h step.FrameworkHop e here = rw e refl
 
-  route_stands : (front : List Station) (s : Station) → IsTrue (front_stands front) → IsTrue (stands rows s.hop.inc) → IsTrue (walked_stands (walked.Given (route_of front s)))
-  route_stands front s before here =
-      list_all-append (stands rows) (map (λ h. h.inc) (map (λ t. t.hop) (front ++ s ∷ []))) (incs_of_provider (provider_of s.hop))
-      ∙ and_pair (list_all (stands rows) (map (λ h. h.inc) (map (λ t. t.hop) (front ++ s ∷ [])))) (list_all (stands rows) (incs_of_provider (provider_of s.hop)))
-      (list_all-map (stands rows) (λ h. h.inc) (map (λ t. t.hop) (front ++ s ∷ []))
-      ∙ list_all-map (λ h. stands rows h.inc) (λ t. t.hop) (front ++ s ∷ [])
-      ∙ front_push front s before here)
+  route_stands : (prefix : List Station) (s : Station) → IsTrue (prefix_stands prefix) → IsTrue (stands rows s.hop.inc) → IsTrue (walked_stands (walked.Given (route_of prefix s)))
+  route_stands prefix s before here =
+      list_all-append (stands rows) (map (λ h. h.inc) (map (λ t. t.hop) (prefix ++ s ∷ []))) (incs_of_provider (provider_of s.hop))
+      ∙ and_pair (list_all (stands rows) (map (λ h. h.inc) (map (λ t. t.hop) (prefix ++ s ∷ [])))) (list_all (stands rows) (incs_of_provider (provider_of s.hop)))
+      (list_all-map (stands rows) (λ h. h.inc) (map (λ t. t.hop) (prefix ++ s ∷ []))
+      ∙ list_all-map (λ h. stands rows h.inc) (λ t. t.hop) (prefix ++ s ∷ [])
+      ∙ prefix_push prefix s before here)
       (provider_stands s.hop s.hop.step refl here)
 
-  said_stands : (front : List Station) (s : Station) (n : Next) → IsTrue (front_stands front) → IsTrue (stands rows s.hop.inc) → IsTrue (next_stands n) → IsTrue (decided_stands (said_by front s n))
-  said_stands front s (To t) before here behind = refl
-  said_stands front s Ends before here behind = route_stands front s before here
-  said_stands front s (Needs j) before here behind = one (stands rows j) behind
-  said_stands front s FromVoid before here behind = one (stands rows s.hop.inc) here
-  said_stands front s NoChild before here behind = one (stands rows s.hop.inc) here
-  said_stands front s (Misses hop reason) before here behind = one (stands rows hop.inc) behind
+  said_stands : (prefix : List Station) (s : Station) (n : NextStation) → IsTrue (prefix_stands prefix) → IsTrue (stands rows s.hop.inc) → IsTrue (next_stands n) → IsTrue (decided_stands (said_by prefix s n))
+  said_stands prefix s (To t) before here behind = refl
+  said_stands prefix s Ends before here behind = route_stands prefix s before here
+  said_stands prefix s (Needs j) before here behind = one (stands rows j) behind
+  said_stands prefix s FromVoid before here behind = one (stands rows s.hop.inc) here
+  said_stands prefix s NoChild before here behind = one (stands rows s.hop.inc) here
+  said_stands prefix s (Misses hop reason) before here behind = one (stands rows hop.inc) behind
 
   either_stands : (a b : Option Walked) → IsTrue (decided_stands a) → IsTrue (decided_stands b) → IsTrue (decided_stands (or_else a b))
   either_stands None b first second = second
@@ -228,27 +228,27 @@ module _ (rows : List Row) (next : ℕ) (orderly : IsOrderly rows next) where
   within_stands hop (Some asked) None here = refl
   within_stands hop None y here = refl
 
-  checked_stands : (front : List Station) (s : Station) (o : Option Walked) → IsTrue (stands rows s.hop.inc) → IsTrue (decided_stands o) → IsTrue (decided_stands (or_else (weak_availability front s) (or_else (weak_rights front s) o)))
-  checked_stands front s o here said =
-      either_stands (weak_availability front s) (or_else (weak_rights front s) o)
-      (if_stands (is_offer_or_expose s.hop.step) _ (fitting_stands s.hop (available front) (available (front ++ s ∷ [])) here))
-      (either_stands (weak_rights front s) o (within_stands s.hop (asked_rights (front ++ s ∷ [])) s.hop.rights here) said)
+  checked_stands : (prefix : List Station) (s : Station) (o : Option Walked) → IsTrue (stands rows s.hop.inc) → IsTrue (decided_stands o) → IsTrue (decided_stands (or_else (weak_availability prefix s) (or_else (weak_rights prefix s) o)))
+  checked_stands prefix s o here said =
+      either_stands (weak_availability prefix s) (or_else (weak_rights prefix s) o)
+      (if_stands (is_offer_or_expose s.hop.step) _ (fitting_stands s.hop (available prefix) (available (prefix ++ s ∷ [])) here))
+      (either_stands (weak_rights prefix s) o (within_stands s.hop (asked_rights (prefix ++ s ∷ [])) s.hop.rights here) said)
 
-  trial_stands : (front : List Station) (s : Station) (n : Next) → IsTrue (front_stands front) → IsTrue (stands rows s.hop.inc) → IsTrue (next_stands n) → IsTrue (decided_stands (trial_by front s n))
-  trial_stands front s NoChild before here behind = one (stands rows s.hop.inc) here
-  trial_stands front s (To t) before here behind = checked_stands front s _ here (said_stands front s (To t) before here behind)
-  trial_stands front s Ends before here behind = checked_stands front s _ here (said_stands front s Ends before here behind)
-  trial_stands front s (Needs j) before here behind = checked_stands front s _ here (said_stands front s (Needs j) before here behind)
-  trial_stands front s FromVoid before here behind = checked_stands front s _ here (said_stands front s FromVoid before here behind)
-  trial_stands front s (Misses hop reason) before here behind =
-      checked_stands front s _ here (said_stands front s (Misses hop reason) before here behind)
+  trial_stands : (prefix : List Station) (s : Station) (n : NextStation) → IsTrue (prefix_stands prefix) → IsTrue (stands rows s.hop.inc) → IsTrue (next_stands n) → IsTrue (decided_stands (trial_by prefix s n))
+  trial_stands prefix s NoChild before here behind = one (stands rows s.hop.inc) here
+  trial_stands prefix s (To t) before here behind = checked_stands prefix s _ here (said_stands prefix s (To t) before here behind)
+  trial_stands prefix s Ends before here behind = checked_stands prefix s _ here (said_stands prefix s Ends before here behind)
+  trial_stands prefix s (Needs j) before here behind = checked_stands prefix s _ here (said_stands prefix s (Needs j) before here behind)
+  trial_stands prefix s FromVoid before here behind = checked_stands prefix s _ here (said_stands prefix s FromVoid before here behind)
+  trial_stands prefix s (Misses hop reason) before here behind =
+      checked_stands prefix s _ here (said_stands prefix s (Misses hop reason) before here behind)
 
-  verdict_stands : (builtins : List Builtin) (front : List Station) (s : Station) (rest : List Station) (v : Walked) → IsTrue (front_stands front) → IsTrue (stands rows s.hop.inc) → IsChain rows builtins s rest → IsDecided rows builtins front s rest v → IsTrue (walked_stands v)
-  verdict_stands builtins front s [] v before here chain decided =
+  verdict_stands : (builtins : List Builtin) (prefix : List Station) (s : Station) (rest : List Station) (v : Walked) → IsTrue (prefix_stands prefix) → IsTrue (stands rows s.hop.inc) → IsChain rows builtins s rest → IsDecided rows builtins prefix s rest v → IsTrue (walked_stands v)
+  verdict_stands builtins prefix s [] v before here chain decided =
       sym (ap decided_stands decided)
-      ∙ trial_stands front s (next_of rows builtins s) before here (behind_stands builtins s s.source here)
-  verdict_stands builtins front s (t ∷ ts) v before here chain decided =
-      verdict_stands builtins (front ++ s ∷ []) t ts v (front_push front s before here)
+      ∙ trial_stands prefix s (next_of rows builtins s) before here (behind_stands builtins s s.source here)
+  verdict_stands builtins prefix s (t ∷ ts) v before here chain decided =
+      verdict_stands builtins (prefix ++ s ∷ []) t ts v (prefix_push prefix s before here)
       (sym (ap next_stands chain.0) ∙ behind_stands builtins s s.source here) chain.1 decided.1
 
   abbrev named_stands : Named → Bool

@@ -76,14 +76,14 @@ module _ (p : Reply → Bool) where
 
 -- ---- the replies kind by kind
 
-found_child : (rows : List Row) (front : List ChildName) (c : ChildName) (cs : List ChildName) (o : Option ℕ) → ((j : ℕ) → is_plain (found_from rows j (front ++ c ∷ []) cs) ≡ true) → is_plain (elim o as (λ _. Reply) [ None ↦ reply.NotFound (record { parts = front }) | Some j ↦ found_from rows j (front ++ c ∷ []) cs ]) ≡ true
-found_child rows front c cs None more = refl
-found_child rows front c cs (Some j) more = more j
+found_child : (rows : List Row) (prefix : List ChildName) (c : ChildName) (cs : List ChildName) (o : Option ℕ) → ((j : ℕ) → is_plain (found_from rows j (prefix ++ c ∷ []) cs) ≡ true) → is_plain (elim o as (λ _. Reply) [ None ↦ reply.NotFound (record { parts = prefix }) | Some j ↦ found_from rows j (prefix ++ c ∷ []) cs ]) ≡ true
+found_child rows prefix c cs None more = refl
+found_child rows prefix c cs (Some j) more = more j
 
-found_plain : (rows : List Row) (i : ℕ) (front cs : List ChildName) → is_plain (found_from rows i front cs) ≡ true
-found_plain rows i front [] = refl
-found_plain rows i front (c ∷ cs) =
-    if_passes is_plain (is_resolved rows i) _ _ (found_child rows front c cs (child_of rows i c) (λ j. found_plain rows j (front ++ c ∷ []) cs))
+found_plain : (rows : List Row) (i : ℕ) (prefix cs : List ChildName) → is_plain (found_from rows i prefix cs) ≡ true
+found_plain rows i prefix [] = refl
+found_plain rows i prefix (c ∷ cs) =
+    if_passes is_plain (is_resolved rows i) _ _ (found_child rows prefix c cs (child_of rows i c) (λ j. found_plain rows j (prefix ++ c ∷ []) cs))
     (if_passes is_plain (is_closed rows i) (reply.Shut i) (reply.Need i) refl refl)
 
 -- a test that each refusal of a create passes

@@ -6,7 +6,7 @@ use Rattle.cm_world.specs.Legal.{IsStep, Legal, replay}
 use Rattle.cm_world.proofs.trees.Histories.{Legal-split}
 use Rattle.cm_laws.specs.Lasting.{OfEachEntry}
 
-pub of_each_entry : (P : List Entry → Entry → Type 0) (w : World) (es : List Entry) → Legal w es → ((front : List Entry) (e : Entry) → Legal w front → IsStep (replay w front) e → P front e) → OfEachEntry P es
-of_each_entry P w es legal show front rest e whole =
-    let both : Legal w front × Legal (replay w front) (e ∷ rest) = Legal-split w front (e ∷ rest) (subst (Legal w) whole legal) in
-    show front e both.0 both.1.0
+pub of_each_entry : (P : List Entry → Entry → Type 0) (w : World) (es : List Entry) → Legal w es → ((prefix : List Entry) (e : Entry) → Legal w prefix → IsStep (replay w prefix) e → P prefix e) → OfEachEntry P es
+of_each_entry P w es legal show prefix rest e whole =
+    let both : Legal w prefix × Legal (replay w prefix) (e ∷ rest) = Legal-split w prefix (e ∷ rest) (subst (Legal w) whole legal) in
+    show prefix e both.0 both.1.0

@@ -31,7 +31,8 @@ use Rattle.cm_world.proofs.trees.Histories.{replay-append, Legal-split}
 use Rattle.cm_table.proofs.tree.Rows.{Becomes, becomes_after, row_of-changed, lives_below}
 use Rattle.cm_order.proofs.trees.Trees.{climb, and_pair, or_left, below_cases, below_lives, below_self, below_up, shut_each, shut_all}
 use Rattle.cm_laws.specs.Story.{Story, world_of, IsLegal, entry_of}
-use Rattle.cm_laws.specs.Shutdowns.{IsLeaving, IsDying, IsMarked, MarksMark, MarksStay, MarksHold, ReapsMarked, MarkedMayClose, IsOver, DoneIsOver, OverStays, OverMayPurge, DoneStaysShut, ShutdownsGoOn, GoesOn}
+use Rattle.cm_laws.specs.Shutdowns.{IsLeaving, IsDying, IsMarked, MarksHold, DoneStaysShut, ShutdownGoesOn}
+use Rattle.cm_laws.specs.ShutdownsInside.{MarksMark, MarksStay, ReapsMarked, MarkedMayClose, IsShutBelow, DoneIsOver, OverStays, OverMayPurge, ShutdownsGoOn}
 use Rattle.cm_laws.proofs.actions.Beginners.{told_world}
 use Rattle.cm_laws.proofs.sound.Rows.{Lasts, Follows, follows_itself, follows_changed, follows_more, follows_left}
 use Rattle.cm_laws.proofs.sound.Growth.{created_new, kids_new}
@@ -182,7 +183,7 @@ marked_may_close w i doom marked = may_close_by w.rows i (row_of w.rows i) refl 
 -- a living row that is closing, and doomed where that is asked
 marked_row : (w : World) (doom : Bool) (i : ℕ) (r : Row) → IsOrderly w.rows w.next_inc → row_of w.rows i ≡ Some r → r.closing ≡ true → (doom ≡ true → r.doomed ≡ true) → IsMarked doom w i
 marked_row w doom i r orderly lives closing doomed =
-    let low : i < w.next_inc = lives_below w.rows w.next_inc i r orderly.rising lives in (
+    let low : i < w.next_inc = lives_below w.rows w.next_inc i r orderly.increasing lives in (
       record { known = low; marked = subst (λ o. IsTrue (not (is_some o) || option_map_or (λ z. z.closing) o false)) (sym lives) closing },
       λ is. record { known = low; marked = subst (λ o. IsTrue (not (is_some o) || option_map_or (λ z. z.doomed) o false)) (sym lives) (doomed is) },
     )
@@ -265,12 +266,12 @@ marked_by w e i doom healthy step marks said =
 
 -- and it stays so
 pub marks_hold : (f : Frame) (es : List Entry) → Legal (start f) es → MarksHold f es
-marks_hold f es legal front mid rest e i doom whole marks said =
-    let w : World = replay (start f) front in
-    let both : Legal (start f) front × Legal w (e ∷ (mid ++ rest)) = Legal-split (start f) front (e ∷ (mid ++ rest)) (subst (Legal (start f)) whole legal) in
-    subst (λ v. IsMarked doom v i) (sym (replay-append (start f) front (e ∷ mid)))
+marks_hold f es legal prefix mid rest e i doom whole marks said =
+    let w : World = replay (start f) prefix in
+    let both : Legal (start f) prefix × Legal w (e ∷ (mid ++ rest)) = Legal-split (start f) prefix (e ∷ (mid ++ rest)) (subst (Legal (start f)) whole legal) in
+    subst (λ v. IsMarked doom v i) (sym (replay-append (start f) prefix (e ∷ mid)))
     (marks_stay (after w e) mid i doom (Legal-split (after w e) mid rest both.1.1).0
-    (marked_by w e i doom (healthy_history f front both.0) both.1.0 marks said))
+    (marked_by w e i doom (healthy_history f prefix both.0) both.1.0 marks said))
 
 -- ---- behind a reap
 
@@ -298,13 +299,13 @@ reaps_marked old new caller i c incs legal tells there =
 
 -- ---- what is shut with all below it
 
-over_done : (w : World) (caller i : ℕ) → IsLeaving w i → IsTrue (is_subtree_shut w.rows i) → IsOver (after w (entry_of caller (Pick i) reply.Done)) i
+over_done : (w : World) (caller i : ℕ) → IsLeaving w i → IsTrue (is_subtree_shut w.rows i) → IsShutBelow (after w (entry_of caller (Pick i) reply.Done)) i
 unfolding after
 over_done w caller i leaving shut = record { leaving = record { known = leaving.known; marked = leaving.marked }; shut = shut }
 
 pub done_is_over : DoneIsOver
 done_is_over old new caller i leaving tells =
-    subst (λ v. IsOver v i) (sym (told_world old new caller (Pick i) reply.Done tells))
+    subst (λ v. IsShutBelow v i) (sym (told_world old new caller (Pick i) reply.Done tells))
     (over_done (world_of old) caller i leaving tells.step.allowed)
 
 module _ (w v : World) (i : ℕ) (healthy : IsHealthy w) (goes : Goes w v) (leads : Leads w v) (known : i < w.next_inc) (shut : IsTrue (is_subtree_shut w.rows i)) where
@@ -354,7 +355,7 @@ shut_replay w (e ∷ es) i healthy legal known shut =
     shut_replay (after w e) es i (healthy_after w e healthy legal.0) legal.1
     (still_known w (after w e) i healthy goes leads known shut) (still_shut w (after w e) i healthy goes leads known shut)
 
-over_replay : (w : World) (es : List Entry) (i : ℕ) → IsHealthy w → Legal w es → IsOver w i → IsOver (replay w es) i
+over_replay : (w : World) (es : List Entry) (i : ℕ) → IsHealthy w → Legal w es → IsShutBelow w i → IsShutBelow (replay w es) i
 over_replay w es i healthy legal over = record {
   leaving = (marks_stay w es i false legal (over.leaving, λ is. absurd (true≢false (sym is)))).0;
   shut = shut_replay w es i healthy legal over.leaving.known over.shut;
@@ -363,7 +364,7 @@ over_replay w es i healthy legal over = record {
 pub over_stays : OverStays
 over_stays f es fs i legal over =
     let both : Legal (start f) es × Legal (replay (start f) es) fs = Legal-split (start f) es fs legal in
-    subst (λ v. IsOver v i) (sym (replay-append (start f) es fs))
+    subst (λ v. IsShutBelow v i) (sym (replay-append (start f) es fs))
     (over_replay (replay (start f) es) fs i (healthy_history f es both.0) both.1 over)
 
 may_purge_by : (o : Option Row) (shut : Bool) → IsTrue (not (is_some o) || option_map_or (λ r. r.doomed) o false) → IsTrue shut → IsTrue (not (is_some o) || (option_map_or (λ r. r.doomed) o false && shut))
@@ -380,16 +381,16 @@ done_shut w e t step picks done =
     subst (λ r. Allowed w e.caller (Pick t) r) done (subst (λ x. Allowed w e.caller x e.reply) picks step.allowed)
 
 pub done_stays_shut : (f : Frame) (es : List Entry) → Legal (start f) es → DoneStaysShut f es
-done_stays_shut f es legal front mid rest e t whole picks done known =
-    let both : Legal (start f) front × Legal (replay (start f) front) (e ∷ (mid ++ rest)) = Legal-split (start f) front (e ∷ (mid ++ rest)) (subst (Legal (start f)) whole legal) in
-    let later : Legal (replay (start f) front) (e ∷ mid) = (Legal-split (replay (start f) front) (e ∷ mid) rest both.1).0 in
-    subst (λ v. IsTrue (is_subtree_shut v.rows t)) (sym (replay-append (start f) front (e ∷ mid)))
-    (shut_replay (replay (start f) front) (e ∷ mid) t (healthy_history f front both.0) later known
-    (done_shut (replay (start f) front) e t both.1.0 picks done))
+done_stays_shut f es legal prefix mid rest e t whole picks done known =
+    let both : Legal (start f) prefix × Legal (replay (start f) prefix) (e ∷ (mid ++ rest)) = Legal-split (start f) prefix (e ∷ (mid ++ rest)) (subst (Legal (start f)) whole legal) in
+    let later : Legal (replay (start f) prefix) (e ∷ mid) = (Legal-split (replay (start f) prefix) (e ∷ mid) rest both.1).0 in
+    subst (λ v. IsTrue (is_subtree_shut v.rows t)) (sym (replay-append (start f) prefix (e ∷ mid)))
+    (shut_replay (replay (start f) prefix) (e ∷ mid) t (healthy_history f prefix both.0) later known
+    (done_shut (replay (start f) prefix) e t both.1.0 picks done))
 
 -- ---- no dead end
 
 -- a law of each tree that a legal history leaves is one of each tree on its way
-pub goes_on : ShutdownsGoOn → (f : Frame) (es : List Entry) → Legal (start f) es → GoesOn f es
-goes_on law f es legal front rest i r whole =
-    law f front i r (Legal-split (start f) front rest (subst (Legal (start f)) whole legal)).0
+pub goes_on : ShutdownsGoOn → (f : Frame) (es : List Entry) → Legal (start f) es → ShutdownGoesOn f es
+goes_on law f es legal prefix rest i r whole =
+    law f prefix i r (Legal-split (start f) prefix rest (subst (Legal (start f)) whole legal)).0

@@ -24,13 +24,14 @@ use Rattle.cm_world.specs.declared.reply.Reply.TheVariants as reply
 use Rattle.cm_world.specs.Rows.{is_on, is_closed}
 use Rattle.cm_world.specs.World.{World, start}
 use Rattle.cm_world.specs.Stations.{Station}
-use Rattle.cm_world.specs.Next.{Next, To, Ends, Needs, FromVoid, NoChild, Misses, next_of}
+use Rattle.cm_world.specs.NextStation.{NextStation, To, Ends, Needs, FromVoid, NoChild, Misses, next_of}
 use Rattle.cm_world.specs.Route.{Named, First, NoUse, NoneExposed, named_by, IsRoute, IsDecided, IsWalkedFrom, trial_by, said_by, weak_availability, weak_rights, unless_fitting, unless_within, is_offer_or_expose, standing, is_use, first_rights, asked_rights, last_of, provider_of, route_of}
 use Rattle.cm_world.specs.Openings.{unready, unopened, opened, opened_at, WalksUnless}
 use Rattle.cm_world.specs.Step.{Allowed}
 use Rattle.cm_world.specs.Legal.{replay}
 use Rattle.cm_world.proofs.trees.Finding.{none_some}
-use Rattle.cm_laws.specs.Lasting.{start_of, AreWithin, IsProviding, IsStable, RoutesAreStable}
+use Rattle.cm_laws.specs.Lasting.{start_of, AreWithin, IsProviding, IsStable}
+use Rattle.cm_laws.specs.LastingInside.{RoutesAreStable}
 use Rattle.cm_laws.proofs.entries.Answered.{is_plain, passes_or, plain_reply, unready_plain, unopened_plain, begin_passes}
 use Rattle.cm_laws.proofs.entries.Entries.{of_each_entry}
 
@@ -70,44 +71,44 @@ second_none None (Some y) c e = absurd (none_some y (sym e))
 second_none None None c e = refl
 
 -- where nothing is decided the rights that are asked lie within those that are stated
-quiet_rights : (front : List Station) (s : Station) (n : Next) → trial_by front s n ≡ None → weak_rights front s ≡ None
-quiet_rights front s NoChild e = absurd (none_some _ (sym e))
-quiet_rights front s (To t) e = second_none (weak_availability front s) (weak_rights front s) _ e
-quiet_rights front s Ends e = second_none (weak_availability front s) (weak_rights front s) _ e
-quiet_rights front s (Needs j) e = second_none (weak_availability front s) (weak_rights front s) _ e
-quiet_rights front s FromVoid e = second_none (weak_availability front s) (weak_rights front s) _ e
-quiet_rights front s (Misses hop why) e = second_none (weak_availability front s) (weak_rights front s) _ e
+quiet_rights : (prefix : List Station) (s : Station) (n : NextStation) → trial_by prefix s n ≡ None → weak_rights prefix s ≡ None
+quiet_rights prefix s NoChild e = absurd (none_some _ (sym e))
+quiet_rights prefix s (To t) e = second_none (weak_availability prefix s) (weak_rights prefix s) _ e
+quiet_rights prefix s Ends e = second_none (weak_availability prefix s) (weak_rights prefix s) _ e
+quiet_rights prefix s (Needs j) e = second_none (weak_availability prefix s) (weak_rights prefix s) _ e
+quiet_rights prefix s FromVoid e = second_none (weak_availability prefix s) (weak_rights prefix s) _ e
+quiet_rights prefix s (Misses hop why) e = second_none (weak_availability prefix s) (weak_rights prefix s) _ e
 
 -- a route is given at an end alone, where the rights lie within, too
-record GivesAt (front : List Station) (s : Station) (n : Next) (r : Route) : Type 0 where
+record GivesAt (prefix : List Station) (s : Station) (n : NextStation) (r : Route) : Type 0 where
   ends : n ≡ Ends
-  within : weak_rights front s ≡ None
-  is : r ≡ route_of front s
+  within : weak_rights prefix s ≡ None
+  is : r ≡ route_of prefix s
 
-said_gives : (front : List Station) (s : Station) (n : Next) (r : Route) → said_by front s n ≡ Some (Given r) → (n ≡ Ends) × (r ≡ route_of front s)
-said_gives front s (To t) r e = absurd (none_some _ e)
-said_gives front s Ends r e = (refl, cc)
-said_gives front s (Needs j) r e = absurd (cc)
-said_gives front s FromVoid r e = absurd (cc)
-said_gives front s NoChild r e = absurd (cc)
-said_gives front s (Misses hop why) r e = absurd (cc)
+said_gives : (prefix : List Station) (s : Station) (n : NextStation) (r : Route) → said_by prefix s n ≡ Some (Given r) → (n ≡ Ends) × (r ≡ route_of prefix s)
+said_gives prefix s (To t) r e = absurd (none_some _ e)
+said_gives prefix s Ends r e = (refl, cc)
+said_gives prefix s (Needs j) r e = absurd (cc)
+said_gives prefix s FromVoid r e = absurd (cc)
+said_gives prefix s NoChild r e = absurd (cc)
+said_gives prefix s (Misses hop why) r e = absurd (cc)
 
-gives_by : (front : List Station) (s : Station) (n : Next) (r : Route) → or_else (weak_availability front s) (or_else (weak_rights front s) (said_by front s n)) ≡ Some (Given r) → GivesAt front s n r
-gives_by front s n r e =
-    let both : (weak_rights front s ≡ None) × (said_by front s n ≡ Some (Given r)) =
-    third_gives (weak_availability front s) (weak_rights front s) (said_by front s n) r
-    (if_fails (is_offer_or_expose s.hop.step) _ (fitting_fails s.hop (standing front) (standing (front ++ s ∷ []))))
-    (within_fails s.hop (asked_rights (front ++ s ∷ [])) s.hop.rights) e in
-    let said : (n ≡ Ends) × (r ≡ route_of front s) = said_gives front s n r both.1 in
+gives_by : (prefix : List Station) (s : Station) (n : NextStation) (r : Route) → or_else (weak_availability prefix s) (or_else (weak_rights prefix s) (said_by prefix s n)) ≡ Some (Given r) → GivesAt prefix s n r
+gives_by prefix s n r e =
+    let both : (weak_rights prefix s ≡ None) × (said_by prefix s n ≡ Some (Given r)) =
+    third_gives (weak_availability prefix s) (weak_rights prefix s) (said_by prefix s n) r
+    (if_fails (is_offer_or_expose s.hop.step) _ (fitting_fails s.hop (standing prefix) (standing (prefix ++ s ∷ []))))
+    (within_fails s.hop (asked_rights (prefix ++ s ∷ [])) s.hop.rights) e in
+    let said : (n ≡ Ends) × (r ≡ route_of prefix s) = said_gives prefix s n r both.1 in
     record { ends = said.0; within = both.0; is = said.1 }
 
-trial_gives : (front : List Station) (s : Station) (n : Next) (r : Route) → trial_by front s n ≡ Some (Given r) → GivesAt front s n r
-trial_gives front s NoChild r e = absurd (cc)
-trial_gives front s (To t) r e = gives_by front s (To t) r e
-trial_gives front s Ends r e = gives_by front s Ends r e
-trial_gives front s (Needs j) r e = gives_by front s (Needs j) r e
-trial_gives front s FromVoid r e = gives_by front s FromVoid r e
-trial_gives front s (Misses hop why) r e = gives_by front s (Misses hop why) r e
+trial_gives : (prefix : List Station) (s : Station) (n : NextStation) (r : Route) → trial_by prefix s n ≡ Some (Given r) → GivesAt prefix s n r
+trial_gives prefix s NoChild r e = absurd (cc)
+trial_gives prefix s (To t) r e = gives_by prefix s (To t) r e
+trial_gives prefix s Ends r e = gives_by prefix s Ends r e
+trial_gives prefix s (Needs j) r e = gives_by prefix s (Needs j) r e
+trial_gives prefix s FromVoid r e = gives_by prefix s FromVoid r e
+trial_gives prefix s (Misses hop why) r e = gives_by prefix s (Misses hop why) r e
 
 -- ---- rights of a whole route
 
@@ -119,18 +120,18 @@ stated_by : (s : Station) (rest : List Station) (o : Option RightSet) (x : Right
 stated_by s rest o x is e = rw (is ∙ e) refl
 
 -- the first rights that are stated up to a station that states some are the first of all
-first_settled : (front : List Station) (s : Station) (rest : List Station) (x : RightSet) → s.hop.rights ≡ Some x → first_rights (front ++ s ∷ []) ≡ first_rights (front ++ (s ∷ rest))
-first_settled front s rest x states =
+first_settled : (prefix : List Station) (s : Station) (rest : List Station) (x : RightSet) → s.hop.rights ≡ Some x → first_rights (prefix ++ s ∷ []) ≡ first_rights (prefix ++ (s ∷ rest))
+first_settled prefix s rest x states =
     let rights : Station → Option RightSet = λ t. t.hop.rights in
-    let short : filter_map rights (front ++ s ∷ []) ≡ filter_map rights front ++ x ∷ [] =
-    filter_map-append rights front (s ∷ []) ∙ ap (λ l. filter_map rights front ++ l) (stated_by s [] (Some x) x states refl) in
-    let long : filter_map rights (front ++ (s ∷ rest)) ≡ filter_map rights front ++ x ∷ filter_map rights rest =
-    filter_map-append rights front (s ∷ rest) ∙ ap (λ l. filter_map rights front ++ l) (stated_by s rest (Some x) x states refl) in
+    let short : filter_map rights (prefix ++ s ∷ []) ≡ filter_map rights prefix ++ x ∷ [] =
+    filter_map-append rights prefix (s ∷ []) ∙ ap (λ l. filter_map rights prefix ++ l) (stated_by s [] (Some x) x states refl) in
+    let long : filter_map rights (prefix ++ (s ∷ rest)) ≡ filter_map rights prefix ++ x ∷ filter_map rights rest =
+    filter_map-append rights prefix (s ∷ rest) ∙ ap (λ l. filter_map rights prefix ++ l) (stated_by s rest (Some x) x states refl) in
     ap (λ l. slice_get l 0) short
-    ∙ head_only (filter_map rights front) [] (filter_map rights rest) x
+    ∙ head_only (filter_map rights prefix) [] (filter_map rights rest) x
     ∙ sym (ap (λ l. slice_get l 0) long)
 
-asked_settled : (front : List Station) (s : Station) (rest : List Station) (x : RightSet) → s.hop.rights ≡ Some x → asked_rights (front ++ s ∷ []) ≡ asked_rights (front ++ (s ∷ rest))
+asked_settled : (prefix : List Station) (s : Station) (rest : List Station) (x : RightSet) → s.hop.rights ≡ Some x → asked_rights (prefix ++ s ∷ []) ≡ asked_rights (prefix ++ (s ∷ rest))
 asked_settled [] s rest x states = ap (cond (is_use s.hop.step) s.hop.rights) (first_settled [] s rest x states)
 asked_settled (t ∷ ts) s rest x states = ap (cond (is_use t.hop.step) t.hop.rights) (first_settled (t ∷ ts) s rest x states)
 
@@ -147,53 +148,53 @@ none_stated : (asked : Option RightSet) → AreWithin asked None
 none_stated (Some asked) = tt
 none_stated None = tt
 
-within_by : (front : List Station) (s : Station) (rest : List Station) (o : Option RightSet) → s.hop.rights ≡ o → AreWithin (asked_rights (front ++ s ∷ [])) s.hop.rights → AreWithin (asked_rights (front ++ (s ∷ rest))) s.hop.rights
-within_by front s rest None states within = subst (AreWithin (asked_rights (front ++ (s ∷ rest)))) (sym states) (none_stated (asked_rights (front ++ (s ∷ rest))))
-within_by front s rest (Some x) states within = subst (λ a. AreWithin a s.hop.rights) (asked_settled front s rest x states) within
+within_by : (prefix : List Station) (s : Station) (rest : List Station) (o : Option RightSet) → s.hop.rights ≡ o → AreWithin (asked_rights (prefix ++ s ∷ [])) s.hop.rights → AreWithin (asked_rights (prefix ++ (s ∷ rest))) s.hop.rights
+within_by prefix s rest None states within = subst (AreWithin (asked_rights (prefix ++ (s ∷ rest)))) (sym states) (none_stated (asked_rights (prefix ++ (s ∷ rest))))
+within_by prefix s rest (Some x) states within = subst (λ a. AreWithin a s.hop.rights) (asked_settled prefix s rest x states) within
 
-within_at : (front : List Station) (s : Station) (rest : List Station) → weak_rights front s ≡ None → AreWithin (asked_rights (front ++ (s ∷ rest))) s.hop.rights
-within_at front s rest quiet =
-    within_by front s rest s.hop.rights refl (within_none s.hop (asked_rights (front ++ s ∷ [])) s.hop.rights quiet)
+within_at : (prefix : List Station) (s : Station) (rest : List Station) → weak_rights prefix s ≡ None → AreWithin (asked_rights (prefix ++ (s ∷ rest))) s.hop.rights
+within_at prefix s rest quiet =
+    within_by prefix s rest s.hop.rights refl (within_none s.hop (asked_rights (prefix ++ s ∷ [])) s.hop.rights quiet)
 
 -- ---- a route that is given
 
--- the route of these stations behind a front
-record IsGiven (rows : List Row) (builtins : List Builtin) (front : List Station) (s : Station) (rest : List Station) (r : Route) : Type 0 where
+-- the route of these stations behind a prefix
+record IsGiven (rows : List Row) (builtins : List Builtin) (prefix : List Station) (s : Station) (rest : List Station) (r : Route) : Type 0 where
   ends : next_of rows builtins (last_of s rest) ≡ Ends
-  hops : r.hops ≡ map (λ t. t.hop) (front ++ (s ∷ rest))
-  rights : r.rights ≡ asked_rights (front ++ (s ∷ rest))
+  hops : r.hops ≡ map (λ t. t.hop) (prefix ++ (s ∷ rest))
+  rights : r.rights ≡ asked_rights (prefix ++ (s ∷ rest))
   provider : r.provider ≡ provider_of (last_of s rest).hop
-  within : All (λ (t : Station). AreWithin (asked_rights (front ++ (s ∷ rest))) t.hop.rights) (s ∷ rest)
+  within : All (λ (t : Station). AreWithin (asked_rights (prefix ++ (s ∷ rest))) t.hop.rights) (s ∷ rest)
 
 module _ (rows : List Row) (builtins : List Builtin) where
-  one_given : (front : List Station) (s : Station) (r : Route) → GivesAt front s (next_of rows builtins s) r → IsGiven rows builtins front s [] r
-  one_given front s r it = record {
+  one_given : (prefix : List Station) (s : Station) (r : Route) → GivesAt prefix s (next_of rows builtins s) r → IsGiven rows builtins prefix s [] r
+  one_given prefix s r it = record {
     ends = it.ends;
     hops = ap (λ x. x.hops) it.is;
     rights = ap (λ x. x.rights) it.is;
     provider = ap (λ x. x.provider) it.is;
     within =
-        All-cons (λ (x : Station). AreWithin (asked_rights (front ++ s ∷ [])) x.hop.rights) s [] (within_at front s [] it.within)
-        (All-nil (λ (x : Station). AreWithin (asked_rights (front ++ s ∷ [])) x.hop.rights));
+        All-cons (λ (x : Station). AreWithin (asked_rights (prefix ++ s ∷ [])) x.hop.rights) s [] (within_at prefix s [] it.within)
+        (All-nil (λ (x : Station). AreWithin (asked_rights (prefix ++ s ∷ [])) x.hop.rights));
   }
 
-  more_given : (front : List Station) (s t : Station) (ts : List Station) (r : Route) → weak_rights front s ≡ None → IsGiven rows builtins (front ++ s ∷ []) t ts r → IsGiven rows builtins front s (t ∷ ts) r
-  more_given front s t ts r quiet it =
-      let whole : (front ++ s ∷ []) ++ (t ∷ ts) ≡ front ++ (s ∷ (t ∷ ts)) = append_assoc front (s ∷ []) (t ∷ ts) in
+  more_given : (prefix : List Station) (s t : Station) (ts : List Station) (r : Route) → weak_rights prefix s ≡ None → IsGiven rows builtins (prefix ++ s ∷ []) t ts r → IsGiven rows builtins prefix s (t ∷ ts) r
+  more_given prefix s t ts r quiet it =
+      let whole : (prefix ++ s ∷ []) ++ (t ∷ ts) ≡ prefix ++ (s ∷ (t ∷ ts)) = append_assoc prefix (s ∷ []) (t ∷ ts) in
       record {
         ends = it.ends;
         hops = it.hops ∙ ap (map (λ x. x.hop)) whole;
         rights = it.rights ∙ ap asked_rights whole;
         provider = it.provider;
         within =
-            All-cons (λ (x : Station). AreWithin (asked_rights (front ++ (s ∷ (t ∷ ts)))) x.hop.rights) s (t ∷ ts) (within_at front s (t ∷ ts) quiet)
+            All-cons (λ (x : Station). AreWithin (asked_rights (prefix ++ (s ∷ (t ∷ ts)))) x.hop.rights) s (t ∷ ts) (within_at prefix s (t ∷ ts) quiet)
             (subst (λ (l : List Station). All (λ (x : Station). AreWithin (asked_rights l) x.hop.rights) (t ∷ ts)) whole it.within);
       }
 
-  given : (front : List Station) (s : Station) (rest : List Station) (r : Route) → IsDecided rows builtins front s rest (Given r) → IsGiven rows builtins front s rest r
-  given front s [] r decided = one_given front s r (trial_gives front s (next_of rows builtins s) r decided)
-  given front s (t ∷ ts) r decided =
-      more_given front s t ts r (quiet_rights front s (next_of rows builtins s) decided.0) (given (front ++ s ∷ []) t ts r decided.1)
+  given : (prefix : List Station) (s : Station) (rest : List Station) (r : Route) → IsDecided rows builtins prefix s rest (Given r) → IsGiven rows builtins prefix s rest r
+  given prefix s [] r decided = one_given prefix s r (trial_gives prefix s (next_of rows builtins s) r decided)
+  given prefix s (t ∷ ts) r decided =
+      more_given prefix s t ts r (quiet_rights prefix s (next_of rows builtins s) decided.0) (given (prefix ++ s ∷ []) t ts r decided.1)
 
 -- ---- an opening
 
@@ -271,7 +272,7 @@ opens_by w caller e r it = absurd (true≢false (sym (plain_reply w caller e (re
 
 pub routes_are_stable : RoutesAreStable
 routes_are_stable f es legal =
-    of_each_entry (λ front e. (r : Route) → e.reply ≡ reply.Opened r → IsStable (replay (start f) front) e.event r) (start f) es legal
-    (λ front e before step r opens.
-    opens_by (replay (start f) front) e.caller e.event r
-    (subst (Allowed (replay (start f) front) e.caller e.event) opens step.allowed))
+    of_each_entry (λ prefix e. (r : Route) → e.reply ≡ reply.Opened r → IsStable (replay (start f) prefix) e.event r) (start f) es legal
+    (λ prefix e before step r opens.
+    opens_by (replay (start f) prefix) e.caller e.event r
+    (subst (Allowed (replay (start f) prefix) e.caller e.event) opens step.allowed))

@@ -16,13 +16,13 @@ use Rattle.cm_decl.proofs.Sameness.{never, same_node-refl}
 use Rattle.cm_world.specs.declared.row.Row.{Row}
 use Rattle.cm_world.specs.Rows.{row_of, decl_of, child_of, is_below}
 use Rattle.cm_world.specs.Level.{LevelStrong}
-use Rattle.cm_world.specs.Sound.{IsRising, IsSound}
+use Rattle.cm_world.specs.Sound.{IncarnationsIncrease, IsSound}
 use Rattle.cm_world.specs.End.{changed, set_pending, set_decl, child_rows}
 use Rattle.cm_world.specs.Create.{dynamic_name, dynamic_children, dynamic_with, created_row}
 use Rattle.cm_world.specs.After.{others_than}
 use Rattle.cm_world.proofs.trees.Finding.{none_some, some_same, row_of-inc}
 use Rattle.cm_world.proofs.trees.Walks.{below_next}
-use Rattle.cm_table.proofs.tree.Rows.{lives_left, lives_pushed, Was, was_before, row_of-changed, rising_changed, rising_push}
+use Rattle.cm_table.proofs.tree.Rows.{lives_left, lives_pushed, Was, was_before, row_of-changed, increasing_changed, increasing_push}
 use Rattle.cm_table.proofs.tree.Growth.{childless}
 use Rattle.cm_table.proofs.tree.Taking.{orderly_taken}
 use Rattle.cm_order.specs.Names.{dynamic_children as listed_children}
@@ -31,7 +31,7 @@ use Rattle.cm_order.proofs.names.Naming.{IsNamedKid, child, kid_not_own, row_nod
 use Rattle.cm_laws.proofs.actions.Tasks.{by_test, find_split, edit_other}
 use Rattle.cm_laws.proofs.levels.Kept.{decl_row, row_decl, named_kid, WasKid, IsKept, kept_acyclic}
 use Rattle.cm_laws.proofs.levels.Named.{IsListed, named_acyclic, node_parts, given_parts}
-use Rattle.cm_laws.proofs.levels.Rows.{left_lives, left_rising, IsNewKid, new_kid, same_children}
+use Rattle.cm_laws.proofs.levels.Rows.{left_lives, left_increasing, IsNewKid, new_kid, same_children}
 
 -- no level of these rows has a cycle of strong edges
 abbrev pub AllAcyclic : List Row → Type 0
@@ -101,7 +101,7 @@ module _ (change : Row → Row) (keeps : KeepsLevels change) where
 -- where one row is changed so
 pub acyclic_changed : (rows : List Row) (next i : ℕ) (change : Row → Row) → IsSound rows next → KeepsLevels change → AllAcyclic (changed i change rows)
 acyclic_changed rows next i change sound keeps p =
-    kept_acyclic rows (changed i change rows) next next sound.orderly (rising_changed i next change keeps.inc rows sound.orderly.rising) p (changed_kept change keeps rows i p) (sound.acyclic p)
+    kept_acyclic rows (changed i change rows) next next sound.orderly (increasing_changed i next change keeps.inc rows sound.orderly.increasing) p (changed_kept change keeps rows i p) (sound.acyclic p)
 
 -- ---- rows leave
 
@@ -109,8 +109,8 @@ acyclic_changed rows next i change sound keeps p =
 pub acyclic_purged : (rows : List Row) (next i : ℕ) → IsSound rows next → AllAcyclic (others_than rows i)
 acyclic_purged rows next i sound p =
     let left : Row → Bool = λ r. not (is_below rows i r.inc) in
-    let was : (x : ℕ) (r : Row) → row_of (others_than rows i) x ≡ Some r → row_of rows x ≡ Some r = λ x r. left_lives left rows next x r sound.orderly.rising in
-    kept_acyclic rows (others_than rows i) next next sound.orderly (left_rising left rows next sound.orderly.rising) p (record {
+    let was : (x : ℕ) (r : Row) → row_of (others_than rows i) x ≡ Some r → row_of rows x ≡ Some r = λ x r. left_lives left rows next x r sound.orderly.increasing in
+    kept_acyclic rows (others_than rows i) next next sound.orderly (left_increasing left rows next sound.orderly.increasing) p (record {
       kids = λ x kid. record {
         kid = record { row = kid.row; lives = was x kid.row kid.lives; parent = kid.parent };
         name = refl;
@@ -145,8 +145,8 @@ module _ (rows : List Row) (next i : ℕ) (url : List ℕ) (d : Decl) (r : Row) 
     | inr new ↦ inr (new_kid i next d.children x s new)
   ]
 
-  resolved_rising : IsRising (next + length d.children) resolved_rows
-  resolved_rising = (orderly_taken i next url d rows sound.orderly (ap is_some lives) (ap (λ o. option_and_then (λ r. r.decl) o) lives ∙ unresolved) valid).rising
+  resolved_increasing : IncarnationsIncrease (next + length d.children) resolved_rows
+  resolved_increasing = (orderly_taken i next url d rows sound.orderly (ap is_some lives) (ap (λ o. option_and_then (λ r. r.decl) o) lives ∙ unresolved) valid).increasing
 
   -- any other level is kept
   others_kept : (p : ℕ) → (p ≡ i → ⊥) → IsKept rows resolved_rows p
@@ -172,7 +172,7 @@ module _ (rows : List Row) (next i : ℕ) (url : List ℕ) (d : Decl) (r : Row) 
         let same : x ≡ i = (unsigned_Decides x i).0 e in
         let own : kid.kid.row.inc ≡ x = row_of-inc resolved_rows x kid.kid.row kid.kid.lives in
         let above : next ≤ kid.kid.row.inc = new.above in
-        let low : i < next = below_next rows next i r sound.orderly.rising lives in
+        let low : i < next = below_next rows next i r sound.orderly.increasing lives in
         let no_way : ⊥ = absurd (omega arith) in no_way);
     node = node_parts d [] c ∙ or_left (list_any (λ k. same_child (static_name k.name) c) d.children) false (new.declared c kid.name);
     given = λ test some. never (subst (λ g. IsTrue (list_any test g)) new.ungiven some);
@@ -180,7 +180,7 @@ module _ (rows : List Row) (next i : ℕ) (url : List ℕ) (d : Decl) (r : Row) 
 
   resolved_listed : (c : ChildName) (x : ℕ) → child_of resolved_rows i c ≡ Some x → IsListed resolved_rows i d [] x c
   resolved_listed c x finds =
-      let kid : IsNamedKid resolved_rows i x c = named_kid resolved_rows (next + length d.children) resolved_rising i c x finds in
+      let kid : IsNamedKid resolved_rows i x c = named_kid resolved_rows (next + length d.children) resolved_increasing i c x finds in
       elim (either_row x kid.kid.row kid.kid.lives) [
         | inl old ↦
             let was : WasKid rows i x kid.kid.row = was_kid resolve resolved_keeps rows i i x kid.kid.row old kid.kid.parent in
@@ -200,7 +200,7 @@ module _ (rows : List Row) (next i : ℕ) (url : List ℕ) (d : Decl) (r : Row) 
   resolved_level p =
       by_test p i
       (λ same. subst (λ j. NoCycle (LevelStrong resolved_rows j)) (sym same) resolved_own)
-      (λ apart. kept_acyclic rows resolved_rows next (next + length d.children) sound.orderly resolved_rising p (others_kept p apart) (sound.acyclic p))
+      (λ apart. kept_acyclic rows resolved_rows next (next + length d.children) sound.orderly resolved_increasing p (others_kept p apart) (sound.acyclic p))
 
 -- where an unresolved row gets a valid declaration, with its children
 pub acyclic_resolved : (rows : List Row) (next i : ℕ) (url : List ℕ) (d : Decl) (r : Row) → IsSound rows next → row_of rows i ≡ Some r → r.decl ≡ None → IsValid d → AllAcyclic (changed i (λ r. set_decl url d (set_pending None r)) rows ++ child_rows i next d.children)
@@ -232,8 +232,8 @@ module _ (rows : List Row) (next p : ℕ) (coll name url : List ℕ) (gives : Li
   abbrev children : List DynChild
   children = dynamic_with rows p own_name gives
 
-  created_rising : IsRising (next + 1) created_rows
-  created_rising = rising_push rows next created refl sound.orderly.rising
+  created_increasing : IncarnationsIncrease (next + 1) created_rows
+  created_increasing = increasing_push rows next created refl sound.orderly.increasing
 
   -- any other level is kept
   created_kept : (q : ℕ) → (q ≡ p → ⊥) → IsKept rows created_rows q
@@ -288,7 +288,7 @@ module _ (rows : List Row) (next p : ℕ) (coll name url : List ℕ) (gives : Li
         other = not_true (next == p) (λ e.
             let equal : next ≡ p = (unsigned_Decides next p).0 e in
             let row : (r : Row) × (row_of rows p ≡ Some r) × (r.decl ≡ Some d) = decl_row rows p d found in
-            let low : p < next = below_next rows next p row.0 sound.orderly.rising row.1 in
+            let low : p < next = below_next rows next p row.0 sound.orderly.increasing row.1 in
             let no_way : ⊥ = absurd (omega arith) in no_way);
         node = with_node c ∙ or_right (is_node d (listed_children rows p) (Child c)) (same_child own_name c || false) (or_left (same_child own_name c) false same);
         given = λ test some. with_given c test
@@ -303,7 +303,7 @@ module _ (rows : List Row) (next p : ℕ) (coll name url : List ℕ) (gives : Li
 
   created_listed : (c : ChildName) (x : ℕ) → child_of created_rows p c ≡ Some x → IsListed created_rows p d children x c
   created_listed c x finds =
-      let kid : IsNamedKid created_rows p x c = named_kid created_rows (next + 1) created_rising p c x finds in
+      let kid : IsNamedKid created_rows p x c = named_kid created_rows (next + 1) created_increasing p c x finds in
       elim (lives_pushed rows created kid.kid.row x kid.kid.lives) [
         | inl old ↦ old_listed x c (record { kid = record { row = kid.kid.row; lives = old; parent = kid.kid.parent }; there = kid.there; name = kid.name })
         | inr new ↦ new_found x c kid new.0 new.1
@@ -322,7 +322,7 @@ module _ (rows : List Row) (next p : ℕ) (coll name url : List ℕ) (gives : Li
   created_level acyclic q =
       by_test q p
       (λ same. subst (λ j. NoCycle (LevelStrong created_rows j)) (sym same) (created_own acyclic))
-      (λ apart. kept_acyclic rows created_rows next (next + 1) sound.orderly created_rising q (created_kept q apart) (sound.acyclic q))
+      (λ apart. kept_acyclic rows created_rows next (next + 1) sound.orderly created_increasing q (created_kept q apart) (sound.acyclic q))
 
 -- where a child is created with which the names have no cycle
 pub acyclic_created : (rows : List Row) (next p : ℕ) (coll name url : List ℕ) (gives : List Give) (d : Decl) → IsSound rows next → decl_of rows p ≡ Some d → child_of rows p (dynamic_name coll name) ≡ None → NoCycle (StrongOn d (dynamic_with rows p (dynamic_name coll name) gives)) → AllAcyclic (rows ++ created_row next p coll name url gives ∷ [])

@@ -14,7 +14,7 @@ use Rattle.cm_decl.proofs.Sameness.{and_first, and_second, or_split, never, same
 use Rattle.cm_world.specs.declared.row.Row.{Row}
 use Rattle.cm_world.specs.Rows.{row_of, is_live, decl_of, has_parent, has_name, child_of}
 use Rattle.cm_world.specs.Level.{is_child_row, is_level_node, row_sources, child_row_sources, level_sources, is_from_row, LevelStrong}
-use Rattle.cm_world.specs.Sound.{IsRising, IsOrderly}
+use Rattle.cm_world.specs.Sound.{IncarnationsIncrease, IsOrderly}
 use Rattle.cm_world.proofs.trees.Finding.{none_some, some_same, find-passes}
 use Rattle.cm_world.proofs.trees.Levels.{edge_source, edge_node}
 use Rattle.cm_world.proofs.trees.Walks.{find-lives}
@@ -65,7 +65,7 @@ name_by : (o : Option ChildName) (c : ChildName) → IsTrue (option_eq same_chil
 name_by None c h = never h
 name_by (Some b) c h = ap Some (same_child_exact b c h)
 
-module _ (rows : List Row) (next : ℕ) (rising : IsRising next rows) (p : ℕ) where
+module _ (rows : List Row) (next : ℕ) (increasing : IncarnationsIncrease next rows) (p : ℕ) where
   found_by : (c : ChildName) (x : ℕ) (o : Option Row) → find (λ r. has_parent p r && has_name c r && not r.doomed) rows ≡ o → option_map (λ r. r.inc) o ≡ Some x → IsNamedKid rows p x c
   found_by c x None found e = absurd (none_some x e)
   found_by c x (Some r) found e =
@@ -74,7 +74,7 @@ module _ (rows : List Row) (next : ℕ) (rising : IsRising next rows) (p : ℕ) 
       subst (λ i. IsNamedKid rows p i c) (some_same r.inc x e) (record {
         kid = record {
           row = r;
-          lives = find-lives (λ r. has_parent p r && has_name c r && not r.doomed) rows next r rising found;
+          lives = find-lives (λ r. has_parent p r && has_name c r && not r.doomed) rows next r increasing found;
           parent = some_eq r.parent p (and_first (has_parent p r) (has_name c r) both);
         };
         there = flip_not r.doomed (and_second (has_parent p r && has_name c r) (not r.doomed) passes);
@@ -99,7 +99,7 @@ pub record IsKept (old new : List Row) (p : ℕ) : Type 0 where
   pub kids : (x : ℕ) (kid : IsKid new p x) → WasKid old p x kid.row
   pub decl : (d : Decl) → decl_of new p ≡ Some d → decl_of old p ≡ Some d
 
-module _ (old new : List Row) (next n : ℕ) (orderly : IsOrderly old next) (rising : IsRising n new) (p : ℕ) (kept : IsKept old new p) where
+module _ (old new : List Row) (next n : ℕ) (orderly : IsOrderly old next) (increasing : IncarnationsIncrease n new) (p : ℕ) (kept : IsKept old new p) where
   named_was : (c : ChildName) (y : ℕ) → IsNamedKid new p y c → IsNamedKid old p y c
   named_was c y named =
       let was : WasKid old p y named.kid.row = kept.kids y named.kid in
@@ -109,7 +109,7 @@ module _ (old new : List Row) (next n : ℕ) (orderly : IsOrderly old next) (ris
   from_was : (y : ℕ) (s : Origin) → IsTrue (is_from_row new p y s) → IsTrue (is_from_row old p y s)
   from_was y origin.Own is = is
   from_was y (origin.Child c) is =
-      eq_some (child_of old p c) y (kid_found old next orderly p c y (named_was c y (named_kid new n rising p c y (some_eq (child_of new p c) y is))))
+      eq_some (child_of old p c) y (kid_found old next orderly p c y (named_was c y (named_kid new n increasing p c y (some_eq (child_of new p c) y is))))
   from_was y origin.Parent is = never is
   from_was y origin.Framework is = never is
   from_was y origin.Void is = never is

@@ -1,6 +1,6 @@
 -- Cycles of one relation that are cycles of another.
 use Rattle.std.proofs.Common.{◌≡◌, List, [], ◌∷◌, subst}
-use Rattle.cm_decl.specs.Reach.{Way, Reaches, NoCycle}
+use Rattle.cm_decl.specs.Reach.{DependencyPath, Reaches, NoCycle}
 
 -- nodes of the one are nodes of the other: each that a step leads to is one, at most one, and each step is one of the other
 pub record IsMapped {M N : Type 0} (On : M → M → Type 0) (Along : N → N → Type 0) (Is : M → N → Type 0) : Type 0 where
@@ -9,12 +9,12 @@ pub record IsMapped {M N : Type 0} (On : M → M → Type 0) (Along : N → N �
   pub step : (x y : M) (n : N) → Is x n → On x y → (m : N) × Is y m × Along n m
 
 module _ {M N : Type 0} (On : M → M → Type 0) (Along : N → N → Type 0) (Is : M → N → Type 0) (maps : IsMapped On Along Is) where
-  last_node : (x : M) (xs : List M) (y : M) → Way On x xs y → (n : N) × Is y n
+  last_node : (x : M) (xs : List M) (y : M) → DependencyPath On x xs y → (n : N) × Is y n
   last_node x [] y on = maps.node x y on
   last_node x (z ∷ zs) y way = last_node z zs y way.1
 
   -- a way is one of the other
-  along : (x : M) (n : N) → Is x n → (xs : List M) (y : M) → Way On x xs y → (m : N) × Is y m × Reaches Along n m
+  along : (x : M) (n : N) → Is x n → (xs : List M) (y : M) → DependencyPath On x xs y → (m : N) × Is y m × Reaches Along n m
   along x n is [] y on =
       let last : (m : N) × Is y m × Along n m = maps.step x y n is on in (last.0, last.1, ([], last.2))
   along x n is (z ∷ zs) y way =

@@ -10,10 +10,11 @@ use Rattle.cm_decl.specs.Same.{same_child}
 use Rattle.cm_decl.specs.Graph.{static_name}
 use Rattle.cm_decl.proofs.Sameness.{same_node-refl}
 use Rattle.cm_world.specs.declared.row.Row.{Row}
-use Rattle.cm_world.specs.Rows.{row_of, has_parent, is_behind}
+use Rattle.cm_world.specs.Rows.{row_of, has_parent}
+use Rattle.cm_world.specs.RowsInside.{is_behind}
 use Rattle.cm_world.specs.End.{child_row, child_rows}
 use Rattle.cm_world.specs.Create.{dynamic_children}
-use Rattle.cm_world.specs.Sound.{IsRising}
+use Rattle.cm_world.specs.Sound.{IncarnationsIncrease}
 use Rattle.cm_world.proofs.trees.Finding.{none_some, some_same}
 use Rattle.cm_table.proofs.tree.Rows.{some_is, is_some_by}
 use Rattle.cm_order.specs.Names.{dynamic_child, dynamic_children as listed_children}
@@ -28,26 +29,26 @@ module _ (t : Row → Bool) where
   first_by false s r o q later e = later e
 
   -- a row that is left was there
-  pub left_lives : (rows : List Row) (next x : ℕ) (r : Row) → IsRising next rows → row_of (filter t rows) x ≡ Some r → row_of rows x ≡ Some r
-  left_lives [] next x r rising lives = absurd (none_some r lives)
-  left_lives (s ∷ ss) next x r rising lives = by (t s) refl (left_lives ss next x r rising.1) where
+  pub left_lives : (rows : List Row) (next x : ℕ) (r : Row) → IncarnationsIncrease next rows → row_of (filter t rows) x ≡ Some r → row_of rows x ≡ Some r
+  left_lives [] next x r increasing lives = absurd (none_some r lives)
+  left_lives (s ∷ ss) next x r increasing lives = by (t s) refl (left_lives ss next x r increasing.1) where
     by : (b : Bool) → t s ≡ b → (row_of (filter t ss) x ≡ Some r → row_of ss x ≡ Some r) → row_of (s ∷ ss) x ≡ Some r
     by true e later = first_by (s.inc == x) s r (row_of (filter t ss) x) (row_of ss x) later (rw e at lives)
     by false e later =
         let behind : row_of ss x ≡ Some r = later (rw e at lives) in
-        row_later s ss x r behind (rising.0.1 x (is_some_by (row_of ss x) r behind))
+        row_later s ss x r behind (increasing.0.1 x (is_some_by (row_of ss x) r behind))
 
   -- those that are left rise
-  pub left_rising : (rows : List Row) (next : ℕ) → IsRising next rows → IsRising next (filter t rows)
-  left_rising [] next rising = tt
-  left_rising (s ∷ ss) next rising = by (t s) refl (left_rising ss next rising.1) where
-    by : (b : Bool) → t s ≡ b → IsRising next (filter t ss) → IsRising next (filter t (s ∷ ss))
+  pub left_increasing : (rows : List Row) (next : ℕ) → IncarnationsIncrease next rows → IncarnationsIncrease next (filter t rows)
+  left_increasing [] next increasing = tt
+  left_increasing (s ∷ ss) next increasing = by (t s) refl (left_increasing ss next increasing.1) where
+    by : (b : Bool) → t s ≡ b → IncarnationsIncrease next (filter t ss) → IncarnationsIncrease next (filter t (s ∷ ss))
     by true e later =
         rw e (
           (
-            rising.0.0,
+            increasing.0.0,
             λ x some. let row : (r : Row) × (row_of (filter t ss) x ≡ Some r) = some_is (row_of (filter t ss) x) some in
-                rising.0.1 x (is_some_by (row_of ss x) row.0 (left_lives ss next x row.0 rising.1 row.1)),
+                increasing.0.1 x (is_some_by (row_of ss x) row.0 (left_lives ss next x row.0 increasing.1 row.1)),
           ),
           later,
         )

@@ -16,10 +16,10 @@ use Rattle.cm_world.specs.declared.action.Outcome.{Outcome}
 use Rattle.cm_world.specs.Rows.{row_of, is_closed, has_parent}
 use Rattle.cm_world.specs.Marks.{is_dynamic}
 use Rattle.cm_world.specs.End.{changed, set_doomed}
-use Rattle.cm_world.specs.Sound.{IsRising, IsSound}
+use Rattle.cm_world.specs.Sound.{IncarnationsIncrease, IsSound}
 use Rattle.cm_world.specs.Expiring.{coll_of, decl_above, is_once_by, runs_once, goes_with, expired, is_stopped, expired_by}
 use Rattle.cm_world.proofs.trees.Finding.{some_same, row_of-inc}
-use Rattle.cm_table.proofs.tree.Rows.{rising_changed}
+use Rattle.cm_table.proofs.tree.Rows.{increasing_changed}
 use Rattle.cm_laws.specs.Tasks.{HasRow, IsTasked}
 use Rattle.cm_laws.proofs.sound.Rows.{Lasts, Follows, lasts_itself}
 use Rattle.cm_laws.proofs.sound.Marks.{doomed_lasting, sound_doomed}
@@ -178,21 +178,21 @@ apart y x rest low lives =
     false_from_ne_true (y.inc == x.inc) (λ same. let is : y.inc ≡ x.inc = (unsigned_Decides y.inc x.inc).0 same in absurd (omega arith))
 
 -- a row of a list whose incarnations rise is found there
-found_here : (pre : List Row) (x : Row) (xs : List Row) (next : ℕ) → IsRising next (pre ++ x ∷ xs) → row_of (pre ++ x ∷ xs) x.inc ≡ Some x
-found_here [] x xs next rising =
+found_here : (pre : List Row) (x : Row) (xs : List Row) (next : ℕ) → IncarnationsIncrease next (pre ++ x ∷ xs) → row_of (pre ++ x ∷ xs) x.inc ≡ Some x
+found_here [] x xs next increasing =
     ap (λ t. cond t (Some x) (row_of xs x.inc)) ((unsigned_Decides x.inc x.inc).1 refl)
-found_here (y ∷ pre) x xs next rising =
-    let lives : row_of (pre ++ x ∷ xs) x.inc ≡ Some x = found_here pre x xs next rising.1 in
-    ap (λ t. cond t (Some y) (row_of (pre ++ x ∷ xs) x.inc)) (apart y x (pre ++ x ∷ xs) rising.0.1 lives) ∙ lives
+found_here (y ∷ pre) x xs next increasing =
+    let lives : row_of (pre ++ x ∷ xs) x.inc ≡ Some x = found_here pre x xs next increasing.1 in
+    ap (λ t. cond t (Some y) (row_of (pre ++ x ∷ xs) x.inc)) (apart y x (pre ++ x ∷ xs) increasing.0.1 lives) ∙ lives
 
 -- and changed there
-changed_here : (f : Row → Row) (pre : List Row) (x : Row) (xs : List Row) (next : ℕ) → IsRising next (pre ++ x ∷ xs) → changed x.inc f (pre ++ x ∷ xs) ≡ pre ++ f x ∷ xs
-changed_here f [] x xs next rising =
+changed_here : (f : Row → Row) (pre : List Row) (x : Row) (xs : List Row) (next : ℕ) → IncarnationsIncrease next (pre ++ x ∷ xs) → changed x.inc f (pre ++ x ∷ xs) ≡ pre ++ f x ∷ xs
+changed_here f [] x xs next increasing =
     ap (λ t. cond t (f x ∷ xs) (x ∷ changed x.inc f xs)) ((unsigned_Decides x.inc x.inc).1 refl)
-changed_here f (y ∷ pre) x xs next rising =
-    let lives : row_of (pre ++ x ∷ xs) x.inc ≡ Some x = found_here pre x xs next rising.1 in
-    ap (λ t. cond t (f y ∷ (pre ++ x ∷ xs)) (y ∷ changed x.inc f (pre ++ x ∷ xs))) (apart y x (pre ++ x ∷ xs) rising.0.1 lives)
-    ∙ ap (λ ys. y ∷ ys) (changed_here f pre x xs next rising.1)
+changed_here f (y ∷ pre) x xs next increasing =
+    let lives : row_of (pre ++ x ∷ xs) x.inc ≡ Some x = found_here pre x xs next increasing.1 in
+    ap (λ t. cond t (f y ∷ (pre ++ x ∷ xs)) (y ∷ changed x.inc f (pre ++ x ∷ xs))) (apart y x (pre ++ x ∷ xs) increasing.0.1 lives)
+    ∙ ap (λ ys. y ∷ ys) (changed_here f pre x xs next increasing.1)
 
 -- what is kept wherever one of the rows that pass a test is changed is kept where all of them are
 module _ (rows : List Row) (p : Row → Bool) (f : Row → Row) (keeps : (r : Row) → (f r).inc ≡ r.inc) (P : List Row → Type 0) (step : (now : List Row) (r : Row) → row_of rows r.inc ≡ Some r → row_of now r.inc ≡ Some r → IsTrue (p r) → P now → P (changed r.inc f now)) where
@@ -201,35 +201,35 @@ module _ (rows : List Row) (p : Row → Bool) (f : Row → Row) (keeps : (r : Ro
 
   -- some were changed before; these are left
   abbrev Left : ℕ → List Row → Type 0
-  Left next xs = (old pre : List Row) → IsRising next rows → rows ≡ old ++ xs → IsRising next (pre ++ xs) → P (pre ++ xs) → P (pre ++ each xs)
+  Left next xs = (old pre : List Row) → IncarnationsIncrease next rows → rows ≡ old ++ xs → IncarnationsIncrease next (pre ++ xs) → P (pre ++ xs) → P (pre ++ each xs)
 
-  each_by : (t : Bool) (old pre : List Row) (x : Row) (xs : List Row) (next : ℕ) → p x ≡ t → Left next xs → IsRising next rows → rows ≡ old ++ x ∷ xs → IsRising next (pre ++ x ∷ xs) → P (pre ++ x ∷ xs) → P (pre ++ cond t (f x) x ∷ each xs)
-  each_by false old pre x xs next is more up whole rising it =
+  each_by : (t : Bool) (old pre : List Row) (x : Row) (xs : List Row) (next : ℕ) → p x ≡ t → Left next xs → IncarnationsIncrease next rows → rows ≡ old ++ x ∷ xs → IncarnationsIncrease next (pre ++ x ∷ xs) → P (pre ++ x ∷ xs) → P (pre ++ cond t (f x) x ∷ each xs)
+  each_by false old pre x xs next is more up whole increasing it =
       subst P (append_assoc pre (x ∷ []) (each xs))
       (more (old ++ x ∷ []) (pre ++ x ∷ []) up (whole ∙ sym (append_assoc old (x ∷ []) xs))
-      (subst (IsRising next) (sym (append_assoc pre (x ∷ []) xs)) rising)
+      (subst (IncarnationsIncrease next) (sym (append_assoc pre (x ∷ []) xs)) increasing)
       (subst P (sym (append_assoc pre (x ∷ []) xs)) it))
-  each_by true old pre x xs next is more up whole rising it =
-      let here : changed x.inc f (pre ++ x ∷ xs) ≡ pre ++ f x ∷ xs = changed_here f pre x xs next rising in
-      let was : row_of rows x.inc ≡ Some x = ap (λ rs. row_of rs x.inc) whole ∙ found_here old x xs next (subst (IsRising next) whole up) in
-      let done : P (pre ++ f x ∷ xs) = subst P here (step (pre ++ x ∷ xs) x was (found_here pre x xs next rising) is it) in
-      let still : IsRising next (pre ++ f x ∷ xs) = subst (IsRising next) here (rising_changed x.inc next f keeps (pre ++ x ∷ xs) rising) in
+  each_by true old pre x xs next is more up whole increasing it =
+      let here : changed x.inc f (pre ++ x ∷ xs) ≡ pre ++ f x ∷ xs = changed_here f pre x xs next increasing in
+      let was : row_of rows x.inc ≡ Some x = ap (λ rs. row_of rs x.inc) whole ∙ found_here old x xs next (subst (IncarnationsIncrease next) whole up) in
+      let done : P (pre ++ f x ∷ xs) = subst P here (step (pre ++ x ∷ xs) x was (found_here pre x xs next increasing) is it) in
+      let still : IncarnationsIncrease next (pre ++ f x ∷ xs) = subst (IncarnationsIncrease next) here (increasing_changed x.inc next f keeps (pre ++ x ∷ xs) increasing) in
       subst P (append_assoc pre (f x ∷ []) (each xs))
       (more (old ++ x ∷ []) (pre ++ f x ∷ []) up (whole ∙ sym (append_assoc old (x ∷ []) xs))
-      (subst (IsRising next) (sym (append_assoc pre (f x ∷ []) xs)) still)
+      (subst (IncarnationsIncrease next) (sym (append_assoc pre (f x ∷ []) xs)) still)
       (subst P (sym (append_assoc pre (f x ∷ []) xs)) done))
 
   each_left : (xs : List Row) (next : ℕ) → Left next xs
-  each_left [] next old pre up whole rising it = it
-  each_left (x ∷ xs) next old pre up whole rising it =
-      each_by (p x) old pre x xs next refl (each_left xs next) up whole rising it
+  each_left [] next old pre up whole increasing it = it
+  each_left (x ∷ xs) next old pre up whole increasing it =
+      each_by (p x) old pre x xs next refl (each_left xs next) up whole increasing it
 
-  each_keeps : (next : ℕ) → IsRising next rows → P rows → P (each rows)
-  each_keeps next rising it = each_left rows next [] [] rising refl rising it
+  each_keeps : (next : ℕ) → IncarnationsIncrease next rows → P rows → P (each rows)
+  each_keeps next increasing it = each_left rows next [] [] increasing refl increasing it
 
 -- a tree stays sound where rows of it expire
 pub sound_expired : (rows : List Row) (next i : ℕ) → IsSound rows next → IsSound (expired i rows) next
 sound_expired rows next i sound =
     each_keeps rows (λ r. goes_with rows i r && not r.doomed) set_doomed (λ r. refl) (λ now. IsSound now next)
     (λ now r was lives goes it. sound_doomed now next r.inc it r lives (goes_dynamic rows i r was goes)) next
-    sound.orderly.rising sound
+    sound.orderly.increasing sound

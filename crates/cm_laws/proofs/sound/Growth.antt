@@ -258,7 +258,7 @@ module _ (rows : List Row) (next i : ℕ) (url : List ℕ) (d : Decl) (r : Row) 
 
   none_there : IsTrue (list_all (λ s. not (has_parent i s)) rows)
   none_there =
-      all_rows rows next (λ s. not (has_parent i s)) sound.orderly.rising
+      all_rows rows next (λ s. not (has_parent i s)) sound.orderly.increasing
       (λ j s here. not_flip (has_parent i s) (not_true (has_parent i s) (λ up. no_child j s here (some_eq s.parent i up))))
 
   first_fails : (a b : Bool) → IsTrue (not a) → (a && b) ≡ false

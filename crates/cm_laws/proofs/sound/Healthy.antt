@@ -30,7 +30,7 @@ use Rattle.cm_world.specs.Sound.{IsSound}
 use Rattle.cm_world.proofs.trees.Finding.{some_same, row_of-inc}
 use Rattle.cm_world.proofs.examples.Fresh.{starts_sound}
 use Rattle.cm_laws.specs.Tasks.{HasRow, IsTasked}
-use Rattle.cm_laws.specs.Shutdowns.{TreesStaySound}
+use Rattle.cm_laws.specs.ShutdownsInside.{TreesStaySound}
 use Rattle.cm_laws.proofs.actions.Tasks.{only_by, tasked_new, tasked_changed, tasked_begun, find_split}
 use Rattle.cm_laws.proofs.actions.Numbers.{IsCounted, counted_after, counted_history}
 use Rattle.cm_laws.proofs.actions.Begun.{IsIdle, begun_row}

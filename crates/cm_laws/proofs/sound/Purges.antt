@@ -10,7 +10,7 @@ use Rattle.cm_world.specs.After.{others_than}
 use Rattle.cm_world.specs.Sound.{IsOrderly, IsParent, is_static_child, HasStatic, IsSound}
 use Rattle.cm_world.proofs.trees.Finding.{some_same, row_of-inc}
 use Rattle.cm_order.proofs.trees.Trees.{all_rows, some_eq, and_pair, not_true, not_flip, flip_not, true_not_false, below_up, below_cases}
-use Rattle.cm_laws.proofs.sound.Rows.{was_left, is_left, rising_left, Follows, follows_left}
+use Rattle.cm_laws.proofs.sound.Rows.{was_left, is_left, increasing_left, Follows, follows_left}
 use Rattle.cm_laws.proofs.sound.Changes.{count-cons, AreClosedWell, still_shut, is_static_name}
 use Rattle.cm_laws.proofs.sound.Growth.{static_named}
 use Rattle.cm_laws.proofs.levels.Acyclic.{acyclic_purged}
@@ -58,7 +58,7 @@ module _ (rows : List Row) (next top : ℕ) (was : IsOrderly rows next) where
 
   pub orderly_purged : IsOrderly (others_than rows top) next
   orderly_purged = record {
-    rising = rising_left (λ j. not (is_below rows top j)) next rows was.rising;
+    increasing = increasing_left (λ j. not (is_below rows top j)) next rows was.increasing;
     root = λ i r lives. was.root i r (stood i r lives).0;
     parents = left_parents;
     one_name = λ i j r s here there. was.one_name i j r s (stood i r here).0 (stood j s there).0;
@@ -106,7 +106,7 @@ module _ (rows : List Row) (next top : ℕ) (sound : IsSound rows next) (t : Row
 
   each_left : (p : ℕ) (d : Decl) (name : List ℕ) → HasStatic rows p d → is_below rows top p ≡ false → IsTrue (list_all (λ r. not (has_parent p r && has_name (static_name name) r) || not (is_below rows top r.inc)) rows)
   each_left p d name was outside =
-      all_rows rows next (λ r. not (has_parent p r && has_name (static_name name) r) || not (is_below rows top r.inc)) sound.orderly.rising
+      all_rows rows next (λ r. not (has_parent p r && has_name (static_name name) r) || not (is_below rows top r.inc)) sound.orderly.increasing
       (λ i r here. unless (has_parent p r && has_name (static_name name) r) (not (is_below rows top r.inc))
       (λ named. not_flip (is_below rows top r.inc)
       (ap (is_below rows top) (row_of-inc rows i r here) ∙ static_stays p d was outside i r here (named_child p name r named))))

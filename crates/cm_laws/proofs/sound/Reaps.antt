@@ -51,7 +51,7 @@ module _ (rows : List Row) (next : ℕ) (orderly : IsOrderly rows next) where
   children_doomed p =
       list_all-map (has_doomed rows) (λ r. r.inc) (filter (λ r. has_parent p r && r.doomed) rows)
       ∙ all_filtered (λ r. has_parent p r && r.doomed) (λ r. has_doomed rows r.inc) rows
-      (all_rows rows next (λ r. not (has_parent p r && r.doomed) || has_doomed rows r.inc) orderly.rising
+      (all_rows rows next (λ r. not (has_parent p r && r.doomed) || has_doomed rows r.inc) orderly.increasing
       (λ i r lives. subst (λ b. IsTrue (not (has_parent p r && r.doomed) || b)) (sym (same_doomed i r lives)) (both_so (has_parent p r) r.doomed)))
 
   one_doomed : (i : ℕ) (b : Bool) → IsTrue b → has_doomed rows i ≡ b → IsTrue (list_all (has_doomed rows) (i ∷ []))

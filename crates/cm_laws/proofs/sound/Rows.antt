@@ -4,7 +4,7 @@ use Rattle.std.specs.Cmp.{unsigned_Decides}
 use Rattle.cm_world.specs.declared.row.Row.{Row}
 use Rattle.cm_world.specs.Rows.{row_of, is_closing}
 use Rattle.cm_world.specs.End.{changed}
-use Rattle.cm_world.specs.Sound.{IsRising, IsOrderly}
+use Rattle.cm_world.specs.Sound.{IncarnationsIncrease, IsOrderly}
 use Rattle.cm_world.proofs.trees.Finding.{none_some, some_same}
 use Rattle.cm_table.proofs.tree.Rows.{lives_left, Was, was_before, row_of-changed, some_is, is_some_by}
 use Rattle.cm_laws.proofs.actions.Tasks.{by_test, edit_other, find_split}
@@ -126,20 +126,20 @@ module _ (keeps : ℕ → Bool) where
   pub is_left : (rows : List Row) (j : ℕ) (s : Row) → row_of rows j ≡ Some s → keeps j ≡ true → row_of (left rows) j ≡ Some s
   is_left rows j s was kept = row_of-left rows j ∙ ap (λ b. cond b (row_of rows j) None) kept ∙ was
 
-  rising_by : (t : Bool) (next : ℕ) (x : Row) (xs : List Row) → IsRising next (x ∷ xs) → IsRising next (left xs) → IsRising next (cond t (x ∷ left xs) (left xs))
-  rising_by true next x xs rising rest = (
+  increasing_by : (t : Bool) (next : ℕ) (x : Row) (xs : List Row) → IncarnationsIncrease next (x ∷ xs) → IncarnationsIncrease next (left xs) → IncarnationsIncrease next (cond t (x ∷ left xs) (left xs))
+  increasing_by true next x xs increasing rest = (
     (
-      rising.0.0,
+      increasing.0.0,
       λ s there. let r : (r : Row) × (row_of (left xs) s ≡ Some r) = some_is (row_of (left xs) s) there in
-          rising.0.1 s (is_some_by (row_of xs s) r.0 (was_left xs s r.0 r.1).0),
+          increasing.0.1 s (is_some_by (row_of xs s) r.0 (was_left xs s r.0 r.1).0),
     ),
     rest,
   )
-  rising_by false next x xs rising rest = rest
+  increasing_by false next x xs increasing rest = rest
 
-  pub rising_left : (next : ℕ) (rows : List Row) → IsRising next rows → IsRising next (left rows)
-  rising_left next [] rising = tt
-  rising_left next (x ∷ xs) rising = rising_by (keeps x.inc) next x xs rising (rising_left next xs rising.1)
+  pub increasing_left : (next : ℕ) (rows : List Row) → IncarnationsIncrease next rows → IncarnationsIncrease next (left rows)
+  increasing_left next [] increasing = tt
+  increasing_left next (x ∷ xs) increasing = increasing_by (keeps x.inc) next x xs increasing (increasing_left next xs increasing.1)
 
   pub follows_left : (rows : List Row) (m : ℕ) → Follows rows (left rows) m
   follows_left rows m = record {

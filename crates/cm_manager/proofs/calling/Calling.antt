@@ -13,29 +13,29 @@ use Rattle.cm_world.specs.declared.answer.Answer.{Answer}
 use Rattle.cm_world.specs.declared.answer.Refusal.{Refusal}
 use Rattle.cm_names.specs.declared.moniker.Moniker.{Moniker}
 use Rattle.cm_command.specs.declared.command.Command.{Command}
-use Rattle.cm_answers.specs.declared.acted.Acted.{Acted}
+use Rattle.cm_answers.specs.declared.acted.ActionResult.{ActionResult}
 use Rattle.cm_answers.specs.declared.question.Question.{Question}
 use Rattle.cm_answers.specs.declared.question.Question.TheVariants as question
 use Rattle.cm_answers.specs.declared.question.Request.{Request}
 use Rattle.cm_answers.specs.declared.question.Request.TheVariants as request
-use Rattle.cm_manager.specs.Runs.{Acts, Tries}
+use Rattle.cm_manager.specs.Runs.{RunsAction, RetriesEvent}
 use Rattle.cm_answers.specs.Answers.{decided_by, found_by, unless_ended}
-use Rattle.cm_manager.specs.Calls.{Way, Finding, Behind, OnRow, Nothing, Then, Tried, TriedThen, ActedOn, Calls}
+use Rattle.cm_manager.specs.Calls.{CallWay, Finding, GoesOnWithRow, OnRow, Nothing, Then, CallsEvent, CallsEventThen, CallsAction, Calls}
 use Rattle.cm_answers.specs.Questions.{requested_by, asked_by, event_for}
 use Rattle.cm_manager.specs.Questions.{Requested, AnswersTo}
-use Rattle.cm_manager.specs.Work.{Shelf}
-use Rattle.cm_manager.specs.Contract.{RealmPass, GatesView, Helps, Performs}
+use Rattle.cm_manager.specs.Work.{Manifests}
+use Rattle.cm_manager.specs.Contract.{RealmPass, GatesView, IsSubcall, IsWholeCall}
 use Rattle.cm_manager.specs.Asking.{frame_in, frame_of, is_asked, is_plain}
-use Rattle.cm_manager.specs.Parts.{Finds}
+use Rattle.cm_manager.specs.Parts.{FindsTarget}
 use Rattle.cm_manager.proofs.calling.Helping.{helps_then, helps_as}
 
 -- ---- an event
 
 -- its row is the one that the reply gives
-pub try_finds : (shelf : Shelf) (f : Frame) (c : ℕ) (e : Event) (m : Moniker) (p q : RealmPass) (g h : GatesView) (went : Result Reply Refusal) (row : Result ℕ Refusal) → Helps shelf f (λ x y. Tries f c e x y went) p q g h → e ≡ event.Find m → row ≡ found_by went → Helps shelf f (λ x y. Finding f c (target.Named m) x y row) p q g h
-try_finds shelf f c e m p q g h went row help is by =
-    helps_as shelf f (λ x y. Tries f c (event.Find m) x y went) (λ x y. Finding f c (target.Named m) x y row) p q g h (λ way. (went, way, by))
-    (subst (λ (e : Event). Helps shelf f (λ x y. Tries f c e x y went) p q g h) is help)
+pub try_finds : (manifests : Manifests) (f : Frame) (c : ℕ) (e : Event) (m : Moniker) (p q : RealmPass) (g h : GatesView) (went : Result Reply Refusal) (row : Result ℕ Refusal) → IsSubcall manifests f (λ x y. RetriesEvent f c e x y went) p q g h → e ≡ event.Find m → row ≡ found_by went → IsSubcall manifests f (λ x y. Finding f c (target.Named m) x y row) p q g h
+try_finds manifests f c e m p q g h went row help is by =
+    helps_as manifests f (λ x y. RetriesEvent f c (event.Find m) x y went) (λ x y. Finding f c (target.Named m) x y row) p q g h (λ way. (went, way, by))
+    (subst (λ (e : Event). IsSubcall manifests f (λ x y. RetriesEvent f c e x y went) p q g h) is help)
 
 -- ---- a request
 
@@ -66,16 +66,16 @@ nothing_then (Ok r) h k end is = is
 nothing_then (Err x) h k end is = is
 
 -- a call with one event, where nothing follows its reply
-only_tried : (f : Frame) (c : ℕ) (e : ℕ → Event) (i : ℕ) (h k : List Entry) (a : Result Answer Refusal) → TriedThen f c e (λ j r. Nothing) i h k a → Tried f c e i h k a
+only_tried : (f : Frame) (c : ℕ) (e : ℕ → Event) (i : ℕ) (h k : List Entry) (a : Result Answer Refusal) → CallsEventThen f c e (λ j r. Nothing) i h k a → CallsEvent f c e i h k a
 only_tried f c e i h k a it =
     let none = nothing_then it.went it.h₁ k it.end it.follows in
-    (it.went, subst (λ (l : List Entry). Tries f c (e i) h l it.went) (sym none.0) it.tries, it.answer ∙ ap (λ (o : Option Refusal). unless_ended o (decided_by it.went)) none.1)
+    (it.went, subst (λ (l : List Entry). RetriesEvent f c (e i) h l it.went) (sym none.0) it.tries, it.answer ∙ ap (λ (o : Option Refusal). unless_ended o (decided_by it.went)) none.1)
 
-behind_tried : (f : Frame) (c : ℕ) (e : ℕ → Event) (row : Result ℕ Refusal) (h k : List Entry) (a : Result Answer Refusal) → Behind row (TriedThen f c e (λ j r. Nothing)) h k a → Behind row (Tried f c e) h k a
+behind_tried : (f : Frame) (c : ℕ) (e : ℕ → Event) (row : Result ℕ Refusal) (h k : List Entry) (a : Result Answer Refusal) → GoesOnWithRow row (CallsEventThen f c e (λ j r. Nothing)) h k a → GoesOnWithRow row (CallsEvent f c e) h k a
 behind_tried f c e (Ok i) h k a it = only_tried f c e i h k a it
 behind_tried f c e (Err x) h k a it = it
 
-on_row_tried : (f : Frame) (c : ℕ) (t : Target) (e : ℕ → Event) (x y : List Entry) (a : Result Answer Refusal) → OnRow f c t (TriedThen f c e (λ j r. Nothing)) x y a → OnRow f c t (Tried f c e) x y a
+on_row_tried : (f : Frame) (c : ℕ) (t : Target) (e : ℕ → Event) (x y : List Entry) (a : Result Answer Refusal) → OnRow f c t (CallsEventThen f c e (λ j r. Nothing)) x y a → OnRow f c t (CallsEvent f c e) x y a
 on_row_tried f c t e x y a on = record { row = on.row; h₁ = on.h₁; finding = on.finding; behind = behind_tried f c e on.row on.h₁ y a on.behind }
 
 request_called : (f : Frame) (c : ℕ) (t : Target) (r : Request) (x y : List Entry) (a : Result Answer Refusal) → OnRow f c t (Requested f c r) x y a → Calls f c (requested_by t r) x y a
@@ -100,14 +100,14 @@ question_called f c t (question.Events from) x y a on = on
 question_called f c t (question.Event r) x y a on = request_called f c t r x y a on
 
 -- what was answered, by the question that it is
-pub answered_as : (shelf : Shelf) (q o : Question) (i : ℕ) (a : Result Answer Refusal) (p r : RealmPass) (g h : GatesView) → q ≡ o → Helps shelf (frame_of p) (λ x y. AnswersTo (frame_of p) p.caller o i x y a) p r g h → Helps shelf (frame_of p) (λ x y. AnswersTo (frame_of p) p.caller q i x y a) p r g h
-answered_as shelf q o i a p r g h is help = subst (λ (q : Question). Helps shelf (frame_of p) (λ x y. AnswersTo (frame_of p) p.caller q i x y a) p r g h) (sym is) help
+pub answered_as : (manifests : Manifests) (q o : Question) (i : ℕ) (a : Result Answer Refusal) (p r : RealmPass) (g h : GatesView) → q ≡ o → IsSubcall manifests (frame_of p) (λ x y. AnswersTo (frame_of p) p.caller o i x y a) p r g h → IsSubcall manifests (frame_of p) (λ x y. AnswersTo (frame_of p) p.caller q i x y a) p r g h
+answered_as manifests q o i a p r g h is help = subst (λ (q : Question). IsSubcall manifests (frame_of p) (λ x y. AnswersTo (frame_of p) p.caller q i x y a) p r g h) (sym is) help
 
 -- ---- a call behind the finding of its row
 
 -- what a call with this frame and caller does on a row
 abbrev OnRows : Type 1
-OnRows = Frame → ℕ → ℕ → Way (Result Answer Refusal)
+OnRows = Frame → ℕ → ℕ → CallWay (Result Answer Refusal)
 
 same_ok : (r : Result ℕ Refusal) (i n : ℕ) → r ≡ Ok i → r ≡ Ok n → n ≡ i
 same_ok r i n a b = cc (a, b)
@@ -116,36 +116,36 @@ not_both : (r : Result ℕ Refusal) (n : ℕ) (x : Refusal) → r ≡ Err x → 
 not_both r n x a b = cc (a, b)
 
 -- with the frame and the caller of the first pass
-on_first : (shelf : Shelf) (call : OnRows) (p q r : RealmPass) (h k : GatesView) (i : ℕ) (a : Result Answer Refusal) → q.frame ≡ p.frame → q.caller ≡ p.caller → Helps shelf (frame_of q) (λ x y. call (frame_of q) q.caller i x y a) q r h k → Helps shelf (frame_of p) (λ x y. call (frame_of p) p.caller i x y a) q r h k
-on_first shelf call p q r h k i a frame caller help =
-    subst (λ (f : Frame). Helps shelf f (λ x y. call f p.caller i x y a) q r h k) (ap frame_in frame)
-    (subst (λ (c : ℕ). Helps shelf (frame_of q) (λ x y. call (frame_of q) c i x y a) q r h k) caller help)
+on_first : (manifests : Manifests) (call : OnRows) (p q r : RealmPass) (h k : GatesView) (i : ℕ) (a : Result Answer Refusal) → q.frame ≡ p.frame → q.caller ≡ p.caller → IsSubcall manifests (frame_of q) (λ x y. call (frame_of q) q.caller i x y a) q r h k → IsSubcall manifests (frame_of p) (λ x y. call (frame_of p) p.caller i x y a) q r h k
+on_first manifests call p q r h k i a frame caller help =
+    subst (λ (f : Frame). IsSubcall manifests f (λ x y. call f p.caller i x y a) q r h k) (ap frame_in frame)
+    (subst (λ (c : ℕ). IsSubcall manifests (frame_of q) (λ x y. call (frame_of q) c i x y a) q r h k) caller help)
 
-on_same : (shelf : Shelf) (call : OnRows) (p q r : RealmPass) (g h k : GatesView) (n i : ℕ) (a : Result Answer Refusal) → q ≡ p → h ≡ g → n ≡ i → Helps shelf (frame_of q) (λ x y. call (frame_of q) q.caller i x y a) q r h k → Helps shelf (frame_of p) (λ x y. call (frame_of p) p.caller n x y a) p r g k
-on_same shelf call p q r g h k n i a pass gates row help =
-    subst (λ (n : ℕ). Helps shelf (frame_of p) (λ x y. call (frame_of p) p.caller n x y a) p r g k) (sym row)
-    (subst (λ (g : GatesView). Helps shelf (frame_of p) (λ x y. call (frame_of p) p.caller i x y a) p r g k) gates
-    (subst (λ (p : RealmPass). Helps shelf (frame_of p) (λ x y. call (frame_of p) p.caller i x y a) p r h k) pass help))
+on_same : (manifests : Manifests) (call : OnRows) (p q r : RealmPass) (g h k : GatesView) (n i : ℕ) (a : Result Answer Refusal) → q ≡ p → h ≡ g → n ≡ i → IsSubcall manifests (frame_of q) (λ x y. call (frame_of q) q.caller i x y a) q r h k → IsSubcall manifests (frame_of p) (λ x y. call (frame_of p) p.caller n x y a) p r g k
+on_same manifests call p q r g h k n i a pass gates row help =
+    subst (λ (n : ℕ). IsSubcall manifests (frame_of p) (λ x y. call (frame_of p) p.caller n x y a) p r g k) (sym row)
+    (subst (λ (g : GatesView). IsSubcall manifests (frame_of p) (λ x y. call (frame_of p) p.caller i x y a) p r g k) gates
+    (subst (λ (p : RealmPass). IsSubcall manifests (frame_of p) (λ x y. call (frame_of p) p.caller i x y a) p r h k) pass help))
 
-pub performs_on : (shelf : Shelf) (cmd : Command) (t : Target) (call : OnRows) (p q r : RealmPass) (g h k : GatesView) (row : Result ℕ Refusal) (i : ℕ) (a : Result Answer Refusal) → ((x y : List Entry) → OnRow (frame_of p) p.caller t (call (frame_of p) p.caller) x y a → Calls (frame_of p) p.caller cmd x y a) → row ≡ Ok i → Finds shelf (frame_of p) t p q g h row → Helps shelf (frame_of q) (λ x y. call (frame_of q) q.caller i x y a) q r h k → Performs shelf (frame_of p) cmd p r g k a
-performs_on shelf cmd (target.Inc n) call p q r g h k row i a name is finds help =
-    helps_as shelf (frame_of p) (λ x y. call (frame_of p) p.caller n x y a) _ p r g k
+pub performs_on : (manifests : Manifests) (cmd : Command) (t : Target) (call : OnRows) (p q r : RealmPass) (g h k : GatesView) (row : Result ℕ Refusal) (i : ℕ) (a : Result Answer Refusal) → ((x y : List Entry) → OnRow (frame_of p) p.caller t (call (frame_of p) p.caller) x y a → Calls (frame_of p) p.caller cmd x y a) → row ≡ Ok i → FindsTarget manifests (frame_of p) t p q g h row → IsSubcall manifests (frame_of q) (λ x y. call (frame_of q) q.caller i x y a) q r h k → IsWholeCall manifests (frame_of p) cmd p r g k a
+performs_on manifests cmd (target.Inc n) call p q r g h k row i a name is finds help =
+    helps_as manifests (frame_of p) (λ x y. call (frame_of p) p.caller n x y a) _ p r g k
     (λ way. name _ _ (record { row = Ok n; h₁ = p.seen; finding = (refl, refl); behind = way }))
-    (on_same shelf call p q r g h k n i a finds.0 finds.1 (same_ok row i n is finds.2) help)
-performs_on shelf cmd (target.Named m) call p q r g h k row i a name is finds help =
-    helps_then shelf (frame_of p) (λ x y. Finding (frame_of p) p.caller (target.Named m) x y row) (λ x y. call (frame_of p) p.caller i x y a) _ p q r g h k
-    (λ first second. name _ _ (record { row = row; h₁ = q.seen; finding = first; behind = subst (λ (o : Result ℕ Refusal). Behind o (call (frame_of p) p.caller) q.seen r.seen a) (sym is) second }))
-    finds (on_first shelf call p q r h k i a finds.same.frame finds.same.caller help)
+    (on_same manifests call p q r g h k n i a finds.0 finds.1 (same_ok row i n is finds.2) help)
+performs_on manifests cmd (target.Named m) call p q r g h k row i a name is finds help =
+    helps_then manifests (frame_of p) (λ x y. Finding (frame_of p) p.caller (target.Named m) x y row) (λ x y. call (frame_of p) p.caller i x y a) _ p q r g h k
+    (λ first second. name _ _ (record { row = row; h₁ = q.seen; finding = first; behind = subst (λ (o : Result ℕ Refusal). GoesOnWithRow o (call (frame_of p) p.caller) q.seen r.seen a) (sym is) second }))
+    finds (on_first manifests call p q r h k i a finds.same.frame finds.same.caller help)
 
 -- the row wasn't found
-pub performs_missed : (shelf : Shelf) (cmd : Command) (t : Target) (call : OnRows) (p q : RealmPass) (g h : GatesView) (row : Result ℕ Refusal) (x : Refusal) → ((a b : List Entry) → OnRow (frame_of p) p.caller t (call (frame_of p) p.caller) a b (Err x) → Calls (frame_of p) p.caller cmd a b (Err x)) → row ≡ Err x → Finds shelf (frame_of p) t p q g h row → Performs shelf (frame_of p) cmd p q g h (Err x)
-performs_missed shelf cmd (target.Inc n) call p q g h row x name is finds = absurd (not_both row n x is finds.2)
-performs_missed shelf cmd (target.Named m) call p q g h row x name is finds =
-    helps_as shelf (frame_of p) (λ a b. Finding (frame_of p) p.caller (target.Named m) a b row) _ p q g h
-    (λ way. name _ _ (record { row = row; h₁ = q.seen; finding = way; behind = subst (λ (o : Result ℕ Refusal). Behind o (call (frame_of p) p.caller) q.seen q.seen (Err x)) (sym is) (refl, refl) }))
+pub performs_missed : (manifests : Manifests) (cmd : Command) (t : Target) (call : OnRows) (p q : RealmPass) (g h : GatesView) (row : Result ℕ Refusal) (x : Refusal) → ((a b : List Entry) → OnRow (frame_of p) p.caller t (call (frame_of p) p.caller) a b (Err x) → Calls (frame_of p) p.caller cmd a b (Err x)) → row ≡ Err x → FindsTarget manifests (frame_of p) t p q g h row → IsWholeCall manifests (frame_of p) cmd p q g h (Err x)
+performs_missed manifests cmd (target.Inc n) call p q g h row x name is finds = absurd (not_both row n x is finds.2)
+performs_missed manifests cmd (target.Named m) call p q g h row x name is finds =
+    helps_as manifests (frame_of p) (λ a b. Finding (frame_of p) p.caller (target.Named m) a b row) _ p q g h
+    (λ way. name _ _ (record { row = row; h₁ = q.seen; finding = way; behind = subst (λ (o : Result ℕ Refusal). GoesOnWithRow o (call (frame_of p) p.caller) q.seen q.seen (Err x)) (sym is) (refl, refl) }))
     finds
 
 -- a call with an action
-pub acts_on : (shelf : Shelf) (k : ActKind) (value : Result Acted Refusal → Result Answer Refusal) (i : ℕ) (p q : RealmPass) (g h : GatesView) (went : Result Acted Refusal) (a : Result Answer Refusal) → Helps shelf (frame_of p) (λ x y. Acts (frame_of p) p.caller k i x y went) p q g h → a ≡ value went → Helps shelf (frame_of p) (λ x y. ActedOn (frame_of p) p.caller k value i x y a) p q g h
-acts_on shelf k value i p q g h went a help is =
-    helps_as shelf (frame_of p) (λ x y. Acts (frame_of p) p.caller k i x y went) (λ x y. ActedOn (frame_of p) p.caller k value i x y a) p q g h (λ way. (went, way, is)) help
+pub acts_on : (manifests : Manifests) (k : ActKind) (value : Result ActionResult Refusal → Result Answer Refusal) (i : ℕ) (p q : RealmPass) (g h : GatesView) (went : Result ActionResult Refusal) (a : Result Answer Refusal) → IsSubcall manifests (frame_of p) (λ x y. RunsAction (frame_of p) p.caller k i x y went) p q g h → a ≡ value went → IsSubcall manifests (frame_of p) (λ x y. CallsAction (frame_of p) p.caller k value i x y a) p q g h
+acts_on manifests k value i p q g h went a help is =
+    helps_as manifests (frame_of p) (λ x y. RunsAction (frame_of p) p.caller k i x y went) (λ x y. CallsAction (frame_of p) p.caller k value i x y a) p q g h (λ way. (went, way, is)) help

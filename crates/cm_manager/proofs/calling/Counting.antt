@@ -8,10 +8,10 @@ use Rattle.cm_world.specs.declared.event.Event.{Event}
 use Rattle.cm_world.specs.declared.event.Event.TheVariants as event
 use Rattle.cm_world.specs.declared.reply.Entry.{Entry}
 use Rattle.cm_world.specs.declared.reply.Reply.{Reply}
-use Rattle.cm_gate.specs.declared.asked.Asked.{Asked}
+use Rattle.cm_gate.specs.declared.asked.GateCall.{GateCall}
 use Rattle.cm_gate.specs.Logs.{Grew, RoseBy}
 use Rattle.cm_gate.proofs.Logs.{rose_nothing, rose_trans}
-use Rattle.cm_manager.specs.Work.{begins, Shelf, Counts, Works, nothing, passes, ends, is_end, is_gate_failure, tells_failure, failures, WorksWith}
+use Rattle.cm_manager.specs.Work.{begins, Manifests, Counts, Works, nothing, passes, ends, is_end, is_gate_failure, tells_failure, failures, WorksWith}
 
 failures_of : Bool → ℕ
 failures_of true = 1
@@ -37,24 +37,24 @@ begun_apart _ r b is = refl
 end_told : (e : Entry) (a : ℕ) (end : Finish) → e.event ≡ event.End a end → tells_failure e ≡ is_gate_failure end
 end_told e a end is = ap (λ (v : Event). elim v as (λ _. Bool) [ event.End a end ↦ is_gate_failure end | _ ↦ false ]) is
 
-counts_rise : (b : Bool) (end : Finish) (asked : List Asked) (n m : ℕ) → is_gate_failure end ≡ b → Counts end asked n m → RoseBy (failures_of b) n m
+counts_rise : (b : Bool) (end : Finish) (asked : List GateCall) (n m : ℕ) → is_gate_failure end ≡ b → Counts end asked n m → RoseBy (failures_of b) n m
 unfolding failures_of
 counts_rise true end asked n m is counts = counts.rose is
 counts_rise false end asked n m is counts = rose_nothing n m counts.later
 
-pub works_rise : (shelf : Shelf) (part : List Entry) (asked : List Asked) {n m : ℕ} → Works shelf part asked n m → RoseBy (failures part) n m
+pub works_rise : (manifests : Manifests) (part : List Entry) (asked : List GateCall) {n m : ℕ} → Works manifests part asked n m → RoseBy (failures part) n m
 unfolding failures_of
-works_rise shelf part asked {n} {m} nothing = rose_nothing n n (le_refl n)
-works_rise shelf part asked {n} {m} (passes {e = e} {es = es} is apart rest) =
+works_rise manifests part asked {n} {m} nothing = rose_nothing n n (le_refl n)
+works_rise manifests part asked {n} {m} (passes {e = e} {es = es} is apart rest) =
     subst (λ (k : ℕ). RoseBy k n m) (sym (failures_cons false e es (untold e.caller e.event e.reply apart)))
-    (rose_trans (failures_of false) (failures es) n n m (rose_nothing n n (le_refl n)) (works_rise shelf es asked rest))
-works_rise shelf part asked {n} {m} (ends {e = e} {e' = e'} {es = es} {b = b} {now = now} {later = later} {between = k} is end rest) =
+    (rose_trans (failures_of false) (failures es) n n m (rose_nothing n n (le_refl n)) (works_rise manifests es asked rest))
+works_rise manifests part asked {n} {m} (ends {e = e} {e' = e'} {es = es} {b = b} {now = now} {later = later} {between = k} is end rest) =
     let fails = is_gate_failure end.0 in
     subst (λ (k : ℕ). RoseBy k n m) (sym (failures_cons false e (e' ∷ es) (untold e.caller e.event e.reply (begun_apart e.event e.reply b is))))
     (rose_trans (failures_of false) (failures (e' ∷ es)) n n m (rose_nothing n n (le_refl n))
     (subst (λ (k : ℕ). RoseBy k n m) (sym (failures_cons fails e' es (end_told e' b.1.action end.0 end.1)))
-    (rose_trans (failures_of fails) (failures es) n k m (counts_rise fails end.0 now n k refl end.3) (works_rise shelf es later rest))))
+    (rose_trans (failures_of fails) (failures es) n k m (counts_rise fails end.0 now n k refl end.3) (works_rise manifests es later rest))))
 
 -- the works of a part, with its log
-pub works_with : (shelf : Shelf) (part : List Entry) (log₀ log₁ : Option (List Asked)) (n m : ℕ) (asked : List Asked) → Works shelf part asked n m → Grew log₀ log₁ asked → WorksWith shelf part log₀ log₁ n m
-works_with shelf part log₀ log₁ n m asked works log = record { asked = asked; works = works; log = log; faults = works_rise shelf part asked works }
+pub works_with : (manifests : Manifests) (part : List Entry) (log₀ log₁ : Option (List GateCall)) (n m : ℕ) (asked : List GateCall) → Works manifests part asked n m → Grew log₀ log₁ asked → WorksWith manifests part log₀ log₁ n m
+works_with manifests part log₀ log₁ n m asked works log = record { asked = asked; works = works; log = log; faults = works_rise manifests part asked works }

@@ -4,38 +4,38 @@ use Rattle.cm_world.specs.declared.frame.Frame.{Frame}
 use Rattle.cm_world.specs.declared.reply.Entry.{Entry}
 use Rattle.cm_world.specs.declared.answer.Refusal.{Refusal}
 use Rattle.cm_turn.specs.History.{StartsWith}
-use Rattle.cm_manager.specs.Turns.{Later, Makes, Asks}
-use Rattle.cm_manager.specs.Runs.{Eagers, next_one, cut_at}
-use Rattle.cm_gate.specs.declared.asked.Asked.{Asked}
-use Rattle.cm_manager.specs.Work.{Shelf, Works, nothing, passes, ends}
+use Rattle.cm_manager.specs.Turns.{IsLaterHistory, AddsOneEntry, AddsWithinRoom}
+use Rattle.cm_manager.specs.Runs.{StartsEager, next_one, cut_at}
+use Rattle.cm_gate.specs.declared.asked.GateCall.{GateCall}
+use Rattle.cm_manager.specs.Work.{Manifests, Works, nothing, passes, ends}
 
 pub starts-trans : (a b d : List Entry) → StartsWith b a → StartsWith d b → StartsWith d a
 starts-trans a b d ab bd = (ab.0 ++ bd.0, bd.1 ∙ ap (λ (x : List Entry). x ++ bd.0) ab.1 ∙ append_assoc a ab.0 bd.0)
 
 -- turns without an entry change nothing
-pub later-trans : (c : ℕ) (a b d : List Entry) → Later c a b → Later c b d → Later c a d
+pub later-trans : (c : ℕ) (a b d : List Entry) → IsLaterHistory c a b → IsLaterHistory c b d → IsLaterHistory c a d
 later-trans c a b d ab bd = record { grows = starts-trans a b d ab.grows bd.grows; own = bd.own ∙ ab.own }
 
-pub makes-later : (c : ℕ) (a b d : List Entry) {e : _} {r : _} → Later c a b → Makes c b e r d → Makes c a e r d
+pub makes-later : (c : ℕ) (a b d : List Entry) {e : _} {r : _} → IsLaterHistory c a b → AddsOneEntry c b e r d → AddsOneEntry c a e r d
 makes-later c a b d ab m = record { found = m.found; later = later-trans c a b m.found ab m.later; entries = m.entries }
 
-pub asks-later : (f : Frame) (c : ℕ) (a b d : List Entry) {e : _} {r : _} → Later c a b → Asks f c b e r d → Asks f c a e r d
+pub asks-later : (f : Frame) (c : ℕ) (a b d : List Entry) {e : _} {r : _} → IsLaterHistory c a b → AddsWithinRoom f c b e r d → AddsWithinRoom f c a e r d
 unfolding makes-later
 asks-later f c a b d ab m = record { made = makes-later c a b d ab m.made; room = m.room }
 
 -- eager children of two lists, one behind the other
-pub eagers-split : (f : Frame) (c : ℕ) (xs ys : List ℕ) (a d : List Entry) (end : Option Refusal) → Eagers f c (xs ++ ys) a d end → ((b : List Entry) × Eagers f c xs a b None × Eagers f c ys b d end) ⊎ ((x : Refusal) × (end ≡ Some x) × Eagers f c xs a d (Some x))
-eagers-split f c [] ys a d end all = inl (a, Eagers.all_done, all)
+pub eagers-split : (f : Frame) (c : ℕ) (xs ys : List ℕ) (a d : List Entry) (end : Option Refusal) → StartsEager f c (xs ++ ys) a d end → ((b : List Entry) × StartsEager f c xs a b None × StartsEager f c ys b d end) ⊎ ((x : Refusal) × (end ≡ Some x) × StartsEager f c xs a d (Some x))
+eagers-split f c [] ys a d end all = inl (a, StartsEager.all_done, all)
 eagers-split f c (x ∷ xs) ys a d end (next_one act fine rest) =
     elim (eagers-split f c xs ys _ d end rest) [
-      | inl s ↦ inl (s.0, Eagers.next_one act fine s.1, s.2)
-      | inr s ↦ inr (s.0, s.1, Eagers.next_one act fine s.2)
+      | inl s ↦ inl (s.0, StartsEager.next_one act fine s.1, s.2)
+      | inr s ↦ inr (s.0, s.1, StartsEager.next_one act fine s.2)
     ]
-eagers-split f c (x ∷ xs) ys a d end (cut_at {x = y} act is) = inr (y, refl, Eagers.cut_at act is)
+eagers-split f c (x ∷ xs) ys a d end (cut_at {x = y} act is) = inr (y, refl, StartsEager.cut_at act is)
 
 -- the work of two parts, one behind the other
-pub works-append : (shelf : Shelf) (p q : List Entry) (a b : List Asked) {n k m : ℕ} → Works shelf p a n k → Works shelf q b k m → Works shelf (p ++ q) (a ++ b) n m
-works-append shelf p q a b nothing w = w
-works-append shelf p q a b (passes is apart rest) w = Works.passes is apart (works-append shelf _ q _ b rest w)
-works-append shelf p q a b {n} {k} {m} (ends {now = now} {later = later} is end rest) w =
-    subst (λ (l : List Asked). Works shelf (p ++ q) l n m) (sym (append_assoc now later b)) (Works.ends is end (works-append shelf _ q _ b rest w))
+pub works-append : (manifests : Manifests) (p q : List Entry) (a b : List GateCall) {n k m : ℕ} → Works manifests p a n k → Works manifests q b k m → Works manifests (p ++ q) (a ++ b) n m
+works-append manifests p q a b nothing w = w
+works-append manifests p q a b (passes is apart rest) w = Works.passes is apart (works-append manifests _ q _ b rest w)
+works-append manifests p q a b {n} {k} {m} (ends {now = now} {later = later} is end rest) w =
+    subst (λ (l : List GateCall). Works manifests (p ++ q) l n m) (sym (append_assoc now later b)) (Works.ends is end (works-append manifests _ q _ b rest w))

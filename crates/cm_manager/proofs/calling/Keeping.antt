@@ -4,21 +4,21 @@ use Rattle.cm_turn.specs.History.{StartsWith}
 use Rattle.cm_turn.specs.Passes.{seen_up_to}
 use Rattle.cm_world.specs.declared.frame.Frame.{Frame}
 use Rattle.cm_world.specs.declared.reply.Entry.{Entry}
-use Rattle.cm_manager.specs.Turns.{Later}
-use Rattle.cm_manager.specs.Closed.{empty}
-use Rattle.cm_manager.specs.Work.{Shelf}
-use Rattle.cm_manager.specs.Contract.{RealmPass, GatesView, Helps}
+use Rattle.cm_manager.specs.Turns.{IsLaterHistory}
+use Rattle.cm_manager.specs.ClosedInside.{empty}
+use Rattle.cm_manager.specs.Work.{Manifests}
+use Rattle.cm_manager.specs.Contract.{RealmPass, GatesView, IsSubcall}
 use Rattle.cm_manager.proofs.calling.Joining.{later-trans, starts-trans}
 use Rattle.cm_manager.proofs.left.Closing.{closed-append}
 use Rattle.cm_manager.proofs.calling.Helping.{works_nothing, works_trans}
-use Rattle.cm_manager.specs.Done.{Done, Follows, rests, performs}
-use Rattle.cm_manager.specs.Kept.{IsOwnPass, Keeps}
+use Rattle.cm_manager.specs.Done.{Done, PerformsCommands, rests, performs}
+use Rattle.cm_manager.specs.Kept.{IsOwnPass, KeepsPass}
 
 pub starts_same : (a : List Entry) → StartsWith a a
 starts_same a = ([], sym (append-nil a))
 
-pub keeps_nothing : (shelf : Shelf) (p : RealmPass) (g : GatesView) → IsOwnPass p → Keeps shelf p p g g
-keeps_nothing shelf p g own = record {
+pub keeps_nothing : (manifests : Manifests) (p : RealmPass) (g : GatesView) → IsOwnPass p → KeepsPass manifests p p g g
+keeps_nothing manifests p g own = record {
   lock = refl;
   frame = refl;
   caller = refl;
@@ -27,15 +27,15 @@ keeps_nothing shelf p g own = record {
   part = [];
   mine = sym (append-nil p.mine);
   closed = empty;
-  work = works_nothing shelf g;
+  work = works_nothing manifests g;
 }
 
 -- the parts of two in a row
 mine_then : (a b d x y : List Entry) → b ≡ a ++ x → d ≡ b ++ y → d ≡ a ++ (x ++ y)
 mine_then a b d x y ab bd = bd ∙ ap (λ (l : List Entry). l ++ y) ab ∙ append_assoc a x y
 
-pub keeps_trans : (shelf : Shelf) (p q r : RealmPass) (g h k : GatesView) → Keeps shelf p q g h → Keeps shelf q r h k → Keeps shelf p r g k
-keeps_trans shelf p q r g h k a b = record {
+pub keeps_trans : (manifests : Manifests) (p q r : RealmPass) (g h k : GatesView) → KeepsPass manifests p q g h → KeepsPass manifests q r h k → KeepsPass manifests p r g k
+keeps_trans manifests p q r g h k a b = record {
   lock = b.lock ∙ a.lock;
   frame = b.frame ∙ a.frame;
   caller = b.caller ∙ a.caller;
@@ -44,12 +44,12 @@ keeps_trans shelf p q r g h k a b = record {
   part = a.part ++ b.part;
   mine = mine_then p.mine q.mine r.mine a.part b.part a.mine b.mine;
   closed = closed-append a.part b.part a.closed b.closed;
-  work = works_trans shelf a.part b.part g h k a.work b.work;
+  work = works_trans manifests a.part b.part g h k a.work b.work;
 }
 
 -- a call of the manager keeps a pass
-pub keeps_helps : (shelf : Shelf) (f : Frame) (Way : List Entry → List Entry → Type 0) (q r : RealmPass) (h k : GatesView) → Helps shelf f Way q r h k → Keeps shelf q r h k
-keeps_helps shelf f Way q r h k is = record {
+pub keeps_helps : (manifests : Manifests) (f : Frame) (CallWay : List Entry → List Entry → Type 0) (q r : RealmPass) (h k : GatesView) → IsSubcall manifests f CallWay q r h k → KeepsPass manifests q r h k
+keeps_helps manifests f CallWay q r h k is = record {
   lock = is.same.lock;
   frame = is.same.frame;
   caller = is.same.caller;
@@ -62,8 +62,8 @@ keeps_helps shelf f Way q r h k is = record {
 }
 
 -- and so does a meeting
-pub keeps_met : (shelf : Shelf) (p q : RealmPass) (s : List Entry) (g h : GatesView) → Keeps shelf p q g h → StartsWith s q.seen → IsOwnPass (seen_up_to s q) → Keeps shelf p (seen_up_to s q) g h
-keeps_met shelf p q s g h is grows own = record {
+pub keeps_met : (manifests : Manifests) (p q : RealmPass) (s : List Entry) (g h : GatesView) → KeepsPass manifests p q g h → StartsWith s q.seen → IsOwnPass (seen_up_to s q) → KeepsPass manifests p (seen_up_to s q) g h
+keeps_met manifests p q s g h is grows own = record {
   lock = is.lock;
   frame = is.frame;
   caller = is.caller;
@@ -76,12 +76,12 @@ keeps_met shelf p q s g h is grows own = record {
 }
 
 -- what a pass learns at a meeting has no entry of its own caller
-pub met_later : (q : RealmPass) (s : List Entry) → StartsWith s q.seen → IsOwnPass q → IsOwnPass (seen_up_to s q) → Later q.caller q.seen s
+pub met_later : (q : RealmPass) (s : List Entry) → StartsWith s q.seen → IsOwnPass q → IsOwnPass (seen_up_to s q) → IsLaterHistory q.caller q.seen s
 met_later q s grows own met = record { grows = grows; own = met ∙ sym own }
 
 -- a meeting alone
-pub keeps_learns : (shelf : Shelf) (p : RealmPass) (s : List Entry) (g : GatesView) → StartsWith s p.seen → IsOwnPass (seen_up_to s p) → Keeps shelf p (seen_up_to s p) g g
-keeps_learns shelf p s g grows own = record {
+pub keeps_learns : (manifests : Manifests) (p : RealmPass) (s : List Entry) (g : GatesView) → StartsWith s p.seen → IsOwnPass (seen_up_to s p) → KeepsPass manifests p (seen_up_to s p) g g
+keeps_learns manifests p s g grows own = record {
   lock = refl;
   frame = refl;
   caller = refl;
@@ -90,10 +90,10 @@ keeps_learns shelf p s g grows own = record {
   part = [];
   mine = sym (append-nil p.mine);
   closed = empty;
-  work = works_nothing shelf g;
+  work = works_nothing manifests g;
 }
 
 -- who has performed commands has performed them at a later place of the history too
-pub follows_later : (f : Frame) (c : ℕ) (xs : List Done) (a b d : List Entry) → Follows f c xs a b → Later c b d → Follows f c xs a d
-follows_later f c xs a b d (rests l) k = Follows.rests (later-trans c a b d l k)
-follows_later f c xs a b d (performs goes rest) k = Follows.performs goes (follows_later f c _ _ b d rest k)
+pub follows_later : (f : Frame) (c : ℕ) (xs : List Done) (a b d : List Entry) → PerformsCommands f c xs a b → IsLaterHistory c b d → PerformsCommands f c xs a d
+follows_later f c xs a b d (rests l) k = PerformsCommands.rests (later-trans c a b d l k)
+follows_later f c xs a b d (performs goes rest) k = PerformsCommands.performs goes (follows_later f c _ _ b d rest k)

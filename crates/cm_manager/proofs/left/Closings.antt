@@ -1,6 +1,6 @@
 -- What a manager's history is when it is closed.
 use Rattle.std.proofs.Common.{◌≡◌, List, All, Some, subst, sym, ap, ◌∙◌}
-use Rattle.cm_turn.specs.Passes.{IsKnown, HasCaller}
+use Rattle.cm_turn.specs.Passes.{BearsPassOut, HasCaller}
 use Rattle.cm_world.specs.declared.frame.Frame.{Frame}
 use Rattle.cm_world.specs.declared.reply.Entry.{Entry}
 use Rattle.cm_world.specs.World.{start}
@@ -10,10 +10,10 @@ use Rattle.cm_laws.specs.Story.{Story, IsLegal, world_of}
 use Rattle.cm_laws.proofs.AllLaws.{histories_keep_laws}
 use Rattle.cm_manager.specs.Turns.{world_after}
 use Rattle.cm_manager.specs.Contract.{RealmPass}
-use Rattle.cm_manager.specs.Managers.{Closes, IsBookOf}
+use Rattle.cm_manager.specs.Managers.{BearsPassesOut, IsBookOf}
 use Rattle.cm_manager.specs.Asking.{frame_in, frame_of}
 
-pub closes_by : (history : List Entry) (passes : List RealmPass) (s : Story) → history ≡ s.entries → IsLegal s → All (IsKnown (λ (s : Story). s.entries) (λ s. s.frame) (λ (e : Entry). e.caller) s) passes → All (λ (e : Entry). HasCaller passes e.caller) s.entries → Closes history passes
+pub closes_by : (history : List Entry) (passes : List RealmPass) (s : Story) → history ≡ s.entries → IsLegal s → All (BearsPassOut (λ (s : Story). s.entries) (λ s. s.frame) (λ (e : Entry). e.caller) s) passes → All (λ (e : Entry). HasCaller passes e.caller) s.entries → BearsPassesOut history passes
 unfolding IsLegal
 closes_by history passes s is legal known callers = record {
   story = s;
@@ -25,7 +25,7 @@ closes_by history passes s is legal known callers = record {
 }
 
 -- what bears passes out has their frame
-pub known_frames : (passes : List RealmPass) (s : Story) → All (IsKnown (λ (s : Story). s.entries) (λ s. s.frame) (λ (e : Entry). e.caller) s) passes → All (λ (p : RealmPass). p.frame ≡ Some s.frame) passes
+pub known_frames : (passes : List RealmPass) (s : Story) → All (BearsPassOut (λ (s : Story). s.entries) (λ s. s.frame) (λ (e : Entry). e.caller) s) passes → All (λ (p : RealmPass). p.frame ≡ Some s.frame) passes
 known_frames passes s known = λ k d lt. (known k d lt).0
 
 -- and the realm's book is that of the frame of each of them

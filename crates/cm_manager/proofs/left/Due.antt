@@ -8,10 +8,11 @@ use Rattle.cm_world.specs.declared.reply.Entry.{Entry}
 use Rattle.cm_world.specs.World.{World, start}
 use Rattle.cm_world.specs.Legal.{Legal, replay}
 use Rattle.cm_world.proofs.trees.Histories.{Legal-split, replay-append}
-use Rattle.cm_laws.specs.Shutdowns.{IsLeaving, IsMarked, IsOver, MarksStay, MarkedMayClose, OverStays, OverMayPurge}
+use Rattle.cm_laws.specs.Shutdowns.{IsLeaving, IsMarked}
+use Rattle.cm_laws.specs.ShutdownsInside.{IsShutBelow, MarksStay, MarkedMayClose, OverStays, OverMayPurge}
 use Rattle.cm_laws.specs.Story.{Story, world_of, IsLegal}
 use Rattle.cm_manager.specs.Turns.{world_after}
-use Rattle.cm_manager.specs.Asking.{frame_in, frame_of, IsDue, IsOpen, DueStays, DueIsOpen}
+use Rattle.cm_manager.specs.Asking.{frame_in, frame_of, IsDue, TreeAllows, DueStays, DueIsOpen}
 use Rattle.cm_manager.specs.Contract.{RealmPass, IsSamePass}
 use Rattle.cm_manager.proofs.onward.Turning.{Entered}
 
@@ -28,9 +29,9 @@ marked_stays stays f doom i seen found legal grows marked =
 pub leaving_stays : MarksStay → (f : Frame) (i : ℕ) (seen found : List Entry) → Legal (start f) found → StartsWith found seen → IsLeaving (world_after f seen) i → IsLeaving (world_after f found) i
 leaving_stays stays f i seen found legal grows leaving = (marked_stays stays f false i seen found legal grows (leaving_marked (world_after f seen) i leaving)).0
 
-pub over_stays : OverStays → (f : Frame) (i : ℕ) (seen found : List Entry) → Legal (start f) found → StartsWith found seen → IsOver (world_after f seen) i → IsOver (world_after f found) i
+pub over_stays : OverStays → (f : Frame) (i : ℕ) (seen found : List Entry) → Legal (start f) found → StartsWith found seen → IsShutBelow (world_after f seen) i → IsShutBelow (world_after f found) i
 over_stays stays f i seen found legal grows over =
-    subst (λ (l : List Entry). IsOver (world_after f l) i) (sym grows.1)
+    subst (λ (l : List Entry). IsShutBelow (world_after f l) i) (sym grows.1)
     (stays f seen grows.0 i (subst (Legal (start f)) grows.1 legal) over)
 
 pub due_stays : MarksStay → OverStays → DueStays
@@ -46,7 +47,7 @@ due_is_open closes purges w _ due = tt
 -- ---- turns
 
 -- the tree that a turn finds allows what was due in what its pass had seen
-pub open_at : DueStays → DueIsOpen → (p : RealmPass) (s : Story) (e : Event) → Entered p s → IsDue (world_after (frame_of p) p.seen) e → IsOpen (world_of s) e
+pub open_at : DueStays → DueIsOpen → (p : RealmPass) (s : Story) (e : Event) → Entered p s → IsDue (world_after (frame_of p) p.seen) e → TreeAllows (world_of s) e
 unfolding IsLegal world_of
 open_at stays allowed p s e is due =
     allowed (world_of s) e

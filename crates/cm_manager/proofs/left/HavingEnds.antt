@@ -13,12 +13,13 @@ use Rattle.cm_world.specs.declared.reply.Reply.TheVariants as reply
 use Rattle.cm_world.specs.declared.reply.Entry.{Entry}
 use Rattle.cm_manager.specs.Turns.{own_entries}
 use Rattle.cm_manager.specs.Work.{begins}
-use Rattle.cm_turn.specs.Passes.{IsKnown, HasCaller}
+use Rattle.cm_turn.specs.Passes.{BearsPassOut, HasCaller}
 use Rattle.cm_laws.specs.Story.{Story}
 use Rattle.cm_world.proofs.trees.Finding.{some_same}
-use Rattle.cm_manager.specs.Closed.{joins, IsClosed, empty, plain, acted, awaited, BeginsWork, EndsAction, HasEnds}
+use Rattle.cm_manager.specs.Closed.{BeginsWork, EndsAction, HasEnds}
+use Rattle.cm_manager.specs.ClosedInside.{joins, IsClosed, empty, plain, acted, awaited}
 use Rattle.cm_manager.specs.Contract.{RealmPass}
-use Rattle.cm_manager.specs.Managers.{Closes}
+use Rattle.cm_manager.specs.Managers.{BearsPassesOut}
 
 -- ---- elements
 
@@ -105,12 +106,12 @@ pub own_caller : (c : ℕ) → (c == c) ≡ true
 own_caller c = search rules
 
 -- what each caller began has its end among that caller's entries, which stand in the history
-pub history_has_ends : (history : List Entry) (passes : List RealmPass) → Closes history passes → All (λ (p : RealmPass). HasEnds p.mine) passes → HasEnds history
+pub history_has_ends : (history : List Entry) (passes : List RealmPass) → BearsPassesOut history passes → All (λ (p : RealmPass). HasEnds p.mine) passes → HasEnds history
 history_has_ends history passes closes ends b (k, e, lt, at, is) =
     let has : HasCaller passes e.caller = All-contains (λ (x : Entry). HasCaller passes x.caller) history e closes.callers (k, lt, at) in
     let p : RealmPass = has.1 in
     let there : Contains passes p = (has.0, slice_get_within passes has.0 p has.2, get_or_from_slice_get passes has.0 p p has.2) in
-    let known : IsKnown (λ (s : Story). s.entries) (λ s. s.frame) (λ (x : Entry). x.caller) closes.story p = All-contains (IsKnown (λ (s : Story). s.entries) (λ s. s.frame) (λ (x : Entry). x.caller) closes.story) passes p closes.known there in
+    let known : BearsPassOut (λ (s : Story). s.entries) (λ s. s.frame) (λ (x : Entry). x.caller) closes.story p = All-contains (BearsPassOut (λ (s : Story). s.entries) (λ s. s.frame) (λ (x : Entry). x.caller) closes.story) passes p closes.known there in
     let mine : own_entries e.caller history ≡ p.mine = ap (λ (c : ℕ). own_entries c history) (sym has.3) ∙ ap (own_entries p.caller) closes.entries ∙ known.2 in
     let own : Contains p.mine e = subst (λ (l : List Entry). Contains l e) mine (kept_by_filter (λ (x : Entry). x.caller == e.caller) history e (own_caller e.caller) (k, lt, at)) in
     let end = All-contains (λ (q : RealmPass). HasEnds q.mine) passes p ends there b (any_of (BeginsWork b) p.mine e own is) in

@@ -19,14 +19,14 @@ use Rattle.cm_world.specs.End.{fits_kind, outcome_by}
 use Rattle.cm_world.specs.Step.{MayEnd}
 use Rattle.cm_world.specs.Legal.{Legal}
 use Rattle.cm_laws.specs.Laws.{IsJoined}
-use Rattle.cm_manager.specs.Turns.{Makes, Asks, world_after}
+use Rattle.cm_manager.specs.Turns.{AddsOneEntry, AddsWithinRoom, world_after}
 use Rattle.cm_world.specs.Expiring.{is_stopped}
 use Rattle.cm_manager.specs.Runs.{is_started}
-use Rattle.cm_manager.specs.Acting.{BeginsBy}
-use Rattle.cm_manager.specs.Asking.{Asked, Told, frame_of}
-use Rattle.cm_manager.specs.Contract.{RealmPass, GatesView, IsSamePass, Helps}
-use Rattle.cm_manager.specs.Doing.{Did, Fits}
-use Rattle.cm_manager.specs.Work.{Shelf}
+use Rattle.cm_manager.specs.Acting.{BeginRun}
+use Rattle.cm_manager.specs.Asking.{RecordsEvent, RecordsOutcome, frame_of}
+use Rattle.cm_manager.specs.Contract.{RealmPass, GatesView, IsSamePass, IsSubcall}
+use Rattle.cm_manager.specs.Doing.{Did, FitsAction}
+use Rattle.cm_manager.specs.Work.{Manifests}
 use Rattle.cm_manager.specs.declared.began.Began.TheVariants as began
 use Rattle.cm_manager.proofs.onward.BeginReplies.{is_begin_reply, begin_replies, start_needs, quiet_by}
 use Rattle.cm_manager.proofs.left.Closing.{quiet-begins}
@@ -37,7 +37,7 @@ use Rattle.cm_manager.proofs.left.Standing.{last_step, begun_ends, joined_awaits
 -- ---- replies
 
 -- the reply of a begin is one that it may get
-begin_of : (f : Frame) (c : ℕ) (k : ActKind) (i : ℕ) (r : Reply) (old new : List Entry) → Legal (start f) new → Asks f c old (event.Begin k i) r new → IsTrue (is_begin_reply k r)
+begin_of : (f : Frame) (c : ℕ) (k : ActKind) (i : ℕ) (r : Reply) (old new : List Entry) → Legal (start f) new → AddsWithinRoom f c old (event.Begin k i) r new → IsTrue (is_begin_reply k r)
 begin_of f c k i r old new legal asks =
     let w = world_after f asks.made.found in
     begin_replies w.rows w.next_action k i r (last_step f c old (event.Begin k i) r new legal asks.made).allowed
@@ -82,7 +82,7 @@ stopped_end _ limit rows next fits = absurd (cc fits)
 same_outcome : (o p : Outcome) → reply.Ended o ≡ reply.Ended p → o ≡ p
 same_outcome o p e = cc e
 
-apart_by : (f : Frame) (c a : ℕ) (k : ActKind) (end : Finish) (o : Outcome) (old new : List Entry) → Legal (start f) new → Makes c old (event.End a end) (reply.Ended o) new → IsTrue (fits_kind k end) → k ≢ kind.Start → IsFalse (is_started o)
+apart_by : (f : Frame) (c a : ℕ) (k : ActKind) (end : Finish) (o : Outcome) (old new : List Entry) → Legal (start f) new → AddsOneEntry c old (event.End a end) (reply.Ended o) new → IsTrue (fits_kind k end) → k ≢ kind.Start → IsFalse (is_started o)
 apart_by f c a k end o old new legal makes fits apart =
     let w = world_after f makes.found in
     let by = outcome_by w.frame.limits.rows w.rows w.next_inc end in
@@ -90,27 +90,27 @@ apart_by f c a k end o old new legal makes fits apart =
     (apart_end k end w.frame.limits.rows w.rows w.next_inc fits apart)
 
 -- what an end comes to has what its definition has
-ended_as : (P : Outcome → Type 0) (f : Frame) (c a : ℕ) (end : Finish) (o : Outcome) (old new : List Entry) → Legal (start f) new → (makes : Makes c old (event.End a end) (reply.Ended o) new) → P (outcome_by (world_after f makes.found).frame.limits.rows (world_after f makes.found).rows (world_after f makes.found).next_inc end) → P o
+ended_as : (P : Outcome → Type 0) (f : Frame) (c a : ℕ) (end : Finish) (o : Outcome) (old new : List Entry) → Legal (start f) new → (makes : AddsOneEntry c old (event.End a end) (reply.Ended o) new) → P (outcome_by (world_after f makes.found).frame.limits.rows (world_after f makes.found).rows (world_after f makes.found).next_inc end) → P o
 ended_as P f c a end o old new legal makes it =
     let w = world_after f makes.found in
     subst P (sym (same_outcome o (outcome_by w.frame.limits.rows w.rows w.next_inc end) (last_step f c old (event.End a end) (reply.Ended o) new legal makes).allowed)) it
 
-unstopped_by : (f : Frame) (c a : ℕ) (k : ActKind) (end : Finish) (o : Outcome) (old new : List Entry) → Legal (start f) new → Makes c old (event.End a end) (reply.Ended o) new → IsTrue (fits_kind k end) → k ≢ kind.Stop → IsFalse (is_stopped o)
+unstopped_by : (f : Frame) (c a : ℕ) (k : ActKind) (end : Finish) (o : Outcome) (old new : List Entry) → Legal (start f) new → AddsOneEntry c old (event.End a end) (reply.Ended o) new → IsTrue (fits_kind k end) → k ≢ kind.Stop → IsFalse (is_stopped o)
 unstopped_by f c a k end o old new legal makes fits apart =
     ended_as (λ (o : Outcome). IsFalse (is_stopped o)) f c a end o old new legal makes (unstopped_end k end _ _ _ fits apart)
 
-stopped_by : (f : Frame) (c a : ℕ) (k : ActKind) (end : Finish) (o : Outcome) (old new : List Entry) → Legal (start f) new → Makes c old (event.End a end) (reply.Ended o) new → IsTrue (fits_kind k end) → k ≡ kind.Stop → IsTrue (is_stopped o)
+stopped_by : (f : Frame) (c a : ℕ) (k : ActKind) (end : Finish) (o : Outcome) (old new : List Entry) → Legal (start f) new → AddsOneEntry c old (event.End a end) (reply.Ended o) new → IsTrue (fits_kind k end) → k ≡ kind.Stop → IsTrue (is_stopped o)
 stopped_by f c a k end o old new legal makes fits is =
     ended_as (λ (o : Outcome). IsTrue (is_stopped o)) f c a end o old new legal makes (stopped_end end _ _ _ (subst (λ (k : ActKind). IsTrue (fits_kind k end)) is fits))
 
 -- ---- the conditions of the second turn
 
-pub begun_may : (k : ActKind) (i : ℕ) (w : Work) (end : Finish) (p q : RealmPass) → IsSamePass (frame_of p) p q → Asked (event.Begin k i) p q (Ok (reply.Begun w)) → Fits k end → MayEnd (world_after (frame_of q) q.seen).acts q.caller w.action end
+pub begun_may : (k : ActKind) (i : ℕ) (w : Work) (end : Finish) (p q : RealmPass) → IsSamePass (frame_of p) p q → RecordsEvent (event.Begin k i) p q (Ok (reply.Begun w)) → FitsAction k end → MayEnd (world_after (frame_of q) q.seen).acts q.caller w.action end
 begun_may k i w end p q same asked fits =
     by_first (λ f c. MayEnd (world_after f q.seen).acts c w.action end) q p (sym same.frame) (sym same.caller)
     (begun_ends (frame_of p) p.caller k i p.seen q.seen w end same.legal asked.0 fits.fitting fits.valid)
 
-pub joined_may : (k : ActKind) (i a : ℕ) (p q : RealmPass) → IsSamePass (frame_of p) p q → Asked (event.Begin k i) p q (Ok (reply.Joined a)) → IsJoined (world_after (frame_of q) q.seen) q.caller a
+pub joined_may : (k : ActKind) (i a : ℕ) (p q : RealmPass) → IsSamePass (frame_of p) p q → RecordsEvent (event.Begin k i) p q (Ok (reply.Joined a)) → IsJoined (world_after (frame_of q) q.seen) q.caller a
 joined_may k i a p q same asked =
     by_first (λ f c. IsJoined (world_after f q.seen) c a) q p (sym same.frame) (sym same.caller)
     (joined_awaits (frame_of p) p.caller k i a p.seen q.seen same.legal asked.0)
@@ -120,13 +120,13 @@ joined_may k i a p q same asked =
 behind : (p q r : RealmPass) → IsSamePass (frame_of p) p q → IsSamePass (frame_of q) q r → IsSamePass (frame_of p) q r
 behind p q r first second = subst (λ (f : Frame). IsSamePass f q r) (frame_kept p q first.frame) second
 
-pub begun_help : (shelf : Shelf) (k : ActKind) (i : ℕ) (w : Work) (end : Finish) (o : Outcome) (eager : List ℕ) (p q r : RealmPass) (g h : GatesView) → IsSamePass (frame_of p) p q → Asked (event.Begin k i) p q (Ok (reply.Begun w)) → Did shelf w k end g h → Fits k end → (k ≡ kind.Start → eager ≡ w.eager) → IsSamePass (frame_of q) q r → Told q r (event.End w.action end) o → Helps shelf (frame_of p) (λ a b. BeginsBy (frame_of p) p.caller k i (Ok (began.Ended w.action o eager)) a b) p r g h
-begun_help shelf k i w end o eager p q r g h first asked did fits children second told =
+pub begun_help : (manifests : Manifests) (k : ActKind) (i : ℕ) (w : Work) (end : Finish) (o : Outcome) (eager : List ℕ) (p q r : RealmPass) (g h : GatesView) → IsSamePass (frame_of p) p q → RecordsEvent (event.Begin k i) p q (Ok (reply.Begun w)) → Did manifests w k end g h → FitsAction k end → (k ≡ kind.Start → eager ≡ w.eager) → IsSamePass (frame_of q) q r → RecordsOutcome q r (event.End w.action end) o → IsSubcall manifests (frame_of p) (λ a b. BeginRun (frame_of p) p.caller k i (Ok (began.Ended w.action o eager)) a b) p r g h
+begun_help manifests k i w end o eager p q r g h first asked did fits children second told =
     let f = frame_of p in
     let c = p.caller in
     let last = behind p q r first second in
-    let makes = subst (λ (c : ℕ). Makes c q.seen (event.End w.action end) (reply.Ended o) r.seen) first.caller told.makes in
-    helps_acted shelf f (λ a b. BeginsBy f c k i (Ok (began.Ended w.action o eager)) a b) p q r g h (event.Begin k i) (reply.Begun w) k w end o refl first last
+    let makes = subst (λ (c : ℕ). AddsOneEntry c q.seen (event.End w.action end) (reply.Ended o) r.seen) first.caller told.makes in
+    helps_acted manifests f (λ a b. BeginRun f c k i (Ok (began.Ended w.action o eager)) a b) p q r g h (event.Begin k i) (reply.Begun w) k w end o refl first last
     (record {
       work = w;
       finish = end;
@@ -141,33 +141,33 @@ begun_help shelf k i w end o eager p q r g h first asked did fits children secon
     })
     asked.1 told.mine did
 
-pub joined_help : (shelf : Shelf) (k : ActKind) (i n : ℕ) (o : Outcome) (p q r : RealmPass) (g : GatesView) → IsSamePass (frame_of p) p q → Asked (event.Begin k i) p q (Ok (reply.Joined n)) → IsSamePass (frame_of q) q r → Told q r (event.Await n) o → Helps shelf (frame_of p) (λ a b. BeginsBy (frame_of p) p.caller k i (Ok (began.Joined n o)) a b) p r g g
-joined_help shelf k i n o p q r g first asked second told =
+pub joined_help : (manifests : Manifests) (k : ActKind) (i n : ℕ) (o : Outcome) (p q r : RealmPass) (g : GatesView) → IsSamePass (frame_of p) p q → RecordsEvent (event.Begin k i) p q (Ok (reply.Joined n)) → IsSamePass (frame_of q) q r → RecordsOutcome q r (event.Await n) o → IsSubcall manifests (frame_of p) (λ a b. BeginRun (frame_of p) p.caller k i (Ok (began.Joined n o)) a b) p r g g
+joined_help manifests k i n o p q r g first asked second told =
     let f = frame_of p in
     let c = p.caller in
-    helps_joined shelf f (λ a b. BeginsBy f c k i (Ok (began.Joined n o)) a b) p q r g k i n o first (behind p q r first second)
+    helps_joined manifests f (λ a b. BeginRun f c k i (Ok (began.Joined n o)) a b) p q r g k i n o first (behind p q r first second)
     (record {
       h₁ = q.seen;
       asks = asked.0;
-      makes = subst (λ (c : ℕ). Makes c q.seen (event.Await n) (reply.Ended o) r.seen) first.caller told.makes;
+      makes = subst (λ (c : ℕ). AddsOneEntry c q.seen (event.Await n) (reply.Ended o) r.seen) first.caller told.makes;
     })
     asked.1 told.mine
 
-pub needs_help : (shelf : Shelf) (k : ActKind) (i j : ℕ) (p q : RealmPass) (g : GatesView) → IsSamePass (frame_of p) p q → Asked (event.Begin k i) p q (Ok (reply.Need j)) → Helps shelf (frame_of p) (λ a b. BeginsBy (frame_of p) p.caller k i (Ok (began.Needs j)) a b) p q g g
-needs_help shelf k i j p q g same asked =
+pub needs_help : (manifests : Manifests) (k : ActKind) (i j : ℕ) (p q : RealmPass) (g : GatesView) → IsSamePass (frame_of p) p q → RecordsEvent (event.Begin k i) p q (Ok (reply.Need j)) → IsSubcall manifests (frame_of p) (λ a b. BeginRun (frame_of p) p.caller k i (Ok (began.Needs j)) a b) p q g g
+needs_help manifests k i j p q g same asked =
     let f = frame_of p in
     let c = p.caller in
-    helps_plain shelf f (λ a b. BeginsBy f c k i (Ok (began.Needs j)) a b) p q g (event.Begin k i) (reply.Need j) refl refl refl same
+    helps_plain manifests f (λ a b. BeginRun f c k i (Ok (began.Needs j)) a b) p q g (event.Begin k i) (reply.Need j) refl refl refl same
     (asked.0, start_needs k j (begin_of f c k i (reply.Need j) p.seen q.seen same.legal asked.0)) asked.1
 
-pub quiet_help : (shelf : Shelf) (k : ActKind) (i : ℕ) (r : Reply) (p q : RealmPass) (g : GatesView) → IsSamePass (frame_of p) p q → Asked (event.Begin k i) p q (Ok r) → ((w : Work) → r ≢ reply.Begun w) → ((n : ℕ) → r ≢ reply.Joined n) → ((j : ℕ) → r ≢ reply.Need j) → Helps shelf (frame_of p) (λ a b. BeginsBy (frame_of p) p.caller k i (Ok (began.Quiet r)) a b) p q g g
-quiet_help shelf k i r p q g same asked begun joined need =
+pub quiet_help : (manifests : Manifests) (k : ActKind) (i : ℕ) (r : Reply) (p q : RealmPass) (g : GatesView) → IsSamePass (frame_of p) p q → RecordsEvent (event.Begin k i) p q (Ok r) → ((w : Work) → r ≢ reply.Begun w) → ((n : ℕ) → r ≢ reply.Joined n) → ((j : ℕ) → r ≢ reply.Need j) → IsSubcall manifests (frame_of p) (λ a b. BeginRun (frame_of p) p.caller k i (Ok (began.Quiet r)) a b) p q g g
+quiet_help manifests k i r p q g same asked begun joined need =
     let f = frame_of p in
     let c = p.caller in
     let quiet = quiet_by k r (begin_of f c k i r p.seen q.seen same.legal asked.0) begun joined need in
-    helps_plain shelf f (λ a b. BeginsBy f c k i (Ok (began.Quiet r)) a b) p q g (event.Begin k i) r refl (quiet-begins k i r quiet).0 (quiet-begins k i r quiet).1 same
+    helps_plain manifests f (λ a b. BeginRun f c k i (Ok (began.Quiet r)) a b) p q g (event.Begin k i) r refl (quiet-begins k i r quiet).0 (quiet-begins k i r quiet).1 same
     (asked.0, quiet) asked.1
 
-pub cut_help : (shelf : Shelf) (k : ActKind) (i : ℕ) (x : Refusal) (p q : RealmPass) (g : GatesView) → IsSamePass (frame_of p) p q → Asked (event.Begin k i) p q (Err x) → Helps shelf (frame_of p) (λ a b. BeginsBy (frame_of p) p.caller k i (Err x) a b) p q g g
-cut_help shelf k i x p q g same asked =
-    helps_nothing shelf (frame_of p) (λ a b. BeginsBy (frame_of p) p.caller k i (Err x) a b) p q g same asked.0 asked.1
+pub cut_help : (manifests : Manifests) (k : ActKind) (i : ℕ) (x : Refusal) (p q : RealmPass) (g : GatesView) → IsSamePass (frame_of p) p q → RecordsEvent (event.Begin k i) p q (Err x) → IsSubcall manifests (frame_of p) (λ a b. BeginRun (frame_of p) p.caller k i (Err x) a b) p q g g
+cut_help manifests k i x p q g same asked =
+    helps_nothing manifests (frame_of p) (λ a b. BeginRun (frame_of p) p.caller k i (Err x) a b) p q g same asked.0 asked.1

@@ -12,7 +12,8 @@ use Rattle.cm_world.specs.declared.reply.Reply.{Reply}
 use Rattle.cm_world.specs.declared.reply.Reply.TheVariants as reply
 use Rattle.cm_world.specs.World.{start}
 use Rattle.cm_world.specs.Legal.{Legal}
-use Rattle.cm_laws.specs.Lasting.{OutcomesAreOne, begun_by as number_by}
+use Rattle.cm_laws.specs.Lasting.{begun_by as number_by}
+use Rattle.cm_laws.specs.LastingInside.{OutcomesAreOne}
 use Rattle.cm_events.specs.Stream.{begun_by, work_of}
 use Rattle.cm_events.specs.Wanted.{BeginsOnce}
 
@@ -37,5 +38,5 @@ no_work (e ∷ es) a other =
 
 pub begun_once : OutcomesAreOne → (f : Frame) (es told : List Entry) → Legal (start f) es → told ≡ es → BeginsOnce told
 begun_once law f es told legal same =
-    subst BeginsOnce (sym same) (λ front rest e w whole it.
-    no_work front w.action (λ x there begun. (law f es legal front rest e whole).begins_once w.action x (numbered e.reply w it) there begun))
+    subst BeginsOnce (sym same) (λ prefix rest e w whole it.
+    no_work prefix w.action (λ x there begun. (law f es legal prefix rest e whole).begins_once w.action x (numbered e.reply w it) there begun))

@@ -21,17 +21,17 @@ use Rattle.cm_world.specs.Rows.{is_gone, moniker_of}
 use Rattle.cm_world.specs.After.{with_end_of, moved, after}
 use Rattle.cm_world.specs.Legal.{replay}
 use Rattle.cm_events.specs.Stream.{stream}
-use Rattle.cm_laws.specs.Story.{Story, world_of, IsLegal, Tells, entry_of}
-use Rattle.cm_steps.specs.Steps.{HasRoom}
+use Rattle.cm_laws.specs.Story.{Story, world_of, IsLegal, AddsEntry, entry_of}
+use Rattle.cm_steps.specs.Steps.{RealmHasRoom}
 use Rattle.cm_steps.specs.declared.nostep.NoStep.{NoStep}
 use Rattle.cm_steps.specs.declared.nostep.NoStep.TheVariants as nostep
-use Rattle.cm_manager.specs.Turns.{Asks, wanted, need}
-use Rattle.cm_manager.specs.Contract.{RealmPass, GatesView, IsSamePass, Helps}
-use Rattle.cm_manager.specs.Work.{Shelf}
+use Rattle.cm_manager.specs.Turns.{AddsWithinRoom, wanted, need}
+use Rattle.cm_manager.specs.Contract.{RealmPass, GatesView, IsSamePass, IsSubcall}
+use Rattle.cm_manager.specs.Work.{Manifests}
 use Rattle.cm_manager.specs.Asking.{frame_in, frame_of}
 use Rattle.cm_manager.specs.Streams.{Streams, streamed_by}
 use Rattle.cm_manager.specs.Streaming.{StreamsBy, StreamedBy, answer_in}
-use Rattle.cm_manager.proofs.onward.Turning.{GoesOn, Took, tells_on, same_on, makes_by, nothing_by, grown, room_in, lacks_in}
+use Rattle.cm_manager.proofs.onward.Turning.{ExtendsPass, Took, tells_on, same_on, makes_by, nothing_by, grown, room_in, lacks_in}
 use Rattle.cm_manager.proofs.calling.Helping.{helps_plain, helps_nothing}
 
 -- ---- the length of a history, which the tree counts
@@ -89,14 +89,14 @@ abbrev good : Answer → Result Answer Refusal
 good a = Ok a
 
 -- a tail that wasn't refused tells how long the history was
-pub tailed_length : (s t : Story) (c i from n : ℕ) → Tells s t c (event.Tail i from) (reply.Tailed n) → n ≡ length s.entries
+pub tailed_length : (s t : Story) (c i from n : ℕ) → AddsEntry s t c (event.Tail i from) (reply.Tailed n) → n ≡ length s.entries
 tailed_length s t c i from n tells = tailed_count (is_gone (world_of s).rows i) i n (world_of s).entries tells.step.allowed ∙ story_entries s
 
 -- what was read of it is then the answer
-pub streams_told : (s t : Story) (c i from n : ℕ) (r : Reply) (told : List Happening) (scope : Moniker) (rows : List Row) (es : List Entry) → Tells s t c (event.Tail i from) r → HasRoom s 1 → r ≡ reply.Tailed n → rows ≡ (world_of s).rows → scope ≡ moniker_of rows i → es ≡ s.entries → told ≡ stream es from (length es) scope → StreamsBy s t c i from (Ok (Ok (answer.Streamed n told)))
+pub streams_told : (s t : Story) (c i from n : ℕ) (r : Reply) (told : List Happening) (scope : Moniker) (rows : List Row) (es : List Entry) → AddsEntry s t c (event.Tail i from) r → RealmHasRoom s 1 → r ≡ reply.Tailed n → rows ≡ (world_of s).rows → scope ≡ moniker_of rows i → es ≡ s.entries → told ≡ stream es from (length es) scope → StreamsBy s t c i from (Ok (Ok (answer.Streamed n told)))
 unfolding world_of
 streams_told s t c i from n r told scope rows es tells room is tree at all read =
-    let tailed : Tells s t c (event.Tail i from) (reply.Tailed n) = subst (Tells s t c (event.Tail i from)) is tells in
+    let tailed : AddsEntry s t c (event.Tail i from) (reply.Tailed n) = subst (AddsEntry s t c (event.Tail i from)) is tells in
     let long : n ≡ length s.entries = tailed_length s t c i from n tailed in
     let here : scope ≡ moniker_of (world_of s).rows i = at ∙ ap (λ (rs : List Row). moniker_of rs i) tree in
     let same : told ≡ stream s.entries from n (moniker_of (world_of s).rows i) =
@@ -113,7 +113,7 @@ pub adds : (c i from : ℕ) (old new : Story) (went : Went) → StreamsBy old ne
 adds c i from old new (Ok a) is = entry_of c (event.Tail i from) is.0 ∷ []
 adds c i from old new (Err x) is = []
 
-pub streams_on : (c i from : ℕ) (old new : Story) (went : Went) → IsLegal old → (is : StreamsBy old new c i from went) → GoesOn c old new (adds c i from old new went is)
+pub streams_on : (c i from : ℕ) (old new : Story) (went : Went) → IsLegal old → (is : StreamsBy old new c i from went) → ExtendsPass c old new (adds c i from old new went is)
 unfolding adds
 streams_on c i from old new (Ok a) legal is = tells_on c old new (event.Tail i from) is.0 legal is.1
 streams_on c i from old new (Err x) legal is = same_on c old new legal is.0
@@ -122,7 +122,7 @@ streams_on c i from old new (Err x) legal is = same_on c old new legal is.0
 pub streamed : (p q : RealmPass) (s t : Story) (i from : ℕ) (went : Went) → (is : StreamsBy s t p.caller i from went) → Took p q s t (adds p.caller i from s t went is) → StreamedBy i from p q (answer_in went)
 unfolding adds makes_by
 streamed p q s t i from (Ok a) is took =
-    let asks : Asks (frame_of p) p.caller p.seen (event.Tail i from) is.0 q.seen =
+    let asks : AddsWithinRoom (frame_of p) p.caller p.seen (event.Tail i from) is.0 q.seen =
     record { made = makes_by p q s t (event.Tail i from) is.0 took; room = room_in p s (event.Tail i from) took.entered.frame is.2 } in
     let same : streamed_by (frame_of p) s.entries from i is.0 ≡ a = ap (λ (f : Frame). streamed_by f s.entries from i is.0) (ap frame_in took.entered.frame) ∙ sym is.3 in (
       subst (Streams (frame_of p) p.caller from i p.seen q.seen) same (Streams.told asks),
@@ -147,6 +147,6 @@ streamed_as p q s t c i from went by is took =
     streamed p q s t i from went both.0 both.1
 
 -- such a turn is a whole help, which asks the gates nothing
-pub streamed_helps : (shelf : Shelf) (p q : RealmPass) (g : GatesView) (i from : ℕ) (a : Result Answer Refusal) → IsSamePass (frame_of p) p q → StreamedBy i from p q a → Helps shelf (frame_of p) (λ x y. Streams (frame_of p) p.caller from i x y a) p q g g
-streamed_helps shelf p q g i from a same (way, inl mine) = helps_nothing shelf (frame_of p) _ p q g same way mine
-streamed_helps shelf p q g i from a same (way, inr (r, mine)) = helps_plain shelf (frame_of p) _ p q g (event.Tail i from) r refl refl refl same way mine
+pub streamed_helps : (manifests : Manifests) (p q : RealmPass) (g : GatesView) (i from : ℕ) (a : Result Answer Refusal) → IsSamePass (frame_of p) p q → StreamedBy i from p q a → IsSubcall manifests (frame_of p) (λ x y. Streams (frame_of p) p.caller from i x y a) p q g g
+streamed_helps manifests p q g i from a same (way, inl mine) = helps_nothing manifests (frame_of p) _ p q g same way mine
+streamed_helps manifests p q g i from a same (way, inr (r, mine)) = helps_plain manifests (frame_of p) _ p q g (event.Tail i from) r refl refl refl same way mine

@@ -2,7 +2,7 @@
 use Rattle.std.proofs.Common.{◌≡◌, ℕ, ◌<◌, ◌≤◌, List, [], ◌∷◌, ◌++◌, All, Bool, Option, Some, None, Result, Ok, Err, IfOk, IfErr, IfNone, OnOk, OnErr, refl, sym, ap, subst, ◌∙◌, append-nil}
 use Rattle.std.proofs.lemmas.List.Elements.{All-cons, All-nil}
 use Rattle.cm_turn.specs.History.{StartsWith}
-use Rattle.cm_turn.specs.Passes.{HeldView, Enters, Leaves, seen_up_to, with_state}
+use Rattle.cm_turn.specs.Passes.{HeldView, Enters, LeavesTurn, seen_up_to, with_state}
 use Rattle.cm_world.specs.declared.event.Event.{Event}
 use Rattle.cm_world.specs.declared.event.Event.TheVariants as event
 use Rattle.cm_world.specs.declared.frame.Frame.{Frame}
@@ -18,39 +18,39 @@ use Rattle.cm_world.specs.Expiring.{runs_once}
 use Rattle.cm_world.specs.Step.{MayEnd}
 use Rattle.cm_world.specs.Legal.{Legal}
 use Rattle.cm_world.proofs.trees.Histories.{Legal-push}
-use Rattle.cm_laws.specs.Story.{Story, world_of, IsLegal, Tells, entry_of}
-use Rattle.cm_steps.specs.Steps.{HasRoom, LacksRoom, Refuses}
+use Rattle.cm_laws.specs.Story.{Story, world_of, IsLegal, AddsEntry, entry_of}
+use Rattle.cm_steps.specs.Steps.{RealmHasRoom, LacksRoom, RefusesStep}
 use Rattle.cm_laws.specs.Laws.{IsJoined}
 use Rattle.cm_steps.specs.declared.nostep.NoStep.{NoStep}
 use Rattle.cm_steps.specs.declared.nostep.NoStep.TheVariants as nostep
-use Rattle.cm_manager.specs.Turns.{world_after, own_entries, wanted, need, Later, Makes, Asks, IsCut}
+use Rattle.cm_manager.specs.Turns.{world_after, own_entries, wanted, need, IsLaterHistory, AddsOneEntry, AddsWithinRoom, EndsWithoutEntry}
 use Rattle.cm_manager.specs.Contract.{RealmPass, IsSamePass}
-use Rattle.cm_manager.specs.Asking.{frame_in, frame_of, RefusesRoom, StepsBy, AwaitsBy, IsBusy, Turned, Asked, Awaited, Told}
+use Rattle.cm_manager.specs.Asking.{frame_in, frame_of, RefusesRoom, StepsBy, AwaitsBy, IsBusy, Turned, RecordsEvent, Awaited, RecordsOutcome}
 use Rattle.cm_manager.proofs.calling.Joining.{starts-trans, later-trans, makes-later, asks-later}
 use Rattle.cm_manager.proofs.left.Standing.{ends_later, joins_later}
 
 -- ---- a step
 
-forget : (s : Story) (more : ℕ) (Waits : ℕ → Type 0) (x : NoStep) → Refuses s more Waits x → RefusesRoom s more x
+forget : (s : Story) (more : ℕ) (Waits : ℕ → Type 0) (x : NoStep) → RefusesStep s more Waits x → RefusesRoom s more x
 forget s more Waits (nostep.Busy a) is = tt
 forget s more Waits nostep.HistoryFull is = is
 forget s more Waits nostep.Memory is = tt
 
 -- the clauses of a step in one
-pub steps_by : (old new : Story) (c : ℕ) (e : Event) (Waits : ℕ → Type 0) (r : Result Reply NoStep) → IfOk r (λ x. Tells old new c e x) → OnOk r (HasRoom old (need e)) → IfErr r (Refuses old (need e) Waits) → OnErr r (new ≡ old) → StepsBy old new c e r
+pub steps_by : (old new : Story) (c : ℕ) (e : Event) (Waits : ℕ → Type 0) (r : Result Reply NoStep) → IfOk r (λ x. AddsEntry old new c e x) → OnOk r (RealmHasRoom old (need e)) → IfErr r (RefusesStep old (need e) Waits) → OnErr r (new ≡ old) → StepsBy old new c e r
 steps_by old new c e Waits (Ok x) tells room refused kept = (tells, room)
 steps_by old new c e Waits (Err x) tells room refused kept = (kept, forget old (need e) Waits x refused)
 
 -- ---- what a state and a pass are behind a step
 
 -- a story that goes on from another by entries of one caller
-pub record GoesOn (c : ℕ) (old new : Story) (more : List Entry) : Type 0 where
+pub record ExtendsPass (c : ℕ) (old new : Story) (more : List Entry) : Type 0 where
   pub entries : new.entries ≡ old.entries ++ more
   pub frame : new.frame ≡ old.frame
   pub own : All (λ (e : Entry). e.caller ≡ c) more
   pub legal : Legal (start old.frame) new.entries
 
-pub tells_on : (c : ℕ) (old new : Story) (e : Event) (r : Reply) → IsLegal old → Tells old new c e r → GoesOn c old new (entry_of c e r ∷ [])
+pub tells_on : (c : ℕ) (old new : Story) (e : Event) (r : Reply) → IsLegal old → AddsEntry old new c e r → ExtendsPass c old new (entry_of c e r ∷ [])
 unfolding IsLegal world_of
 tells_on c old new e r legal is = record {
   entries = is.entries;
@@ -59,7 +59,7 @@ tells_on c old new e r legal is = record {
   legal = subst (Legal (start old.frame)) (sym is.entries) (Legal-push (start old.frame) old.entries (entry_of c e r) legal is.step);
 }
 
-pub same_on : (c : ℕ) (old new : Story) → IsLegal old → new ≡ old → GoesOn c old new []
+pub same_on : (c : ℕ) (old new : Story) → IsLegal old → new ≡ old → ExtendsPass c old new []
 unfolding IsLegal
 same_on c old new legal is = record {
   entries = ap (λ (s : Story). s.entries) is ∙ sym (append-nil old.entries);
@@ -85,13 +85,13 @@ abbrev pub RealmEnters : RealmPass → RealmTurn → Type 0
 RealmEnters = Enters (λ (s : Story). s.entries) (λ (s : Story). s.frame) (λ (e : Entry). e.caller)
 
 abbrev pub RealmLeaves : RealmTurn → RealmPass → Type 0
-RealmLeaves = Leaves (λ (s : Story). s.entries) (λ (e : Entry). e.caller)
+RealmLeaves = LeavesTurn (λ (s : Story). s.entries) (λ (e : Entry). e.caller)
 
 -- a turn that went so
 pub record Took (p q : RealmPass) (s t : Story) (more : List Entry) : Type 0 where
   pub entered : Entered p s
   pub left : RealmLeaves (record { state = t; pass = seen_up_to s.entries p }) q
-  pub goes : GoesOn p.caller s t more
+  pub goes : ExtendsPass p.caller s t more
 
 pub same_pass : (p q : RealmPass) (s t : Story) (more : List Entry) → Took p q s t more → IsSamePass (frame_of p) p q
 same_pass p q s t more is = record {
@@ -107,10 +107,10 @@ pub grown : (p q : RealmPass) (s t : Story) (more : List Entry) → Took p q s t
 grown p q s t more is = is.left.mine more is.goes.entries
 
 -- what an enter finds is a later history of what the pass had seen
-pub since_seen : (p : RealmPass) (s : Story) → Entered p s → Later p.caller p.seen s.entries
+pub since_seen : (p : RealmPass) (s : Story) → Entered p s → IsLaterHistory p.caller p.seen s.entries
 since_seen p s is = record { grows = is.begins; own = is.mine ∙ is.own }
 
-unfoldable pub makes_by : (p q : RealmPass) (s t : Story) (e : Event) (r : Reply) → Took p q s t (entry_of p.caller e r ∷ []) → Makes p.caller p.seen e r q.seen
+unfoldable pub makes_by : (p q : RealmPass) (s t : Story) (e : Event) (r : Reply) → Took p q s t (entry_of p.caller e r ∷ []) → AddsOneEntry p.caller p.seen e r q.seen
 makes_by p q s t e r is = record {
   found = s.entries;
   later = since_seen p s is.entered;
@@ -118,9 +118,9 @@ makes_by p q s t e r is = record {
 }
 
 -- a turn without an entry
-pub nothing_by : (p q : RealmPass) (s t : Story) → Took p q s t [] → Later p.caller p.seen q.seen × (q.mine ≡ p.mine)
+pub nothing_by : (p q : RealmPass) (s t : Story) → Took p q s t [] → IsLaterHistory p.caller p.seen q.seen × (q.mine ≡ p.mine)
 nothing_by p q s t is = (
-  subst (Later p.caller p.seen) (sym (is.left.seen ∙ is.goes.entries ∙ append-nil s.entries)) (since_seen p s is.entered),
+  subst (IsLaterHistory p.caller p.seen) (sym (is.left.seen ∙ is.goes.entries ∙ append-nil s.entries)) (since_seen p s is.entered),
   grown p q s t [] is ∙ append-nil p.mine,
 )
 
@@ -137,7 +137,7 @@ looked_by p q s t i once is read = found_by p q s t (λ (w : World). once ≡ ru
 
 -- ---- a turn
 
-pub room_in : (p : RealmPass) (s : Story) (e : Event) → p.frame ≡ Some s.frame → HasRoom s (need e) → wanted (frame_of p) s.entries e ≤ (frame_of p).limits.entries
+pub room_in : (p : RealmPass) (s : Story) (e : Event) → p.frame ≡ Some s.frame → RealmHasRoom s (need e) → wanted (frame_of p) s.entries e ≤ (frame_of p).limits.entries
 unfolding world_of
 room_in p s e frame room = subst (λ (f : Frame). wanted f s.entries e ≤ f.limits.entries) (sym (ap frame_in frame)) room
 
@@ -150,7 +150,7 @@ abbrev pub entries_of : ℕ → Event → Result Reply NoStep → List Entry
 entries_of c e (Ok r) = entry_of c e r ∷ []
 entries_of c e (Err x) = []
 
-pub steps_on : (c : ℕ) (old new : Story) (e : Event) (r : Result Reply NoStep) → IsLegal old → StepsBy old new c e r → GoesOn c old new (entries_of c e r)
+pub steps_on : (c : ℕ) (old new : Story) (e : Event) (r : Result Reply NoStep) → IsLegal old → StepsBy old new c e r → ExtendsPass c old new (entries_of c e r)
 steps_on c old new e (Ok r) legal is = tells_on c old new e r legal is.0
 steps_on c old new e (Err x) legal is = same_on c old new legal is.0
 
@@ -172,7 +172,7 @@ pub busy_by : (p q : RealmPass) (s t : Story) (c : ℕ) (e : Event) (r : Result 
 busy_by p q s t c e (Ok r) is busy = tt
 busy_by p q s t c e (Err x) is busy = found_by p q s t (λ (w : World). IsBusy w e x) is busy
 
-pub told_by : (p q : RealmPass) (s t : Story) (e : Event) (o : Outcome) → Took p q s t (entry_of p.caller e (reply.Ended o) ∷ []) → Told p q e o
+pub told_by : (p q : RealmPass) (s t : Story) (e : Event) (o : Outcome) → Took p q s t (entry_of p.caller e (reply.Ended o) ∷ []) → RecordsOutcome p q e o
 told_by p q s t e o is = record {
   makes = makes_by p q s t e (reply.Ended o) is;
   mine = grown p q s t (entry_of p.caller e (reply.Ended o) ∷ []) is;
@@ -182,7 +182,7 @@ abbrev pub awaited_entries : ℕ → ℕ → Option Outcome → List Entry
 awaited_entries c a (Some o) = entry_of c (event.Await a) (reply.Ended o) ∷ []
 awaited_entries c a None = []
 
-pub awaits_on : (c a : ℕ) (old new : Story) (o : Option Outcome) → IsLegal old → AwaitsBy old new c a o → GoesOn c old new (awaited_entries c a o)
+pub awaits_on : (c a : ℕ) (old new : Story) (o : Option Outcome) → IsLegal old → AwaitsBy old new c a o → ExtendsPass c old new (awaited_entries c a o)
 awaits_on c a old new (Some o) legal is = tells_on c old new (event.Await a) (reply.Ended o) legal is
 awaits_on c a old new None legal is = same_on c old new legal is
 
@@ -216,16 +216,16 @@ entered_by p h s e is legal =
     subst (Entered p) (sym is) (record { frame = e.frame; begins = e.begins; mine = e.own; own = sym e.known; legal = subst IsLegal is legal })
 
 -- what a held turn has to say before it is left
-pub may_leave : (p : RealmPass) (h : RealmTurn) (s t : Story) (c : ℕ) (more : List Entry) → RealmEnters p h → s ≡ h.state → c ≡ p.caller → GoesOn c s t more → (es : List Entry) × (t.entries ≡ h.pass.seen ++ es) × All (λ (e : Entry). e.caller ≡ h.pass.caller) es
+pub may_leave : (p : RealmPass) (h : RealmTurn) (s t : Story) (c : ℕ) (more : List Entry) → RealmEnters p h → s ≡ h.state → c ≡ p.caller → ExtendsPass c s t more → (es : List Entry) × (t.entries ≡ h.pass.seen ++ es) × All (λ (e : Entry). e.caller ≡ h.pass.caller) es
 may_leave p h s t c more e is by goes =
     subst (λ (x : RealmPass). (es : List Entry) × (t.entries ≡ x.seen ++ es) × All (λ (e : Entry). e.caller ≡ x.caller) es) (sym e.pass)
     (more, goes.entries ∙ ap (λ (x : Story). x.entries ++ more) is, subst (λ (n : ℕ). All (λ (e : Entry). e.caller ≡ n) more) by goes.own)
 
-pub took_by : (p : RealmPass) (h : RealmTurn) (q : RealmPass) (s t : Story) (c : ℕ) (more : List Entry) → RealmEnters p h → s ≡ h.state → IsLegal s → c ≡ p.caller → GoesOn c s t more → RealmLeaves (with_state h t) q → Took p q s t more
+pub took_by : (p : RealmPass) (h : RealmTurn) (q : RealmPass) (s t : Story) (c : ℕ) (more : List Entry) → RealmEnters p h → s ≡ h.state → IsLegal s → c ≡ p.caller → ExtendsPass c s t more → RealmLeaves (with_state h t) q → Took p q s t more
 took_by p h q s t c more e is legal by goes left = record {
   entered = entered_by p h s e is legal;
   left = subst (λ (x : RealmPass). RealmLeaves (record { state = t; pass = x }) q) (e.pass ∙ ap (λ (x : Story). seen_up_to x.entries p) (sym is)) left;
-  goes = subst (λ (n : ℕ). GoesOn n s t more) by goes;
+  goes = subst (λ (n : ℕ). ExtendsPass n s t more) by goes;
 }
 
 -- the turn's event, told by the caller's number
@@ -235,7 +235,7 @@ turned_as p q s t c e r by is step =
 
 -- ---- turns without an entry
 
-pub told_as : (p q : RealmPass) (s t : Story) (c : ℕ) (e : Event) (o : Outcome) → c ≡ p.caller → Took p q s t (entry_of c e (reply.Ended o) ∷ []) → Told p q e o
+pub told_as : (p q : RealmPass) (s t : Story) (c : ℕ) (e : Event) (o : Outcome) → c ≡ p.caller → Took p q s t (entry_of c e (reply.Ended o) ∷ []) → RecordsOutcome p q e o
 told_as p q s t c e o is took = told_by p q s t e o (subst (λ (n : ℕ). Took p q s t (entry_of n e (reply.Ended o) ∷ [])) is took)
 
 pub awaited_as : (p q : RealmPass) (s t : Story) (c a : ℕ) (o : Option Outcome) → c ≡ p.caller → Took p q s t (awaited_entries c a o) → Awaited a p q o
@@ -246,7 +246,7 @@ pub record Waits (first idle : RealmPass) : Type 0 where
   pub lock : idle.lock ≡ first.lock
   pub frame : idle.frame ≡ first.frame
   pub caller : idle.caller ≡ first.caller
-  pub later : Later first.caller first.seen idle.seen
+  pub later : IsLaterHistory first.caller first.seen idle.seen
   pub mine : idle.mine ≡ first.mine
 
 pub waits_none : (p : RealmPass) → Waits p p
@@ -258,17 +258,17 @@ waits_none p = record {
   mine = refl;
 }
 
-pub waits_more : (first idle after : RealmPass) → Waits first idle → IsSamePass (frame_of idle) idle after → Later idle.caller idle.seen after.seen × (after.mine ≡ idle.mine) → Waits first after
+pub waits_more : (first idle after : RealmPass) → Waits first idle → IsSamePass (frame_of idle) idle after → IsLaterHistory idle.caller idle.seen after.seen × (after.mine ≡ idle.mine) → Waits first after
 waits_more first idle after w same is = record {
   lock = same.lock ∙ w.lock;
   frame = same.frame ∙ w.frame;
   caller = same.caller ∙ w.caller;
-  later = later-trans first.caller first.seen idle.seen after.seen w.later (subst (λ (c : ℕ). Later c idle.seen after.seen) w.caller is.0);
+  later = later-trans first.caller first.seen idle.seen after.seen w.later (subst (λ (c : ℕ). IsLaterHistory c idle.seen after.seen) w.caller is.0);
   mine = is.1 ∙ w.mine;
 }
 
 -- a turn without an entry leaves a later history
-turned_later : (idle after : RealmPass) (e : Event) (x : NoStep) → Turned e idle after (Err x) → Later idle.caller idle.seen after.seen × (after.mine ≡ idle.mine)
+turned_later : (idle after : RealmPass) (e : Event) (x : NoStep) → Turned e idle after (Err x) → IsLaterHistory idle.caller idle.seen after.seen × (after.mine ≡ idle.mine)
 turned_later idle after e (nostep.Busy a) turned = turned
 turned_later idle after e nostep.HistoryFull turned = (turned.0.0, turned.1)
 turned_later idle after e nostep.Memory turned = turned
@@ -288,27 +288,27 @@ waits_same first idle after w same = record {
   legal = subst (λ (f : Frame). Legal (start f) after.seen) (ap frame_in w.frame) same.legal;
 }
 
-cut_trans : (f : Frame) (c : ℕ) (a b d : List Entry) (e : Event) (x : Refusal) → Later c a b → IsCut f c b e d x → IsCut f c a e d x
+cut_trans : (f : Frame) (c : ℕ) (a b d : List Entry) (e : Event) (x : Refusal) → IsLaterHistory c a b → EndsWithoutEntry f c b e d x → EndsWithoutEntry f c a e d x
 cut_trans f c a b d e refusal.Memory l is = later-trans c a b d l is
 cut_trans f c a b d e refusal.HistoryFull l is = (later-trans c a b d l is.0, is.1)
 cut_trans f c a b d e _ l is = absurd is
 
 -- what comes behind the waiting is all that the call did
-pub waits_asked : (e : Event) (first idle after : RealmPass) (r : Result Reply Refusal) → Waits first idle → Asked e idle after r → Asked e first after r
+pub waits_asked : (e : Event) (first idle after : RealmPass) (r : Result Reply Refusal) → Waits first idle → RecordsEvent e idle after r → RecordsEvent e first after r
 waits_asked e first idle after (Ok r) w is =
-    let asks : Asks (frame_of first) first.caller idle.seen e r after.seen =
-    subst (λ (f : Frame). Asks f first.caller idle.seen e r after.seen) (ap frame_in w.frame) (subst (λ (c : ℕ). Asks (frame_of idle) c idle.seen e r after.seen) w.caller is.0) in (
+    let asks : AddsWithinRoom (frame_of first) first.caller idle.seen e r after.seen =
+    subst (λ (f : Frame). AddsWithinRoom f first.caller idle.seen e r after.seen) (ap frame_in w.frame) (subst (λ (c : ℕ). AddsWithinRoom (frame_of idle) c idle.seen e r after.seen) w.caller is.0) in (
       asks-later (frame_of first) first.caller first.seen idle.seen after.seen w.later asks,
       is.1 ∙ ap (λ (l : List Entry). l ++ entry_of idle.caller e r ∷ []) w.mine ∙ ap (λ (c : ℕ). first.mine ++ entry_of c e r ∷ []) w.caller,
     )
 waits_asked e first idle after (Err x) w is =
-    let cut : IsCut (frame_of first) first.caller idle.seen e after.seen x =
-    subst (λ (f : Frame). IsCut f first.caller idle.seen e after.seen x) (ap frame_in w.frame) (subst (λ (c : ℕ). IsCut (frame_of idle) c idle.seen e after.seen x) w.caller is.0) in
+    let cut : EndsWithoutEntry (frame_of first) first.caller idle.seen e after.seen x =
+    subst (λ (f : Frame). EndsWithoutEntry f first.caller idle.seen e after.seen x) (ap frame_in w.frame) (subst (λ (c : ℕ). EndsWithoutEntry (frame_of idle) c idle.seen e after.seen x) w.caller is.0) in
     (cut_trans (frame_of first) first.caller first.seen idle.seen after.seen e x w.later cut, is.1 ∙ w.mine)
 
-pub waits_told : (e : Event) (first idle after : RealmPass) (o : Outcome) → Waits first idle → Told idle after e o → Told first after e o
+pub waits_told : (e : Event) (first idle after : RealmPass) (o : Outcome) → Waits first idle → RecordsOutcome idle after e o → RecordsOutcome first after e o
 waits_told e first idle after o w is = record {
-  makes = makes-later first.caller first.seen idle.seen after.seen w.later (subst (λ (c : ℕ). Makes c idle.seen e (reply.Ended o) after.seen) w.caller is.makes);
+  makes = makes-later first.caller first.seen idle.seen after.seen w.later (subst (λ (c : ℕ). AddsOneEntry c idle.seen e (reply.Ended o) after.seen) w.caller is.makes);
   mine = is.mine ∙ ap (λ (l : List Entry). l ++ entry_of idle.caller e (reply.Ended o) ∷ []) w.mine ∙ ap (λ (c : ℕ). first.mine ++ entry_of c e (reply.Ended o) ∷ []) w.caller;
 }
 

@@ -19,18 +19,19 @@ use Rattle.cm_world.specs.Rows.{at_or_above, is_below, is_live, row_of, subtree}
 use Rattle.cm_world.specs.World.{World, start}
 use Rattle.cm_world.proofs.trees.Finding.{none_some, row_of-inc}
 use Rattle.cm_world.proofs.trees.Histories.{Legal-split, replay-push}
-use Rattle.cm_laws.specs.Shutdowns.{DoneIsOver, IsLeaving, IsMarked, IsOver, MarksMark, MarksStay}
+use Rattle.cm_laws.specs.Shutdowns.{IsLeaving, IsMarked}
+use Rattle.cm_laws.specs.ShutdownsInside.{DoneIsOver, IsShutBelow, MarksMark, MarksStay}
 use Rattle.cm_laws.specs.Story.{entry_of, IsLegal, world_of}
 use Rattle.cm_command.specs.declared.command.Command.{Command}
 use Rattle.cm_command.specs.declared.command.Command.TheVariants as command
 use Rattle.cm_manager.specs.Asking.{frame_of}
-use Rattle.cm_manager.specs.Calls.{Behind, Calls, Finding, Goes, OnRow, Reaches, Way}
-use Rattle.cm_manager.specs.Contract.{GatesView, Performs, RealmPass}
-use Rattle.cm_manager.specs.Laws.{DestructionsRemove, IsRemoved, Leaves, LeavesSo, ShutdownsLeaveShut}
+use Rattle.cm_manager.specs.Calls.{GoesOnWithRow, Calls, Finding, RunsOrLoses, OnRow, ComesToAnswer, CallWay}
+use Rattle.cm_manager.specs.Contract.{GatesView, IsWholeCall, RealmPass}
+use Rattle.cm_manager.specs.Laws.{DestructionsRemove, IsRemoved, LeavesRow, LeavesSo, ShutdownsLeaveShut}
 use Rattle.cm_manager.specs.Shutdowns.{Destroys, Shuts}
 use Rattle.cm_manager.specs.Sweeps.{Stops}
 use Rattle.cm_manager.specs.Turns.{world_after}
-use Rattle.cm_manager.specs.Work.{Shelf}
+use Rattle.cm_manager.specs.Work.{Manifests}
 use Rattle.cm_manager.proofs.left.Closing.{makes-own}
 use Rattle.cm_manager.proofs.left.Due.{leaving_stays, marked_stays}
 use Rattle.cm_manager.proofs.calling.Joining.{starts-trans}
@@ -75,40 +76,40 @@ removed_by false w c i r dead is =
 -- ---- what a run leaves
 
 -- what a legal history begins with is legal
-front_legal : (f : Frame) (a b : List Entry) → Legal (start f) b → StartsWith b a → Legal (start f) a
-front_legal f a b legal grows = (Legal-split (start f) a grows.0 (subst (Legal (start f)) grows.1 legal)).0
+prefix_legal : (f : Frame) (a b : List Entry) → Legal (start f) b → StartsWith b a → Legal (start f) a
+prefix_legal f a b legal grows = (Legal-split (start f) a grows.0 (subst (Legal (start f)) grows.1 legal)).0
 
-stops_over : MarksStay → DoneIsOver → (f : Frame) (c t : ℕ) {a b : List Entry} → Legal (start f) b → IsLeaving (world_after f a) t → Stops f c t a b None → IsOver (world_after f b) t
+stops_over : MarksStay → DoneIsOver → (f : Frame) (c t : ℕ) {a b : List Entry} → Legal (start f) b → IsLeaving (world_after f a) t → Stops f c t a b None → IsShutBelow (world_after f b) t
 unfolding world_of
 stops_over stays done f c t {a} {b} legal leaving (Stops.all_shut asks) =
     let found = asks.made.found in
-    let front : Legal (start f) found = front_legal f found b legal (entry_of c (event.Pick t) reply.Done ∷ [], asks.made.entries) in
+    let prefix : Legal (start f) found = prefix_legal f found b legal (entry_of c (event.Pick t) reply.Done ∷ [], asks.made.entries) in
     done (record { frame = f; entries = found }) (record { frame = f; entries = b }) c t
-    (leaving_stays stays f t a found front asks.made.later.grows leaving)
+    (leaving_stays stays f t a found prefix asks.made.later.grows leaving)
     (told f c a (event.Pick t) reply.Done b legal asks.made)
 stops_over stays done f c t {a} {b} legal leaving (Stops.was_off {h₁ = h} asks rest) =
-    let front : Legal (start f) h = front_legal f h b legal (stops_close f c t rest).grows in
-    stops_over stays done f c t legal (leaving_stays stays f t a h front (makes-own c a h _ _ asks.made).0 leaving) rest
+    let prefix : Legal (start f) h = prefix_legal f h b legal (stops_close f c t rest).grows in
+    stops_over stays done f c t legal (leaving_stays stays f t a h prefix (makes-own c a h _ _ asks.made).0 leaving) rest
 stops_over stays done f c t {a} {b} legal leaving (Stops.was_on {h₁ = g} {h₂ = h} asks makes rest) =
-    let front : Legal (start f) h = front_legal f h b legal (stops_close f c t rest).grows in
-    stops_over stays done f c t legal (leaving_stays stays f t a h front (starts-trans a g h (makes-own c a g _ _ asks.made).0 (makes-own c g h _ _ makes).0) leaving) rest
+    let prefix : Legal (start f) h = prefix_legal f h b legal (stops_close f c t rest).grows in
+    stops_over stays done f c t legal (leaving_stays stays f t a h prefix (starts-trans a g h (makes-own c a g _ _ asks.made).0 (makes-own c g h _ _ makes).0) leaving) rest
 
-pub shuts_over : MarksMark → MarksStay → DoneIsOver → (f : Frame) (c : ℕ) (doom : Bool) (i : ℕ) {a b : List Entry} → Legal (start f) b → Shuts f c doom i a b None → IsMarked doom (world_after f b) i × IsOver (world_after f b) i
+pub shuts_over : MarksMark → MarksStay → DoneIsOver → (f : Frame) (c : ℕ) (doom : Bool) (i : ℕ) {a b : List Entry} → Legal (start f) b → Shuts f c doom i a b None → IsMarked doom (world_after f b) i × IsShutBelow (world_after f b) i
 unfolding world_of IsLegal
 shuts_over marks stays done f c doom i {a} {b} legal (Shuts.marked {h₁ = h} {r = r} asks is stops) =
     let grows = (stops_close f c i stops).grows in
-    let front : Legal (start f) h = front_legal f h b legal grows in
+    let prefix : Legal (start f) h = prefix_legal f h b legal grows in
     let found = asks.made.found in
     let marked : IsMarked doom (world_after f h) i =
     marks (record { frame = f; entries = found }) (record { frame = f; entries = h }) c i doom r
-    (front_legal f found h front (entry_of c (event.Mark doom i) r ∷ [], asks.made.entries))
-    (told f c a (event.Mark doom i) r h front asks.made) (unmarked_not r is) in
+    (prefix_legal f found h prefix (entry_of c (event.Mark doom i) r ∷ [], asks.made.entries))
+    (told f c a (event.Mark doom i) r h prefix asks.made) (unmarked_not r is) in
     (marked_stays stays f doom i h b legal grows marked, stops_over stays done f c i legal marked.0 stops)
 
 pub destroys_gone : MarksMark → MarksStay → DoneIsOver → (f : Frame) (c i : ℕ) {a b : List Entry} → Legal (start f) b → Destroys f c i a b None → IsRemoved (world_after f b) i
 destroys_gone marks stays done f c i {a} {b} legal (Destroys.purged {h₁ = h} {r = r} shuts asks) =
     let grows = (makes-own c h b _ _ asks.made).0 in
-    let both = shuts_over marks stays done f c true i (front_legal f h b legal grows) shuts in
+    let both = shuts_over marks stays done f c true i (prefix_legal f h b legal grows) shuts in
     let found = asks.made.found in
     let w = world_after f found in
     let last : world_after f b ≡ after w (entry_of c (event.Purge i) r) = ap (replay (start f)) asks.made.entries ∙ replay-push (start f) found (entry_of c (event.Purge i) r) in
@@ -121,36 +122,36 @@ destroys_gone marks stays done f c i {a} {b} legal (Destroys.purged {h₁ = h} {
 
 -- ---- calls
 
-goes_well : (f : Frame) (c : ℕ) (cmd : Command) (h₀ h₁ : List Entry) (a : Answer) → Goes f c cmd h₀ h₁ (Ok a) → Calls f c cmd h₀ h₁ (Ok a)
+goes_well : (f : Frame) (c : ℕ) (cmd : Command) (h₀ h₁ : List Entry) (a : Answer) → RunsOrLoses f c cmd h₀ h₁ (Ok a) → Calls f c cmd h₀ h₁ (Ok a)
 goes_well f c cmd h₀ h₁ a (inl way) = way
 goes_well f c cmd h₀ h₁ a (inr lost) = absurd (cc lost.0)
 
 -- nothing ended a call that was answered well
-unended : (made : Answer) (way : Way (Option Refusal)) (h₀ h₁ : List Entry) (a : Answer) → Reaches made way h₀ h₁ (Ok a) → way h₀ h₁ None
+unended : (made : Answer) (way : CallWay (Option Refusal)) (h₀ h₁ : List Entry) (a : Answer) → ComesToAnswer made way h₀ h₁ (Ok a) → way h₀ h₁ None
 unended made way h₀ h₁ a (None, it, is) = it
 unended made way h₀ h₁ a (Some x, it, is) = absurd (cc is)
 
-leaves_by : (f : Frame) (c : ℕ) (t : Target) (call : ℕ → Way (Result Answer Refusal)) (Holds : World → ℕ → Type 0) (h₀ h h₁ : List Entry) (a : Answer) (row : Result ℕ Refusal) → ((i : ℕ) → call i h h₁ (Ok a) → Holds (world_after f h₁) i) → ((i : ℕ) → call i h h₁ (Ok a) → StartsWith h₁ h) → Finding f c t h₀ h row → Behind row call h h₁ (Ok a) → Leaves f c t Holds h₀ h₁
+leaves_by : (f : Frame) (c : ℕ) (t : Target) (call : ℕ → CallWay (Result Answer Refusal)) (Holds : World → ℕ → Type 0) (h₀ h h₁ : List Entry) (a : Answer) (row : Result ℕ Refusal) → ((i : ℕ) → call i h h₁ (Ok a) → Holds (world_after f h₁) i) → ((i : ℕ) → call i h h₁ (Ok a) → StartsWith h₁ h) → Finding f c t h₀ h row → GoesOnWithRow row call h h₁ (Ok a) → LeavesRow f c t Holds h₀ h₁
 leaves_by f c t call Holds h₀ h h₁ a (Ok i) holds grows finding behind = record { row = i; found_at = h; finding = finding; within = grows i behind; holds = holds i behind }
 leaves_by f c t call Holds h₀ h h₁ a (Err x) holds grows finding behind = absurd (cc behind.1)
 
 pub shutdowns_leave_shut : MarksMark → MarksStay → DoneIsOver → ShutdownsLeaveShut
 shutdowns_leave_shut marks stays done f c t h₀ h₁ a legal goes =
-    let on : OnRow f c t (λ i. Reaches answer.Shut (Shuts f c false i)) h₀ h₁ (Ok a) = goes_well f c (command.Shutdown t) h₀ h₁ a goes in
-    leaves_by f c t (λ i. Reaches answer.Shut (Shuts f c false i)) IsOver h₀ on.h₁ h₁ a on.row
+    let on : OnRow f c t (λ i. ComesToAnswer answer.Shut (Shuts f c false i)) h₀ h₁ (Ok a) = goes_well f c (command.Shutdown t) h₀ h₁ a goes in
+    leaves_by f c t (λ i. ComesToAnswer answer.Shut (Shuts f c false i)) IsShutBelow h₀ on.h₁ h₁ a on.row
     (λ i call. (shuts_over marks stays done f c false i legal (unended answer.Shut (Shuts f c false i) on.h₁ h₁ a call)).1)
     (λ i call. (shuts_close f c false i (unended answer.Shut (Shuts f c false i) on.h₁ h₁ a call)).grows)
     on.finding on.behind
 
 pub destructions_remove : MarksMark → MarksStay → DoneIsOver → DestructionsRemove
 destructions_remove marks stays done f c t h₀ h₁ a legal goes =
-    let on : OnRow f c t (λ i. Reaches answer.Destroyed (Destroys f c i)) h₀ h₁ (Ok a) = goes_well f c (command.Destroy t) h₀ h₁ a goes in
-    leaves_by f c t (λ i. Reaches answer.Destroyed (Destroys f c i)) IsRemoved h₀ on.h₁ h₁ a on.row
+    let on : OnRow f c t (λ i. ComesToAnswer answer.Destroyed (Destroys f c i)) h₀ h₁ (Ok a) = goes_well f c (command.Destroy t) h₀ h₁ a goes in
+    leaves_by f c t (λ i. ComesToAnswer answer.Destroyed (Destroys f c i)) IsRemoved h₀ on.h₁ h₁ a on.row
     (λ i call. destroys_gone marks stays done f c i legal (unended answer.Destroyed (Destroys f c i) on.h₁ h₁ a call))
     (λ i call. (destroys_close f c i (unended answer.Destroyed (Destroys f c i) on.h₁ h₁ a call)).grows)
     on.finding on.behind
 
 -- what a call of the manager leaves so, where it is answered well
-pub leaves_if : (command_on : Target → Command) (Holds : World → ℕ → Type 0) → LeavesSo command_on Holds → (shelf : Shelf) (t : Target) (p q : RealmPass) (g h : GatesView) (a : Result Answer Refusal) → Performs shelf (frame_of p) (command_on t) p q g h a → IfOk a (λ _. Leaves (frame_of p) p.caller t Holds p.seen q.seen)
-leaves_if command_on Holds law shelf t p q g h (Ok a) is = law (frame_of p) p.caller t p.seen q.seen a is.same.legal (inl is.way)
-leaves_if command_on Holds law shelf t p q g h (Err x) is = tt
+pub leaves_if : (command_on : Target → Command) (Holds : World → ℕ → Type 0) → LeavesSo command_on Holds → (manifests : Manifests) (t : Target) (p q : RealmPass) (g h : GatesView) (a : Result Answer Refusal) → IsWholeCall manifests (frame_of p) (command_on t) p q g h a → IfOk a (λ _. LeavesRow (frame_of p) p.caller t Holds p.seen q.seen)
+leaves_if command_on Holds law manifests t p q g h (Ok a) is = law (frame_of p) p.caller t p.seen q.seen a is.same.legal (inl is.way)
+leaves_if command_on Holds law manifests t p q g h (Err x) is = tt

@@ -16,21 +16,23 @@ use Rattle.cm_world.specs.World.{start}
 use Rattle.cm_world.specs.Step.{MayEnd, IsPickReply}
 use Rattle.cm_world.specs.Legal.{Legal}
 use Rattle.cm_world.proofs.trees.Histories.{Legal-split}
-use Rattle.cm_laws.specs.Shutdowns.{IsLeaving, IsMarked, IsOver, MarksMark, MarksStay, DoneIsOver, PickersMayEnd}
+use Rattle.cm_laws.specs.Shutdowns.{IsLeaving, IsMarked}
+use Rattle.cm_laws.specs.ShutdownsInside.{IsShutBelow, MarksMark, MarksStay, DoneIsOver, PickersMayEnd}
 use Rattle.cm_laws.specs.Story.{IsLegal, world_of}
-use Rattle.cm_manager.specs.Turns.{Makes, Asks, IsCut, world_after}
-use Rattle.cm_answers.specs.Answers.{answer_unless, unmarked, unmarked_by}
+use Rattle.cm_manager.specs.Turns.{AddsOneEntry, AddsWithinRoom, EndsWithoutEntry, world_after}
+use Rattle.cm_answers.specs.Answers.{answer_unless, unmarked}
+use Rattle.cm_answers.specs.AnswersInside.{unmarked_by}
 use Rattle.cm_manager.specs.Shutdowns.{Shuts, Destroys}
 use Rattle.cm_manager.specs.Sweeps.{Stops}
-use Rattle.cm_manager.specs.Calls.{Reaches}
-use Rattle.cm_manager.specs.Acting.{PicksBy}
-use Rattle.cm_manager.specs.Asking.{Asked, Purged, Told, frame_of}
-use Rattle.cm_manager.specs.Contract.{RealmPass, GatesView, IsSamePass, Helps}
-use Rattle.cm_manager.specs.Doing.{Did, Fits}
-use Rattle.cm_manager.specs.Work.{Shelf}
-use Rattle.cm_manager.specs.declared.began.Picked.{Picked}
-use Rattle.cm_manager.specs.declared.began.Picked.TheVariants as picked
-use Rattle.cm_manager.specs.Closed.{Grows}
+use Rattle.cm_manager.specs.Calls.{ComesToAnswer}
+use Rattle.cm_manager.specs.Acting.{PickRun}
+use Rattle.cm_manager.specs.Asking.{RecordsEvent, Purged, RecordsOutcome, frame_of}
+use Rattle.cm_manager.specs.Contract.{RealmPass, GatesView, IsSamePass, IsSubcall}
+use Rattle.cm_manager.specs.Doing.{Did, FitsAction}
+use Rattle.cm_manager.specs.Work.{Manifests}
+use Rattle.cm_manager.specs.declared.began.PickTurn.{PickTurn}
+use Rattle.cm_manager.specs.declared.began.PickTurn.TheVariants as picked
+use Rattle.cm_manager.specs.ClosedInside.{AddsClosedPart}
 use Rattle.cm_manager.proofs.left.Closing.{cut-later, grows-trans, later-grows, plain-grows, stops_close}
 use Rattle.cm_manager.proofs.left.Due.{leaving_stays, marked_stays}
 use Rattle.cm_manager.proofs.calling.Helping.{helps_acted, helps_as, helps_nothing, helps_plain, helps_then}
@@ -51,38 +53,38 @@ three_replies rows next t (reply.ShutDown i) is done off on = off i refl
 three_replies rows next t (reply.Stopping w) is done off on = on w refl
 three_replies rows next t _ is done off on = absurd is
 
-pub no_other_pick : (t : ℕ) (r : Reply) (p q : RealmPass) → IsSamePass (frame_of p) p q → Asked (event.Pick t) p q (Ok r) → r ≢ reply.Done → ((i : ℕ) → r ≢ reply.ShutDown i) → ((w : Work) → r ≢ reply.Stopping w) → ⊥
+pub no_other_pick : (t : ℕ) (r : Reply) (p q : RealmPass) → IsSamePass (frame_of p) p q → RecordsEvent (event.Pick t) p q (Ok r) → r ≢ reply.Done → ((i : ℕ) → r ≢ reply.ShutDown i) → ((w : Work) → r ≢ reply.Stopping w) → ⊥
 no_other_pick t r p q same asked =
     let w = world_after (frame_of p) asked.0.made.found in
     three_replies w.rows w.next_action t r (last_step (frame_of p) p.caller p.seen (event.Pick t) r q.seen same.legal asked.0.made).allowed
 
 -- the stop that was picked may be ended
-pub picked_may : PickersMayEnd → (t : ℕ) (w : Work) (end : Finish) (p q : RealmPass) → IsSamePass (frame_of p) p q → Asked (event.Pick t) p q (Ok (reply.Stopping w)) → Fits kind.Stop end → MayEnd (world_after (frame_of q) q.seen).acts q.caller w.action end
+pub picked_may : PickersMayEnd → (t : ℕ) (w : Work) (end : Finish) (p q : RealmPass) → IsSamePass (frame_of p) p q → RecordsEvent (event.Pick t) p q (Ok (reply.Stopping w)) → FitsAction kind.Stop end → MayEnd (world_after (frame_of q) q.seen).acts q.caller w.action end
 unfolding world_of
 picked_may may t w end p q same asked fits =
     by_first (λ f c. MayEnd (world_after f q.seen).acts c w.action end) q p (sym same.frame) (sym same.caller)
     (may (record { frame = frame_of p; entries = asked.0.made.found }) (record { frame = frame_of p; entries = q.seen }) p.caller t w end
     (told (frame_of p) p.caller p.seen (event.Pick t) (reply.Stopping w) q.seen same.legal asked.0.made) fits.fitting fits.valid)
 
-pub cut_pick_help : (shelf : Shelf) (t : ℕ) (x : Refusal) (p q : RealmPass) (g : GatesView) → IsSamePass (frame_of p) p q → Asked (event.Pick t) p q (Err x) → Helps shelf (frame_of p) (λ a b. PicksBy (frame_of p) p.caller t (picked.Cut x) a b) p q g g
-cut_pick_help shelf t x p q g same asked =
-    helps_nothing shelf (frame_of p) (λ a b. PicksBy (frame_of p) p.caller t (picked.Cut x) a b) p q g same asked.0 asked.1
+pub cut_pick_help : (manifests : Manifests) (t : ℕ) (x : Refusal) (p q : RealmPass) (g : GatesView) → IsSamePass (frame_of p) p q → RecordsEvent (event.Pick t) p q (Err x) → IsSubcall manifests (frame_of p) (λ a b. PickRun (frame_of p) p.caller t (picked.Cut x) a b) p q g g
+cut_pick_help manifests t x p q g same asked =
+    helps_nothing manifests (frame_of p) (λ a b. PickRun (frame_of p) p.caller t (picked.Cut x) a b) p q g same asked.0 asked.1
 
-pub done_help : (shelf : Shelf) (t : ℕ) (p q : RealmPass) (g : GatesView) → IsSamePass (frame_of p) p q → Asked (event.Pick t) p q (Ok reply.Done) → Helps shelf (frame_of p) (λ a b. PicksBy (frame_of p) p.caller t picked.Done a b) p q g g
-done_help shelf t p q g same asked =
-    helps_plain shelf (frame_of p) (λ a b. PicksBy (frame_of p) p.caller t picked.Done a b) p q g (event.Pick t) reply.Done refl refl refl same asked.0 asked.1
+pub done_help : (manifests : Manifests) (t : ℕ) (p q : RealmPass) (g : GatesView) → IsSamePass (frame_of p) p q → RecordsEvent (event.Pick t) p q (Ok reply.Done) → IsSubcall manifests (frame_of p) (λ a b. PickRun (frame_of p) p.caller t picked.Done a b) p q g g
+done_help manifests t p q g same asked =
+    helps_plain manifests (frame_of p) (λ a b. PickRun (frame_of p) p.caller t picked.Done a b) p q g (event.Pick t) reply.Done refl refl refl same asked.0 asked.1
 
-pub off_help : (shelf : Shelf) (t i : ℕ) (p q : RealmPass) (g : GatesView) → IsSamePass (frame_of p) p q → Asked (event.Pick t) p q (Ok (reply.ShutDown i)) → Helps shelf (frame_of p) (λ a b. PicksBy (frame_of p) p.caller t picked.Further a b) p q g g
-off_help shelf t i p q g same asked =
-    helps_plain shelf (frame_of p) (λ a b. PicksBy (frame_of p) p.caller t picked.Further a b) p q g (event.Pick t) (reply.ShutDown i) refl refl refl same
+pub off_help : (manifests : Manifests) (t i : ℕ) (p q : RealmPass) (g : GatesView) → IsSamePass (frame_of p) p q → RecordsEvent (event.Pick t) p q (Ok (reply.ShutDown i)) → IsSubcall manifests (frame_of p) (λ a b. PickRun (frame_of p) p.caller t picked.Further a b) p q g g
+off_help manifests t i p q g same asked =
+    helps_plain manifests (frame_of p) (λ a b. PickRun (frame_of p) p.caller t picked.Further a b) p q g (event.Pick t) (reply.ShutDown i) refl refl refl same
     (λ b end rest. Stops.was_off asked.0 rest) asked.1
 
-pub on_help : (shelf : Shelf) (t : ℕ) (w : Work) (end : Finish) (o : Outcome) (p q r : RealmPass) (g h : GatesView) → IsSamePass (frame_of p) p q → Asked (event.Pick t) p q (Ok (reply.Stopping w)) → Did shelf w kind.Stop end g h → IsSamePass (frame_of q) q r → Told q r (event.End w.action end) o → Helps shelf (frame_of p) (λ a b. PicksBy (frame_of p) p.caller t picked.Further a b) p r g h
-on_help shelf t w end o p q r g h first asked did second told =
+pub on_help : (manifests : Manifests) (t : ℕ) (w : Work) (end : Finish) (o : Outcome) (p q r : RealmPass) (g h : GatesView) → IsSamePass (frame_of p) p q → RecordsEvent (event.Pick t) p q (Ok (reply.Stopping w)) → Did manifests w kind.Stop end g h → IsSamePass (frame_of q) q r → RecordsOutcome q r (event.End w.action end) o → IsSubcall manifests (frame_of p) (λ a b. PickRun (frame_of p) p.caller t picked.Further a b) p r g h
+on_help manifests t w end o p q r g h first asked did second told =
     let f = frame_of p in
     let c = p.caller in
-    let makes = subst (λ (c : ℕ). Makes c q.seen (event.End w.action end) (reply.Ended o) r.seen) first.caller told.makes in
-    helps_acted shelf f (λ a b. PicksBy f c t picked.Further a b) p q r g h (event.Pick t) (reply.Stopping w) kind.Stop w end o refl first
+    let makes = subst (λ (c : ℕ). AddsOneEntry c q.seen (event.End w.action end) (reply.Ended o) r.seen) first.caller told.makes in
+    helps_acted manifests f (λ a b. PickRun f c t picked.Further a b) p q r g h (event.Pick t) (reply.Stopping w) kind.Stop w end o refl first
     (subst (λ (f : Frame). IsSamePass f q r) (frame_kept p q first.frame) second)
     (λ b end rest. Stops.was_on asked.0 makes rest)
     asked.1 told.mine did
@@ -94,39 +96,39 @@ abbrev pub Stopping : ℕ → Ways (Option Refusal)
 Stopping t f c end a b = Stops f c t a b end
 
 -- a pick, by what it came to
-abbrev pub Picking : ℕ → Picked → Frame → ℕ → List Entry → List Entry → Type 0
-Picking t by f c a b = PicksBy f c t by a b
+abbrev pub Picking : ℕ → PickTurn → Frame → ℕ → List Entry → List Entry → Type 0
+Picking t by f c a b = PickRun f c t by a b
 
 -- a pick by what it is
-pub picked_as : (shelf : Shelf) (t : ℕ) (by : Picked) (Other : List Entry → List Entry → Type 0) (p q : RealmPass) (g h : GatesView) → (PicksBy (frame_of p) p.caller t by p.seen q.seen → Other p.seen q.seen) → Helps shelf (frame_of p) (λ a b. Picking t by (frame_of p) p.caller a b) p q g h → Helps shelf (frame_of p) Other p q g h
-picked_as shelf t by Other p q g h name help = helps_as shelf (frame_of p) (λ a b. Picking t by (frame_of p) p.caller a b) Other p q g h name help
+pub picked_as : (manifests : Manifests) (t : ℕ) (by : PickTurn) (Other : List Entry → List Entry → Type 0) (p q : RealmPass) (g h : GatesView) → (PickRun (frame_of p) p.caller t by p.seen q.seen → Other p.seen q.seen) → IsSubcall manifests (frame_of p) (λ a b. Picking t by (frame_of p) p.caller a b) p q g h → IsSubcall manifests (frame_of p) Other p q g h
+picked_as manifests t by Other p q g h name help = helps_as manifests (frame_of p) (λ a b. Picking t by (frame_of p) p.caller a b) Other p q g h name help
 
-pub done_stops : (shelf : Shelf) (t : ℕ) (by : Picked) (p q : RealmPass) (g h : GatesView) → by ≡ picked.Done → Helps shelf (frame_of p) (λ a b. Picking t by (frame_of p) p.caller a b) p q g h → Helps shelf (frame_of p) (λ a b. Stopping t (frame_of p) p.caller None a b) p q g h
-done_stops shelf t by p q g h is help =
-    picked_as shelf t by (λ a b. Stopping t (frame_of p) p.caller None a b) p q g h
-    (λ it. Stops.all_shut (subst (λ (by : Picked). PicksBy (frame_of p) p.caller t by p.seen q.seen) is it)) help
+pub done_stops : (manifests : Manifests) (t : ℕ) (by : PickTurn) (p q : RealmPass) (g h : GatesView) → by ≡ picked.Done → IsSubcall manifests (frame_of p) (λ a b. Picking t by (frame_of p) p.caller a b) p q g h → IsSubcall manifests (frame_of p) (λ a b. Stopping t (frame_of p) p.caller None a b) p q g h
+done_stops manifests t by p q g h is help =
+    picked_as manifests t by (λ a b. Stopping t (frame_of p) p.caller None a b) p q g h
+    (λ it. Stops.all_shut (subst (λ (by : PickTurn). PickRun (frame_of p) p.caller t by p.seen q.seen) is it)) help
 
-pub cut_stops : (shelf : Shelf) (t : ℕ) (by : Picked) (x : Refusal) (p q : RealmPass) (g h : GatesView) → by ≡ picked.Cut x → Helps shelf (frame_of p) (λ a b. Picking t by (frame_of p) p.caller a b) p q g h → Helps shelf (frame_of p) (λ a b. Stopping t (frame_of p) p.caller (Some x) a b) p q g h
-cut_stops shelf t by x p q g h is help =
-    picked_as shelf t by (λ a b. Stopping t (frame_of p) p.caller (Some x) a b) p q g h
-    (λ it. Stops.cut_pick (subst (λ (by : Picked). PicksBy (frame_of p) p.caller t by p.seen q.seen) is it)) help
+pub cut_stops : (manifests : Manifests) (t : ℕ) (by : PickTurn) (x : Refusal) (p q : RealmPass) (g h : GatesView) → by ≡ picked.Cut x → IsSubcall manifests (frame_of p) (λ a b. Picking t by (frame_of p) p.caller a b) p q g h → IsSubcall manifests (frame_of p) (λ a b. Stopping t (frame_of p) p.caller (Some x) a b) p q g h
+cut_stops manifests t by x p q g h is help =
+    picked_as manifests t by (λ a b. Stopping t (frame_of p) p.caller (Some x) a b) p q g h
+    (λ it. Stops.cut_pick (subst (λ (by : PickTurn). PickRun (frame_of p) p.caller t by p.seen q.seen) is it)) help
 
-pub stops_next : (shelf : Shelf) (t : ℕ) (by : Picked) (first p q : RealmPass) (g₀ g h : GatesView) → Onward shelf (Stopping t) (Stopping t) first p g₀ g → by ≡ picked.Further → Helps shelf (frame_of p) (λ a b. Picking t by (frame_of p) p.caller a b) p q g h → Onward shelf (Stopping t) (Stopping t) first q g₀ h
-stops_next shelf t by first p q g₀ g h o is help =
+pub stops_next : (manifests : Manifests) (t : ℕ) (by : PickTurn) (first p q : RealmPass) (g₀ g h : GatesView) → Onward manifests (Stopping t) (Stopping t) first p g₀ g → by ≡ picked.Further → IsSubcall manifests (frame_of p) (λ a b. Picking t by (frame_of p) p.caller a b) p q g h → Onward manifests (Stopping t) (Stopping t) first q g₀ h
+stops_next manifests t by first p q g₀ g h o is help =
     let f = frame_of p in
     let c = p.caller in
-    onward_next shelf (Stopping t) (Stopping t) (Stopping t) (λ a b. Picking t by f c a b) first p q g₀ g h o help
-    (λ b end it rest. (subst (λ (by : Picked). PicksBy f c t by p.seen q.seen) is it) b end rest)
+    onward_next manifests (Stopping t) (Stopping t) (Stopping t) (λ a b. Picking t by f c a b) first p q g₀ g h o help
+    (λ b end it rest. (subst (λ (by : PickTurn). PickRun f c t by p.seen q.seen) is it) b end rest)
 
 -- behind the last pick all is shut
-pub done_over : MarksStay → DoneIsOver → (shelf : Shelf) (t : ℕ) (by : Picked) (p q : RealmPass) (g h : GatesView) → IsLeaving (world_after (frame_of p) p.seen) t → by ≡ picked.Done → Helps shelf (frame_of p) (λ a b. Picking t by (frame_of p) p.caller a b) p q g h → IsOver (world_after (frame_of q) q.seen) t
+pub done_over : MarksStay → DoneIsOver → (manifests : Manifests) (t : ℕ) (by : PickTurn) (p q : RealmPass) (g h : GatesView) → IsLeaving (world_after (frame_of p) p.seen) t → by ≡ picked.Done → IsSubcall manifests (frame_of p) (λ a b. Picking t by (frame_of p) p.caller a b) p q g h → IsShutBelow (world_after (frame_of q) q.seen) t
 unfolding world_of
-done_over stays done shelf t by p q g h leaving is help =
+done_over stays done manifests t by p q g h leaving is help =
     let f = frame_of p in
-    let asks : Asks f p.caller p.seen (event.Pick t) reply.Done q.seen = subst (λ (by : Picked). PicksBy f p.caller t by p.seen q.seen) is help.way in
+    let asks : AddsWithinRoom f p.caller p.seen (event.Pick t) reply.Done q.seen = subst (λ (by : PickTurn). PickRun f p.caller t by p.seen q.seen) is help.way in
     let found = asks.made.found in
     let legal : Legal (start f) found = (Legal-split (start f) found _ (subst (Legal (start f)) asks.made.entries help.same.legal)).0 in
-    subst (λ (f : Frame). IsOver (world_after f q.seen) t) (sym (frame_kept p q help.same.frame))
+    subst (λ (f : Frame). IsShutBelow (world_after f q.seen) t) (sym (frame_kept p q help.same.frame))
     (done (record { frame = f; entries = found }) (record { frame = f; entries = q.seen }) p.caller t
     (leaving_stays stays f t p.seen found legal asks.made.later.grows leaving)
     (told f p.caller p.seen (event.Pick t) reply.Done q.seen help.same.legal asks.made))
@@ -140,15 +142,15 @@ unmarked_not _ is = absurd (cc is)
 
 -- the mark, which was made now or before
 abbrev pub Marks : Bool → ℕ → Frame → ℕ → List Entry → List Entry → Type 0
-Marks doom i f c a b = (r : Reply) × Asks f c a (event.Mark doom i) r b × (unmarked r ≡ None)
+Marks doom i f c a b = (r : Reply) × AddsWithinRoom f c a (event.Mark doom i) r b × (unmarked r ≡ None)
 
-pub marks_help : (shelf : Shelf) (doom : Bool) (i : ℕ) (asked : Result Reply Refusal) (p q : RealmPass) (g : GatesView) → unmarked_by asked ≡ None → IsSamePass (frame_of p) p q → Asked (event.Mark doom i) p q asked → Helps shelf (frame_of p) (λ a b. Marks doom i (frame_of p) p.caller a b) p q g g
-marks_help shelf doom i (Ok r) p q g is same it =
-    helps_plain shelf (frame_of p) (λ a b. Marks doom i (frame_of p) p.caller a b) p q g (event.Mark doom i) r refl refl refl same (r, it.0, is) it.1
-marks_help shelf doom i (Err x) p q g is same it = absurd (cc is)
+pub marks_help : (manifests : Manifests) (doom : Bool) (i : ℕ) (asked : Result Reply Refusal) (p q : RealmPass) (g : GatesView) → unmarked_by asked ≡ None → IsSamePass (frame_of p) p q → RecordsEvent (event.Mark doom i) p q asked → IsSubcall manifests (frame_of p) (λ a b. Marks doom i (frame_of p) p.caller a b) p q g g
+marks_help manifests doom i (Ok r) p q g is same it =
+    helps_plain manifests (frame_of p) (λ a b. Marks doom i (frame_of p) p.caller a b) p q g (event.Mark doom i) r refl refl refl same (r, it.0, is) it.1
+marks_help manifests doom i (Err x) p q g is same it = absurd (cc is)
 
 -- behind it the row is marked
-pub marked_at : MarksMark → (doom : Bool) (i : ℕ) (asked : Result Reply Refusal) (p q : RealmPass) → unmarked_by asked ≡ None → IsSamePass (frame_of p) p q → Asked (event.Mark doom i) p q asked → IsMarked doom (world_after (frame_of q) q.seen) i
+pub marked_at : MarksMark → (doom : Bool) (i : ℕ) (asked : Result Reply Refusal) (p q : RealmPass) → unmarked_by asked ≡ None → IsSamePass (frame_of p) p q → RecordsEvent (event.Mark doom i) p q asked → IsMarked doom (world_after (frame_of q) q.seen) i
 unfolding world_of IsLegal
 marked_at marks doom i (Ok r) p q is same it =
     let f = frame_of p in
@@ -170,20 +172,20 @@ leaving_next stays i p q same leaving =
     subst (λ (f : Frame). IsLeaving (world_after f q.seen) i) (sym (frame_kept p q same.frame))
     (leaving_stays stays (frame_of p) i p.seen q.seen same.legal same.seen leaving)
 
-pub unmarked_shuts : (shelf : Shelf) (doom : Bool) (i : ℕ) (asked : Result Reply Refusal) (x : Refusal) (p q : RealmPass) (g : GatesView) → unmarked_by asked ≡ Some x → IsSamePass (frame_of p) p q → Asked (event.Mark doom i) p q asked → Helps shelf (frame_of p) (λ a b. Shuts (frame_of p) p.caller doom i a b (Some x)) p q g g
-unmarked_shuts shelf doom i (Ok r) x p q g is same it =
-    helps_plain shelf (frame_of p) (λ a b. Shuts (frame_of p) p.caller doom i a b (Some x)) p q g (event.Mark doom i) r refl refl refl same (Shuts.refused it.0 is) it.1
-unmarked_shuts shelf doom i (Err y) x p q g is same it =
-    helps_nothing shelf (frame_of p) (λ a b. Shuts (frame_of p) p.caller doom i a b (Some x)) p q g same
+pub unmarked_shuts : (manifests : Manifests) (doom : Bool) (i : ℕ) (asked : Result Reply Refusal) (x : Refusal) (p q : RealmPass) (g : GatesView) → unmarked_by asked ≡ Some x → IsSamePass (frame_of p) p q → RecordsEvent (event.Mark doom i) p q asked → IsSubcall manifests (frame_of p) (λ a b. Shuts (frame_of p) p.caller doom i a b (Some x)) p q g g
+unmarked_shuts manifests doom i (Ok r) x p q g is same it =
+    helps_plain manifests (frame_of p) (λ a b. Shuts (frame_of p) p.caller doom i a b (Some x)) p q g (event.Mark doom i) r refl refl refl same (Shuts.refused it.0 is) it.1
+unmarked_shuts manifests doom i (Err y) x p q g is same it =
+    helps_nothing manifests (frame_of p) (λ a b. Shuts (frame_of p) p.caller doom i a b (Some x)) p q g same
     (subst (λ (o : Option Refusal). Shuts (frame_of p) p.caller doom i p.seen q.seen o) is (Shuts.cut_mark it.0)) it.1
 
-pub marked_shuts : (shelf : Shelf) (doom : Bool) (i : ℕ) (end : Option Refusal) (p q r : RealmPass) (g h k : GatesView) → Helps shelf (frame_of p) (λ a b. Marks doom i (frame_of p) p.caller a b) p q g h → Helps shelf (frame_of q) (λ a b. Stopping i (frame_of q) q.caller end a b) q r h k → Helps shelf (frame_of p) (λ a b. Shuts (frame_of p) p.caller doom i a b end) p r g k
-marked_shuts shelf doom i end p q r g h k first all =
+pub marked_shuts : (manifests : Manifests) (doom : Bool) (i : ℕ) (end : Option Refusal) (p q r : RealmPass) (g h k : GatesView) → IsSubcall manifests (frame_of p) (λ a b. Marks doom i (frame_of p) p.caller a b) p q g h → IsSubcall manifests (frame_of q) (λ a b. Stopping i (frame_of q) q.caller end a b) q r h k → IsSubcall manifests (frame_of p) (λ a b. Shuts (frame_of p) p.caller doom i a b end) p r g k
+marked_shuts manifests doom i end p q r g h k first all =
     let f = frame_of p in
     let c = p.caller in
-    helps_then shelf f (λ a b. Marks doom i f c a b) (λ a b. Stopping i f c end a b) (λ a b. Shuts f c doom i a b end) p q r g h k
+    helps_then manifests f (λ a b. Marks doom i f c a b) (λ a b. Stopping i f c end a b) (λ a b. Shuts f c doom i a b end) p q r g h k
     (λ m s. Shuts.marked m.1 m.2 s) first
-    (by_first (λ f c. Helps shelf f (λ a b. Stopping i f c end a b) q r h k) p q first.same.frame first.same.caller all)
+    (by_first (λ f c. IsSubcall manifests f (λ a b. Stopping i f c end a b) q r h k) p q first.same.frame first.same.caller all)
 
 -- ---- a row that is destroyed
 
@@ -191,11 +193,11 @@ marked_shuts shelf doom i end p q r g h k first all =
 abbrev pub Shutting : Bool → ℕ → Ways (Option Refusal)
 Shutting doom i f c end a b = Shuts f c doom i a b end
 
-pub unshut_destroys : (shelf : Shelf) (i : ℕ) (end : Option Refusal) (x : Refusal) (p q : RealmPass) (g h : GatesView) → end ≡ Some x → Helps shelf (frame_of p) (λ a b. Shutting true i (frame_of p) p.caller end a b) p q g h → Helps shelf (frame_of p) (λ a b. Destroys (frame_of p) p.caller i a b (Some x)) p q g h
-unshut_destroys shelf i end x p q g h is help =
+pub unshut_destroys : (manifests : Manifests) (i : ℕ) (end : Option Refusal) (x : Refusal) (p q : RealmPass) (g h : GatesView) → end ≡ Some x → IsSubcall manifests (frame_of p) (λ a b. Shutting true i (frame_of p) p.caller end a b) p q g h → IsSubcall manifests (frame_of p) (λ a b. Destroys (frame_of p) p.caller i a b (Some x)) p q g h
+unshut_destroys manifests i end x p q g h is help =
     let f = frame_of p in
     let c = p.caller in
-    helps_as shelf f (λ a b. Shutting true i f c end a b) (λ a b. Destroys f c i a b (Some x)) p q g h
+    helps_as manifests f (λ a b. Shutting true i f c end a b) (λ a b. Destroys f c i a b (Some x)) p q g h
     (λ s. Destroys.unshut (subst (λ (o : Option Refusal). Shuts f c true i p.seen q.seen o) is s)) help
 
 -- its destruction likewise
@@ -204,40 +206,40 @@ Destroying i f c end a b = Destroys f c i a b end
 
 -- one turn with the removal, or what ended the call there
 abbrev pub Purges : ℕ → Frame → ℕ → Option Refusal → List Entry → List Entry → Type 0
-Purges i f c None a b = (r : Reply) × Asks f c a (event.Purge i) r b
-Purges i f c (Some x) a b = IsCut f c a (event.Purge i) b x
+Purges i f c None a b = (r : Reply) × AddsWithinRoom f c a (event.Purge i) r b
+Purges i f c (Some x) a b = EndsWithoutEntry f c a (event.Purge i) b x
 
-pub purge_help : (shelf : Shelf) (i : ℕ) (end : Option Refusal) (p q : RealmPass) (g : GatesView) → IsSamePass (frame_of p) p q → Purged i p q end → Helps shelf (frame_of p) (λ a b. Purges i (frame_of p) p.caller end a b) p q g g
-purge_help shelf i None p q g same it = helps_plain shelf (frame_of p) (λ a b. Purges i (frame_of p) p.caller None a b) p q g (event.Purge i) it.0 refl refl refl same (it.0, it.1.0) it.1.1
-purge_help shelf i (Some x) p q g same it = helps_nothing shelf (frame_of p) (λ a b. Purges i (frame_of p) p.caller (Some x) a b) p q g same it.0 it.1
+pub purge_help : (manifests : Manifests) (i : ℕ) (end : Option Refusal) (p q : RealmPass) (g : GatesView) → IsSamePass (frame_of p) p q → Purged i p q end → IsSubcall manifests (frame_of p) (λ a b. Purges i (frame_of p) p.caller end a b) p q g g
+purge_help manifests i None p q g same it = helps_plain manifests (frame_of p) (λ a b. Purges i (frame_of p) p.caller None a b) p q g (event.Purge i) it.0 refl refl refl same (it.0, it.1.0) it.1.1
+purge_help manifests i (Some x) p q g same it = helps_nothing manifests (frame_of p) (λ a b. Purges i (frame_of p) p.caller (Some x) a b) p q g same it.0 it.1
 
 purged_by : (f : Frame) (c i : ℕ) (end : Option Refusal) (a b d : List Entry) → Shuts f c true i a b None → Purges i f c end b d → Destroys f c i a d end
 purged_by f c i None a b d shuts purges = Destroys.purged shuts purges.1
 purged_by f c i (Some x) a b d shuts purges = Destroys.cut_purge shuts purges
 
-pub shut_destroys : (shelf : Shelf) (i : ℕ) (shut end : Option Refusal) (p q r : RealmPass) (g h : GatesView) → shut ≡ None → Helps shelf (frame_of p) (λ a b. Shutting true i (frame_of p) p.caller shut a b) p q g h → IsSamePass (frame_of q) q r → Purged i q r end → Helps shelf (frame_of p) (λ a b. Destroys (frame_of p) p.caller i a b end) p r g h
-shut_destroys shelf i shut end p q r g h is first same it =
+pub shut_destroys : (manifests : Manifests) (i : ℕ) (shut end : Option Refusal) (p q r : RealmPass) (g h : GatesView) → shut ≡ None → IsSubcall manifests (frame_of p) (λ a b. Shutting true i (frame_of p) p.caller shut a b) p q g h → IsSamePass (frame_of q) q r → Purged i q r end → IsSubcall manifests (frame_of p) (λ a b. Destroys (frame_of p) p.caller i a b end) p r g h
+shut_destroys manifests i shut end p q r g h is first same it =
     let f = frame_of p in
     let c = p.caller in
-    helps_then shelf f (λ a b. Shutting true i f c shut a b) (λ a b. Purges i f c end a b) (λ a b. Destroys f c i a b end) p q r g h h
+    helps_then manifests f (λ a b. Shutting true i f c shut a b) (λ a b. Purges i f c end a b) (λ a b. Destroys f c i a b end) p q r g h h
     (λ s t. purged_by f c i end p.seen q.seen r.seen (subst (λ (o : Option Refusal). Shuts f c true i p.seen q.seen o) is s) t) first
-    (by_first (λ f c. Helps shelf f (λ a b. Purges i f c end a b) q r h h) p q first.same.frame first.same.caller (purge_help shelf i end q r h same it))
+    (by_first (λ f c. IsSubcall manifests f (λ a b. Purges i f c end a b) q r h h) p q first.same.frame first.same.caller (purge_help manifests i end q r h same it))
 
 -- ---- answers
 
 -- a call that comes to one answer unless something ended it before
-pub reaches_on : (shelf : Shelf) (Over : Ways (Option Refusal)) (made : Answer) (end : Option Refusal) (p q : RealmPass) (g h : GatesView) (a : Result Answer Refusal) → Helps shelf (frame_of p) (λ x y. Over (frame_of p) p.caller end x y) p q g h → a ≡ answer_unless made end → Helps shelf (frame_of p) (λ x y. Reaches made (λ b d o. Over (frame_of p) p.caller o b d) x y a) p q g h
-reaches_on shelf Over made end p q g h a help is =
-    helps_as shelf (frame_of p) (λ x y. Over (frame_of p) p.caller end x y) (λ x y. Reaches made (λ b d o. Over (frame_of p) p.caller o b d) x y a) p q g h (λ way. (end, way, is)) help
+pub reaches_on : (manifests : Manifests) (Over : Ways (Option Refusal)) (made : Answer) (end : Option Refusal) (p q : RealmPass) (g h : GatesView) (a : Result Answer Refusal) → IsSubcall manifests (frame_of p) (λ x y. Over (frame_of p) p.caller end x y) p q g h → a ≡ answer_unless made end → IsSubcall manifests (frame_of p) (λ x y. ComesToAnswer made (λ b d o. Over (frame_of p) p.caller o b d) x y a) p q g h
+reaches_on manifests Over made end p q g h a help is =
+    helps_as manifests (frame_of p) (λ x y. Over (frame_of p) p.caller end x y) (λ x y. ComesToAnswer made (λ b d o. Over (frame_of p) p.caller o b d) x y a) p q g h (λ way. (end, way, is)) help
 
 -- ---- parts
 
-pub shuts_close : (f : Frame) (c : ℕ) (doom : Bool) (i : ℕ) {a b : List Entry} {end : Option Refusal} → Shuts f c doom i a b end → Grows c a b
+pub shuts_close : (f : Frame) (c : ℕ) (doom : Bool) (i : ℕ) {a b : List Entry} {end : Option Refusal} → Shuts f c doom i a b end → AddsClosedPart c a b
 shuts_close f c doom i (Shuts.marked asks is rest) = grows-trans c _ _ _ (plain-grows c _ _ _ _ refl refl asks.made) (stops_close f c i rest)
 shuts_close f c doom i (Shuts.refused asks is) = plain-grows c _ _ _ _ refl refl asks.made
 shuts_close f c doom i (Shuts.cut_mark {h₀ = a} {h₁ = b} {x = x} is) = later-grows c a b (cut-later f c a b (event.Mark doom i) x is)
 
-pub destroys_close : (f : Frame) (c i : ℕ) {a b : List Entry} {end : Option Refusal} → Destroys f c i a b end → Grows c a b
+pub destroys_close : (f : Frame) (c i : ℕ) {a b : List Entry} {end : Option Refusal} → Destroys f c i a b end → AddsClosedPart c a b
 destroys_close f c i (Destroys.purged shuts asks) = grows-trans c _ _ _ (shuts_close f c true i shuts) (plain-grows c _ _ _ _ refl refl asks.made)
 destroys_close f c i (Destroys.cut_purge {h₁ = a} {h₂ = b} {x = x} shuts is) = grows-trans c _ _ _ (shuts_close f c true i shuts) (later-grows c a b (cut-later f c a b (event.Purge i) x is))
 destroys_close f c i (Destroys.unshut shuts) = shuts_close f c true i shuts

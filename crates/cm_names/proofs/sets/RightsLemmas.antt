@@ -9,7 +9,8 @@ use Rattle.cm_names.specs.declared.rights.Right.{Right}
 use Rattle.cm_names.specs.declared.rights.Right.TheVariants.{Connect, Enumerate, Execute, GetAttributes, ModifyDirectory, ReadBytes, Traverse, UpdateAttributes, WriteBytes}
 use Rattle.cm_names.specs.declared.rights.RightsFault.{RightsFault}
 use Rattle.cm_names.specs.declared.rights.RightsFault.TheVariants.{RepeatedRight}
-use Rattle.cm_names.specs.Rights.{RightSet, index_of, union, with_rights, with_word, rights_behind, rights_of_word, rights_of, no_rights, has, word_has}
+use Rattle.cm_names.specs.Rights.{RightSet, index_of, union, with_rights, with_word, rights_behind, rights_of_word, rights_of, no_rights, has}
+use Rattle.cm_names.specs.RightsInside.{word_has}
 
 union_assoc : (a b c : RightSet) → union a (union b c) ≡ union (union a b) c
 union_assoc a b c =

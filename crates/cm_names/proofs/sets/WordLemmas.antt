@@ -8,7 +8,8 @@ use Rattle.std.proofs.lemmas.List.{map-append}
 use Rattle.std.proofs.lemmas.List.Elements.{filter-append}
 use Rattle.cm_names.specs.declared.rights.Right.{Right}
 use Rattle.cm_names.specs.declared.rights.Right.TheVariants.{Connect, Enumerate, Execute, GetAttributes, ModifyDirectory, ReadBytes, Traverse, UpdateAttributes, WriteBytes}
-use Rattle.cm_names.specs.Rights.{RightSet, no_rights, union, has, only, only_if, all_rights, word_of, rights_of_word, with_rights, rights_behind, rights_of, words_of, WordsAreReadBack}
+use Rattle.cm_names.specs.Rights.{RightSet, no_rights, union, has, only, only_if, all_rights, word_of, rights_of_word, with_rights, rights_behind, rights_of, words_of}
+use Rattle.cm_names.specs.RightsInside.{WordsAreReadBack}
 
 -- each name is read as its right
 named : (x : Right) → rights_of_word (word_of x) ≡ Some (only x)

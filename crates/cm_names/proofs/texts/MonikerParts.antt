@@ -10,9 +10,10 @@ use Rattle.std.proofs.lemmas.Str.Pattern.{IsSplitOnceResult, split_parts, split_
 use Rattle.cm_names.specs.declared.child.ChildName.{ChildName}
 use Rattle.cm_names.specs.Name.{IsName, begins_name, continues_name}
 use Rattle.cm_names.specs.Child.{child_text, in_collection}
-use Rattle.cm_names.specs.Moniker.{IsChild, IsChildText, text_of_parts, IsMonikerTextOf, IsMonikerText, behind_slash, ReadsOneWay, WritesItsText}
+use Rattle.cm_names.specs.Moniker.{IsChildName, text_of_parts, IsMonikerTextOf}
+use Rattle.cm_names.specs.MonikerInside.{IsChildText, IsMonikerText, behind_slash, MonikersReadOneWay, WritesItsText}
 use Rattle.cm_names.specs.Path.{parts_of}
-use Rattle.cm_names.proofs.fronts.MonikerGrammar.{slashed, joined_is, AreChildren, are_children, not_at}
+use Rattle.cm_names.proofs.prefixes.MonikerGrammar.{slashed, joined_is, AreChildren, are_children, not_at}
 use Rattle.cm_names.proofs.texts.NameLemmas.{begins_continues}
 
 -- ---- names
@@ -62,7 +63,7 @@ same_names None (Some l) m n e = absurd cc
 same_names (Some k) None m n e = absurd cc
 same_names (Some k) (Some l) m n e = (cc, cc)
 
-pub same_child : (c d : ChildName) → IsChild c → IsChild d → child_text c ≡ child_text d → c ≡ d
+pub same_child : (c d : ChildName) → IsChildName c → IsChildName d → child_text c ≡ child_text d → c ≡ d
 same_child c d h k e =
     let same = same_names c.coll d.coll c.name d.name (sym (colon_parts c.coll c.name h.1 h.0) ∙ ap (slice_split (λ b. b == 58)) e ∙ colon_parts d.coll d.name k.1 k.0) in
     ap (λ o. record { coll = o; name = c.name }) same.0 ∙ ap (λ t. record { coll = d.coll; name = t }) same.1
@@ -83,7 +84,7 @@ no_slash None name _ h = lacks 47 refl name h
 no_slash (Some coll) name k h =
     All-append (λ b. (b == 47) ≡ false) coll (58 ∷ name) (lacks 47 refl coll k) (All-cons (λ b. (b == 47) ≡ false) 58 name refl (lacks 47 refl name h))
 
-split_parts_of : (c : ChildName) (cs : List ChildName) → IsChild c → AreChildren cs → parts_of (child_text c ++ slashed cs) ≡ map child_text (c ∷ cs)
+split_parts_of : (c : ChildName) (cs : List ChildName) → IsChildName c → AreChildren cs → parts_of (child_text c ++ slashed cs) ≡ map child_text (c ∷ cs)
 split_parts_of c [] h k = ap parts_of (append-nil (child_text c)) ∙ slice_split_none (λ b. b == 47) (child_text c) (no_slash c.coll c.name h.1 h.0)
 split_parts_of c (d ∷ ds) h k =
     slice_split_at (λ b. b == 47) (child_text c) 47 (child_text d ++ slashed ds) (no_slash c.coll c.name h.1 h.0) refl ∙ ap (λ ps. child_text c ∷ ps) (split_parts_of d ds k.0 k.1)
@@ -144,7 +145,7 @@ one_way t (c ∷ cs) [] h k = absurd (not_root t c cs h k.written)
 one_way t (c ∷ cs) (d ∷ ds) h k =
     same_children (c ∷ cs) (d ∷ ds) (are_children (c ∷ cs) h.names) (are_children (d ∷ ds) k.names) (sym (parts_are t c cs h) ∙ parts_are t d ds k)
 
-pub reads_one_way_lem : ReadsOneWay
+pub reads_one_way_lem : MonikersReadOneWay
 reads_one_way_lem t m n h k = ap (λ ps. record { parts = ps }) (one_way t m.parts n.parts h k)
 
 pub writes_its_text_lem : WritesItsText
@@ -188,7 +189,7 @@ texts_more texts cs c i t d lt at e so_far =
     map-append child_text cs (c ∷ []) ∙ ap (λ ts. ts ++ child_text c ∷ []) so_far ∙ ap (λ s. take i texts ++ s ∷ []) (e ∙ at) ∙ sym (take_more texts i d lt)
 
 -- children whose texts stand between the slashes make the moniker
-pub made : (t : List ℕ) (cs : List ChildName) → All IsChild cs → map child_text cs ≡ parts_of (behind_slash t) → IsMonikerTextOf t (record { parts = cs })
+pub made : (t : List ℕ) (cs : List ChildName) → All IsChildName cs → map child_text cs ≡ parts_of (behind_slash t) → IsMonikerTextOf t (record { parts = cs })
 made t [] names e = absurd (omega (arith, ap length e, length-slice_split (λ b. b == 47) (behind_slash t)))
 made t (c ∷ cs) names e =
     let text : join_with_byte 47 (map child_text (c ∷ cs)) ≡ behind_slash t = ap (join_with_byte 47) e ∙ join_with_byte-slice_split 47 (behind_slash t) in
@@ -201,5 +202,5 @@ written_whole [] i t some e h = absurd (some refl)
 written_whole (c ∷ cs) i t some e h =
     h ∙ ap (join_with_byte 47) (take_all i (map child_text (c ∷ cs)) (omega (arith, length-map (c ∷ cs) child_text)))
 
-pub names_whole : (cs : List ChildName) (i : ℕ) → i ≡ length cs → All IsChild (take i cs) → All IsChild cs
-names_whole cs i e h = subst (All IsChild) (take_all i cs (omega arith)) h
+pub names_whole : (cs : List ChildName) (i : ℕ) → i ≡ length cs → All IsChildName (take i cs) → All IsChildName cs
+names_whole cs i e h = subst (All IsChildName) (take_all i cs (omega arith)) h

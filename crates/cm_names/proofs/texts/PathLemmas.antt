@@ -108,7 +108,7 @@ path_without_fault (b ∷ bs) =
     let n : ℕ = length (b ∷ bs) in
     if_some (nat_lt 4096 n) TooLong (cond (is_slash b) (parts_fault 1 bs) (Some NotAbsolute)) ∙ ap (λ ok. ok && is_none (cond (is_slash b) (parts_fault 1 bs) (Some NotAbsolute))) (short n) ∙ ap (λ ok. nat_le n 4096 && ok) (slash_needed (is_slash b) (parts_fault 1 bs) ∙ ap (λ ok. is_slash b && ok) (faultless_parts 1 (parts_of bs))) ∙ sym (and_assoc (nat_le n 4096) (is_slash b) (is_relative bs))
 
--- a slash at the front leaves an empty first part
+-- a slash at the start leaves an empty first part
 empty_first : (b : Bool) (parts others : List (List ℕ)) → (not b && list_all is_part (cond b ([] ∷ parts) others)) ≡ list_all is_part (cond b ([] ∷ parts) others)
 empty_first true parts others = refl
 empty_first false parts others = refl

@@ -7,15 +7,16 @@ use Rattle.std.proofs.lemmas.List.Folds.{list_any-append}
 use Rattle.cm_decl.specs.declared.node.DynChild.{DynChild}
 use Rattle.cm_decl.proofs.Sameness.{and_second}
 use Rattle.cm_world.specs.declared.row.Row.{Row}
-use Rattle.cm_world.specs.Rows.{row_of, has_parent, is_behind, child_behind, is_shut, is_subtree_shut}
-use Rattle.cm_world.specs.Sound.{IsRising, IsOrderly}
+use Rattle.cm_world.specs.Rows.{row_of, has_parent, is_shut, is_subtree_shut}
+use Rattle.cm_world.specs.RowsInside.{is_behind, child_behind}
+use Rattle.cm_world.specs.Sound.{IncarnationsIncrease, IsOrderly}
 use Rattle.cm_world.specs.Stopping.{is_wholly_shut}
 use Rattle.cm_world.proofs.trees.Finding.{none_some, some_same}
 use Rattle.cm_world.proofs.trees.Walks.{find-lives}
 use Rattle.cm_order.specs.declared.members.Member.{Member}
 use Rattle.cm_order.specs.Kids.{IsKid, kids}
 use Rattle.cm_order.specs.Names.{child_node, node_in, dynamic_child}
-use Rattle.cm_order.specs.Levels.{Each, IsMember, has_member, AreMembers}
+use Rattle.cm_order.specs.Levels.{EachOfList, IsMember, has_member, AreMembers}
 use Rattle.cm_order.proofs.trees.Trees.{kid_higher, kid_within, or_left, or_right}
 use Rattle.cm_order.proofs.levels.Kids.{next_kid, other_kids, no_kids}
 use Rattle.cm_order.proofs.searches.Turns.{each_join}
@@ -72,9 +73,9 @@ module _ (p : ℕ) where
     by (Some b) behind = lt-ltb b t.inc (let less : b < s.inc = ltb-true b s.inc behind in omega arith)
 
   -- the children behind one are the first of them, and those behind it
-  pub kids_next : (rows : List Row) (next : ℕ) (after : Option ℕ) (r : Row) → IsRising next rows → find (λ s. has_parent p s && is_behind after s.inc) rows ≡ Some r → kids rows p after ≡ r ∷ kids rows p (Some r.inc)
-  kids_next [] next after r rising found = absurd (none_some r found)
-  kids_next (s ∷ ss) next after r rising found = by (has_parent p s && is_behind after s.inc) refl (λ later. kids_next ss next after r rising.1 later) where
+  pub kids_next : (rows : List Row) (next : ℕ) (after : Option ℕ) (r : Row) → IncarnationsIncrease next rows → find (λ s. has_parent p s && is_behind after s.inc) rows ≡ Some r → kids rows p after ≡ r ∷ kids rows p (Some r.inc)
+  kids_next [] next after r increasing found = absurd (none_some r found)
+  kids_next (s ∷ ss) next after r increasing found = by (has_parent p s && is_behind after s.inc) refl (λ later. kids_next ss next after r increasing.1 later) where
     by : (t : Bool) → (has_parent p s && is_behind after s.inc) ≡ t → (find (λ s. has_parent p s && is_behind after s.inc) ss ≡ Some r → kids ss p after ≡ r ∷ kids ss p (Some r.inc)) → kids (s ∷ ss) p after ≡ r ∷ kids (s ∷ ss) p (Some r.inc)
     by true is more =
         let same : s ≡ r = some_same s r (rw is at found) in
@@ -82,11 +83,11 @@ module _ (p : ℕ) where
         let rest : kids ss p after ≡ kids ss p (Some s.inc) =
         same_rows (λ t. has_parent p t && is_behind after t.inc) (λ t. has_parent p t && is_behind (Some s.inc) t.inc) s.inc
         (λ t low. true_and (has_parent p t) (is_behind after t.inc) (is_later after s t is low) ∙ sym (true_and (has_parent p t) (nat_lt s.inc t.inc) (lt-ltb s.inc t.inc low)))
-        ss rising.0.1 in
+        ss increasing.0.1 in
         subst (λ z. kids (s ∷ ss) p after ≡ z ∷ kids (s ∷ ss) p (Some z.inc)) same (rw (is, not_itself) (ap (λ l. s ∷ l) rest))
     by false is more =
         let later : find (λ s. has_parent p s && is_behind after s.inc) ss ≡ Some r = rw is at found in
-        let low : s.inc < r.inc = rising.0.1 r.inc (rw (find-lives (λ s. has_parent p s && is_behind after s.inc) ss next r rising.1 later) refl) in
+        let low : s.inc < r.inc = increasing.0.1 r.inc (rw (find-lives (λ s. has_parent p s && is_behind after s.inc) ss next r increasing.1 later) refl) in
         let before : (has_parent p s && is_behind (Some r.inc) s.inc) ≡ false = false_and (has_parent p s) (nat_lt r.inc s.inc) (le-ltb r.inc s.inc (omega arith)) in
         rw (is, before) (more later)
 
@@ -101,7 +102,7 @@ module _ (p : ℕ) where
 
 -- the members so far, where each child is one of them or still comes
 pub record AreGathered (rows : List Row) (p : ℕ) (after : Option ℕ) (members : List Member) : Type 0 where
-  pub each : Each (IsMember rows p) members
+  pub each : EachOfList (IsMember rows p) members
   pub own : IsTrue (has_member members p)
   pub rest : (x : ℕ) → IsKid rows p x → IsTrue (is_behind after x) ⊎ IsTrue (has_member members x)
 
@@ -145,8 +146,8 @@ module _ (rows : List Row) (next : ℕ) (orderly : IsOrderly rows next) where
   some_kids p c after None found e = absurd (none_some c (sym e))
   some_kids p c after (Some r) found e =
       let own : c ≡ r.inc = some_same c r.inc e in
-      let lives : row_of rows c ≡ Some r = subst (λ i. row_of rows i ≡ Some r) (sym own) (find-lives (λ s. has_parent p s && is_behind after s.inc) rows next r orderly.rising found) in
-      ap (flat_map dynamic_child) (kids_next p rows next after r orderly.rising found)
+      let lives : row_of rows c ≡ Some r = subst (λ i. row_of rows i ≡ Some r) (sym own) (find-lives (λ s. has_parent p s && is_behind after s.inc) rows next r orderly.increasing found) in
+      ap (flat_map dynamic_child) (kids_next p rows next after r orderly.increasing found)
       ∙ ap (λ i. dynamic_child r ++ flat_map dynamic_child (kids rows p (Some i))) (sym own)
       ∙ sym (ap (λ o. option_map_or dynamic_child o [] ++ flat_map dynamic_child (kids rows p (Some c))) lives)
 

@@ -6,14 +6,15 @@ use Rattle.std.specs.BTreeSet.{BTreeSet}
 use Rattle.cm_decl.specs.declared.decl.Decl.{Decl}
 use Rattle.cm_decl.specs.declared.rows.Usage.{Usage}
 use Rattle.cm_decl.specs.Graph.{is_strong, is_from_child}
-use Rattle.cm_decl.specs.Realm.{Depends}
+use Rattle.cm_decl.specs.RealmGraph.{Depends}
 use Rattle.cm_decl.proofs.Sameness.{and_first, and_second, never}
 use Rattle.cm_world.specs.declared.row.Row.{Row}
-use Rattle.cm_world.specs.Rows.{row_of, decl_of, child_behind, is_behind, is_subtree_shut}
+use Rattle.cm_world.specs.Rows.{row_of, decl_of, is_subtree_shut}
+use Rattle.cm_world.specs.RowsInside.{child_behind, is_behind}
 use Rattle.cm_world.specs.Level.{level}
 use Rattle.cm_world.specs.Sound.{IsOrderly, IsSound}
 use Rattle.cm_world.specs.Stopping.{is_wholly_shut}
-use Rattle.cm_order.specs.declared.search.Wanted.TheVariants.{Idle}
+use Rattle.cm_order.specs.declared.search.SearchGoal.TheVariants.{Idle}
 use Rattle.cm_order.specs.Kids.{IsKid}
 use Rattle.cm_order.specs.Search.{IsHere}
 use Rattle.cm_order.specs.Glances.{is_in_set, HasBound, IsFreeKid, AreKidsShut}

@@ -4,8 +4,9 @@ use Rattle.std.specs.Cmp.{unsigned_Decides}
 use Rattle.std.proofs.lemmas.Bool.{lt-ltb, ltb-true}
 use Rattle.cm_decl.proofs.Sameness.{and_first, and_second}
 use Rattle.cm_world.specs.declared.row.Row.{Row}
-use Rattle.cm_world.specs.Rows.{row_of, has_parent, is_behind, child_behind}
-use Rattle.cm_world.specs.Sound.{IsRising, IsOrderly}
+use Rattle.cm_world.specs.Rows.{row_of, has_parent}
+use Rattle.cm_world.specs.RowsInside.{is_behind, child_behind}
+use Rattle.cm_world.specs.Sound.{IncarnationsIncrease, IsOrderly}
 use Rattle.cm_world.proofs.trees.Finding.{none_some, some_same, row_of-inc, find-passes}
 use Rattle.cm_world.proofs.trees.Walks.{find-lives}
 use Rattle.cm_order.specs.Kids.{IsKid}
@@ -21,8 +22,8 @@ same_or_later c i low = by (c == i) refl where
 -- ---- the first that is found
 
 module _ (q : Row → Bool) where
-  least_by : (t : Bool) (next : ℕ) (s r : Row) (ss : List Row) (i : ℕ) (z : Row) → q s ≡ t → IsRising next (s ∷ ss) → (row_of ss i ≡ Some z → find q ss ≡ Some r → r.inc ≤ i) → row_of (s ∷ ss) i ≡ Some z → IsTrue (q z) → cond t (Some s) (find q ss) ≡ Some r → r.inc ≤ i
-  least_by t next s r ss i z is rising more lives passes found = at (s.inc == i) t refl is found where
+  least_by : (t : Bool) (next : ℕ) (s r : Row) (ss : List Row) (i : ℕ) (z : Row) → q s ≡ t → IncarnationsIncrease next (s ∷ ss) → (row_of ss i ≡ Some z → find q ss ≡ Some r → r.inc ≤ i) → row_of (s ∷ ss) i ≡ Some z → IsTrue (q z) → cond t (Some s) (find q ss) ≡ Some r → r.inc ≤ i
+  least_by t next s r ss i z is increasing more lives passes found = at (s.inc == i) t refl is found where
     at : (b t : Bool) → (s.inc == i) ≡ b → q s ≡ t → cond t (Some s) (find q ss) ≡ Some r → r.inc ≤ i
     at true true e is found =
         let own : s.inc ≡ i = (unsigned_Decides s.inc i).0 e in
@@ -31,15 +32,15 @@ module _ (q : Row → Bool) where
         let same : s ≡ z = some_same s z (rw e at lives) in true_not_false (q s) (subst (λ x. IsTrue (q x)) (sym same) passes) is
     at false true e is found =
         let rest : row_of ss i ≡ Some z = rw e at lives in
-        let low : s.inc < i = rising.0.1 i (rw rest refl) in
+        let low : s.inc < i = increasing.0.1 i (rw rest refl) in
         let same : s.inc ≡ r.inc = ap (λ z. z.inc) (some_same s r found) in omega arith
     at false false e is found = more (rw e at lives) found
 
   -- what is found has the least incarnation of those that pass
-  pub least_found : (next : ℕ) (rows : List Row) (r : Row) (i : ℕ) (z : Row) → IsRising next rows → row_of rows i ≡ Some z → IsTrue (q z) → find q rows ≡ Some r → r.inc ≤ i
-  least_found next [] r i z rising lives passes found = absurd (none_some z lives)
-  least_found next (s ∷ ss) r i z rising lives passes found =
-      least_by (q s) next s r ss i z refl rising (λ there later. least_found next ss r i z rising.1 there passes later) lives passes found
+  pub least_found : (next : ℕ) (rows : List Row) (r : Row) (i : ℕ) (z : Row) → IncarnationsIncrease next rows → row_of rows i ≡ Some z → IsTrue (q z) → find q rows ≡ Some r → r.inc ≤ i
+  least_found next [] r i z increasing lives passes found = absurd (none_some z lives)
+  least_found next (s ∷ ss) r i z increasing lives passes found =
+      least_by (q s) next s r ss i z refl increasing (λ there later. least_found next ss r i z increasing.1 there passes later) lives passes found
 
   none_by : (s : Row) (ss : List Row) (i : ℕ) (z : Row) (t : Bool) → q s ≡ t → (row_of ss i ≡ Some z → find q ss ≡ None → ⊥) → row_of (s ∷ ss) i ≡ Some z → IsTrue (q z) → cond t (Some s) (find q ss) ≡ None → ⊥
   none_by s ss i z true is more lives passes none = none_some s (sym none)
@@ -75,7 +76,7 @@ module _ (rows : List Row) (next : ℕ) (orderly : IsOrderly rows next) where
       let passes : IsTrue (has_parent p r && is_behind after r.inc) = find-passes (λ r. has_parent p r && is_behind after r.inc) rows r found in (
         record {
           row = r;
-          lives = subst (λ i. row_of rows i ≡ Some r) own (find-lives (λ r. has_parent p r && is_behind after r.inc) rows next r orderly.rising found);
+          lives = subst (λ i. row_of rows i ≡ Some r) own (find-lives (λ r. has_parent p r && is_behind after r.inc) rows next r orderly.increasing found);
           parent = some_eq r.parent p (and_first (has_parent p r) (is_behind after r.inc) passes);
         },
         subst (λ i. IsTrue (is_behind after i)) own (and_second (has_parent p r) (is_behind after r.inc) passes),
@@ -89,7 +90,7 @@ module _ (rows : List Row) (next : ℕ) (orderly : IsOrderly rows next) where
   least_at p after c i None found e kid behind = absurd (none_some c e)
   least_at p after c i (Some r) found e kid behind =
       let own : r.inc ≡ c = some_same r.inc c e in
-      let least : r.inc ≤ i = least_found (λ r. has_parent p r && is_behind after r.inc) next rows r i kid.row orderly.rising kid.lives (kid_passes rows p after i kid behind) found in
+      let least : r.inc ≤ i = least_found (λ r. has_parent p r && is_behind after r.inc) next rows r i kid.row orderly.increasing kid.lives (kid_passes rows p after i kid behind) found in
       omega arith
 
   -- each child behind is the one that is found, or stands behind it

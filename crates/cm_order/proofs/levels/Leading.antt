@@ -5,14 +5,14 @@ use Rattle.std.specs.Cmp.{unsigned_Decides}
 use Rattle.std.proofs.lemmas.Bool.{lt-ltb, ltb-true}
 use Rattle.cm_decl.proofs.Sameness.{never}
 use Rattle.cm_world.specs.declared.row.Row.{Row}
-use Rattle.cm_world.specs.Rows.{is_behind, child_behind}
+use Rattle.cm_world.specs.RowsInside.{is_behind, child_behind}
 use Rattle.cm_world.specs.Sound.{IsOrderly}
 use Rattle.cm_world.specs.Stopping.{is_wholly_shut, IsFree}
 use Rattle.cm_world.proofs.trees.Finding.{none_some, some_same, find-passes}
 use Rattle.cm_order.specs.declared.members.Member.{Member}
 use Rattle.cm_order.specs.Kids.{IsKid}
-use Rattle.cm_order.specs.Levels.{Each, IsMember, has_member}
-use Rattle.cm_order.specs.Search.{Leads, LeadsNext}
+use Rattle.cm_order.specs.Levels.{EachOfList, IsMember, has_member}
+use Rattle.cm_order.specs.Search.{IsFreeAt, LeadsNext}
 use Rattle.cm_order.proofs.trees.Trees.{true_not_false}
 use Rattle.cm_order.proofs.levels.Kids.{next_kid, other_kids, no_kids}
 
@@ -22,7 +22,7 @@ each_by : (P : Member → Type 0) (q : Member → Bool) (t : Bool) (n m : Member
 each_by P q true n m o here later e = subst P (some_same n m e) here
 each_by P q false n m o here later e = later e
 
-pub each_found : (P : Member → Type 0) (q : Member → Bool) (ms : List Member) (m : Member) → Each P ms → find q ms ≡ Some m → P m
+pub each_found : (P : Member → Type 0) (q : Member → Bool) (ms : List Member) (m : Member) → EachOfList P ms → find q ms ≡ Some m → P m
 each_found P q [] m all e = absurd (none_some m e)
 each_found P q (n ∷ ns) m all e = each_by P q (q n) n m (find q ns) all.0 (each_found P q ns m all.1) e
 
@@ -39,13 +39,13 @@ member_there (n ∷ ns) x there e = by (n.inc == x) refl (λ more none. member_t
 -- ---- one member
 
 module _ (rows : List Row) (p x : ℕ) where
-  pub shut_not : (m : Member) → IsMember rows p m → m.inc ≡ x → m.shut ≡ true → IsTrue false ↔ Leads rows p x
+  pub shut_not : (m : Member) → IsMember rows p m → m.inc ≡ x → m.shut ≡ true → IsTrue false ↔ IsFreeAt rows p x
   shut_not m is own shut = (
     λ no_way. never no_way,
     λ leads. true_not_false m.shut shut (is.shut ∙ ap (is_wholly_shut rows p) own ∙ leads.unshut),
   )
 
-  pub leads_by : (m : Member) (free : Bool) → IsMember rows p m → m.inc ≡ x → m.shut ≡ false → IsTrue free ↔ IsFree rows p m.inc → IsTrue free ↔ Leads rows p x
+  pub leads_by : (m : Member) (free : Bool) → IsMember rows p m → m.inc ≡ x → m.shut ≡ false → IsTrue free ↔ IsFree rows p m.inc → IsTrue free ↔ IsFreeAt rows p x
   leads_by m free is own unshut answers = (
     λ there. record {
       free = subst (IsFree rows p) own (answers.0 there);
@@ -59,7 +59,7 @@ module _ (rows : List Row) (p x : ℕ) where
 -- all children behind the first that lead still come
 pub record IsPassing (rows : List Row) (p : ℕ) (first last : Option ℕ) : Type 0 where
   pub later : (c : ℕ) → IsTrue (is_behind last c) → IsTrue (is_behind first c)
-  pub left : (c : ℕ) → IsKid rows p c → IsTrue (is_behind first c) → Leads rows p c → IsTrue (is_behind last c)
+  pub left : (c : ℕ) → IsKid rows p c → IsTrue (is_behind first c) → IsFreeAt rows p c → IsTrue (is_behind last c)
 
 module _ (rows : List Row) (next : ℕ) (orderly : IsOrderly rows next) (p : ℕ) where
   later_on : (last : Option ℕ) (b c : ℕ) → IsTrue (is_behind last b) → IsTrue (is_behind (Some b) c) → IsTrue (is_behind last c)
@@ -69,18 +69,18 @@ module _ (rows : List Row) (next : ℕ) (orderly : IsOrderly rows next) (p : ℕ
       let high : b < c = ltb-true b c second in
       lt-ltb a c (omega arith)
 
-  pub passing_on : (first last : Option ℕ) (c : ℕ) (leads : Bool) → IsPassing rows p first last → Some c ≡ child_behind rows p last → IsTrue leads ↔ Leads rows p c → leads ≡ false → IsPassing rows p first (Some c)
+  pub passing_on : (first last : Option ℕ) (c : ℕ) (leads : Bool) → IsPassing rows p first last → Some c ≡ child_behind rows p last → IsTrue leads ↔ IsFreeAt rows p c → leads ≡ false → IsPassing rows p first (Some c)
   passing_on first last c leads is found answers no_way =
       let kid : IsKid rows p c × IsTrue (is_behind last c) = next_kid rows next orderly p last c (sym found) in
       record {
         later = λ i behind. is.later i (later_on last c i kid.1 behind);
         left = λ i other behind lead. elim (other_kids rows next orderly p last c i (sym found) other (is.left i other behind lead)) [
-          | inl same ↦ absurd (true≢false (sym (answers.1 (subst (Leads rows p) same lead)) ∙ no_way))
+          | inl same ↦ absurd (true≢false (sym (answers.1 (subst (IsFreeAt rows p) same lead)) ∙ no_way))
           | inr more ↦ more
         ];
       }
 
-  pub passing_found : (first last : Option ℕ) (c : ℕ) (leads : Bool) → IsPassing rows p first last → Some c ≡ child_behind rows p last → IsTrue leads ↔ Leads rows p c → leads ≡ true → LeadsNext rows p first c
+  pub passing_found : (first last : Option ℕ) (c : ℕ) (leads : Bool) → IsPassing rows p first last → Some c ≡ child_behind rows p last → IsTrue leads ↔ IsFreeAt rows p c → leads ≡ true → LeadsNext rows p first c
   passing_found first last c leads is found answers there =
       let kid : IsKid rows p c × IsTrue (is_behind last c) = next_kid rows next orderly p last c (sym found) in
       record {
@@ -90,5 +90,5 @@ module _ (rows : List Row) (next : ℕ) (orderly : IsOrderly rows next) (p : ℕ
         others = λ i other behind lead. other_kids rows next orderly p last c i (sym found) other (is.left i other behind lead);
       }
 
-  pub passing_ends : (first last : Option ℕ) → IsPassing rows p first last → None ≡ child_behind rows p last → (c : ℕ) → IsKid rows p c → IsTrue (is_behind first c) → Leads rows p c → ⊥
+  pub passing_ends : (first last : Option ℕ) → IsPassing rows p first last → None ≡ child_behind rows p last → (c : ℕ) → IsKid rows p c → IsTrue (is_behind first c) → IsFreeAt rows p c → ⊥
   passing_ends first last is none c kid behind lead = no_kids rows p last c (sym none) kid (is.left c kid behind lead)

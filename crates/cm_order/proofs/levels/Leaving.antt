@@ -7,31 +7,32 @@ use Rattle.cm_decl.specs.declared.decl.Decl.{Decl}
 use Rattle.cm_decl.specs.declared.rows.Give.{Give}
 use Rattle.cm_decl.specs.declared.node.DynChild.{DynChild}
 use Rattle.cm_decl.specs.declared.node.Node.{Node}
-use Rattle.cm_decl.specs.Graph.{WouldDepend}
+use Rattle.cm_decl.specs.GraphInside.{WouldDepend}
 use Rattle.cm_deps.specs.declared.graph.Graph.{Graph}
 use Rattle.cm_deps.specs.Graph.{IsGraphOf}
 use Rattle.cm_world.specs.declared.row.Row.{Row}
-use Rattle.cm_world.specs.Rows.{row_of, name_of}
+use Rattle.cm_world.specs.Rows.{row_of}
+use Rattle.cm_world.specs.RowsInside.{name_of}
 use Rattle.cm_world.specs.Sound.{IsSound}
 use Rattle.cm_world.specs.Stopping.{IsFree}
 use Rattle.cm_world.proofs.trees.Finding.{none_some, some_same}
 use Rattle.cm_order.specs.declared.members.Member.{Member}
 use Rattle.cm_order.specs.declared.level.Level.{Level}
 use Rattle.cm_order.specs.Names.{dynamic_children}
-use Rattle.cm_order.specs.Levels.{Each, IsMember, AreMembers, HasGraph, IsLevelGraph, IsLevel, RowWould, MemberDepends, LeavesFree}
+use Rattle.cm_order.specs.Levels.{EachOfList, IsMember, AreMembers, HasGraph, IsLevelGraph, IsLevel, RowWould, MemberDepends, LeavesFree}
 use Rattle.cm_order.proofs.searches.Turns.{each_join}
 use Rattle.cm_order.proofs.names.Naming.{IsNamed, kept_named, kept_doomed}
 use Rattle.cm_order.proofs.names.Edges.{free_members, members_free, nothing_on_doomed, free_alone}
 
 -- ---- lists
 
-pub each_at : {A : Type 0} (P : A → Type 0) (xs : List A) (i : ℕ) (d : A) → Each P xs → i < length xs → P (get_or xs i d)
+pub each_at : {A : Type 0} (P : A → Type 0) (xs : List A) (i : ℕ) (d : A) → EachOfList P xs → i < length xs → P (get_or xs i d)
 each_at P [] i d all low = absurd (omega arith)
 each_at P (x ∷ xs) zero d all low = all.0
 each_at P (x ∷ xs) (suc i) d all low = each_at P xs i d all.1 (omega arith)
 
-pub each_more : {A : Type 0} (P : A → Type 0) (xs : List A) (i : ℕ) (d : A) → Each P (take i xs) → i < length xs → P (get_or xs i d) → Each P (take (i + 1) xs)
-each_more P xs i d all low here = subst (Each P) (sym (take_more xs i d low)) (each_join P (take i xs) (get_or xs i d ∷ []) all (here, tt))
+pub each_more : {A : Type 0} (P : A → Type 0) (xs : List A) (i : ℕ) (d : A) → EachOfList P (take i xs) → i < length xs → P (get_or xs i d) → EachOfList P (take (i + 1) xs)
+each_more P xs i d all low here = subst (EachOfList P) (sym (take_more xs i d low)) (each_join P (take i xs) (get_or xs i d ∷ []) all (here, tt))
 
 -- ---- what one doomed row depends on
 
@@ -76,17 +77,17 @@ left_by rows d dynamic y m false yet answers = (
 -- ---- a loop over members
 
 module _ (rows : List Row) (d : Decl) (dynamic : List DynChild) (y : Node) (ms : List Member) where
-  pub one_binds : (i : ℕ) (m : Member) (binds : Bool) → m ≡ get_or ms i m → i < length ms → (binds ≡ false) ↔ LeavesFree rows d dynamic y m → binds ≡ true → IsTrue false ↔ Each (LeavesFree rows d dynamic y) ms
+  pub one_binds : (i : ℕ) (m : Member) (binds : Bool) → m ≡ get_or ms i m → i < length ms → (binds ≡ false) ↔ LeavesFree rows d dynamic y m → binds ≡ true → IsTrue false ↔ EachOfList (LeavesFree rows d dynamic y) ms
   one_binds i m binds is low answers there = (
     λ no_way. absurd (true≢false (sym no_way)),
     λ all. absurd (true≢false (sym there ∙ answers.1 (subst (LeavesFree rows d dynamic y) (sym is) (each_at (LeavesFree rows d dynamic y) ms i m all low)))),
   )
 
-  pub one_leaves : (i : ℕ) (m : Member) (binds : Bool) → m ≡ get_or ms i m → i < length ms → (binds ≡ false) ↔ LeavesFree rows d dynamic y m → binds ≡ false → Each (LeavesFree rows d dynamic y) (take i ms) → Each (LeavesFree rows d dynamic y) (take (i + 1) ms)
+  pub one_leaves : (i : ℕ) (m : Member) (binds : Bool) → m ≡ get_or ms i m → i < length ms → (binds ≡ false) ↔ LeavesFree rows d dynamic y m → binds ≡ false → EachOfList (LeavesFree rows d dynamic y) (take i ms) → EachOfList (LeavesFree rows d dynamic y) (take (i + 1) ms)
   one_leaves i m binds is low answers no_way all = each_more (LeavesFree rows d dynamic y) ms i m all low (subst (LeavesFree rows d dynamic y) is (answers.0 no_way))
 
-  pub all_leave : (i : ℕ) → length ms ≤ i → Each (LeavesFree rows d dynamic y) (take i ms) → IsTrue true ↔ Each (LeavesFree rows d dynamic y) ms
-  all_leave i high all = (λ yes. subst (Each (LeavesFree rows d dynamic y)) (take_all i ms high) all, λ each. refl)
+  pub all_leave : (i : ℕ) → length ms ≤ i → EachOfList (LeavesFree rows d dynamic y) (take i ms) → IsTrue true ↔ EachOfList (LeavesFree rows d dynamic y) ms
+  all_leave i high all = (λ yes. subst (EachOfList (LeavesFree rows d dynamic y)) (take_all i ms high) all, λ each. refl)
 
 -- ---- freedom at a level
 
@@ -104,12 +105,12 @@ module _ (rows : List Row) (next : ℕ) (sound : IsSound rows next) (l : Level) 
       )
 
   -- any other one is where the members leave it free
-  pub free_named : (m : Member) (graph : Graph) (node : Node) (ms : List Member) (result : Bool) → IsMember rows l.own m → l.graph ≡ Some graph → m.node ≡ Some node → ms ≡ l.members.items → ((d : Decl) (dynamic : List DynChild) → IsGraphOf d dynamic graph → IsTrue result ↔ Each (LeavesFree rows d dynamic node) ms) → IsTrue result ↔ IsFree rows l.own m.inc
+  pub free_named : (m : Member) (graph : Graph) (node : Node) (ms : List Member) (result : Bool) → IsMember rows l.own m → l.graph ≡ Some graph → m.node ≡ Some node → ms ≡ l.members.items → ((d : Decl) (dynamic : List DynChild) → IsGraphOf d dynamic graph → IsTrue result ↔ EachOfList (LeavesFree rows d dynamic node) ms) → IsTrue result ↔ IsFree rows l.own m.inc
   free_named m graph node ms result member some named same answers =
       let has : HasGraph rows l.own graph = subst (IsLevelGraph rows l.own) some is.graph in
       let is_named : IsNamed rows l.own m.inc node = kept_named rows next sound.orderly l.own m.inc node member.place (sym named ∙ member.node) in
       let are : AreMembers rows l.own ms = subst (AreMembers rows l.own) (sym same) is.members in
-      let by : IsTrue result ↔ Each (LeavesFree rows has.decl (dynamic_children rows l.own) node) ms = answers has.decl (dynamic_children rows l.own) has.by_names in (
+      let by : IsTrue result ↔ EachOfList (LeavesFree rows has.decl (dynamic_children rows l.own) node) ms = answers has.decl (dynamic_children rows l.own) has.by_names in (
         λ yes. free_members rows next sound l.own has.decl has.found m.inc node ms is_named are (by.0 yes),
         λ free. by.1 (members_free rows next sound l.own has.decl has.found m.inc node ms is_named are free),
       )

@@ -12,15 +12,17 @@ use Rattle.cm_decl.specs.declared.origin.Origin.TheVariants as origin
 use Rattle.cm_decl.specs.declared.node.Node.{Node}
 use Rattle.cm_decl.specs.declared.node.Node.TheVariants.{Own, Child}
 use Rattle.cm_decl.specs.Same.{same_child}
-use Rattle.cm_decl.specs.Reach.{Way, Reaches, NoCycle}
-use Rattle.cm_decl.specs.Realm.{Directly, Depends}
-use Rattle.cm_decl.specs.Graph.{is_node, is_from_node, is_strong, sources_of, child_sources, StrongOn, realm, DependsOn, WouldDirectly, WouldDepend}
+use Rattle.cm_decl.specs.Reach.{DependencyPath, Reaches, NoCycle}
+use Rattle.cm_decl.specs.RealmGraph.{Directly, Depends}
+use Rattle.cm_decl.specs.Graph.{is_node, is_from_node, is_strong, sources_of, child_sources, StrongOn}
+use Rattle.cm_decl.specs.GraphInside.{realm, DependsOn, WouldDirectly, WouldDepend}
 use Rattle.cm_decl.proofs.Sameness.{and_first, and_second, or_split, never, same_child_exact}
 use Rattle.cm_decl.proofs.orders.Orders.{edge_nodes}
 use Rattle.cm_deps.proofs.loops.Ways.{last_step}
 use Rattle.cm_world.specs.declared.row.Row.{Row}
 use Rattle.cm_world.specs.Rows.{row_of, is_live, decl_of, has_parent, child_of}
-use Rattle.cm_world.specs.Level.{is_child_row, is_level_node, row_sources, level_sources, is_from_row, level, LevelStrong, LevelOn}
+use Rattle.cm_world.specs.Level.{is_child_row, is_level_node, row_sources, level_sources, is_from_row, level, LevelStrong}
+use Rattle.cm_world.specs.LevelInside.{LevelOn}
 use Rattle.cm_world.specs.Sound.{IsOrderly, IsSound}
 use Rattle.cm_world.specs.Stopping.{is_wholly_shut, IsFree}
 use Rattle.cm_world.proofs.trees.Finding.{none_some, some_same}
@@ -28,7 +30,7 @@ use Rattle.cm_world.proofs.trees.Levels.{edge_source, edge_node}
 use Rattle.cm_order.specs.declared.members.Member.{Member}
 use Rattle.cm_order.specs.Kids.{IsKid}
 use Rattle.cm_order.specs.Names.{dynamic_children}
-use Rattle.cm_order.specs.Levels.{Each, IsMember, AreMembers, has_member, RowWould, MemberDepends, LeavesFree}
+use Rattle.cm_order.specs.Levels.{EachOfList, IsMember, AreMembers, has_member, RowWould, MemberDepends, LeavesFree}
 use Rattle.cm_order.proofs.trees.Trees.{kid_higher, some_eq, eq_some, or_left, or_right, and_pair, not_true, true_not_false}
 use Rattle.cm_order.proofs.names.Listing.{any_some, any_same}
 use Rattle.cm_order.proofs.names.Naming.{IsDoomedKid, IsNamed, itself, child, child_refl, name_once, not_itself, node_once, row_once, found_kid, kid_found, kid_not_own, kept_named, kept_doomed, row_node, node_row, gives_same}
@@ -139,7 +141,7 @@ module _ (rows : List Row) (next : ℕ) (sound : IsSound rows next) (p : ℕ) (d
 
   -- ---- ways
 
-  to_names : (On : ℕ → ℕ → Type 0) (Along : Node → Node → Type 0) → ((x y : ℕ) (n : Node) → IsNamed rows p x n → On x y → (m : Node) × IsNamed rows p y m × Along n m) → (x : ℕ) (n : Node) → IsNamed rows p x n → (xs : List ℕ) (y : ℕ) → Way On x xs y → (m : Node) × IsNamed rows p y m × Reaches Along n m
+  to_names : (On : ℕ → ℕ → Type 0) (Along : Node → Node → Type 0) → ((x y : ℕ) (n : Node) → IsNamed rows p x n → On x y → (m : Node) × IsNamed rows p y m × Along n m) → (x : ℕ) (n : Node) → IsNamed rows p x n → (xs : List ℕ) (y : ℕ) → DependencyPath On x xs y → (m : Node) × IsNamed rows p y m × Reaches Along n m
   to_names On Along step x n named [] y on =
       let last : (m : Node) × IsNamed rows p y m × Along n m = step x y n named on in (last.0, last.1, ([], last.2))
   to_names On Along step x n named (z ∷ zs) y way =
@@ -147,7 +149,7 @@ module _ (rows : List Row) (next : ℕ) (sound : IsSound rows next) (p : ℕ) (d
       let rest : (m : Node) × IsNamed rows p y m × Reaches Along first.0 m = to_names On Along step z first.0 first.1 zs y way.1 in
       (rest.0, rest.1, (first.0 ∷ rest.2.0, (first.2, rest.2.1)))
 
-  to_rows : (On : ℕ → ℕ → Type 0) (Along : Node → Node → Type 0) → ((x : ℕ) (n m : Node) → IsNamed rows p x n → Along n m → (y : ℕ) × IsNamed rows p y m × On x y) → (x : ℕ) (n : Node) → IsNamed rows p x n → (ns : List Node) (m : Node) → Way Along n ns m → (y : ℕ) × IsNamed rows p y m × Reaches On x y
+  to_rows : (On : ℕ → ℕ → Type 0) (Along : Node → Node → Type 0) → ((x : ℕ) (n m : Node) → IsNamed rows p x n → Along n m → (y : ℕ) × IsNamed rows p y m × On x y) → (x : ℕ) (n : Node) → IsNamed rows p x n → (ns : List Node) (m : Node) → DependencyPath Along n ns m → (y : ℕ) × IsNamed rows p y m × Reaches On x y
   to_rows On Along step x n named [] m on =
       let last : (y : ℕ) × IsNamed rows p y m × On x y = step x n m named on in (last.0, last.1, ([], last.2))
   to_rows On Along step x n named (k ∷ ks) m way =
@@ -359,11 +361,11 @@ module _ (rows : List Row) (next : ℕ) (sound : IsSound rows next) (p : ℕ) (d
   leaves_by : (x : ℕ) (n : Node) → IsNamed rows p x n → IsFree rows p x → (m : Member) → IsMember rows p m → LeavesFree rows d (dynamic_children rows p) n m
   leaves_by x n named free m is = λ by_name. is.shut ∙ free m.inc (member_rows x n named m is m.node refl by_name)
 
-  each_leaves : (x : ℕ) (n : Node) → IsNamed rows p x n → IsFree rows p x → (ms : List Member) → Each (IsMember rows p) ms → Each (LeavesFree rows d (dynamic_children rows p) n) ms
+  each_leaves : (x : ℕ) (n : Node) → IsNamed rows p x n → IsFree rows p x → (ms : List Member) → EachOfList (IsMember rows p) ms → EachOfList (LeavesFree rows d (dynamic_children rows p) n) ms
   each_leaves x n named free [] all = tt
   each_leaves x n named free (m ∷ ms) all = (leaves_by x n named free m all.0, each_leaves x n named free ms all.1)
 
-  shut_by : (x z : ℕ) (n : Node) → IsNamed rows p x n → Depends (level rows p) z x → (ms : List Member) → Each (IsMember rows p) ms → Each (LeavesFree rows d (dynamic_children rows p) n) ms → IsTrue (has_member ms z) → IsTrue (is_wholly_shut rows p z)
+  shut_by : (x z : ℕ) (n : Node) → IsNamed rows p x n → Depends (level rows p) z x → (ms : List Member) → EachOfList (IsMember rows p) ms → EachOfList (LeavesFree rows d (dynamic_children rows p) n) ms → IsTrue (has_member ms z) → IsTrue (is_wholly_shut rows p z)
   shut_by x z n named way [] all leave there = never there
   shut_by x z n named way (m ∷ ms) all leave there = elim (or_split (m.inc == z) (has_member ms z) there) [
     | inl here ↦
@@ -373,14 +375,14 @@ module _ (rows : List Row) (next : ℕ) (sound : IsSound rows next) (p : ℕ) (d
   ]
 
   -- the members leave a node free exactly where its row is free
-  pub free_members : (x : ℕ) (n : Node) (ms : List Member) → IsNamed rows p x n → AreMembers rows p ms → Each (LeavesFree rows d (dynamic_children rows p) n) ms → IsFree rows p x
+  pub free_members : (x : ℕ) (n : Node) (ms : List Member) → IsNamed rows p x n → AreMembers rows p ms → EachOfList (LeavesFree rows d (dynamic_children rows p) n) ms → IsFree rows p x
   free_members x n ms named are leave z way =
       shut_by x z n named way ms are.each leave (elim (node_kid rows p z (depends_node rows p z x way)) [
         | inl own ↦ subst (λ i. IsTrue (has_member ms i)) (sym own) are.own
         | inr kid ↦ are.covers z kid
       ])
 
-  pub members_free : (x : ℕ) (n : Node) (ms : List Member) → IsNamed rows p x n → AreMembers rows p ms → IsFree rows p x → Each (LeavesFree rows d (dynamic_children rows p) n) ms
+  pub members_free : (x : ℕ) (n : Node) (ms : List Member) → IsNamed rows p x n → AreMembers rows p ms → IsFree rows p x → EachOfList (LeavesFree rows d (dynamic_children rows p) n) ms
   members_free x n ms named are free = each_leaves x n named free ms are.each
 
 -- ---- where there is no graph

@@ -2,11 +2,11 @@
 use Rattle.std.proofs.Common.{◌≡◌, ◌≢◌, ℕ, zero, suc, ◌+◌, ◌<◌, ◌≤◌, List, [], ◌∷◌, Bool, true, false, not, ◌||◌, ◌==◌, true≢false, Some, IsTrue, filter, length, refl, sym, ◌∙◌, ap, subst, inl, inr, ◌⊎◌, arith}
 use Rattle.std.specs.List.{list_any}
 use Rattle.std.specs.Cmp.{unsigned_Decides}
-use Rattle.cm_decl.specs.Reach.{Way, Reaches, NoCycle}
-use Rattle.cm_decl.specs.Realm.{Realm, Strong, IsImplied, Directly}
+use Rattle.cm_decl.specs.Reach.{DependencyPath, Reaches, NoCycle}
+use Rattle.cm_decl.specs.RealmGraph.{RealmGraph, Strong, IsImplied, Directly}
 use Rattle.cm_decl.proofs.cycles.Reaching.{Reaches-trans}
 use Rattle.cm_decl.proofs.Sameness.{or_split, never}
-use Rattle.cm_deps.proofs.loops.Ways.{Way-snoc}
+use Rattle.cm_deps.proofs.loops.Ways.{DependencyPath-snoc}
 use Rattle.cm_world.specs.declared.row.Row.{Row}
 use Rattle.cm_world.specs.Rows.{row_of}
 use Rattle.cm_world.proofs.trees.Finding.{none_some, some_same, row_of-inc}
@@ -14,7 +14,7 @@ use Rattle.cm_order.proofs.trees.Trees.{not_true}
 
 -- ---- implied edges make no cycle
 
-module _ {N : Type 0} (r : Realm N) where
+module _ {N : Type 0} (r : RealmGraph N) where
   -- a node from which an implied edge leads, where one comes by strong edges alone
   record IsLeaving (x : N) : Type 0 where
     pub node : N
@@ -34,7 +34,7 @@ module _ {N : Type 0} (r : Realm N) where
   }
 
   -- a way is one by strong edges, or there is a first implied one
-  first_implied : (x : N) (xs : List N) (y : N) → Way (Directly r) x xs y → Reaches (Strong r) x y ⊎ IsLeaving x
+  first_implied : (x : N) (xs : List N) (y : N) → DependencyPath (Directly r) x xs y → Reaches (Strong r) x y ⊎ IsLeaving x
   first_implied x [] y (inl strong) = inl ([], strong)
   first_implied x [] y (inr implied) = inr (record { node = x; to = y; way = inl refl; implied = implied })
   first_implied x (z ∷ zs) y (inl strong, way) = elim (first_implied z zs y way) [
@@ -44,7 +44,7 @@ module _ {N : Type 0} (r : Realm N) where
   first_implied x (z ∷ zs) y (inr implied, way) = inr (record { node = x; to = z; way = inl refl; implied = implied })
 
   -- or it comes by strong edges from the component itself
-  last_implied : (x : N) (xs : List N) (y : N) → Way (Directly r) x xs y → Reaches (Strong r) x y ⊎ ((r.own ≡ y) ⊎ Reaches (Strong r) r.own y)
+  last_implied : (x : N) (xs : List N) (y : N) → DependencyPath (Directly r) x xs y → Reaches (Strong r) x y ⊎ ((r.own ≡ y) ⊎ Reaches (Strong r) r.own y)
   last_implied x [] y (inl strong) = inl ([], strong)
   last_implied x [] y (inr implied) = inr (inl (sym implied.own))
   last_implied x (z ∷ zs) y (inl strong, way) = elim (last_implied z zs y way) [
@@ -120,7 +120,7 @@ unseen_less rows seen x r lives new =
 module _ (rows : List Row) (On : ℕ → ℕ → Type 0) (there : (x y : ℕ) → On x y → (r : Row) × (row_of rows y ≡ Some r)) (acyclic : NoCycle On) where
   reach_more : (s x y : ℕ) → (s ≡ x) ⊎ Reaches On s x → On x y → Reaches On s y
   reach_more s x y (inl same) on = ([], subst (λ v. On v y) (sym same) on)
-  reach_more s x y (inr way) on = (_, Way-snoc On s way.0 x y way.1 on)
+  reach_more s x y (inr way) on = (_, DependencyPath-snoc On s way.0 x y way.1 on)
 
   seen_more : (seen : List ℕ) (x y : ℕ) → ((s : ℕ) → IsTrue (list_any (λ i. i == s) seen) → Reaches On s x) → On x y → (s : ℕ) → IsTrue (list_any (λ i. i == s) (x ∷ seen)) → Reaches On s y
   seen_more seen x y reach on s is = elim (or_split (x == s) (list_any (λ i. i == s) seen) is) [
@@ -163,7 +163,7 @@ module _ (rows : List Row) (next : ℕ) (On : ℕ → ℕ → Type 0) (there : (
     pub on : On x w
     pub rest : (w ≡ y) ⊎ Reaches On w y
 
-  goes_first : (x y : ℕ) (between : List ℕ) → Way On x between y → (w : ℕ) × GoesTo x y w
+  goes_first : (x y : ℕ) (between : List ℕ) → DependencyPath On x between y → (w : ℕ) × GoesTo x y w
   goes_first x y [] on = (y, record { on = on; rest = inl refl })
   goes_first x y (z ∷ zs) way = (z, record { on = way.0; rest = inr (zs, way.1) })
 

@@ -9,7 +9,7 @@ use Rattle.std.proofs.lemmas.Grind.{flat_map-append}
 use Rattle.cm_decl.proofs.Sameness.{or_split, never}
 use Rattle.cm_world.specs.declared.row.Row.{Row}
 use Rattle.cm_world.specs.Rows.{row_of}
-use Rattle.cm_world.specs.Sound.{IsRising}
+use Rattle.cm_world.specs.Sound.{IncarnationsIncrease}
 use Rattle.cm_world.proofs.trees.Finding.{none_some, some_same, find-passes}
 use Rattle.cm_world.proofs.trees.Walks.{find-lives}
 use Rattle.cm_order.proofs.trees.Trees.{or_left, or_right}
@@ -45,10 +45,10 @@ any_find q (x ∷ xs) h = by (q x) refl (λ later. any_find q xs later) where
   by false e more = let rest : (y : _) × (find q xs ≡ Some y) = more (rw e at h) in (rest.0, rw e rest.1)
 
 -- where one of the rows passes, one that lives does
-pub any_row : (q : Row → Bool) (rows : List Row) (next : ℕ) → IsRising next rows → IsTrue (list_any q rows) → (r : Row) × (row_of rows r.inc ≡ Some r) × IsTrue (q r)
-any_row q rows next rising h =
+pub any_row : (q : Row → Bool) (rows : List Row) (next : ℕ) → IncarnationsIncrease next rows → IsTrue (list_any q rows) → (r : Row) × (row_of rows r.inc ≡ Some r) × IsTrue (q r)
+any_row q rows next increasing h =
     let found : (r : Row) × (find q rows ≡ Some r) = any_find q rows h in
-    (found.0, find-lives q rows next found.0 rising found.1, find-passes q rows found.0 found.1)
+    (found.0, find-lives q rows next found.0 increasing found.1, find-passes q rows found.0 found.1)
 
 pub row_any : (q : Row → Bool) (rows : List Row) (i : ℕ) (r : Row) → row_of rows i ≡ Some r → IsTrue (q r) → IsTrue (list_any q rows)
 row_any q [] i r lives passes = absurd (none_some r lives)
@@ -98,22 +98,22 @@ row_later s ss j t lives low = by (s.inc == j) refl where
   by true e = let same : s.inc ≡ j = (unsigned_Decides s.inc j).0 e in absurd (omega arith)
   by false e = rw e lives
 
-others_nothing : {A : Type 0} (G : Row → List A) (rows : List Row) (next : ℕ) → IsRising next rows → ((j : ℕ) (s : Row) → row_of rows j ≡ Some s → G s ≡ []) → flat_map G rows ≡ []
-others_nothing G [] next rising none = refl
-others_nothing G (s ∷ ss) next rising none =
+others_nothing : {A : Type 0} (G : Row → List A) (rows : List Row) (next : ℕ) → IncarnationsIncrease next rows → ((j : ℕ) (s : Row) → row_of rows j ≡ Some s → G s ≡ []) → flat_map G rows ≡ []
+others_nothing G [] next increasing none = refl
+others_nothing G (s ∷ ss) next increasing none =
     ap (λ l. l ++ flat_map G ss) (none s.inc s (rw ((unsigned_Decides s.inc s.inc).1 refl) refl))
-    ∙ others_nothing G ss next rising.1 (λ j t lives. none j t (row_later s ss j t lives (rising.0.1 j (rw lives refl))))
+    ∙ others_nothing G ss next increasing.1 (λ j t lives. none j t (row_later s ss j t lives (increasing.0.1 j (rw lives refl))))
 
 -- where all other rows make nothing, all make what one makes
-pub only_row : {A : Type 0} (G : Row → List A) (rows : List Row) (next i : ℕ) (r : Row) → IsRising next rows → row_of rows i ≡ Some r → ((j : ℕ) (s : Row) → row_of rows j ≡ Some s → j ≢ i → G s ≡ []) → flat_map G rows ≡ G r
-only_row G [] next i r rising lives none = absurd (none_some r lives)
-only_row G (s ∷ ss) next i r rising lives none = by (s.inc == i) refl (λ later. only_row G ss next i r rising.1 later (λ j t there apart. none j t (row_later s ss j t there (rising.0.1 j (rw there refl))) apart)) where
+pub only_row : {A : Type 0} (G : Row → List A) (rows : List Row) (next i : ℕ) (r : Row) → IncarnationsIncrease next rows → row_of rows i ≡ Some r → ((j : ℕ) (s : Row) → row_of rows j ≡ Some s → j ≢ i → G s ≡ []) → flat_map G rows ≡ G r
+only_row G [] next i r increasing lives none = absurd (none_some r lives)
+only_row G (s ∷ ss) next i r increasing lives none = by (s.inc == i) refl (λ later. only_row G ss next i r increasing.1 later (λ j t there apart. none j t (row_later s ss j t there (increasing.0.1 j (rw there refl))) apart)) where
   by : (b : Bool) → (s.inc == i) ≡ b → (row_of ss i ≡ Some r → flat_map G ss ≡ G r) → flat_map G (s ∷ ss) ≡ G r
   by true e more =
       let same : s ≡ r = some_same s r (rw e at lives) in
       let own : s.inc ≡ i = (unsigned_Decides s.inc i).0 e in
-      ap (λ l. G s ++ l) (others_nothing G ss next rising.1 (λ j t there.
-      let low : s.inc < j = rising.0.1 j (rw there refl) in
+      ap (λ l. G s ++ l) (others_nothing G ss next increasing.1 (λ j t there.
+      let low : s.inc < j = increasing.0.1 j (rw there refl) in
       none j t (row_later s ss j t there low) (λ equal. let never : ⊥ = absurd (omega arith) in never)))
       ∙ append-nil (G s) ∙ ap G same
   by false e more =

@@ -15,7 +15,8 @@ use Rattle.cm_decl.specs.Same.{same_child, same_node}
 use Rattle.cm_decl.specs.Graph.{is_node, static_name, static_node, dynamic_node, gives_of}
 use Rattle.cm_decl.proofs.Sameness.{and_first, and_second, or_split, never, same_node-refl, same_child_exact}
 use Rattle.cm_world.specs.declared.row.Row.{Row}
-use Rattle.cm_world.specs.Rows.{row_of, decl_of, has_parent, has_name, child_of, is_behind}
+use Rattle.cm_world.specs.Rows.{row_of, decl_of, has_parent, has_name, child_of}
+use Rattle.cm_world.specs.RowsInside.{is_behind}
 use Rattle.cm_world.specs.Sound.{IsOrderly, IsSound, HasStatic}
 use Rattle.cm_world.proofs.trees.Finding.{none_some, some_same, find-passes}
 use Rattle.cm_world.proofs.trees.Walks.{find-lives}
@@ -117,7 +118,7 @@ module _ (rows : List Row) (next : ℕ) (orderly : IsOrderly rows next) (p : ℕ
   found_by c x (Some r) found e =
       let own : r.inc ≡ x = some_same r.inc x e in
       let is : (r.parent ≡ Some p) × (r.name ≡ Some c) × (r.doomed ≡ false) = passes_name c r (find-passes (λ r. has_parent p r && has_name c r && not r.doomed) rows r found) in
-      subst (λ i. IsNamedKid rows p i c) own (kid_of_row c r (find-lives (λ r. has_parent p r && has_name c r && not r.doomed) rows next r orderly.rising found) is.0 is.1 is.2)
+      subst (λ i. IsNamedKid rows p i c) own (kid_of_row c r (find-lives (λ r. has_parent p r && has_name c r && not r.doomed) rows next r orderly.increasing found) is.0 is.1 is.2)
 
   -- the child that a name finds has it
   pub found_kid : (c : ChildName) (x : ℕ) → child_of rows p c ≡ Some x → IsNamedKid rows p x c
@@ -190,7 +191,7 @@ module _ (rows : List Row) (next : ℕ) (sound : IsSound rows next) (p : ℕ) (d
       let again : IsTrue (list_any (λ k. same_child (static_name k.name) (static_name one.0.name)) d.children) = subst (λ z. IsTrue (list_any (λ k. same_child (static_name k.name) z) d.children)) (sym same) declared in
       let many : 0 < count_by (λ k. same_child (static_name k.name) (static_name one.0.name)) d.children = any_counts (λ k. same_child (static_name k.name) (static_name one.0.name)) d.children again in
       let row : (r : Row) × (row_of rows r.inc ≡ Some r) × IsTrue (has_parent p r && has_name (static_name one.0.name) r) =
-      any_row (λ r. has_parent p r && has_name (static_name one.0.name) r) rows next sound.orderly.rising (counts_any (λ r. has_parent p r && has_name (static_name one.0.name) r) rows (subst (λ n. 0 < n) (sym (static.one_each one.0.name)) many)) in
+      any_row (λ r. has_parent p r && has_name (static_name one.0.name) r) rows next sound.orderly.increasing (counts_any (λ r. has_parent p r && has_name (static_name one.0.name) r) rows (subst (λ n. 0 < n) (sym (static.one_each one.0.name)) many)) in
       let parent : IsTrue (has_parent p row.0) = and_first (has_parent p row.0) (has_name (static_name one.0.name) row.0) row.2 in
       let name : row.0.name ≡ Some (static_name one.0.name) = some_name row.0.name (static_name one.0.name) (and_second (has_parent p row.0) (has_name (static_name one.0.name) row.0) row.2) in
       let kept : (row.0.doomed ≡ false) × (row.0.gives ≡ []) = static.kept row.0.inc row.0 row.1 (and_pair (has_parent p row.0) (option_map_or (λ c. is_none c.coll) row.0.name false) parent (subst (λ o. IsTrue (option_map_or (λ c. is_none c.coll) o false)) (sym name) refl)) in
@@ -219,7 +220,7 @@ module _ (rows : List Row) (next : ℕ) (sound : IsSound rows next) (p : ℕ) (d
   dynamic_row : (c : ChildName) → IsTrue (list_any (λ k. same_child k.name c) (dynamic_children rows p)) → (x : ℕ) × IsNamedKid rows p x c
   dynamic_row c listed =
       let row : (r : Row) × (row_of rows r.inc ≡ Some r) × IsTrue ((has_parent p r && is_behind None r.inc) && list_any (λ k. same_child k.name c) (dynamic_child r)) =
-      any_row (λ r. (has_parent p r && is_behind None r.inc) && list_any (λ k. same_child k.name c) (dynamic_child r)) rows next sound.orderly.rising (sym (any_flat (λ k. same_child k.name c) dynamic_child (λ r. has_parent p r && is_behind None r.inc) rows) ∙ listed) in
+      any_row (λ r. (has_parent p r && is_behind None r.inc) && list_any (λ k. same_child k.name c) (dynamic_child r)) rows next sound.orderly.increasing (sym (any_flat (λ k. same_child k.name c) dynamic_child (λ r. has_parent p r && is_behind None r.inc) rows) ∙ listed) in
       let test : IsTrue (has_parent p row.0 && is_behind None row.0.inc) = and_first (has_parent p row.0 && is_behind None row.0.inc) (list_any (λ k. same_child k.name c) (dynamic_child row.0)) row.2 in
       let is : (row.0.doomed ≡ false) × (row.0.name ≡ Some c) = listed_by c row.0 row.0.doomed row.0.name refl refl (and_second (has_parent p row.0 && is_behind None row.0.inc) (list_any (λ k. same_child k.name c) (dynamic_child row.0)) row.2) in
       (row.0.inc, kid_of_row rows next sound.orderly p c row.0 row.1 (some_eq row.0.parent p (and_first (has_parent p row.0) (is_behind None row.0.inc) test)) is.1 is.0)
@@ -304,5 +305,5 @@ module _ (rows : List Row) (next : ℕ) (sound : IsSound rows next) (p : ℕ) (d
   pub gives_same : (x : ℕ) (c : ChildName) (kid : IsNamedKid rows p x c) → gives_of (dynamic_children rows p) c ≡ kid.kid.row.gives
   gives_same x c kid =
       given_flat c
-      ∙ only_row (λ r. cond (has_parent p r && is_behind None r.inc) (flat_map (λ k. k.gives) (filter (λ k. same_child k.name c) (dynamic_child r))) []) rows next x kid.kid.row sound.orderly.rising kid.kid.lives (other_row x c kid)
+      ∙ only_row (λ r. cond (has_parent p r && is_behind None r.inc) (flat_map (λ k. k.gives) (filter (λ k. same_child k.name c) (dynamic_child r))) []) rows next x kid.kid.row sound.orderly.increasing kid.kid.lives (other_row x c kid)
       ∙ own_row x c kid

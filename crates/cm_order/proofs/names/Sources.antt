@@ -16,16 +16,18 @@ use Rattle.cm_decl.specs.declared.rows.Offer.{Offer}
 use Rattle.cm_decl.specs.Graph.{is_strong, is_from_child, target_of, own_sources, child_sources, offers_to}
 use Rattle.cm_decl.proofs.Sameness.{and_first, and_second, or_split, never}
 use Rattle.cm_world.specs.declared.row.Row.{Row}
-use Rattle.cm_decl.specs.Reach.{Way}
-use Rattle.cm_world.specs.Rows.{row_of, decl_of, name_of, child_behind, is_behind, is_subtree_shut}
-use Rattle.cm_world.specs.Level.{is_level_node, row_sources, level_sources, is_from_row, LevelStrong, LevelOn}
+use Rattle.cm_decl.specs.Reach.{DependencyPath}
+use Rattle.cm_world.specs.Rows.{row_of, decl_of, is_subtree_shut}
+use Rattle.cm_world.specs.RowsInside.{name_of, child_behind, is_behind}
+use Rattle.cm_world.specs.Level.{is_level_node, row_sources, level_sources, is_from_row, LevelStrong}
+use Rattle.cm_world.specs.LevelInside.{LevelOn}
 use Rattle.cm_world.specs.Sound.{IsSound}
 use Rattle.cm_world.proofs.trees.Finding.{some_same}
 use Rattle.cm_world.proofs.trees.Levels.{edge_source}
-use Rattle.cm_order.specs.declared.named.Look.{Look}
-use Rattle.cm_order.specs.declared.named.Look.TheVariants.{Quick, Close}
+use Rattle.cm_order.specs.declared.named.LookDepth.{LookDepth}
+use Rattle.cm_order.specs.declared.named.LookDepth.TheVariants.{Quick, Close}
 use Rattle.cm_order.specs.Kids.{IsKid}
-use Rattle.cm_order.specs.Glances.{is_in_set, Grows, is_in_texts, TextsGrow, is_in_list, ListGrows, HasSources, HasNext, HasBound, IsPut, IsSeen, is_wired, is_aimed, is_given_from, is_offered_from, is_aimed_from, is_used_from}
+use Rattle.cm_order.specs.Glances.{is_in_set, SetGrows, is_in_texts, TextsGrow, is_in_list, ListGrows, HasSources, HasNext, HasBound, IsPut, IsSeenShut, is_wired, is_aimed, is_given_from, is_offered_from, is_aimed_from, is_used_from}
 use Rattle.cm_order.proofs.trees.Trees.{kid_higher, or_left, or_right, and_pair, true_not_false}
 use Rattle.cm_order.proofs.levels.Gathering.{kid_shut}
 use Rattle.cm_order.proofs.levels.Kids.{other_kids, no_kids}
@@ -34,7 +36,7 @@ use Rattle.cm_order.proofs.names.Edges.{node_kid, depends_node}
 
 -- ---- sets that grow
 
-pub grows_on : (a b c : BTreeSet ℕ) → Grows a b → Grows b c → Grows a c
+pub grows_on : (a b c : BTreeSet ℕ) → SetGrows a b → SetGrows b c → SetGrows a c
 grows_on a b c first second x there = second x (first x there)
 
 kept_by : (b c : Bool) → IsTrue c → cond b true c ≡ true
@@ -42,7 +44,7 @@ kept_by true c there = refl
 kept_by false c there = there
 
 -- a row more is put into a set
-pub put_kept : (old new : BTreeSet ℕ) (key : ℕ → Bool) → ((q : ℕ) → is_in_set new q ≡ cond (key q) true (is_in_set old q)) → Grows old new
+pub put_kept : (old new : BTreeSet ℕ) (key : ℕ → Bool) → ((q : ℕ) → is_in_set new q ≡ cond (key q) true (is_in_set old q)) → SetGrows old new
 put_kept old new key is x there = is x ∙ kept_by (key x) (is_in_set old x) there
 
 pub texts_kept : (old new : BTreeSet (List ℕ)) (key : List ℕ → Bool) → ((q : List ℕ) → is_in_texts new q ≡ cond (key q) true (is_in_texts old q)) → TextsGrow old new
@@ -56,13 +58,13 @@ put_here new found i x was there is = subst (λ z. IsTrue (is_in_set new z)) (so
 -- some were looked at
 pub record IsPutting {A : Type 0} (p : ℕ) (comes_from : ℕ → A → Bool) (xs : List A) (old new : BTreeSet ℕ) : Type 0 where
   pub all : HasSources p comes_from xs new
-  pub kept : Grows old new
+  pub kept : SetGrows old new
 
 module _ {A : Type 0} (p : ℕ) (comes_from : ℕ → A → Bool) (xs : List A) where
   pub putting_first : (old : BTreeSet ℕ) → IsPutting p comes_from (take 0 xs) old old
   putting_first old = record { all = λ x other any. never any; kept = λ x there. there }
 
-  pub putting_more : (i : ℕ) (item : A) (first old new : BTreeSet ℕ) → i < length xs → item ≡ get_or xs i item → IsPutting p comes_from (take i xs) first old → Grows old new → ((x : ℕ) → x ≢ p → IsTrue (comes_from x item) → IsTrue (is_in_set new x)) → IsPutting p comes_from (take (i + 1) xs) first new
+  pub putting_more : (i : ℕ) (item : A) (first old new : BTreeSet ℕ) → i < length xs → item ≡ get_or xs i item → IsPutting p comes_from (take i xs) first old → SetGrows old new → ((x : ℕ) → x ≢ p → IsTrue (comes_from x item) → IsTrue (is_in_set new x)) → IsPutting p comes_from (take (i + 1) xs) first new
   putting_more i item first old new low at so_far kept here = record {
     all = λ x other any. elim (or_split (list_any (comes_from x) (take i xs)) (comes_from x (get_or xs i item)) (sym (list_any_more (comes_from x) xs i item low) ∙ any)) [
       | inl before ↦ kept x (so_far.all x other before)
@@ -114,9 +116,9 @@ unwired_offers rows p x offers other none any =
 
 -- ---- child after child
 
-pub record IsCovering (rows : List Row) (p : ℕ) (look : Look) (wired : Bool) (behind : Option ℕ) (old named : BTreeSet ℕ) (targets : BTreeSet (List ℕ)) (closed : List ℕ) : Type 0 where
-  pub rest : (c : ℕ) (kid : IsKid rows p c) → IsTrue (is_behind behind c) ⊎ IsSeen rows p look wired named targets closed c kid.row
-  pub kept : Grows old named
+pub record IsCovering (rows : List Row) (p : ℕ) (look : LookDepth) (wired : Bool) (behind : Option ℕ) (old named : BTreeSet ℕ) (targets : BTreeSet (List ℕ)) (closed : List ℕ) : Type 0 where
+  pub rest : (c : ℕ) (kid : IsKid rows p c) → IsTrue (is_behind behind c) ⊎ IsSeenShut rows p look wired named targets closed c kid.row
+  pub kept : SetGrows old named
 
 gives_same : (rows : List Row) (c : ℕ) (gives : List Give) (r : Row) → Some gives ≡ option_map (λ r. r.gives) (row_of rows c) → row_of rows c ≡ Some r → gives ≡ r.gives
 gives_same rows c gives r is lives = some_same gives r.gives (is ∙ ap (option_map (λ r. r.gives)) lives)
@@ -127,27 +129,27 @@ target_put rows c name text new found is there n named =
     subst (λ t. IsTrue (is_in_texts new t)) (is ∙ ap target_of (some_same name n (found ∙ named))) there
 
 -- nothing comes strongly from a child
-pub seen_plain : (rows : List Row) (p c : ℕ) (look : Look) (wired : Bool) (named : BTreeSet ℕ) (targets : BTreeSet (List ℕ)) (closed : List ℕ) (gives : List Give) → Some gives ≡ option_map (λ r. r.gives) (row_of rows c) → wired ≡ false → list_any is_wired gives ≡ false → (r : Row) → row_of rows c ≡ Some r → IsSeen rows p look wired named targets closed c r
+pub seen_plain : (rows : List Row) (p c : ℕ) (look : LookDepth) (wired : Bool) (named : BTreeSet ℕ) (targets : BTreeSet (List ℕ)) (closed : List ℕ) (gives : List Give) → Some gives ≡ option_map (λ r. r.gives) (row_of rows c) → wired ≡ false → list_any is_wired gives ≡ false → (r : Row) → row_of rows c ≡ Some r → IsSeenShut rows p look wired named targets closed c r
 seen_plain rows p c look wired named targets closed gives is alone none r lives = inl (record {
   given = subst (λ l. HasSources p (is_given_from rows p) l named) (gives_same rows c gives r is lives) (unwired_gives rows p gives named none);
   target = inl alone;
 })
 
-aimed_on : (look : Look) (t u : BTreeSet (List ℕ)) → TextsGrow t u → (name : List ℕ) → IsTrue (is_aimed look t name) → IsTrue (is_aimed look u name)
+aimed_on : (look : LookDepth) (t u : BTreeSet (List ℕ)) → TextsGrow t u → (name : List ℕ) → IsTrue (is_aimed look t name) → IsTrue (is_aimed look u name)
 aimed_on Quick t u grows name there = refl
 aimed_on Close t u grows name there = grows name there
 
-seen_on : (rows : List Row) (p c : ℕ) (look : Look) (wired : Bool) (n m : BTreeSet ℕ) (t u : BTreeSet (List ℕ)) (k l : List ℕ) (r : Row) → Grows n m → TextsGrow t u → ListGrows k l → IsSeen rows p look wired n t k c r → IsSeen rows p look wired m u l c r
+seen_on : (rows : List Row) (p c : ℕ) (look : LookDepth) (wired : Bool) (n m : BTreeSet ℕ) (t u : BTreeSet (List ℕ)) (k l : List ℕ) (r : Row) → SetGrows n m → TextsGrow t u → ListGrows k l → IsSeenShut rows p look wired n t k c r → IsSeenShut rows p look wired m u l c r
 seen_on rows p c look wired n m t u k l r named texts closed (inl put) = inl (record {
   given = λ x other any. named x (put.given x other any);
   target = elim put.target [ inl alone ↦ inl alone | inr there ↦ inr (λ b name. aimed_on look t u texts (target_of b) (there b name)) ];
 })
 seen_on rows p c look wired n m t u k l r named texts closed (inr shut) = inr (closed c shut.0, shut.1)
 
-pub covering_first : (rows : List Row) (p : ℕ) (look : Look) (wired : Bool) (old : BTreeSet ℕ) (targets : BTreeSet (List ℕ)) (closed : List ℕ) → IsCovering rows p look wired None old old targets closed
+pub covering_first : (rows : List Row) (p : ℕ) (look : LookDepth) (wired : Bool) (old : BTreeSet ℕ) (targets : BTreeSet (List ℕ)) (closed : List ℕ) → IsCovering rows p look wired None old old targets closed
 covering_first rows p look wired old targets closed = record { rest = λ c kid. inl refl; kept = λ x there. there }
 
-pub covering_ends : (rows : List Row) (p : ℕ) (look : Look) (wired : Bool) (behind : Option ℕ) (old named : BTreeSet ℕ) (targets : BTreeSet (List ℕ)) (closed : List ℕ) → IsCovering rows p look wired behind old named targets closed → None ≡ child_behind rows p behind → (c : ℕ) (kid : IsKid rows p c) → IsSeen rows p look wired named targets closed c kid.row
+pub covering_ends : (rows : List Row) (p : ℕ) (look : LookDepth) (wired : Bool) (behind : Option ℕ) (old named : BTreeSet ℕ) (targets : BTreeSet (List ℕ)) (closed : List ℕ) → IsCovering rows p look wired behind old named targets closed → None ≡ child_behind rows p behind → (c : ℕ) (kid : IsKid rows p c) → IsSeenShut rows p look wired named targets closed c kid.row
 covering_ends rows p look wired behind old named targets closed is none c kid = elim (is.rest c kid) [
   | inl later ↦ absurd (no_kids rows p behind c (sym none) kid later)
   | inr done ↦ done
@@ -166,11 +168,11 @@ any_from q f t s more (x ∷ xs) h = by (t x) refl (λ later. any_from q f t s m
   by false e rest = or_right (s x) (list_any s xs) (rest (rw e at h))
 
 module _ (rows : List Row) (next : ℕ) (sound : IsSound rows next) (p : ℕ) where
-  pub covering_more : (c : ℕ) (look : Look) (wired : Bool) (behind : Option ℕ) (first n m : BTreeSet ℕ) (t u : BTreeSet (List ℕ)) (k l : List ℕ) → IsCovering rows p look wired behind first n t k → Some c ≡ child_behind rows p behind → ((r : Row) → row_of rows c ≡ Some r → IsSeen rows p look wired m u l c r) → Grows n m → TextsGrow t u → ListGrows k l → IsCovering rows p look wired (Some c) first m u l
+  pub covering_more : (c : ℕ) (look : LookDepth) (wired : Bool) (behind : Option ℕ) (first n m : BTreeSet ℕ) (t u : BTreeSet (List ℕ)) (k l : List ℕ) → IsCovering rows p look wired behind first n t k → Some c ≡ child_behind rows p behind → ((r : Row) → row_of rows c ≡ Some r → IsSeenShut rows p look wired m u l c r) → SetGrows n m → TextsGrow t u → ListGrows k l → IsCovering rows p look wired (Some c) first m u l
   covering_more c look wired behind first n m t u k l is found seen named texts closed = record {
     rest = λ i kid. elim (is.rest i kid) [
       | inl later ↦ (elim (other_kids rows next sound.orderly p behind c i (sym found) kid later) [
-        | inl same ↦ inr (subst (λ z. IsSeen rows p look wired m u l z kid.row) (sym same) (seen kid.row (subst (λ z. row_of rows z ≡ Some kid.row) same kid.lives)))
+        | inl same ↦ inr (subst (λ z. IsSeenShut rows p look wired m u l z kid.row) (sym same) (seen kid.row (subst (λ z. row_of rows z ≡ Some kid.row) same kid.lives)))
         | inr more ↦ inl more
       ])
       | inr done ↦ inr (seen_on rows p i look wired n m t u k l kid.row named texts closed done)
@@ -186,7 +188,7 @@ module _ (rows : List Row) (next : ℕ) (sound : IsSound rows next) (p : ℕ) wh
       let silent : level_sources rows p w ≡ [] = rw (sym none, level_sources) refl in
       never (sym (sym (edge_source rows p w x strong) ∙ ap (list_any (is_from_row rows p x)) silent))
 
-  way_named : (named : BTreeSet ℕ) → ((w y : ℕ) → HasNext rows p named w → LevelOn rows p w y → HasNext rows p named y) → (w : ℕ) → HasNext rows p named w → (ws : List ℕ) (x : ℕ) → x ≢ p → Way (LevelOn rows p) w ws x → IsTrue (is_in_set named x)
+  way_named : (named : BTreeSet ℕ) → ((w y : ℕ) → HasNext rows p named w → LevelOn rows p w y → HasNext rows p named y) → (w : ℕ) → HasNext rows p named w → (ws : List ℕ) (x : ℕ) → x ≢ p → DependencyPath (LevelOn rows p) w ws x → IsTrue (is_in_set named x)
   way_named named step w has [] x other (inl strong) = has x other strong
   way_named named step w has [] x other (inr implied) = absurd (other implied.own)
   way_named named step w has (y ∷ ys) x other way = way_named named step y (step w y has way.0) ys x other way.1
@@ -222,13 +224,13 @@ module _ (rows : List Row) (next : ℕ) (sound : IsSound rows next) (p : ℕ) wh
         | inr given ↦ inr given
       ]
 
-  aim : (look : Look) (targets : BTreeSet (List ℕ)) (c : ChildName) (x : ℕ) (o : Offer) → IsTrue (is_aimed look targets (target_of c)) → IsTrue (bytes_eq o.to (target_of c) && is_offered_from rows p x o) → IsTrue (is_aimed_from rows p look targets x o)
+  aim : (look : LookDepth) (targets : BTreeSet (List ℕ)) (c : ChildName) (x : ℕ) (o : Offer) → IsTrue (is_aimed look targets (target_of c)) → IsTrue (bytes_eq o.to (target_of c) && is_offered_from rows p x o) → IsTrue (is_aimed_from rows p look targets x o)
   aim look targets c x o there both =
       let same : o.to ≡ target_of c = (bytes_decides o.to (target_of c)).0 (and_first (bytes_eq o.to (target_of c)) (is_offered_from rows p x o) both) in
       and_pair (is_aimed look targets o.to) (is_offered_from rows p x o) (subst (λ t. IsTrue (is_aimed look targets t)) (sym same) there) (and_second (bytes_eq o.to (target_of c)) (is_offered_from rows p x o) both)
 
   -- what a child that was put depends on is in the set
-  put_next : (look : Look) (d : Decl) (named : BTreeSet ℕ) (old : BTreeSet ℕ) (targets : BTreeSet (List ℕ)) (w : ℕ) (kid : IsKid rows p w) → decl_of rows p ≡ Some d → HasSources p (is_aimed_from rows p look targets) d.offers named → Grows old named → IsPut rows p look (list_any (λ o. is_wired o.give) d.offers) old targets kid.row → HasNext rows p named w
+  put_next : (look : LookDepth) (d : Decl) (named : BTreeSet ℕ) (old : BTreeSet ℕ) (targets : BTreeSet (List ℕ)) (w : ℕ) (kid : IsKid rows p w) → decl_of rows p ≡ Some d → HasSources p (is_aimed_from rows p look targets) d.offers named → SetGrows old named → IsPut rows p look (list_any (λ o. is_wired o.give) d.offers) old targets kid.row → HasNext rows p named w
   put_next look d named old targets w kid found offers grows put x other strong =
       elim (row_all d kid.row kid.row.name x refl (sym (ap (list_any (is_from_row rows p x)) (kid_all d found w kid)) ∙ edge_source rows p w x strong)) [
         | inl offered ↦ (elim put.target [
@@ -248,7 +250,7 @@ module _ (rows : List Row) (next : ℕ) (sound : IsSound rows next) (p : ℕ) wh
   edge_end : (w y : ℕ) → LevelStrong rows p w y → IsTrue (is_level_node rows p y)
   edge_end w y strong = and_second (list_any (is_from_row rows p y) (level_sources rows p w) && is_level_node rows p w) (is_level_node rows p y) strong
 
-  module _ (look : Look) (d : Decl) (a n named : BTreeSet ℕ) (targets : BTreeSet (List ℕ)) (closed : List ℕ) (found : Some d ≡ decl_of rows p) (usages : HasSources p (is_used_from rows p) d.uses a) (seen : (c : ℕ) (kid : IsKid rows p c) → IsSeen rows p look (list_any (λ o. is_wired o.give) d.offers) n targets closed c kid.row) (offers : HasSources p (is_aimed_from rows p look targets) d.offers named) (first : Grows a n) (second : Grows n named) (apart : list_any (is_in_set named) closed ≡ false) where
+  module _ (look : LookDepth) (d : Decl) (a n named : BTreeSet ℕ) (targets : BTreeSet (List ℕ)) (closed : List ℕ) (found : Some d ≡ decl_of rows p) (usages : HasSources p (is_used_from rows p) d.uses a) (seen : (c : ℕ) (kid : IsKid rows p c) → IsSeenShut rows p look (list_any (λ o. is_wired o.give) d.offers) n targets closed c kid.row) (offers : HasSources p (is_aimed_from rows p look targets) d.offers named) (first : SetGrows a n) (second : SetGrows n named) (apart : list_any (is_in_set named) closed ≡ false) where
     own_has : HasNext rows p named p
     own_has = own_next d named (sym found) (λ x other any. second x (first x (usages x other any)))
 
@@ -274,6 +276,6 @@ module _ (rows : List Row) (next : ℕ) (sound : IsSound rows next) (p : ℕ) wh
       start (inr kid) = kid_has z kid (λ there shut. true_not_false (is_subtree_shut rows z) shut (sym (kid_shut rows next sound.orderly p z kid) ∙ unshut))
 
   -- the same where it was told whether an offer is from a child
-  pub bound_by : (look : Look) (d : Decl) (wired : Bool) (a n named : BTreeSet ℕ) (targets : BTreeSet (List ℕ)) (closed : List ℕ) → Some d ≡ decl_of rows p → wired ≡ list_any (λ o. is_wired o.give) d.offers → HasSources p (is_used_from rows p) d.uses a → ((c : ℕ) (kid : IsKid rows p c) → IsSeen rows p look wired n targets closed c kid.row) → HasSources p (is_aimed_from rows p look targets) d.offers named → Grows a n → Grows n named → list_any (is_in_set named) closed ≡ false → HasBound rows p named
+  pub bound_by : (look : LookDepth) (d : Decl) (wired : Bool) (a n named : BTreeSet ℕ) (targets : BTreeSet (List ℕ)) (closed : List ℕ) → Some d ≡ decl_of rows p → wired ≡ list_any (λ o. is_wired o.give) d.offers → HasSources p (is_used_from rows p) d.uses a → ((c : ℕ) (kid : IsKid rows p c) → IsSeenShut rows p look wired n targets closed c kid.row) → HasSources p (is_aimed_from rows p look targets) d.offers named → SetGrows a n → SetGrows n named → list_any (is_in_set named) closed ≡ false → HasBound rows p named
   bound_by look d wired a n named targets closed found is usages seen offers first second apart =
-      bound_all look d a n named targets closed found usages (λ c kid. subst (λ b. IsSeen rows p look b n targets closed c kid.row) is (seen c kid)) offers first second apart
+      bound_all look d a n named targets closed found usages (λ c kid. subst (λ b. IsSeenShut rows p look b n targets closed c kid.row) is (seen c kid)) offers first second apart

@@ -8,9 +8,9 @@ use Rattle.cm_world.specs.Sound.{IsSound}
 use Rattle.cm_world.specs.Stopping.{outermost, CanPick}
 use Rattle.cm_world.specs.Step.{may_close}
 use Rattle.cm_world.proofs.trees.Finding.{none_some, some_same}
-use Rattle.cm_order.specs.declared.search.Wanted.TheVariants.{Idle, Pending}
+use Rattle.cm_order.specs.declared.search.SearchGoal.TheVariants.{Idle, Pending}
 use Rattle.cm_order.specs.Search.{IsFound, NoneIs}
-use Rattle.cm_order.specs.Picking.{WaitsFor}
+use Rattle.cm_order.specs.Picking.{PickWaitsFor}
 use Rattle.cm_order.proofs.trees.Trees.{climb, below_lives, below_cases, below_trans, shut_each, shut_all, flip_not, true_not_false}
 use Rattle.cm_order.proofs.trees.Tops.{IsTop, top_of, top_below, top_lives, no_top}
 use Rattle.cm_order.proofs.trees.Ending.{CanUnder, shut_or_can}
@@ -60,7 +60,7 @@ module _ (rows : List Row) (next : ℕ) (sound : IsSound rows next) where
   pending_by y a None e = absurd (none_some a (sym e))
   pending_by y a (Some (kind, b)) e = (kind, ap (λ n. Some (kind, n)) (sym (some_same a b e)))
 
-  pub waits_found : (t top y a : ℕ) → outermost rows t ≡ Some top → is_subtree_shut rows t ≡ false → NoneIs rows top Idle → IsFound rows top Pending y → Some a ≡ option_map (λ p. p.1) (option_and_then (λ r. r.pending) (row_of rows y)) → WaitsFor rows t a
+  pub waits_found : (t top y a : ℕ) → outermost rows t ≡ Some top → is_subtree_shut rows t ≡ false → NoneIs rows top Idle → IsFound rows top Pending y → Some a ≡ option_map (λ p. p.1) (option_and_then (λ r. r.pending) (row_of rows y)) → PickWaitsFor rows t a
   waits_found t top y a all undone none found is =
       let pending : (kind : ActKind) × (found.row.pending ≡ Some (kind, a)) = pending_by y a found.row.pending (is ∙ ap (λ o. option_map (λ p. p.1) (option_and_then (λ r. r.pending) o)) found.may.lives) in
       record {

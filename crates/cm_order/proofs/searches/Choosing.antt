@@ -6,20 +6,21 @@ use Rattle.cm_decl.proofs.Sameness.{and_first, and_second, never}
 use Rattle.cm_world.specs.declared.row.Row.{Row}
 use Rattle.cm_world.specs.declared.action.ActKind.{ActKind}
 use Rattle.cm_world.specs.declared.view.Facts.{Facts}
-use Rattle.cm_world.specs.Rows.{row_of, facts_of, is_live, is_below, is_closing, has_closing, line_of, is_subtree_shut}
+use Rattle.cm_world.specs.Rows.{row_of, is_live, is_below, is_closing, has_closing, line_of, is_subtree_shut}
+use Rattle.cm_world.specs.RowsInside.{facts_of}
 use Rattle.cm_world.specs.Sound.{IsOrderly}
 use Rattle.cm_world.specs.Step.{may_close}
 use Rattle.cm_world.specs.Stopping.{IsFree, line_up_to, AllFree, outermost, MayPick}
 use Rattle.cm_world.proofs.trees.Finding.{none_some, some_same, find-passes}
 use Rattle.cm_order.specs.Kids.{IsKid}
-use Rattle.cm_order.specs.Search.{Leads}
+use Rattle.cm_order.specs.Search.{IsFreeAt}
 use Rattle.cm_order.specs.Picking.{MayBePicked}
 use Rattle.cm_order.specs.Ways.{is_idle, IsFreeUpTo}
 use Rattle.cm_order.proofs.trees.Trees.{climb, below_self, below_cases, below_lives, below_trans, kid_below, flip_not, true_not_false}
 use Rattle.cm_order.proofs.trees.Tops.{top_of, top_below, no_top, closing_below}
 use Rattle.cm_order.proofs.trees.Paths.{path, path_top}
 use Rattle.cm_order.proofs.searches.Searching.{row_unshut, kid_leads}
-use Rattle.cm_order.specs.declared.search.Wanted.TheVariants.{Idle}
+use Rattle.cm_order.specs.declared.search.SearchGoal.TheVariants.{Idle}
 
 -- what is promised of an answer is promised in other words
 pub if_ok : {A E : Type 0} (P Q : A → Type 0) (r : Result A E) → ((a : A) → P a → Q a) → IfOk r P → IfOk r Q
@@ -163,14 +164,14 @@ module _ (rows : List Row) (next : ℕ) (orderly : IsOrderly rows next) where
       ]
 
   -- the row itself leads, where all levels are free
-  pub own_leads : (top i : ℕ) → IsTrue (is_below rows top i) → IsTrue (is_idle rows i) → IsFreeUpTo rows top i → Leads rows i i
+  pub own_leads : (top i : ℕ) → IsTrue (is_below rows top i) → IsTrue (is_idle rows i) → IsFreeUpTo rows top i → IsFreeAt rows i i
   own_leads top i below idle free =
       let row : IsIdleRow rows i = idle_row rows i idle in
       let here : IsFreeUpTo rows i i = free_down top i free i below (below_self rows next orderly i row.row row.lives) in
       let both : IsFree rows i i × Unit {0} = subst (AllFree rows i) (path_top rows next orderly i row.row row.lives) here in
       record { free = both.0; unshut = row_unshut rows next orderly Idle i row.row row.lives ∙ row.unshut }
 
-  pub way_first : (top i : ℕ) → IsTrue (is_below rows top i) → IsTrue (is_idle rows i) → Leads rows i i → IsWayUp rows top i i
+  pub way_first : (top i : ℕ) → IsTrue (is_below rows top i) → IsTrue (is_idle rows i) → IsFreeAt rows i i → IsWayUp rows top i i
   way_first top i below idle leads =
       let row : IsIdleRow rows i = idle_row rows i idle in
       record {
@@ -202,7 +203,7 @@ module _ (rows : List Row) (next : ℕ) (orderly : IsOrderly rows next) where
         | inr above ↦ none_some above.0 (none ∙ ap (option_and_then (λ s. s.parent)) row.1 ∙ above.1)
       ]
 
-  pub way_further : (top i here p : ℕ) → IsWayUp rows top i here → IsFurther rows top here p → Leads rows p here → IsWayUp rows top i p
+  pub way_further : (top i here p : ℕ) → IsWayUp rows top i here → IsFurther rows top here p → IsFreeAt rows p here → IsWayUp rows top i p
   way_further top i here p way more leads = record {
     below = more.below;
     above = below_trans rows next orderly p here i (kid_below rows next orderly p here more.kid) way.above;
@@ -210,7 +211,7 @@ module _ (rows : List Row) (next : ℕ) (orderly : IsOrderly rows next) where
   }
 
   -- each row on the way leads, where all levels are free
-  pub next_leads : (top i here p : ℕ) → IsTrue (is_idle rows i) → IsWayUp rows top i here → IsFurther rows top here p → IsFreeUpTo rows top i → Leads rows p here
+  pub next_leads : (top i here p : ℕ) → IsTrue (is_idle rows i) → IsWayUp rows top i here → IsFurther rows top here p → IsFreeUpTo rows top i → IsFreeAt rows p here
   next_leads top i here p idle way more free =
       let row : IsIdleRow rows i = idle_row rows i idle in
       let wide : IsTrue (is_below rows p i) = below_trans rows next orderly p here i (kid_below rows next orderly p here more.kid) way.above in

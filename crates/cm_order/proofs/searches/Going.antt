@@ -5,7 +5,7 @@ use Rattle.cm_world.specs.Rows.{row_of}
 use Rattle.cm_world.specs.Sound.{IsOrderly}
 use Rattle.cm_world.specs.Stopping.{line_up_to, AllFree, outermost}
 use Rattle.cm_world.proofs.trees.Walks.{below_next}
-use Rattle.cm_order.specs.declared.search.Wanted.TheVariants.{Idle}
+use Rattle.cm_order.specs.declared.search.SearchGoal.TheVariants.{Idle}
 use Rattle.cm_order.specs.Search.{IsHere, IsFound}
 use Rattle.cm_order.specs.Glances.{IsChosen}
 use Rattle.cm_order.proofs.trees.Trees.{below_lives, below_self, kid_higher, kid_within}
@@ -38,7 +38,7 @@ module _ (rows : List Row) (next : ℕ) (orderly : IsOrderly rows next) (top : �
   lower_by : (here : ℕ) (child : Option ℕ) → IsOpen rows top (under here) → IsChosen rows here child → below_left next child < next - here
   lower_by here None so_far chosen =
       let row : (r : Row) × (row_of rows here ≡ Some r) = below_lives rows next orderly top here so_far.below in
-      let high : here < next = below_next rows next here row.0 orderly.rising row.1 in
+      let high : here < next = below_next rows next here row.0 orderly.increasing row.1 in
       omega arith
   lower_by here (Some c) so_far chosen =
       let low : here < c = kid_higher rows next orderly here c chosen.kid in

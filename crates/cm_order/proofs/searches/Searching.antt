@@ -2,16 +2,17 @@
 use Rattle.std.proofs.Common.{◌≡◌, ℕ, List, [], ◌∷◌, ◌++◌, false, Option, Some, None, IsTrue, refl, sym, ◌∙◌, ap, subst, inl, inr}
 use Rattle.std.specs.Option.{option_map_or}
 use Rattle.cm_world.specs.declared.row.Row.{Row}
-use Rattle.cm_world.specs.Rows.{row_of, is_below, is_behind, is_subtree_shut}
+use Rattle.cm_world.specs.Rows.{row_of, is_below, is_subtree_shut}
+use Rattle.cm_world.specs.RowsInside.{is_behind}
 use Rattle.cm_world.specs.Sound.{IsOrderly}
 use Rattle.cm_world.specs.Stopping.{is_wholly_shut, IsFree, line_up_to, AllFree, outermost}
 use Rattle.cm_world.proofs.trees.Finding.{some_same}
 use Rattle.cm_order.specs.declared.below.Spot.{Spot}
-use Rattle.cm_order.specs.declared.search.Wanted.{Wanted}
+use Rattle.cm_order.specs.declared.search.SearchGoal.{SearchGoal}
 use Rattle.cm_order.specs.Spots.{further}
 use Rattle.cm_order.specs.Kids.{IsKid}
-use Rattle.cm_order.specs.Levels.{Each}
-use Rattle.cm_order.specs.Search.{Leads, LeadsNext, IsNextLeading, is_wanted, IsHere, GoesOn, IsFound, NoneIs}
+use Rattle.cm_order.specs.Levels.{EachOfList}
+use Rattle.cm_order.specs.Search.{IsFreeAt, LeadsNext, IsNextLeading, is_wanted, IsHere, SearchGoesOn, IsFound, NoneIs}
 use Rattle.cm_order.proofs.trees.Trees.{below_self, below_kid, below_trans, kid_below, shut_each, not_true, true_not_false}
 use Rattle.cm_order.proofs.trees.Tops.{top_below}
 use Rattle.cm_order.proofs.searches.Turns.{past, under, turn_back, turn_on, last_of}
@@ -19,17 +20,17 @@ use Rattle.cm_order.proofs.levels.Gathering.{own_shut, kid_shut}
 use Rattle.cm_order.proofs.trees.Paths.{path, path_top}
 
 -- no row at or below this one is looked for, isn't shut and is free at each level up to it
-abbrev pub Clear : List Row → Wanted → ℕ → Type 0
+abbrev pub Clear : List Row → SearchGoal → ℕ → Type 0
 Clear rows wanted c =
     (y : ℕ) (r : Row) → row_of rows y ≡ Some r → IsTrue (is_below rows c y) → r.shut ≡ false → IsTrue (is_wanted wanted r) →
     AllFree rows y (line_up_to rows c y) → ⊥
 
 -- the same for the children of a place that lead, or, where it is new, for its row
-abbrev pub ClearFrom : List Row → Wanted → ℕ → Option ℕ → Type 0
+abbrev pub ClearFrom : List Row → SearchGoal → ℕ → Option ℕ → Type 0
 ClearFrom rows wanted p None = Clear rows wanted p
-ClearFrom rows wanted p (Some b) = (c : ℕ) → IsKid rows p c → IsTrue (is_behind (Some b) c) → Leads rows p c → Clear rows wanted c
+ClearFrom rows wanted p (Some b) = (c : ℕ) → IsKid rows p c → IsTrue (is_behind (Some b) c) → IsFreeAt rows p c → Clear rows wanted c
 
-abbrev pub IsClear : List Row → Wanted → Spot → Type 0
+abbrev pub IsClear : List Row → SearchGoal → Spot → Type 0
 IsClear rows wanted s = ClearFrom rows wanted s.inc s.behind
 
 -- all levels from the row of a place up to the top are free
@@ -38,11 +39,11 @@ pub record IsOpen (rows : List Row) (top : ℕ) (s : Spot) : Type 0 where
   pub free : (y : ℕ) → IsTrue (is_below rows s.inc y) → AllFree rows y (line_up_to rows s.inc y) → AllFree rows y (line_up_to rows top y)
 
 -- what is left to look at decides
-pub record IsSearching (rows : List Row) (top : ℕ) (wanted : Wanted) (left : List Spot) : Type 0 where
-  pub opened : Each (IsOpen rows top) left
-  pub rest : Each (IsClear rows wanted) left → Clear rows wanted top
+pub record IsSearching (rows : List Row) (top : ℕ) (wanted : SearchGoal) (left : List Spot) : Type 0 where
+  pub opened : EachOfList (IsOpen rows top) left
+  pub rest : EachOfList (IsClear rows wanted) left → Clear rows wanted top
 
-module _ (rows : List Row) (next : ℕ) (orderly : IsOrderly rows next) (wanted : Wanted) where
+module _ (rows : List Row) (next : ℕ) (orderly : IsOrderly rows next) (wanted : SearchGoal) where
   pub row_unshut : (p : ℕ) (r : Row) → row_of rows p ≡ Some r → is_wholly_shut rows p p ≡ r.shut
   row_unshut p r lives = own_shut rows p ∙ ap (λ o. option_map_or (λ s. s.shut) o false) lives
 
@@ -52,14 +53,14 @@ module _ (rows : List Row) (next : ℕ) (orderly : IsOrderly rows next) (wanted 
       let here : AllFree rows p (line_up_to rows p p) = subst (λ z. AllFree rows z (line_up_to rows p z)) same free in
       let both : IsFree rows p p × Unit {0} = subst (AllFree rows p) (path_top rows next orderly p r there) here in both.0
 
-  pub kid_leads : (p c y : ℕ) (r : Row) → IsKid rows p c → IsTrue (is_below rows c y) → row_of rows y ≡ Some r → r.shut ≡ false → IsFree rows p c → Leads rows p c
+  pub kid_leads : (p c y : ℕ) (r : Row) → IsKid rows p c → IsTrue (is_below rows c y) → row_of rows y ≡ Some r → r.shut ≡ false → IsFree rows p c → IsFreeAt rows p c
   kid_leads p c y r kid below lives unshut free = record {
     free = free;
     unshut = kid_shut rows next orderly p c kid ∙ not_true (is_subtree_shut rows c) (λ all. true_not_false r.shut (shut_each rows next orderly c y r all lives below) unshut);
   }
 
   -- a row and its children decide for all below it
-  clear_kids : (p : ℕ) → ((r : Row) → row_of rows p ≡ Some r → r.shut ≡ false → IsTrue (is_wanted wanted r) → IsFree rows p p → ⊥) → ((c : ℕ) → IsKid rows p c → Leads rows p c → Clear rows wanted c) → Clear rows wanted p
+  clear_kids : (p : ℕ) → ((r : Row) → row_of rows p ≡ Some r → r.shut ≡ false → IsTrue (is_wanted wanted r) → IsFree rows p p → ⊥) → ((c : ℕ) → IsKid rows p c → IsFreeAt rows p c → Clear rows wanted c) → Clear rows wanted p
   clear_kids p own kids y r lives below unshut wants free = elim (below_kid rows next orderly p y below) [
     | inl same ↦ own r (subst (λ z. row_of rows z ≡ Some r) same lives) unshut wants (own_free p y r same lives free)
     | inr kid ↦
@@ -71,16 +72,16 @@ module _ (rows : List Row) (next : ℕ) (orderly : IsOrderly rows next) (wanted 
   not_own s new not_here r lives unshut wants free =
       not_here (record { new = new; row = r; lives = lives; fits = wants; leads = record { free = free; unshut = row_unshut s.inc r lives ∙ unshut } })
 
-  clear_from : (s : Spot) (after : Option ℕ) → s.behind ≡ after → (IsHere rows wanted s → ⊥) → ((c : ℕ) → IsKid rows s.inc c → IsTrue (is_behind s.behind c) → Leads rows s.inc c → Clear rows wanted c) → ClearFrom rows wanted s.inc after
+  clear_from : (s : Spot) (after : Option ℕ) → s.behind ≡ after → (IsHere rows wanted s → ⊥) → ((c : ℕ) → IsKid rows s.inc c → IsTrue (is_behind s.behind c) → IsFreeAt rows s.inc c → Clear rows wanted c) → ClearFrom rows wanted s.inc after
   clear_from s None new not_here kids = clear_kids s.inc (not_own s new not_here) (λ c kid leads. kids c kid (subst (λ o. IsTrue (is_behind o c)) (sym new) refl) leads)
   clear_from s (Some b) seen not_here kids = λ c kid behind leads. kids c kid (subst (λ o. IsTrue (is_behind o c)) (sym seen) behind) leads
 
-  clear_none : (s : Spot) (o : Option ℕ) → GoesOn rows wanted s o → o ≡ None → IsClear rows wanted s
+  clear_none : (s : Spot) (o : Option ℕ) → SearchGoesOn rows wanted s o → o ≡ None → IsClear rows wanted s
   clear_none s o goes e =
       let none : IsNextLeading rows s.inc s.behind None = subst (IsNextLeading rows s.inc s.behind) e goes.below in
       clear_from s s.behind refl goes.not_here (λ c kid behind leads. absurd (none c kid behind leads))
 
-  clear_some : (s : Spot) (o : Option ℕ) → GoesOn rows wanted s o → (c : ℕ) → o ≡ Some c → IsClear rows wanted (past s.inc c) → IsClear rows wanted (under c) → IsClear rows wanted s
+  clear_some : (s : Spot) (o : Option ℕ) → SearchGoesOn rows wanted s o → (c : ℕ) → o ≡ Some c → IsClear rows wanted (past s.inc c) → IsClear rows wanted (under c) → IsClear rows wanted s
   clear_some s o goes c e later whole =
       let some : LeadsNext rows s.inc s.behind c = subst (IsNextLeading rows s.inc s.behind) e goes.below in
       clear_from s s.behind refl goes.not_here (λ i kid behind leads. elim (some.others i kid behind leads) [
@@ -94,10 +95,10 @@ module _ (rows : List Row) (next : ℕ) (orderly : IsOrderly rows next) (wanted 
     free = λ y below all. is.free y (below_trans rows next orderly s.inc c y (kid_below rows next orderly s.inc c kid) below) ((path rows next orderly s.inc c y kid below).more y all free);
   }
 
-  leads_at : (s : Spot) (o : Option ℕ) → GoesOn rows wanted s o → (c : ℕ) → o ≡ Some c → LeadsNext rows s.inc s.behind c
+  leads_at : (s : Spot) (o : Option ℕ) → SearchGoesOn rows wanted s o → (c : ℕ) → o ≡ Some c → LeadsNext rows s.inc s.behind c
   leads_at s o goes c e = subst (IsNextLeading rows s.inc s.behind) e goes.below
 
-  pub goes_kid : (s : Spot) (o : Option ℕ) → GoesOn rows wanted s o → (c : ℕ) → o ≡ Some c → IsKid rows s.inc c × IsTrue (is_behind s.behind c)
+  pub goes_kid : (s : Spot) (o : Option ℕ) → SearchGoesOn rows wanted s o → (c : ℕ) → o ≡ Some c → IsKid rows s.inc c × IsTrue (is_behind s.behind c)
   goes_kid s o goes c e = let some : LeadsNext rows s.inc s.behind c = leads_at s o goes c e in (some.kid, some.behind)
 
   -- ---- the loop
@@ -108,17 +109,17 @@ module _ (rows : List Row) (next : ℕ) (orderly : IsOrderly rows next) (wanted 
     rest = λ all. all.0;
   }
 
-  pub searching_on : (top : ℕ) (old rest new : List Spot) (s : Spot) (o : Option ℕ) → IsSearching rows top wanted old → old ≡ rest ++ s ∷ [] → new ≡ rest ++ further s.inc o → GoesOn rows wanted s o → IsSearching rows top wanted new
+  pub searching_on : (top : ℕ) (old rest new : List Spot) (s : Spot) (o : Option ℕ) → IsSearching rows top wanted old → old ≡ rest ++ s ∷ [] → new ≡ rest ++ further s.inc o → SearchGoesOn rows wanted s o → IsSearching rows top wanted new
   searching_on top old rest new s o is was more goes = record {
-    opened = subst (Each (IsOpen rows top)) (sym more) (turn_on (IsOpen rows top) rest s o
+    opened = subst (EachOfList (IsOpen rows top)) (sym more) (turn_on (IsOpen rows top) rest s o
         (λ c e opened. let some : LeadsNext rows s.inc s.behind c = leads_at s o goes c e in (record { below = opened.below; free = opened.free }, open_kid top s c some.kid some.leads.free opened))
-        (subst (Each (IsOpen rows top)) was is.opened));
-    rest = λ all. is.rest (subst (Each (IsClear rows wanted)) (sym was) (turn_back (IsClear rows wanted) rest s o (clear_none s o goes) (clear_some s o goes) (subst (Each (IsClear rows wanted)) more all)));
+        (subst (EachOfList (IsOpen rows top)) was is.opened));
+    rest = λ all. is.rest (subst (EachOfList (IsClear rows wanted)) (sym was) (turn_back (IsClear rows wanted) rest s o (clear_none s o goes) (clear_some s o goes) (subst (EachOfList (IsClear rows wanted)) more all)));
   }
 
   pub searching_found : (top : ℕ) (old rest : List Spot) (s : Spot) → outermost rows top ≡ Some top → IsSearching rows top wanted old → old ≡ rest ++ s ∷ [] → IsHere rows wanted s → IsFound rows top wanted s.inc
   searching_found top old rest s own is was here =
-      let opened : IsOpen rows top s = last_of (IsOpen rows top) rest s (subst (Each (IsOpen rows top)) was is.opened) in
+      let opened : IsOpen rows top s = last_of (IsOpen rows top) rest s (subst (EachOfList (IsOpen rows top)) was is.opened) in
       let free : AllFree rows s.inc (line_up_to rows s.inc s.inc) = subst (AllFree rows s.inc) (sym (path_top rows next orderly s.inc here.row here.lives)) (here.leads.free, tt) in
       record {
         row = here.row;
@@ -142,4 +143,4 @@ module _ (rows : List Row) (next : ℕ) (orderly : IsOrderly rows next) (wanted 
       clear y r may.lives may.below may.unshut may.fits (subst (λ t. AllFree rows y (line_up_to rows t y)) same may.may_stop.free)
 
   pub searching_ends : (top : ℕ) (left : List Spot) → outermost rows top ≡ Some top → IsSearching rows top wanted left → left ≡ [] → NoneIs rows top wanted
-  searching_ends top left own is none = clear_none_is top own (is.rest (subst (Each (IsClear rows wanted)) (sym none) tt))
+  searching_ends top left own is none = clear_none_is top own (is.rest (subst (EachOfList (IsClear rows wanted)) (sym none) tt))

@@ -3,23 +3,24 @@ use Rattle.std.proofs.Common.{◌≡◌, ℕ, List, [], ◌∷◌, ◌++◌, Boo
 use Rattle.std.specs.Option.{option_map_or}
 use Rattle.cm_decl.proofs.Sameness.{never}
 use Rattle.cm_world.specs.declared.row.Row.{Row}
-use Rattle.cm_world.specs.Rows.{row_of, is_below, is_behind, is_subtree_shut, child_behind}
+use Rattle.cm_world.specs.Rows.{row_of, is_below, is_subtree_shut}
+use Rattle.cm_world.specs.RowsInside.{is_behind, child_behind}
 use Rattle.cm_world.specs.Sound.{IsOrderly}
 use Rattle.cm_order.specs.declared.below.Spot.{Spot}
 use Rattle.cm_order.specs.Spots.{further}
-use Rattle.cm_order.specs.Levels.{Each}
+use Rattle.cm_order.specs.Levels.{EachOfList}
 use Rattle.cm_order.specs.Kids.{IsKid}
 use Rattle.cm_order.proofs.trees.Trees.{below_self, below_kid, below_trans, kid_below, shut_each, shut_all, not_true}
 use Rattle.cm_order.proofs.levels.Kids.{next_kid, other_kids, no_kids}
 
-pub each_join : {A : Type 0} (P : A → Type 0) (xs ys : List A) → Each P xs → Each P ys → Each P (xs ++ ys)
+pub each_join : {A : Type 0} (P : A → Type 0) (xs ys : List A) → EachOfList P xs → EachOfList P ys → EachOfList P (xs ++ ys)
 each_join P [] ys first second = second
 each_join P (x ∷ xs) ys first second = (first.0, each_join P xs ys first.1 second)
 
-pub each_split : {A : Type 0} (P : A → Type 0) (xs ys : List A) → Each P (xs ++ ys) → Each P xs × Each P ys
+pub each_split : {A : Type 0} (P : A → Type 0) (xs ys : List A) → EachOfList P (xs ++ ys) → EachOfList P xs × EachOfList P ys
 each_split P [] ys all = (tt, all)
 each_split P (x ∷ xs) ys all =
-    let rest : Each P xs × Each P ys = each_split P xs ys all.1 in ((all.0, rest.0), rest.1)
+    let rest : EachOfList P xs × EachOfList P ys = each_split P xs ys all.1 in ((all.0, rest.0), rest.1)
 
 -- the place behind a child, and the one below it
 abbrev pub past : ℕ → ℕ → Spot
@@ -28,28 +29,28 @@ past inc c = record { inc = inc; behind = Some c }
 abbrev pub under : ℕ → Spot
 under c = record { inc = c; behind = None }
 
-turn_by : (P : Spot → Type 0) (s : Spot) (o : Option ℕ) → (o ≡ None → P s) → ((c : ℕ) → o ≡ Some c → P (past s.inc c) → P (under c) → P s) → Each P (further s.inc o) → P s
+turn_by : (P : Spot → Type 0) (s : Spot) (o : Option ℕ) → (o ≡ None → P s) → ((c : ℕ) → o ≡ Some c → P (past s.inc c) → P (under c) → P s) → EachOfList P (further s.inc o) → P s
 turn_by P s None none some all = none refl
 turn_by P s (Some c) none some all = some c refl all.0 all.1.0
 
 -- what holds of all places that are left holds of those that were left before, where it holds of the place that was taken
-pub turn_back : (P : Spot → Type 0) (rest : List Spot) (s : Spot) (o : Option ℕ) → (o ≡ None → P s) → ((c : ℕ) → o ≡ Some c → P (past s.inc c) → P (under c) → P s) → Each P (rest ++ further s.inc o) → Each P (rest ++ s ∷ [])
+pub turn_back : (P : Spot → Type 0) (rest : List Spot) (s : Spot) (o : Option ℕ) → (o ≡ None → P s) → ((c : ℕ) → o ≡ Some c → P (past s.inc c) → P (under c) → P s) → EachOfList P (rest ++ further s.inc o) → EachOfList P (rest ++ s ∷ [])
 turn_back P rest s o none some all =
-    let parts : Each P rest × Each P (further s.inc o) = each_split P rest (further s.inc o) all in
+    let parts : EachOfList P rest × EachOfList P (further s.inc o) = each_split P rest (further s.inc o) all in
     each_join P rest (s ∷ []) parts.0 (turn_by P s o none some parts.1, tt)
 
-on_by : (P : Spot → Type 0) (s : Spot) (o : Option ℕ) → ((c : ℕ) → o ≡ Some c → P s → P (past s.inc c) × P (under c)) → P s → Each P (further s.inc o)
+on_by : (P : Spot → Type 0) (s : Spot) (o : Option ℕ) → ((c : ℕ) → o ≡ Some c → P s → P (past s.inc c) × P (under c)) → P s → EachOfList P (further s.inc o)
 on_by P s None some it = tt
 on_by P s (Some c) some it = let both : P (past s.inc c) × P (under c) = some c refl it in (both.0, (both.1, tt))
 
 -- what holds of all places that were left holds of those that are left
-pub turn_on : (P : Spot → Type 0) (rest : List Spot) (s : Spot) (o : Option ℕ) → ((c : ℕ) → o ≡ Some c → P s → P (past s.inc c) × P (under c)) → Each P (rest ++ s ∷ []) → Each P (rest ++ further s.inc o)
+pub turn_on : (P : Spot → Type 0) (rest : List Spot) (s : Spot) (o : Option ℕ) → ((c : ℕ) → o ≡ Some c → P s → P (past s.inc c) × P (under c)) → EachOfList P (rest ++ s ∷ []) → EachOfList P (rest ++ further s.inc o)
 turn_on P rest s o some all =
-    let parts : Each P rest × Each P (s ∷ []) = each_split P rest (s ∷ []) all in
+    let parts : EachOfList P rest × EachOfList P (s ∷ []) = each_split P rest (s ∷ []) all in
     each_join P rest (further s.inc o) parts.0 (on_by P s o some parts.1.0)
 
-pub last_of : (P : Spot → Type 0) (rest : List Spot) (s : Spot) → Each P (rest ++ s ∷ []) → P s
-last_of P rest s all = let parts : Each P rest × Each P (s ∷ []) = each_split P rest (s ∷ []) all in parts.1.0
+pub last_of : (P : Spot → Type 0) (rest : List Spot) (s : Spot) → EachOfList P (rest ++ s ∷ []) → P s
+last_of P rest s all = let parts : EachOfList P rest × EachOfList P (s ∷ []) = each_split P rest (s ∷ []) all in parts.1.0
 
 -- what is pushed on an empty list is alone there
 pub alone : {A : Type 0} (old new : List A) (s : A) → old ≡ [] → new ≡ old ++ s ∷ [] → new ≡ s ∷ []
@@ -67,8 +68,8 @@ KidsBelow rows top s = (c : ℕ) → IsKid rows s.inc c → IsTrue (is_below row
 
 -- a search for what isn't shut: what is left decides
 pub record IsLooking (rows : List Row) (top : ℕ) (left : List Spot) : Type 0 where
-  pub below : Each (KidsBelow rows top) left
-  pub rest : Each (KidsShut rows) left → IsTrue (is_subtree_shut rows top)
+  pub below : EachOfList (KidsBelow rows top) left
+  pub rest : EachOfList (KidsShut rows) left → IsTrue (is_subtree_shut rows top)
 
 abbrev pub is_unshut : List Row → Option ℕ → Bool
 is_unshut rows o = option_map_or (λ r. not r.shut) (option_and_then (row_of rows) o) false
@@ -97,16 +98,16 @@ module _ (rows : List Row) (next : ℕ) (orderly : IsOrderly rows next) where
 
   pub looking_on : (top : ℕ) (old rest new : List Spot) (s : Spot) (o : Option ℕ) → IsLooking rows top old → old ≡ rest ++ s ∷ [] → new ≡ rest ++ further s.inc o → o ≡ child_behind rows s.inc s.behind → is_unshut rows o ≡ false → IsLooking rows top new
   looking_on top old rest new s o is was more found shut = record {
-    below = subst (Each (KidsBelow rows top)) (sym more) (turn_on (KidsBelow rows top) rest s o
+    below = subst (EachOfList (KidsBelow rows top)) (sym more) (turn_on (KidsBelow rows top) rest s o
         (λ c e below. (below, (λ d kid. below_trans rows next orderly top c d (below c (next_kid rows next orderly s.inc s.behind c (sym found ∙ e)).0) (kid_below rows next orderly c d kid))))
-        (subst (Each (KidsBelow rows top)) was is.below));
-    rest = λ all. is.rest (subst (Each (KidsShut rows)) (sym was) (turn_back (KidsShut rows) rest s o
+        (subst (EachOfList (KidsBelow rows top)) was is.below));
+    rest = λ all. is.rest (subst (EachOfList (KidsShut rows)) (sym was) (turn_back (KidsShut rows) rest s o
         (λ e c kid behind. absurd (no_kids rows s.inc s.behind c (sym found ∙ e) kid behind))
         (λ c e later whole i kid behind. elim (other_kids rows next orderly s.inc s.behind c i (sym found ∙ e) kid behind) [
           | inl same ↦ subst (λ z. IsTrue (is_subtree_shut rows z)) (sym same) (shut_whole c (sym (ap (is_unshut rows) e) ∙ shut) whole)
           | inr more ↦ later i kid more
         ])
-        (subst (Each (KidsShut rows)) more all)));
+        (subst (EachOfList (KidsShut rows)) more all)));
   }
 
   open_by : (b : Bool) → IsTrue (not b) → IsTrue b → ⊥
@@ -133,4 +134,4 @@ module _ (rows : List Row) (next : ℕ) (orderly : IsOrderly rows next) where
   found_by top s (Some c) below found yet = not_shut top c (below c (next_kid rows next orderly s.inc s.behind c (sym found)).0) yet
 
   pub looking_found : (top : ℕ) (old rest : List Spot) (s : Spot) (o : Option ℕ) → IsLooking rows top old → old ≡ rest ++ s ∷ [] → o ≡ child_behind rows s.inc s.behind → IsTrue (is_unshut rows o) → false ≡ is_subtree_shut rows top
-  looking_found top old rest s o is was found yet = sym (found_by top s o (last_of (KidsBelow rows top) rest s (subst (Each (KidsBelow rows top)) was is.below)) found yet)
+  looking_found top old rest s o is was found yet = sym (found_by top s o (last_of (KidsBelow rows top) rest s (subst (EachOfList (KidsBelow rows top)) was is.below)) found yet)

@@ -2,7 +2,7 @@
 use Rattle.std.proofs.Common.{◌≡◌, ℕ, zero, suc, ◌+◌, ◌-◌, ◌<◌, ◌≤◌, List, [], ◌∷◌, ◌++◌, Option, Some, None, IsTrue, refl, sym, ◌∙◌, ap, subst, arith}
 use Rattle.std.proofs.lemmas.Bool.{ltb-true}
 use Rattle.cm_world.specs.declared.row.Row.{Row}
-use Rattle.cm_world.specs.Rows.{is_behind}
+use Rattle.cm_world.specs.RowsInside.{is_behind}
 use Rattle.cm_world.specs.Sound.{IsOrderly}
 use Rattle.cm_order.specs.declared.below.Spot.{Spot}
 use Rattle.cm_order.specs.Spots.{further}

@@ -3,21 +3,23 @@ use Rattle.std.proofs.Common.{◌≡◌, ◌≢◌, ℕ, zero, suc, ◌+◌, ◌
 use Rattle.std.specs.List.{list_any}
 use Rattle.std.specs.Option.{option_map_or}
 use Rattle.std.specs.Cmp.{unsigned_Decides}
-use Rattle.cm_decl.specs.Reach.{Way, Reaches, NoCycle}
-use Rattle.cm_decl.specs.Realm.{IsImplied, Depends}
+use Rattle.cm_decl.specs.Reach.{DependencyPath, Reaches, NoCycle}
+use Rattle.cm_decl.specs.RealmGraph.{IsImplied, Depends}
 use Rattle.cm_decl.proofs.Sameness.{never}
 use Rattle.cm_decl.proofs.cycles.Reaching.{Reaches-trans}
 use Rattle.cm_decl.proofs.Sameness.{and_second}
 use Rattle.cm_world.specs.declared.row.Row.{Row}
 use Rattle.cm_world.specs.Rows.{row_of, has_parent, is_live, is_below, is_closing, is_subtree_shut}
-use Rattle.cm_world.specs.Level.{is_child_row, is_level_node, level_sources, is_from_row, level_edge, level, LevelStrong, LevelOn}
+use Rattle.cm_world.specs.Level.{is_child_row, is_level_node, level_sources, is_from_row, level_edge, level, LevelStrong}
+use Rattle.cm_world.specs.LevelInside.{LevelOn}
 use Rattle.cm_world.specs.Sound.{IsParent, IsSound}
 use Rattle.cm_world.specs.Stopping.{is_wholly_shut, IsFree, outermost, line_up_to, AllFree}
 use Rattle.cm_world.proofs.trees.Finding.{none_some}
 use Rattle.cm_world.proofs.trees.Levels.{node_row}
 use Rattle.cm_world.proofs.trees.Walks.{below_next}
 use Rattle.cm_order.specs.Kids.{IsKid}
-use Rattle.cm_order.specs.Laws.{CanStop, HasNoDeadEnd}
+use Rattle.cm_order.specs.Laws.{CanStop}
+use Rattle.cm_order.specs.LawsInside.{HasNoDeadEnd}
 use Rattle.cm_order.proofs.trees.Trees.{below_self, below_kid, below_trans, kid_below, kid_higher, kid_within, parent_lives, shut_each, shut_all, and_pair, or_left, eq_some, true_not_false}
 use Rattle.cm_order.proofs.trees.Tops.{IsTop, top_of, top_below, top_lives, no_top}
 use Rattle.cm_order.proofs.levels.Gathering.{own_shut, kid_shut}
@@ -50,7 +52,7 @@ module _ {N : Type 0} (On : N → N → Type 0) where
   abbrev pub Back : N → N → Type 0
   Back x z = Reaches On z x
 
-  back_way : (x : N) (xs : List N) (y : N) → Way Back x xs y → Reaches On y x
+  back_way : (x : N) (xs : List N) (y : N) → DependencyPath Back x xs y → Reaches On y x
   back_way x [] y way = way
   back_way x (z ∷ zs) y way = Reaches-trans On y z x (back_way z zs y way.1) way.0
 
@@ -73,7 +75,7 @@ module _ (rows : List Row) (next : ℕ) (sound : IsSound rows next) where
   strong_there p x y strong = node_row rows p y (edge_end p x y strong)
 
   within : (y : ℕ) (r : Row) → row_of rows y ≡ Some r → y < next
-  within y r lives = below_next rows next y r sound.orderly.rising lives
+  within y r lives = below_next rows next y r sound.orderly.increasing lives
 
   kid_parent : (p x : ℕ) → IsKid rows p x → (r : Row) × (row_of rows p ≡ Some r)
   kid_parent p x kid = let parent : IsParent rows p x = parent_lives rows next sound.orderly p x kid in (parent.row, parent.lives)

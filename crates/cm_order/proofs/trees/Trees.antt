@@ -7,7 +7,7 @@ pub use Rattle.std.proofs.lemmas.Bool.{or_left, or_right, and_from as and_pair, 
 use Rattle.cm_decl.proofs.Sameness.{never}
 use Rattle.cm_world.specs.declared.row.Row.{Row}
 use Rattle.cm_world.specs.Rows.{row_of, is_below, is_subtree_shut, line_from, line_of}
-use Rattle.cm_world.specs.Sound.{IsRising, IsOrderly, IsParent}
+use Rattle.cm_world.specs.Sound.{IncarnationsIncrease, IsOrderly, IsParent}
 use Rattle.cm_order.specs.Kids.{IsKid}
 use Rattle.cm_world.proofs.trees.Climbing.{line_of-step, line_root}
 use Rattle.cm_world.proofs.trees.Finding.{row_of-inc, find-all, find-passes}
@@ -40,9 +40,9 @@ all_of_none q (r ∷ rs) none = by (q r) refl (λ none_else. all_of_none q rs no
   by false e more = absurd (none r (rw e refl))
 
 -- what each row that lives passes, all rows pass
-pub all_rows : (rows : List Row) (next : ℕ) (q : Row → Bool) → IsRising next rows → ((i : ℕ) (r : Row) → row_of rows i ≡ Some r → IsTrue (q r)) → IsTrue (list_all q rows)
-all_rows rows next q rising each =
-    all_of_none q rows (λ r found. true≢false (sym (find-passes (λ x. not (q x)) rows r found) ∙ ap not (each r.inc r (find-lives (λ x. not (q x)) rows next r rising found))))
+pub all_rows : (rows : List Row) (next : ℕ) (q : Row → Bool) → IncarnationsIncrease next rows → ((i : ℕ) (r : Row) → row_of rows i ≡ Some r → IsTrue (q r)) → IsTrue (list_all q rows)
+all_rows rows next q increasing each =
+    all_of_none q rows (λ r found. true≢false (sym (find-passes (λ x. not (q x)) rows r found) ∙ ap not (each r.inc r (find-lives (λ x. not (q x)) rows next r increasing found))))
 
 all_filter : (p q : Row → Bool) (xs : List Row) → list_all q (filter p xs) ≡ list_all (λ r. not (p r) || q r) xs
 all_filter p q [] = refl
@@ -135,7 +135,7 @@ module _ (rows : List Row) (next : ℕ) (orderly : IsOrderly rows next) where
   kid_higher p c kid = (orderly.parents c p kid.row kid.lives kid.parent).0.lower
 
   pub kid_within : (p c : ℕ) → IsKid rows p c → c < next
-  kid_within p c kid = below_next rows next c kid.row orderly.rising kid.lives
+  kid_within p c kid = below_next rows next c kid.row orderly.increasing kid.lives
 
   pub parent_lives : (p c : ℕ) → IsKid rows p c → IsParent rows p c
   parent_lives p c kid = (orderly.parents c p kid.row kid.lives kid.parent).0
@@ -166,5 +166,5 @@ module _ (rows : List Row) (next : ℕ) (orderly : IsOrderly rows next) where
 
   pub shut_all : (top : ℕ) → ((i : ℕ) (r : Row) → row_of rows i ≡ Some r → IsTrue (is_below rows top i) → IsTrue r.shut) → IsTrue (is_subtree_shut rows top)
   shut_all top each =
-      shut_test top ∙ all_rows rows next (λ r. not (is_below rows top r.inc) || r.shut) orderly.rising
+      shut_test top ∙ all_rows rows next (λ r. not (is_below rows top r.inc) || r.shut) orderly.increasing
       (λ i r lives. unless (is_below rows top r.inc) r.shut (λ below. each i r lives (subst (λ z. IsTrue (is_below rows top z)) (row_of-inc rows i r lives) below)))

@@ -4,33 +4,33 @@ use Rattle.std.specs.List.{slice_get}
 use Rattle.std.proofs.lemmas.List.Elements.{All-weaker}
 use Rattle.std.proofs.lemmas.Option.{slice_get_within, slice_get-get_or}
 use Rattle.cm_turn.specs.History.{StartsWith}
-use Rattle.cm_turn.specs.Passes.{LockView, IsKnown, HasCaller, new_passes}
+use Rattle.cm_turn.specs.Passes.{LockView, BearsPassOut, HasCaller, new_passes}
 use Rattle.cm_world.specs.declared.frame.Frame.{Frame}
 use Rattle.cm_world.specs.declared.reply.Entry.{Entry}
 use Rattle.cm_world.specs.World.{start}
 use Rattle.cm_world.specs.Legal.{Legal}
 use Rattle.cm_world.proofs.trees.Finding.{some_same}
 use Rattle.cm_command.specs.declared.script.Line.{Line}
-use Rattle.cm_gate.specs.declared.asked.Asked.{Asked}
+use Rattle.cm_gate.specs.declared.asked.GateCall.{GateCall}
 use Rattle.cm_laws.specs.Story.{Story}
 use Rattle.cm_manager.specs.Turns.{own_entries}
 use Rattle.cm_manager.specs.Asking.{no_frame, frame_in, frame_of}
 use Rattle.cm_manager.specs.Contract.{RealmPass}
-use Rattle.cm_manager.specs.Managers.{Closes}
-use Rattle.cm_manager.specs.Work.{Shelf, WorksWith}
+use Rattle.cm_manager.specs.Managers.{BearsPassesOut}
+use Rattle.cm_manager.specs.Work.{Manifests, WorksWith}
 use Rattle.cm_manager.proofs.calling.Joining.{starts-trans}
 use Rattle.cm_manager.proofs.left.Standing.{rest_of_others}
 use Rattle.cm_lanes.specs.declared.said.Lanes.{Lanes}
-use Rattle.cm_lanes.specs.Script.{Answered, ArePhases, none_left, one_first}
-use Rattle.cm_manager.specs.Kept.{AreSixteen, frame_at, GoesOn, Keeps, KeepsEach, gates_view}
-use Rattle.cm_lanes.specs.Lanes.{Ran}
+use Rattle.cm_lanes.specs.Script.{AnsweredLine, ArePhases, none_left, one_first}
+use Rattle.cm_manager.specs.Kept.{AreSixteen, frame_at, ExtendsPass, KeepsPass, KeepsEach, gates_view}
+use Rattle.cm_lanes.specs.Lanes.{RanLanes}
 use Rattle.cm_lanes.proofs.ends.Ending.{phases_same}
 use Rattle.cm_program.specs.Headline.{MakesHistory, WorksEach}
-use Rattle.cm_program.proofs.lanes.Sixteen.{all_at, no_entries, all_front, all_behind, pass_of, caller_low, sixteen_new, IsNew, all_new}
+use Rattle.cm_program.proofs.lanes.Sixteen.{all_at, no_entries, all_prefix, all_behind, pass_of, caller_low, sixteen_new, IsNew, all_new}
 
 -- ---- phases
 
-pub phases_grow : {frames : ℕ → Frame} {answered : List (List Answered)} {a b : List Entry} → ArePhases frames answered a b → StartsWith b a
+pub phases_grow : {frames : ℕ → Frame} {answered : List (List AnsweredLine)} {a b : List Entry} → ArePhases frames answered a b → StartsWith b a
 phases_grow {a = a} none_left = ([], sym (append-nil a))
 phases_grow {a = a} {b = b} (one_first {h₁ = m} phase rest) = starts-trans a m b phase.grows (phases_grow rest)
 
@@ -49,22 +49,22 @@ module _ {G : Type 0} where
   some_of (x ∷ xs) k lt = (get_or (x ∷ xs) k x, slice_get-get_or (x ∷ xs) k x lt)
 
   -- what is kept of a lane
-  kept_at : (log_of : G → Option (List Asked)) (faults_of : G → ℕ) (shelf : Shelf) (old new : List RealmPass) (gates₀ gates₁ : List G) → KeepsEach log_of faults_of shelf old new gates₀ gates₁ → (c : ℕ) (p q : RealmPass) → slice_get old c ≡ Some p → slice_get new c ≡ Some q → c < length gates₀
-      → (g : G) × (h : G) × Keeps shelf p q (gates_view log_of faults_of g) (gates_view log_of faults_of h)
-  kept_at log_of faults_of shelf old new gates₀ gates₁ k c p q at now lt =
+  kept_at : (log_of : G → Option (List GateCall)) (faults_of : G → ℕ) (manifests : Manifests) (old new : List RealmPass) (gates₀ gates₁ : List G) → KeepsEach log_of faults_of manifests old new gates₀ gates₁ → (c : ℕ) (p q : RealmPass) → slice_get old c ≡ Some p → slice_get new c ≡ Some q → c < length gates₀
+      → (g : G) × (h : G) × KeepsPass manifests p q (gates_view log_of faults_of g) (gates_view log_of faults_of h)
+  kept_at log_of faults_of manifests old new gates₀ gates₁ k c p q at now lt =
       let g = some_of gates₀ c lt in
       let h = some_of gates₁ c (subst (λ (n : ℕ). c < n) (sym k.gates) lt) in
       (g.0, h.0, k.each c p q g.0 h.0 at now g.1 h.1)
 
-module _ {G : Type 0} (log_of : G → Option (List Asked)) (faults_of : G → ℕ) (shelf : Shelf) (turn : LockView) (f : Frame) (phases : List (List Line)) (passes : List RealmPass) (gates : List G) (back : Lanes G) (history : List Entry)
-    (new : passes ≡ new_passes turn.lock f 16) (count : length gates ≡ 16) (are : AreSixteen turn back.passes) (closes : Closes history back.passes) where
+module _ {G : Type 0} (log_of : G → Option (List GateCall)) (faults_of : G → ℕ) (manifests : Manifests) (turn : LockView) (f : Frame) (phases : List (List Line)) (passes : List RealmPass) (gates : List G) (back : Lanes G) (history : List Entry)
+    (new : passes ≡ new_passes turn.lock f 16) (count : length gates ≡ 16) (are : AreSixteen turn back.passes) (closes : BearsPassesOut history back.passes) where
   low : All (λ (e : Entry). e.caller < 16) history
   low = All-weaker (λ (e : Entry). HasCaller back.passes e.caller) (λ (e : Entry). e.caller < 16) (λ e has. caller_low turn back.passes e.caller are has) history closes.callers
 
   -- what a caller's pass knows of the history
   mine_of : (c : ℕ) (q : RealmPass) → slice_get back.passes c ≡ Some q → q.caller ≡ c → own_entries c history ≡ q.mine
   mine_of c q at is =
-      let known = all_at (IsKnown (λ (s : Story). s.entries) (λ s. s.frame) (λ (e : Entry). e.caller) closes.story) back.passes c q closes.known at in
+      let known = all_at (BearsPassOut (λ (s : Story). s.entries) (λ s. s.frame) (λ (e : Entry). e.caller) closes.story) back.passes c q closes.known at in
       ap (own_entries c) closes.entries ∙ ap (λ (d : ℕ). own_entries d closes.story.entries) (sym is) ∙ known.2
 
   fresh : (c : ℕ) (p : RealmPass) → slice_get passes c ≡ Some p → IsNew f p
@@ -73,13 +73,13 @@ module _ {G : Type 0} (log_of : G → Option (List Asked)) (faults_of : G → �
   -- the history is that of the frame
   legal_by : (q : RealmPass) → slice_get back.passes 0 ≡ Some q → q.frame ≡ Some f → Legal (start f) history
   legal_by q at frame =
-      let known = all_at (IsKnown (λ (s : Story). s.entries) (λ s. s.frame) (λ (e : Entry). e.caller) closes.story) back.passes 0 q closes.known at in
+      let known = all_at (BearsPassOut (λ (s : Story). s.entries) (λ s. s.frame) (λ (e : Entry). e.caller) closes.story) back.passes 0 q closes.known at in
       subst (λ (g : Frame). Legal (start g) history) (some_same closes.story.frame f (sym known.0 ∙ frame)) closes.legal
 
   framed_by : (own : Frame) → All (λ (p : RealmPass). p.frame ≡ Some own) back.passes → (q : RealmPass) → slice_get back.passes 0 ≡ Some q → q.frame ≡ Some f → own ≡ f
   framed_by own framed q at frame = some_same own f (sym (all_at (λ (p : RealmPass). p.frame ≡ Some own) back.passes 0 q framed at) ∙ frame)
 
-  module _ (ran : Ran log_of faults_of shelf phases passes gates back) where
+  module _ (ran : RanLanes log_of faults_of manifests phases passes gates back) where
     -- the pass of a caller, before and behind, with what is kept of it
     old_of : (c : ℕ) → c < 16 → (p : RealmPass) × (slice_get passes c ≡ Some p) × (p.caller ≡ c)
     old_of c lt = pass_of turn passes c (sixteen_new turn f passes new) lt
@@ -87,8 +87,8 @@ module _ {G : Type 0} (log_of : G → Option (List Asked)) (faults_of : G → �
     new_of : (c : ℕ) → c < 16 → (q : RealmPass) × (slice_get back.passes c ≡ Some q) × (q.caller ≡ c)
     new_of c lt = pass_of turn back.passes c are lt
 
-    kept_of : (c : ℕ) → (lt : c < 16) → (g : G) × (h : G) × Keeps shelf (old_of c lt).0 (new_of c lt).0 (gates_view log_of faults_of g) (gates_view log_of faults_of h)
-    kept_of c lt = kept_at log_of faults_of shelf passes back.passes gates back.gates ran.kept c (old_of c lt).0 (new_of c lt).0 (old_of c lt).1 (new_of c lt).1 (subst (λ (n : ℕ). c < n) (sym count) lt)
+    kept_of : (c : ℕ) → (lt : c < 16) → (g : G) × (h : G) × KeepsPass manifests (old_of c lt).0 (new_of c lt).0 (gates_view log_of faults_of g) (gates_view log_of faults_of h)
+    kept_of c lt = kept_at log_of faults_of manifests passes back.passes gates back.gates ran.kept c (old_of c lt).0 (new_of c lt).0 (old_of c lt).1 (new_of c lt).1 (subst (λ (n : ℕ). c < n) (sym count) lt)
 
     -- a caller's own entries are those that it had seen at the last meeting
     own_last : (c : ℕ) → c < 16 → own_entries c history ≡ own_entries c ran.last
@@ -100,7 +100,7 @@ module _ {G : Type 0} (log_of : G → Option (List Asked)) (faults_of : G → �
     grows_last : StartsWith history ran.last
     grows_last =
         let q = new_of 0 (omega arith) in
-        let known = all_at (IsKnown (λ (s : Story). s.entries) (λ s. s.frame) (λ (e : Entry). e.caller) closes.story) back.passes 0 q.0 closes.known q.1 in
+        let known = all_at (BearsPassOut (λ (s : Story). s.entries) (λ s. s.frame) (λ (e : Entry). e.caller) closes.story) back.passes 0 q.0 closes.known q.1 in
         subst (λ (l : List Entry). StartsWith history l) (all_at (λ (q : RealmPass). q.seen ≡ ran.last) back.passes 0 q.0 ran.met q.1)
         (subst (λ (l : List Entry). StartsWith l q.0.seen) (sym closes.entries) known.1)
 
@@ -117,9 +117,9 @@ module _ {G : Type 0} (log_of : G → Option (List Asked)) (faults_of : G → �
     is_first =
         let grown = phases_grow ran.performed in
         let all : history ≡ ran.first ++ grown.0 = is_last ∙ grown.1 in
-        no_entries 16 ran.first (all_front (λ (e : Entry). e.caller < 16) ran.first grown.0 (subst (All (λ (e : Entry). e.caller < 16)) all low))
+        no_entries 16 ran.first (all_prefix (λ (e : Entry). e.caller < 16) ran.first grown.0 (subst (All (λ (e : Entry). e.caller < 16)) all low))
         (λ c lt. let p = old_of c lt in
-        ap (λ (d : ℕ). own_entries d ran.first) (sym p.2) ∙ (all_at (GoesOn ran.first) passes c p.0 ran.begins p.1).own ∙ (fresh c p.0 p.1).mine)
+        ap (λ (d : ℕ). own_entries d ran.first) (sym p.2) ∙ (all_at (ExtendsPass ran.first) passes c p.0 ran.begins p.1).own ∙ (fresh c p.0 p.1).mine)
 
     pub makes_by : MakesHistory f phases ran.answered history
     makes_by = record {
@@ -140,13 +140,13 @@ module _ {G : Type 0} (log_of : G → Option (List Asked)) (faults_of : G → �
     part_of : (p q : RealmPass) (part : List Entry) → q.mine ≡ p.mine ++ part → p.mine ≡ [] → part ≡ q.mine
     part_of p q part grown none = sym (grown ∙ ap (λ (l : List Entry). l ++ part) none)
 
-    pub works_by : WorksEach log_of faults_of shelf history gates back.gates
+    pub works_by : WorksEach log_of faults_of manifests history gates back.gates
     works_by k g h at now =
         let lt : k < 16 = subst (λ (n : ℕ). k < n) count (slice_get_within gates k g at) in
         let p = old_of k lt in
         let q = new_of k lt in
         let kept = ran.kept.each k p.0 q.0 g h p.1 q.1 at now in
-        subst (λ (part : List Entry). WorksWith shelf part (log_of g) (log_of h) (faults_of g) (faults_of h))
+        subst (λ (part : List Entry). WorksWith manifests part (log_of g) (log_of h) (faults_of g) (faults_of h))
         (part_of p.0 q.0 kept.part kept.mine (fresh k p.0 p.1).mine ∙ sym (mine_of k q.0 q.1 q.2)) kept.work
 
   module _ (same : back.passes ≡ passes) where

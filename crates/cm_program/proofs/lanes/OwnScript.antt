@@ -3,10 +3,10 @@ use Rattle.std.proofs.Common.{◌≡◌, ℕ, ◌+◌, ◌%◌, ◌<◌, List, [
 use Rattle.std.specs.List.{range_with_len}
 use Rattle.std.proofs.lemmas.List.Elements.{All-nil, All-cons}
 use Rattle.cm_command.specs.declared.command.Command.{Command}
-use Rattle.cm_lanes.specs.Script.{IsFit}
+use Rattle.cm_lanes.specs.ScriptInside.{IsFit}
 use Rattle.cm_call.specs.Generated.{ask_of, drawn, in_turns, script_of, start_of}
 use Rattle.cm_program.specs.Stock.{served_script}
-use Rattle.cm_program.specs.declared.stock.Served.{Served}
+use Rattle.cm_program.specs.declared.stock.LoadedScript.{LoadedScript}
 use Rattle.cm_program.proofs.texts.StockLemmas.{phases_of_script}
 
 lane_low : (j : ℕ) → j % 4 < 16
@@ -17,7 +17,7 @@ turns_fit j [] = All-nil IsFit
 turns_fit j (c ∷ cs) = All-cons IsFit (record { line = 0; lane = j % 4; command = c }) (in_turns (j + 1) cs) (record { lane = lane_low j }) (turns_fit (j + 1) cs)
 
 -- so that what it asks for can be performed
-pub own_fit : (g n : ℕ) (served : Served) → served_script (script_of g n) ≡ Ok served → All (λ lines. All IsFit lines) served.phases
+pub own_fit : (g n : ℕ) (served : LoadedScript) → served_script (script_of g n) ≡ Ok served → All (λ lines. All IsFit lines) served.phases
 own_fit g n served is =
     subst (All (λ lines. All IsFit lines)) (sym (phases_of_script (script_of g n) served is))
     (All-cons (λ lines. All IsFit lines) (in_turns 0 (map start_of (range_with_len 0 n))) (in_turns 0 (map ask_of (drawn n g n)) ∷ [])

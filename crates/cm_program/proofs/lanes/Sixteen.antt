@@ -18,9 +18,9 @@ module _ {X : Type 0} where
   pub all_at : (P : X → Type 0) (xs : List X) (k : ℕ) (x : X) → All P xs → slice_get xs k ≡ Some x → P x
   all_at P xs k x all at = subst P (get_or_from_slice_get xs k x x at) (all k x (slice_get_within xs k x at))
 
-  pub all_front : (P : X → Type 0) (xs ys : List X) → All P (xs ++ ys) → All P xs
-  all_front P [] ys all = All-nil P
-  all_front P (x ∷ xs) ys all = All-cons P x xs (All-head P x (xs ++ ys) all) (all_front P xs ys (All-tail P x (xs ++ ys) all))
+  pub all_prefix : (P : X → Type 0) (xs ys : List X) → All P (xs ++ ys) → All P xs
+  all_prefix P [] ys all = All-nil P
+  all_prefix P (x ∷ xs) ys all = All-cons P x xs (All-head P x (xs ++ ys) all) (all_prefix P xs ys (All-tail P x (xs ++ ys) all))
 
   pub all_behind : (P : X → Type 0) (xs ys : List X) → All P (xs ++ ys) → All P ys
   all_behind P [] ys all = all

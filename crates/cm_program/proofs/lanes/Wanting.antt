@@ -1,4 +1,4 @@
--- A script of which no line was run, for want of memory: each line is answered so.
+-- A script of which no line was run, for lack of memory: each line is answered so.
 use Rattle.std.proofs.Common.{◌≡◌, ◌<◌, List, [], ◌∷◌, All, map, refl, sym, ap, ◌∙◌, subst}
 use Rattle.std.proofs.lemmas.List.Elements.{All-nil}
 use Rattle.cm_world.specs.declared.frame.Frame.{Frame}
@@ -7,11 +7,11 @@ use Rattle.cm_world.specs.World.{start}
 use Rattle.cm_world.specs.Legal.{Legal}
 use Rattle.cm_command.specs.declared.script.Line.{Line}
 use Rattle.cm_lanes.specs.Laws.{no_answer}
-use Rattle.cm_lanes.specs.Script.{Answered, answered_lines, ArePhases}
+use Rattle.cm_lanes.specs.Script.{AnsweredLine, answered_lines, ArePhases}
 use Rattle.cm_lanes.proofs.lines.Parting.{phases_lost}
 use Rattle.cm_program.specs.Headline.{MakesHistory}
 
-abbrev pub all_wanting : List (List Line) → List (List Answered)
+abbrev pub all_wanting : List (List Line) → List (List AnsweredLine)
 all_wanting phases = map (λ lines. map no_answer lines) phases
 
 lines_back : (lines : List Line) → answered_lines (map no_answer lines) ≡ lines

@@ -4,29 +4,29 @@ use Rattle.std.specs.List.{slice_get}
 use Rattle.std.proofs.lemmas.List.Elements.{All-append, All-cons, All-nil, All-weaker}
 use Rattle.std.proofs.lemmas.Option.{slice_get_within}
 use Rattle.cm_turn.specs.History.{StartsWith}
-use Rattle.cm_turn.specs.Passes.{LockView, HasCaller, IsKnown, new_pass, new_passes}
+use Rattle.cm_turn.specs.Passes.{LockView, HasCaller, BearsPassOut, new_pass, new_passes}
 use Rattle.cm_world.specs.declared.frame.Frame.{Frame}
 use Rattle.cm_world.specs.declared.reply.Entry.{Entry}
 use Rattle.cm_world.specs.World.{start}
 use Rattle.cm_world.specs.Legal.{Legal}
 use Rattle.cm_world.proofs.trees.Finding.{some_same}
-use Rattle.cm_gate.specs.declared.asked.Asked.{Asked}
+use Rattle.cm_gate.specs.declared.asked.GateCall.{GateCall}
 use Rattle.cm_laws.specs.Story.{Story}
 use Rattle.cm_manager.specs.Asking.{frame_in}
 use Rattle.cm_manager.specs.Closed.{HasEnds}
 use Rattle.cm_manager.specs.Contract.{RealmPass}
 use Rattle.cm_manager.specs.Gated.{gates_view}
-use Rattle.cm_manager.specs.Kept.{AreSixteen, IsOwnPass, Keeps, KeepsEach}
-use Rattle.cm_manager.specs.Managers.{Closes}
-use Rattle.cm_manager.specs.Turns.{Later, own_entries}
-use Rattle.cm_manager.specs.Work.{Shelf, WorksWith}
+use Rattle.cm_manager.specs.Kept.{AreSixteen, IsOwnPass, KeepsPass, KeepsEach}
+use Rattle.cm_manager.specs.Managers.{BearsPassesOut}
+use Rattle.cm_manager.specs.Turns.{IsLaterHistory, own_entries}
+use Rattle.cm_manager.specs.Work.{Manifests, WorksWith}
 use Rattle.cm_session.specs.declared.ended.Ended.TheVariants as ended
 use Rattle.cm_session.specs.declared.served.Back.{Back}
 use Rattle.cm_session.specs.declared.served.Cause.{Cause}
 use Rattle.cm_session.specs.declared.served.Cause.TheVariants as cause
 use Rattle.cm_session.specs.declared.served.Served.{Served}
 use Rattle.cm_session.specs.Links.{LinkView}
-use Rattle.cm_session.specs.Serving.{IsOfLink, IsUnserved, ServesAll, ServedOrNot, Visit, back_view, worker_by_worker}
+use Rattle.cm_session.specs.Serving.{IsOfLink, IsUnserved, ServesAll, ServedOrNot, ServedLink, back_view, worker_by_worker}
 use Rattle.cm_program.specs.Headline.{EndsWell, WorksEach}
 use Rattle.cm_program.specs.Sessions.{FollowsEach, RunsSessions, sats_by, status_of}
 use Rattle.cm_session.proofs.work.Places.{there_at}
@@ -58,21 +58,21 @@ module _ (turn : LockView) (f : Frame) (passes : List RealmPass) (new : passes �
 
 -- ---- where no link came
 
-module _ {G L : Type 0} (log_of : G → Option (List Asked)) (faults_of : G → ℕ) (view : L → LinkView) where
-  pub runs_no_session : (f : Frame) (shelf : Shelf) (workers : ℕ) (gates₀ gates₁ : List G) (history : List Entry) (links : List (Back LinkView)) (status : ℕ) → history ≡ [] → gates₁ ≡ gates₀ → links ≡ [] → RunsSessions log_of faults_of view f shelf workers gates₀ gates₁ history links status
-  runs_no_session f shelf workers gates₀ gates₁ history links status none same no_links =
+module _ {G L : Type 0} (log_of : G → Option (List GateCall)) (faults_of : G → ℕ) (view : L → LinkView) where
+  pub runs_no_session : (f : Frame) (manifests : Manifests) (workers : ℕ) (gates₀ gates₁ : List G) (history : List Entry) (links : List (Back LinkView)) (status : ℕ) → history ≡ [] → gates₁ ≡ gates₀ → links ≡ [] → RunsSessions log_of faults_of view f manifests workers gates₀ gates₁ history links status
+  runs_no_session f manifests workers gates₀ gates₁ history links status none same no_links =
       let legal = subst (Legal (start f)) (sym none) (nothing_legal f) in
-      subst (λ (bs : List (Back LinkView)). RunsSessions log_of faults_of view f shelf workers gates₀ gates₁ history bs status) (sym no_links)
+      subst (λ (bs : List (Back LinkView)). RunsSessions log_of faults_of view f manifests workers gates₀ gates₁ history bs status) (sym no_links)
       (record {
         sats = [];
         each = tt;
         workers_are = All-nil (λ (b : Back LinkView). b.worker < workers);
         order = tt;
         legal = legal;
-        entries = λ k lt. FollowsEach.none_left (subst (Later k []) (sym none) (record { grows = ([], refl); own = refl }));
+        entries = λ k lt. FollowsEach.none_left (subst (IsLaterHistory k []) (sym none) (record { grows = ([], refl); own = refl }));
         callers = subst (All (λ (e : Entry). e.caller < 16)) (sym none) (All-nil (λ (e : Entry). e.caller < 16));
         laws = ends_well f history legal (nothing_ends history none);
-        work = works_nothing log_of faults_of shelf history gates₀ gates₁ none same;
+        work = works_nothing log_of faults_of manifests history gates₀ gates₁ none same;
       })
 
 -- ---- the closed manager
@@ -83,10 +83,10 @@ zero_plus k = omega arith
 not_memory : (why : Cause) → status_of why ≢ 6 → why ≢ cause.Memory
 not_memory why other is = other (ap status_of is)
 
-module _ {D G L : Type 0} (log_of : G → Option (List Asked)) (faults_of : G → ℕ) (view : L → LinkView) (shelf : Shelf) (turn : LockView) (f : Frame) (workers : ℕ) (passes : List RealmPass) (gates : List G) (back : Served D L G) (history : List Entry)
-    (new : passes ≡ new_passes turn.lock f 16) (count : length gates ≡ 16) (are : AreSixteen turn back.passes) (kept : KeepsEach log_of faults_of shelf passes back.passes gates back.gates) (closes : Closes history back.passes) (ends : HasEnds history) where
+module _ {D G L : Type 0} (log_of : G → Option (List GateCall)) (faults_of : G → ℕ) (view : L → LinkView) (manifests : Manifests) (turn : LockView) (f : Frame) (workers : ℕ) (passes : List RealmPass) (gates : List G) (back : Served D L G) (history : List Entry)
+    (new : passes ≡ new_passes turn.lock f 16) (count : length gates ≡ 16) (are : AreSixteen turn back.passes) (kept : KeepsEach log_of faults_of manifests passes back.passes gates back.gates) (closes : BearsPassesOut history back.passes) (ends : HasEnds history) where
   abbrev known_by : RealmPass → Type 0
-  known_by q = IsKnown (λ (s : Story). s.entries) (λ s. s.frame) (λ (e : Entry). e.caller) closes.story q
+  known_by q = BearsPassOut (λ (s : Story). s.entries) (λ s. s.frame) (λ (e : Entry). e.caller) closes.story q
 
   low : All (λ (e : Entry). e.caller < 16) history
   low = All-weaker (λ (e : Entry). HasCaller back.passes e.caller) (λ (e : Entry). e.caller < 16) (λ e has. caller_low turn back.passes e.caller are has) history closes.callers
@@ -106,7 +106,7 @@ module _ {D G L : Type 0} (log_of : G → Option (List Asked)) (faults_of : G �
     fresh_pass : IsNew f p
     no_seen : p.seen ≡ []
     known : known_by q
-    keeps : Keeps shelf p q (gates_view log_of faults_of g) (gates_view log_of faults_of h)
+    keeps : KeepsPass manifests p q (gates_view log_of faults_of g) (gates_view log_of faults_of h)
 
   both : (c : ℕ) → c < 16 → Both c
   both c lt =
@@ -135,7 +135,7 @@ module _ {D G L : Type 0} (log_of : G → Option (List Asked)) (faults_of : G �
   mine_of c b = ap (own_entries c) closes.entries ∙ ap (λ (d : ℕ). own_entries d closes.story.entries) (sym b.q_caller) ∙ b.known.2
 
   -- what came behind what a caller's pass has seen
-  later : (c : ℕ) (b : Both c) → Later c b.q.seen history
+  later : (c : ℕ) (b : Both c) → IsLaterHistory c b.q.seen history
   later c b = record {
     grows = subst (λ (l : List Entry). StartsWith l b.q.seen) (sym closes.entries) b.known.1;
     own = mine_of c b ∙ b.keeps.own ∙ ap (λ (d : ℕ). own_entries d b.q.seen) b.q_caller;
@@ -150,31 +150,31 @@ module _ {D G L : Type 0} (log_of : G → Option (List Asked)) (faults_of : G �
   part_of : (c : ℕ) (b : Both c) → b.keeps.part ≡ own_entries c history
   part_of c b = sym (b.keeps.mine ∙ ap (λ (l : List Entry). l ++ b.keeps.part) b.fresh_pass.mine) ∙ sym (mine_of c b)
 
-  work_at : (c : ℕ) (b : Both c) → WorksWith shelf (own_entries c history) (log_of b.g) (log_of b.h) (faults_of b.g) (faults_of b.h)
-  work_at c b = subst (λ (part : List Entry). WorksWith shelf part (log_of b.g) (log_of b.h) (faults_of b.g) (faults_of b.h)) (part_of c b) b.keeps.work
+  work_at : (c : ℕ) (b : Both c) → WorksWith manifests (own_entries c history) (log_of b.g) (log_of b.h) (faults_of b.g) (faults_of b.h)
+  work_at c b = subst (λ (part : List Entry). WorksWith manifests part (log_of b.g) (log_of b.h) (faults_of b.g) (faults_of b.h)) (part_of c b) b.keeps.work
 
-  work : WorksEach log_of faults_of shelf history gates back.gates
+  work : WorksEach log_of faults_of manifests history gates back.gates
   work k g h at now =
       let b = both k (subst (λ (n : ℕ). k < n) count (slice_get_within gates k g at)) in
-      subst (λ (x : G). WorksWith shelf (own_entries k history) (log_of g) (log_of x) (faults_of g) (faults_of x)) (some_same b.h h (sym b.h_at ∙ now))
-      (subst (λ (x : G). WorksWith shelf (own_entries k history) (log_of x) (log_of b.h) (faults_of x) (faults_of b.h)) (some_same b.g g (sym b.g_at ∙ at)) (work_at k b))
+      subst (λ (x : G). WorksWith manifests (own_entries k history) (log_of g) (log_of x) (faults_of g) (faults_of x)) (some_same b.h h (sym b.h_at ∙ now))
+      (subst (λ (x : G). WorksWith manifests (own_entries k history) (log_of x) (log_of b.h) (faults_of x) (faults_of b.h)) (some_same b.g g (sym b.g_at ∙ at)) (work_at k b))
 
   laws : EndsWell f history
   laws = ends_well f history legal ends
 
   -- ---- where links were served
 
-  module _ (all : ServesAll log_of faults_of view shelf workers passes gates back) where
+  module _ (all : ServesAll log_of faults_of view manifests workers passes gates back) where
     abbrev status : ℕ
     status = status_of back.cause
 
-    visited_by : (i : ℕ) (vs : List Visit) → slice_get all.visits i ≡ Some vs → Both i → Visited view status history f (0 + i) vs []
+    visited_by : (i : ℕ) (vs : List ServedLink) → slice_get all.visits i ≡ Some vs → Both i → Visited view status history f (0 + i) vs []
     visited_by i vs at b =
-        let came = all_at (All (λ (v : Visit). IsOfLink view v.was)) all.visits i vs all.came at in
+        let came = all_at (All (λ (v : ServedLink). IsOfLink view v.was)) all.visits i vs all.came at in
         let serves = all.each i vs b.p b.q b.g b.h at b.p_at b.q_at b.g_at b.h_at in
-        let is = visited view status history shelf vs b.p b.q (gates_view log_of faults_of b.g) (gates_view log_of faults_of b.h) serves came
-        (λ other. all_at (All (λ (v : Visit). v.ended ≢ ended.Memory)) all.visits i vs (all.well (not_memory back.cause other)) at)
-        (subst (λ (c : ℕ). Later c b.q.seen history) (sym b.p_caller) (later i b)) in
+        let is = visited view status history manifests vs b.p b.q (gates_view log_of faults_of b.g) (gates_view log_of faults_of b.h) serves came
+        (λ other. all_at (All (λ (v : ServedLink). v.ended ≢ ended.Memory)) all.visits i vs (all.well (not_memory back.cause other)) at)
+        (subst (λ (c : ℕ). IsLaterHistory c b.q.seen history) (sym b.p_caller) (later i b)) in
         let caller : b.p.caller ≡ 0 + i = b.p_caller ∙ sym (zero_plus i) in
         subst (λ (l : List Entry). Visited view status history f (0 + i) vs l) b.no_seen
         (subst (λ (c : ℕ). Visited view status history f c vs b.p.seen) caller
@@ -184,9 +184,9 @@ module _ {D G L : Type 0} (log_of : G → Option (List Asked)) (faults_of : G �
     all_joined = joined view status history f 0 all.visits
         (λ i vs at. visited_by i vs at (both i (subst (λ (n : ℕ). i < n) all.count (slice_get_within all.visits i vs at))))
 
-    runs_all : RunsSessions log_of faults_of view f shelf workers gates back.gates history (map (back_view view) back.links) status
+    runs_all : RunsSessions log_of faults_of view f manifests workers gates back.gates history (map (back_view view) back.links) status
     runs_all =
-        subst (λ (bs : List (Back LinkView)). RunsSessions log_of faults_of view f shelf workers gates back.gates history bs status) (sym all.links)
+        subst (λ (bs : List (Back LinkView)). RunsSessions log_of faults_of view f manifests workers gates back.gates history bs status) (sym all.links)
         (record {
           sats = all_joined.sats;
           each = all_joined.each;
@@ -205,9 +205,9 @@ module _ {D G L : Type 0} (log_of : G → Option (List Asked)) (faults_of : G �
     none_own : (c : ℕ) (b : Both c) → own_entries c history ≡ []
     none_own c b = mine_of c b ∙ (all_at (IsNew f) passes c b.q (fresh turn f passes new) (ap (λ (l : List RealmPass). slice_get l c) (sym un.same_passes) ∙ b.q_at)).mine
 
-    runs_unserved : RunsSessions log_of faults_of view f shelf workers gates back.gates history (map (back_view view) back.links) (status_of back.cause)
+    runs_unserved : RunsSessions log_of faults_of view f manifests workers gates back.gates history (map (back_view view) back.links) (status_of back.cause)
     runs_unserved =
-        subst (λ (bs : List (Back LinkView)). RunsSessions log_of faults_of view f shelf workers gates back.gates history bs (status_of back.cause)) (sym (ap (map (back_view view)) un.no_links))
+        subst (λ (bs : List (Back LinkView)). RunsSessions log_of faults_of view f manifests workers gates back.gates history bs (status_of back.cause)) (sym (ap (map (back_view view)) un.no_links))
         (record {
           sats = [];
           each = tt;
@@ -220,6 +220,6 @@ module _ {D G L : Type 0} (log_of : G → Option (List Asked)) (faults_of : G �
           work = work;
         })
 
-  pub attended : (door : D) → ServedOrNot log_of faults_of view shelf workers passes gates door back → RunsSessions log_of faults_of view f shelf workers gates back.gates history (map (back_view view) back.links) (status_of back.cause)
+  pub attended : (door : D) → ServedOrNot log_of faults_of view manifests workers passes gates door back → RunsSessions log_of faults_of view f manifests workers gates back.gates history (map (back_view view) back.links) (status_of back.cause)
   attended door (inl all) = runs_all all
   attended door (inr un) = runs_unserved door un

@@ -2,20 +2,20 @@
 use Rattle.std.proofs.Common.{◌≡◌, ◌≢◌, ◌⊎◌, inl, inr, ℕ, ◌≤◌, ◌+◌, List, [], map, length, Option, Some, refl, sym, ap, subst, ◌∙◌, arith}
 use Rattle.std.proofs.Math.Nat.{le_refl}
 use Rattle.cm_io.specs.Counts.{one_more}
-use Rattle.cm_io.specs.Doors.{CountsFault, IsAt, IsOpen, Place, at, nowhere, somewhere, untold}
+use Rattle.cm_io.specs.Doors.{CountsFault, IsOpenAt, IsOpen, DoorPlace, at, nowhere, somewhere, untold}
 use Rattle.cm_io.specs.Outside.{Rose}
 use Rattle.cm_io.specs.declared.door.DoorCounts.{DoorCounts}
 use Rattle.cm_call.specs.declared.call.ServeOptions.{ServeOptions}
 use Rattle.cm_world.specs.declared.frame.Frame.{Frame}
-use Rattle.cm_gate.specs.declared.asked.Asked.{Asked}
+use Rattle.cm_gate.specs.declared.asked.GateCall.{GateCall}
 use Rattle.cm_laws.specs.Story.{Story}
-use Rattle.cm_manager.specs.Work.{Shelf}
+use Rattle.cm_manager.specs.Work.{Manifests}
 use Rattle.cm_session.specs.declared.served.Cause.{Cause}
 use Rattle.cm_session.specs.declared.served.Cause.TheVariants as cause
 use Rattle.cm_session.specs.Links.{LinkView}
 use Rattle.cm_session.specs.Serving.{back_view}
 use Rattle.cm_program.specs.Run.{IsServeStatus}
-use Rattle.cm_program.specs.Sessions.{Attended, served_frame, served_shelf, status_of}
+use Rattle.cm_program.specs.Sessions.{Attended, served_frame, served_manifests, status_of}
 use Rattle.cm_program.specs.declared.ran.Ran.{Ran}
 use Rattle.cm_program.specs.declared.sessions.Service.{Service}
 use Rattle.cm_program.proofs.Statuses.{few_given, none_given}
@@ -40,32 +40,32 @@ serves cause.Memory = inr (inr refl)
 
 -- ---- where peers may come
 
-pub at_is_open : (wanted : List ℕ) (place : Place) → IsAt wanted place → IsOpen place
+pub at_is_open : (wanted : List ℕ) (place : DoorPlace) → IsOpenAt wanted place → IsOpen place
 at_is_open wanted untold is = tt
 at_is_open wanted nowhere is = absurd is
 at_is_open wanted somewhere is = tt
 at_is_open wanted (at there) is = tt
 
-pub at_same : (wanted named : List ℕ) (now then : Place) → named ≡ wanted → then ≡ now → IsAt named now → IsAt wanted then
-at_same wanted named now then same kept is = subst (λ (p : Place). IsAt wanted p) (sym kept) (subst (λ (t : List ℕ). IsAt t now) same is)
+pub at_same : (wanted named : List ℕ) (now then : DoorPlace) → named ≡ wanted → then ≡ now → IsOpenAt named now → IsOpenAt wanted then
+at_same wanted named now then same kept is = subst (λ (p : DoorPlace). IsOpenAt wanted p) (sym kept) (subst (λ (t : List ℕ). IsOpenAt t now) same is)
 
 -- a run that failed doesn't end with 0
 pub failed_run : {A : Type 0} {status told : ℕ} (n : ℕ) → status ≡ told → told ≡ n + 1 → status ≡ 0 → A
 failed_run n same told is = absurd (omega (arith, same, told, is))
 
-module _ {D L G : Type 0} (log_of : G → Option (List Asked)) (faults_of : G → ℕ) (view : L → LinkView) (counts_of : D → DoorCounts) where
-  abbrev IsSo : Frame → Shelf → ℕ → ℕ → List G → DoorCounts → Ran D L G → Type 0
-  IsSo f shelf sessions workers gates before ran = Attended log_of faults_of view counts_of f shelf sessions workers gates before ran
+module _ {D L G : Type 0} (log_of : G → Option (List GateCall)) (faults_of : G → ℕ) (view : L → LinkView) (counts_of : D → DoorCounts) where
+  abbrev IsSo : Frame → Manifests → ℕ → ℕ → List G → DoorCounts → Ran D L G → Type 0
+  IsSo f manifests sessions workers gates before ran = Attended log_of faults_of view counts_of f manifests sessions workers gates before ran
 
   -- ---- where no link came
 
-  unattended : (f : Frame) (shelf : Shelf) (sessions workers : ℕ) (gates : List G) (before : DoorCounts) (ran : Ran D L G)
+  unattended : (f : Frame) (manifests : Manifests) (sessions workers : ℕ) (gates : List G) (before : DoorCounts) (ran : Ran D L G)
       → length gates ≡ 16 → ran.book.entries ≡ [] → ran.gates ≡ gates → ran.links ≡ []
       → (counts_of ran.door).links ≡ before.links → ran.status ≢ 0 → (ran.status ≡ 5 → Rose before.faults (counts_of ran.door).faults) → IsServeStatus ran.status
-      → IsSo f shelf sessions workers gates before ran
-  unattended f shelf sessions workers gates before ran count none same no_links still ended failed others = record {
+      → IsSo f manifests sessions workers gates before ran
+  unattended f manifests sessions workers gates before ran count none same no_links still ended failed others = record {
     sixteen = ap length same ∙ count;
-    runs = runs_no_session log_of faults_of view f shelf workers gates ran.gates ran.book.entries (map (back_view view) ran.links) ran.status none same (ap (map (back_view view)) no_links);
+    runs = runs_no_session log_of faults_of view f manifests workers gates ran.gates ran.book.entries (map (back_view view) ran.links) ran.status none same (ap (map (back_view view)) no_links);
     given = still ∙ none_given before.links ran.links no_links;
     few = few_given ran.links sessions no_links;
     done = λ is. absurd (ended is);
@@ -74,21 +74,21 @@ module _ {D L G : Type 0} (log_of : G → Option (List Asked)) (faults_of : G �
     others = others;
   }
 
-  -- for want of memory
-  pub unattended_for_want : (f : Frame) (shelf : Shelf) (sessions workers : ℕ) (gates : List G) (door : D) (ran : Ran D L G)
+  -- for lack of memory
+  pub unattended_for_want : (f : Frame) (manifests : Manifests) (sessions workers : ℕ) (gates : List G) (door : D) (ran : Ran D L G)
       → length gates ≡ 16 → ran.book.entries ≡ [] → ran.gates ≡ gates → ran.links ≡ [] → ran.door ≡ door → ran.status ≡ 6
-      → IsSo f shelf sessions workers gates (counts_of door) ran
-  unattended_for_want f shelf sessions workers gates door ran count none same no_links kept six =
-      unattended f shelf sessions workers gates (counts_of door) ran count none same no_links
+      → IsSo f manifests sessions workers gates (counts_of door) ran
+  unattended_for_want f manifests sessions workers gates door ran count none same no_links kept six =
+      unattended f manifests sessions workers gates (counts_of door) ran count none same no_links
       (ap (λ (d : D). (counts_of d).links) kept) (λ is. absurd (cc (six, is))) (λ is. absurd (cc (six, is))) (inr (inr six))
 
   -- since the door failed
-  pub unattended_for_fault : (f : Frame) (shelf : Shelf) (sessions workers : ℕ) (gates : List G) (before : DoorCounts) (now : D) (ran : Ran D L G)
+  pub unattended_for_fault : (f : Frame) (manifests : Manifests) (sessions workers : ℕ) (gates : List G) (before : DoorCounts) (now : D) (ran : Ran D L G)
       → length gates ≡ 16 → ran.book.entries ≡ [] → ran.gates ≡ gates → ran.links ≡ [] → ran.door ≡ now → ran.status ≡ 5 → CountsFault before (counts_of now)
-      → IsSo f shelf sessions workers gates before ran
-  unattended_for_fault f shelf sessions workers gates before now ran count none same no_links kept five fault =
+      → IsSo f manifests sessions workers gates before ran
+  unattended_for_fault f manifests sessions workers gates before now ran count none same no_links kept five fault =
       let counts : counts_of ran.door ≡ record before { faults = one_more before.faults } = ap counts_of kept ∙ fault.1 in
-      unattended f shelf sessions workers gates before ran count none same no_links
+      unattended f manifests sessions workers gates before ran count none same no_links
       (ap (λ (c : DoorCounts). c.links) counts) (λ is. absurd (cc (five, is)))
       (λ is. subst (λ (n : ℕ). one_more before.faults ≤ n) (sym (ap (λ (c : DoorCounts). c.faults) counts)) (le_refl (one_more before.faults)))
       (inr (inl five))
@@ -98,9 +98,9 @@ module _ {D L G : Type 0} (log_of : G → Option (List Asked)) (faults_of : G �
   pub attended_by : (o : ServeOptions) (service : Service) (gates : List G) (before now : DoorCounts) (ran : Ran D L G)
       → service.realm ≡ record { frame = served_frame o; entries = [] } → service.folder ≡ o.repository → service.sessions ≡ o.sessions → service.workers ≡ o.workers → now ≡ before
       → IsSo service.realm.frame (record { repo = Some service.folder; blocks = [] }) service.sessions service.workers gates now ran
-      → IsSo (served_frame o) (served_shelf o) o.sessions o.workers gates before ran
+      → IsSo (served_frame o) (served_manifests o) o.sessions o.workers gates before ran
   attended_by o service gates before now ran realm folder sessions workers same is =
-      subst (λ (f : Frame). IsSo f (served_shelf o) o.sessions o.workers gates before ran) (ap (λ (s : Story). s.frame) realm)
+      subst (λ (f : Frame). IsSo f (served_manifests o) o.sessions o.workers gates before ran) (ap (λ (s : Story). s.frame) realm)
       (subst (λ (t : List ℕ). IsSo service.realm.frame (record { repo = Some t; blocks = [] }) o.sessions o.workers gates before ran) folder
       (subst (λ (n : ℕ). IsSo service.realm.frame (record { repo = Some service.folder; blocks = [] }) n o.workers gates before ran) sessions
       (subst (λ (n : ℕ). IsSo service.realm.frame (record { repo = Some service.folder; blocks = [] }) service.sessions n gates before ran) workers

@@ -3,15 +3,15 @@ use Rattle.std.proofs.Common.{◌≡◌, ℕ, List, Result, Ok, Err, sym, ap, �
 use Rattle.cm_command.proofs.scripts.OneScript.{texts_are_one_script_lem, scripts_have_no_fault_lem}
 use Rattle.cm_program.specs.Laws.{ServedAreNotRefused, BytesAskForOne}
 use Rattle.cm_program.specs.Run.{IsFaulty}
-use Rattle.cm_program.specs.Stock.{IsFault, Serves, served_script}
-use Rattle.cm_program.specs.declared.fault.Fault.{Fault}
-use Rattle.cm_program.specs.declared.fault.Fault.TheVariants.{Unread, Unserved, Memory}
-use Rattle.cm_program.specs.declared.stock.Served.{Served}
+use Rattle.cm_program.specs.Stock.{IsScriptRefusal, LoadsScript, served_script}
+use Rattle.cm_program.specs.declared.fault.ScriptRefusal.{ScriptRefusal}
+use Rattle.cm_program.specs.declared.fault.ScriptRefusal.TheVariants.{Unread, Unserved, Memory}
+use Rattle.cm_program.specs.declared.stock.LoadedScript.{LoadedScript}
 
 ok_err : {A E : Type 0} {r : Result A E} {x : A} {e : E} → r ≡ Ok x → r ≡ Err e → ⊥
 ok_err h k = absurd (cc)
 
-refused_unserved : (bytes : List ℕ) (f : Fault) (served : Served) → IsFault bytes f → Serves bytes served → ⊥
+refused_unserved : (bytes : List ℕ) (f : ScriptRefusal) (served : LoadedScript) → IsScriptRefusal bytes f → LoadsScript bytes served → ⊥
 refused_unserved bytes (Unread line number at) served f h = scripts_have_no_fault_lem bytes h.script line number at h.reads f
 refused_unserved bytes (Unserved line problem) served f h =
     let same = texts_are_one_script_lem bytes f.script h.script f.reads h.reads in

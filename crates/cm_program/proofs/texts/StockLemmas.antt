@@ -5,32 +5,33 @@ use Rattle.cm_names.specs.Steps.{◌>>=◌}
 use Rattle.cm_repo.specs.Blocks.{Blocks, added}
 use Rattle.cm_repo.specs.declared.fault.RepoFault.{RepoFault}
 use Rattle.cm_repo.specs.declared.fault.RepoFault.TheVariants as repo
-use Rattle.cm_command.specs.Scripts.{Takes, Reads, IsScript}
+use Rattle.cm_command.specs.Scripts.{TakesScriptLine, ReadsLines, IsScript}
 use Rattle.cm_command.specs.declared.script.Block.{Block}
 use Rattle.cm_command.specs.declared.script.Line.{Line}
 use Rattle.cm_command.specs.declared.script.Script.{Script}
 use Rattle.cm_command.specs.declared.script_reader.Draft.{Draft}
-use Rattle.cm_lanes.specs.Script.{IsFit}
-use Rattle.cm_reply.specs.Legible.{IsLegibleFrame}
+use Rattle.cm_lanes.specs.ScriptInside.{IsFit}
+use Rattle.cm_reply.specs.LegibleInside.{IsLegibleFrame}
 use Rattle.cm_journal.specs.Asked.{AreWritableLines, IsLegibleScript}
 use Rattle.cm_journal.proofs.Scripts.{scripts_are_legible}
 use Rattle.cm_program.specs.Audited.{IsLegibleServed}
-use Rattle.cm_program.specs.Reading.{Read, Gives}
-use Rattle.cm_program.specs.Run.{Stops, stop_of}
-use Rattle.cm_program.specs.Stock.{frame_of, accepted, stocked, stock_of, served_script, IsFault, Serves}
+use Rattle.cm_program.specs.Reading.{ReadOutcome}
+use Rattle.cm_program.specs.ReadingInside.{GivesOutcome}
+use Rattle.cm_program.specs.Run.{ScriptStops, stop_of}
+use Rattle.cm_program.specs.Stock.{frame_of, accepted, stocked, stock_of, served_script, IsScriptRefusal, LoadsScript}
 use Rattle.cm_program.specs.Written.{OfSome}
-use Rattle.cm_program.specs.declared.fault.Fault.{Fault}
-use Rattle.cm_program.specs.declared.fault.Fault.TheVariants.{Unread, Unserved, Memory}
-use Rattle.cm_program.specs.declared.stock.Served.{Served}
+use Rattle.cm_program.specs.declared.fault.ScriptRefusal.{ScriptRefusal}
+use Rattle.cm_program.specs.declared.fault.ScriptRefusal.TheVariants.{Unread, Unserved, Memory}
+use Rattle.cm_program.specs.declared.stock.LoadedScript.{LoadedScript}
 
 -- what was read of a script that is one has no fault of the reader
-abbrev pub IsOfScript : {A : Type 0} → Read A → Type 0
+abbrev pub IsOfScript : {A : Type 0} → ReadOutcome A → Type 0
 IsOfScript (Ok x) = Unit {0}
 IsOfScript (Err (Unserved line problem)) = Unit {0}
 IsOfScript (Err Memory) = Unit {0}
 IsOfScript (Err (Unread line number at)) = ⊥
 
-bind_told : {A B : Type 0} (r : Read A) (f : A → Read B) → IsOfScript r → ((x : A) → IsOfScript (f x)) → IsOfScript (r >>= f)
+bind_told : {A B : Type 0} (r : ReadOutcome A) (f : A → ReadOutcome B) → IsOfScript r → ((x : A) → IsOfScript (f x)) → IsOfScript (r >>= f)
 bind_told (Ok x) f h k = k x
 bind_told (Err (Unserved line problem)) f h k = tt
 bind_told (Err Memory) f h k = tt
@@ -52,14 +53,14 @@ unfolding served_script
 script_told s = bind_told (stock_of [] s.manifests) _ (stock_told [] s.manifests) (λ repository. tt)
 
 -- a script that isn't served is refused for what it gives
-pub fault_of_script : (bytes : List ℕ) (s : Script) (r : Read Served) → IsScript bytes s → Gives r (served_script s) → IfErr r (λ f. (f ≡ Memory → ⊥) → IsFault bytes f)
+pub fault_of_script : (bytes : List ℕ) (s : Script) (r : ReadOutcome LoadedScript) → IsScript bytes s → GivesOutcome r (served_script s) → IfErr r (λ f. (f ≡ Memory → ⊥) → IsScriptRefusal bytes f)
 fault_of_script bytes s (Ok served) h gives = tt
 fault_of_script bytes s (Err (Unserved line problem)) h gives = λ _. record { script = s; reads = h; refused = gives }
 fault_of_script bytes s (Err Memory) h gives = λ none. absurd (none refl)
 fault_of_script bytes s (Err (Unread line number at)) h gives = λ _. absurd (subst (λ r. IsOfScript r) gives (script_told s))
 
 -- why a run stops, where its bytes are known
-pub stops_for : (left : Option (List ℕ)) (f : Fault) → ((f ≡ Memory → ⊥) → OfSome (λ bytes. IsFault bytes f) left) → Stops (stop_of f) left
+pub stops_for : (left : Option (List ℕ)) (f : ScriptRefusal) → ((f ≡ Memory → ⊥) → OfSome (λ bytes. IsScriptRefusal bytes f) left) → ScriptStops (stop_of f) left
 stops_for left (Unserved line problem) h = h (λ e. absurd (cc))
 stops_for left (Unread line number at) h = h (λ e. absurd (cc))
 stops_for left Memory h = tt
@@ -74,25 +75,25 @@ record IsLowDraft (d : Draft) : Type 0 where
   phases : All (λ lines. All IsLow lines) d.phases
   phase : All IsLow d.phase
 
-took_low : (n : ℕ) {t : List ℕ} {d e : Draft} → Takes n t d e → IsLowDraft d → IsLowDraft e
-took_low n (Takes.closes is) h = record { phases = h.phases; phase = h.phase }
-took_low n (Takes.inner is other) h = record { phases = h.phases; phase = h.phase }
-took_low n (Takes.blank is b) h = h
-took_low n (Takes.opens is early u) h = record { phases = h.phases; phase = h.phase }
-took_low n (Takes.builtin is early b fresh) h = record { phases = h.phases; phase = h.phase }
-took_low n (Takes.root is early first u) h = record { phases = h.phases; phase = h.phase }
-took_low n {d = d} (Takes.sync is r) h = record {
+took_low : (n : ℕ) {t : List ℕ} {d e : Draft} → TakesScriptLine n t d e → IsLowDraft d → IsLowDraft e
+took_low n (TakesScriptLine.closes is) h = record { phases = h.phases; phase = h.phase }
+took_low n (TakesScriptLine.inner is other) h = record { phases = h.phases; phase = h.phase }
+took_low n (TakesScriptLine.blank is b) h = h
+took_low n (TakesScriptLine.opens is early u) h = record { phases = h.phases; phase = h.phase }
+took_low n (TakesScriptLine.builtin is early b fresh) h = record { phases = h.phases; phase = h.phase }
+took_low n (TakesScriptLine.root is early first u) h = record { phases = h.phases; phase = h.phase }
+took_low n {d = d} (TakesScriptLine.sync is r) h = record {
   phases = All-append (λ lines. All IsLow lines) d.phases (d.phase ∷ []) h.phases (All-cons (λ lines. All IsLow lines) d.phase [] h.phase (All-nil (λ lines. All IsLow lines)));
   phase = All-nil IsLow;
 }
-took_low n {d = d} (Takes.command {lane = lane} {c = c} is r way low text) h = record {
+took_low n {d = d} (TakesScriptLine.command {lane = lane} {c = c} is r way low text) h = record {
   phases = h.phases;
   phase = All-append IsLow d.phase (record { line = n; lane = lane; command = c } ∷ []) h.phase (All-cons IsLow (record { line = n; lane = lane; command = c }) [] low (All-nil IsLow));
 }
 
-read_low : (size : ℕ) {place n : ℕ} {d e : Draft} {ts : List (List ℕ)} → Reads size place n d ts e → IsLowDraft d → IsLowDraft e
-read_low size Reads.no_more h = h
-read_low size {n = n} (Reads.one_more fits takes rest) h = read_low size rest (took_low n takes h)
+read_low : (size : ℕ) {place n : ℕ} {d e : Draft} {ts : List (List ℕ)} → ReadsLines size place n d ts e → IsLowDraft d → IsLowDraft e
+read_low size ReadsLines.no_more h = h
+read_low size {n = n} (ReadsLines.one_more fits takes rest) h = read_low size rest (took_low n takes h)
 
 script_low : (bytes : List ℕ) (s : Script) → IsScript bytes s → All (λ lines. All IsLow lines) s.phases
 script_low bytes s is =
@@ -109,27 +110,27 @@ fit_phases [] low = All-nil (λ lines. All IsFit lines)
 fit_phases (p ∷ ps) low =
     All-cons (λ lines. All IsFit lines) p ps (fit_lines p (All-head (λ lines. All IsLow lines) p ps low)) (fit_phases ps (All-tail (λ lines. All IsLow lines) p ps low))
 
-served_by : (s : Script) (stock : Read Blocks) (served : Served) → (stock >>= λ repository. Ok (record { repository = repository; frame = frame_of s; phases = s.phases })) ≡ Ok served → served.phases ≡ s.phases
+served_by : (s : Script) (stock : ReadOutcome Blocks) (served : LoadedScript) → (stock >>= λ repository. Ok (record { repository = repository; frame = frame_of s; phases = s.phases })) ≡ Ok served → served.phases ≡ s.phases
 served_by s (Ok blocks) served is = cc
 served_by s (Err e) served is = absurd (cc is)
 
 -- the lines of what a script asks for are its own
-pub phases_of_script : (s : Script) (served : Served) → served_script s ≡ Ok served → served.phases ≡ s.phases
+pub phases_of_script : (s : Script) (served : LoadedScript) → served_script s ≡ Ok served → served.phases ≡ s.phases
 unfolding served_script
 phases_of_script s served is = served_by s (stock_of [] s.manifests) served is
 
 -- each has a lane of the sixteen
-pub served_fit : (bytes : List ℕ) (served : Served) → Serves bytes served → All (λ lines. All IsFit lines) served.phases
+pub served_fit : (bytes : List ℕ) (served : LoadedScript) → LoadsScript bytes served → All (λ lines. All IsFit lines) served.phases
 unfolding served_script
 served_fit bytes served is =
     subst (All (λ lines. All IsFit lines)) (sym (served_by is.script (stock_of [] is.script.manifests) served is.asks)) (fit_phases is.script.phases (script_low bytes is.script is.reads))
 
-served_frame : (s : Script) (stock : Read Blocks) (served : Served) → (stock >>= λ repository. Ok (record { repository = repository; frame = frame_of s; phases = s.phases })) ≡ Ok served → served.frame ≡ frame_of s
+served_frame : (s : Script) (stock : ReadOutcome Blocks) (served : LoadedScript) → (stock >>= λ repository. Ok (record { repository = repository; frame = frame_of s; phases = s.phases })) ≡ Ok served → served.frame ≡ frame_of s
 served_frame s (Ok blocks) served is = cc
 served_frame s (Err e) served is = absurd (cc is)
 
 -- what is served can be told of
-pub served_tells : (bytes : List ℕ) (served : Served) → Serves bytes served → IsLegibleServed served
+pub served_tells : (bytes : List ℕ) (served : LoadedScript) → LoadsScript bytes served → IsLegibleServed served
 unfolding served_script
 served_tells bytes served is =
     let fit : IsLegibleScript is.script = scripts_are_legible bytes is.script is.reads in
@@ -139,6 +140,6 @@ served_tells bytes served is =
     }
 
 -- the same of what a script gave
-pub fit_of_script : (bytes : List ℕ) (s : Script) (r : Read Served) → IsScript bytes s → Gives r (served_script s) → IfOk r (λ served. All (λ lines. All IsFit lines) served.phases)
+pub fit_of_script : (bytes : List ℕ) (s : Script) (r : ReadOutcome LoadedScript) → IsScript bytes s → GivesOutcome r (served_script s) → IfOk r (λ served. All (λ lines. All IsFit lines) served.phases)
 fit_of_script bytes s (Ok served) h gives = served_fit bytes served (record { script = s; reads = h; asks = gives })
 fit_of_script bytes s (Err e) h gives = tt

@@ -1,25 +1,26 @@
 -- A run that kept its promise is complete.
 use Rattle.std.proofs.Common.{◌≡◌, ◌⊎◌, inl, inr, ℕ, ◌+◌, ◌-◌, ◌^◌, ◌≤◌, min, lit≤, List, All, length, map, Option, Some, None, Ok, sym, subst, ◌∙◌, arith}
-use Rattle.cm_io.specs.Doors.{Place}
+use Rattle.cm_io.specs.Doors.{DoorPlace}
 use Rattle.cm_io.specs.Outside.{Rose}
 use Rattle.cm_io.specs.declared.door.DoorCounts.{DoorCounts}
 use Rattle.cm_io.specs.declared.sink.Sink as sink
 use Rattle.cm_io.specs.declared.source.Source as source
-use Rattle.cm_gate.specs.declared.asked.Asked.{Asked}
-use Rattle.cm_call.specs.Calls.{words_of, IsServing}
+use Rattle.cm_gate.specs.declared.asked.GateCall.{GateCall}
+use Rattle.cm_call.specs.Calls.{words_of}
+use Rattle.cm_call.specs.CallsInside.{IsServing}
 use Rattle.cm_call.specs.declared.call.Call.TheVariants as call
 use Rattle.cm_call.specs.declared.call.RunOptions.{RunOptions}
 use Rattle.cm_call.specs.declared.call.ServeOptions.{ServeOptions}
 use Rattle.cm_session.specs.Links.{LinkView}
 use Rattle.cm_session.specs.Serving.{back_view}
 use Rattle.cm_program.specs.Complete.{AreFaultless, IsDone, FailsNowhere, AnswersAll, AnswersLinks, Completes}
-use Rattle.cm_program.specs.Headline.{shelf_of}
+use Rattle.cm_program.specs.Headline.{manifests_of}
 use Rattle.cm_program.specs.Promise.{Given, Came, Promise, RunsIt}
 use Rattle.cm_program.specs.Run.{IsCheckStatus, IsScriptRun, IsScriptStatus, IsServeStatus, RunsAsServed}
-use Rattle.cm_program.specs.Sessions.{IsSat, served_frame, served_shelf}
-use Rattle.cm_program.specs.Stock.{IsFault, Serves}
+use Rattle.cm_program.specs.Sessions.{IsSessionOf, served_frame, served_manifests}
+use Rattle.cm_program.specs.Stock.{IsScriptRefusal, LoadsScript}
 use Rattle.cm_program.specs.Written.{OfKnown, OfSome}
-use Rattle.cm_program.specs.declared.stock.Served.{Served}
+use Rattle.cm_program.specs.declared.stock.LoadedScript.{LoadedScript}
 use Rattle.cm_call.specs.declared.call.Wanted.{Wanted}
 use Rattle.cm_call.specs.declared.call.Wanted.TheVariants.{Summary}
 use Rattle.cm_program.proofs.lanes.OwnScript.{own_fit}
@@ -62,40 +63,40 @@ none_rose n m none same rose = no_more n m (2 ^ 64 - 1) (lit≤ tt) none (same �
 
 module _ {S K E D L G : Type 0}
     (as_source : source.Ghosts S) (as_out : sink.Ghosts K) (as_err : sink.Ghosts E)
-    (counts_of : D → DoorCounts) (place_of : D → Place) (view : L → LinkView)
-    (log_of : G → Option (List Asked)) (faults_of : G → ℕ)
+    (counts_of : D → DoorCounts) (place_of : D → DoorPlace) (view : L → LinkView)
+    (log_of : G → Option (List GateCall)) (faults_of : G → ℕ)
     (was : Given S K E D G) (now : Came S K E D L G) where
   abbrev Kept : Type 0
   Kept = Promise as_source as_out as_err counts_of place_of view log_of faults_of was now
 
-  abbrev Fails : Type 0
-  Fails = FailsNowhere as_source as_out as_err counts_of place_of view log_of faults_of was now
+  abbrev MayRunOut : Type 0
+  MayRunOut = FailsNowhere as_source as_out as_err counts_of place_of view log_of faults_of was now
 
-  abbrev RunOf : Wanted → Option (List ℕ) → Served → Type 0
+  abbrev RunOf : Wanted → Option (List ℕ) → LoadedScript → Type 0
   RunOf wanted folder served = RunsIt as_source as_out as_err counts_of place_of view log_of faults_of was now wanted folder served
 
-  abbrev AnswersOf : Wanted → Option (List ℕ) → Served → Type 0
+  abbrev AnswersOf : Wanted → Option (List ℕ) → LoadedScript → Type 0
   AnswersOf wanted folder served = AnswersAll as_source as_out as_err counts_of place_of view log_of faults_of was now wanted folder served
 
-  answers_all : length was.gates ≡ 16 → length now.ran.gates ≡ 16 → (wanted : Wanted) (folder : Option (List ℕ)) (served : Served) → All AreFit served.phases → now.ran.status ≡ 0 → RunOf wanted folder served → AnswersOf wanted folder served
+  answers_all : length was.gates ≡ 16 → length now.ran.gates ≡ 16 → (wanted : Wanted) (folder : Option (List ℕ)) (served : LoadedScript) → All AreFit served.phases → now.ran.status ≡ 0 → RunOf wanted folder served → AnswersOf wanted folder served
   answers_all sixteen back wanted folder served fit none r =
       let history = now.ran.book.entries in
       record {
         runs = r;
         written = r.all none;
-        no_want = r.no_want (inl none);
+        had_memory = r.had_memory (inl none);
         unfailing = λ sound.
             phases_well served.frame (subst (All AreFit) (sym r.makes.lines) fit) r.makes.performed
             (ends_well served.frame history r.makes.legal r.laws.laws.outcomes
-            (history_tells_none log_of faults_of (shelf_of folder served) history was.gates now.ran.gates sixteen back r.makes.callers r.work sound));
+            (history_tells_none log_of faults_of (manifests_of folder served) history was.gates now.ran.gates sixteen back r.makes.callers r.work sound));
       }
 
   not_refused : (p : Kept) (o : RunOptions) → words_of was.words ≡ Ok (call.Run o) → AreFaultless (as_source.left was.input) → now.ran.status ≡ 7 → ⊥
   not_refused p o asks well seven =
       let refused = (p.of_run o asks).refused seven in
-      well.none refused.fault (subst (OfSome (λ bytes. IsFault bytes refused.fault)) well.known refused.faulty)
+      well.none refused.fault (subst (OfSome (λ bytes. IsScriptRefusal bytes refused.fault)) well.known refused.faulty)
 
-  served_runs : (wanted : Wanted) (folder : Option (List ℕ)) (left : Option (List ℕ)) (bytes : List ℕ) (served : Served) → left ≡ Some bytes → OfKnown (RunsAsServed (RunOf wanted folder)) left → Serves bytes served → RunOf wanted folder served
+  served_runs : (wanted : Wanted) (folder : Option (List ℕ)) (left : Option (List ℕ)) (bytes : List ℕ) (served : LoadedScript) → left ≡ Some bytes → OfKnown (RunsAsServed (RunOf wanted folder)) left → LoadsScript bytes served → RunOf wanted folder served
   served_runs wanted folder left bytes served known runs serves = subst (OfKnown (RunsAsServed (RunOf wanted folder))) known runs served serves
 
   answers_links : length was.gates ≡ 16 → (p : Kept) (o : ServeOptions) → words_of was.words ≡ Ok (call.Serve o) → IsServing o → AnswersLinks as_source as_out as_err counts_of place_of view log_of faults_of was now o
@@ -108,8 +109,8 @@ module _ {S K E D L G : Type 0}
         serves = serves;
         unfailing = λ sound.
             let ends : All OfEnds history = ends_well f history s.legal s.laws.laws.outcomes
-            (history_tells_none log_of faults_of (served_shelf o) history was.gates now.ran.gates sixteen p.gates s.callers s.work sound) in
-            by_workers OfSat (λ b t. IsSat view now.ran.status b.link t) o.workers (map (back_view view) now.ran.links) s.sats s.each s.workers_are
+            (history_tells_none log_of faults_of (served_manifests o) history was.gates now.ran.gates sixteen p.gates s.callers s.work sound) in
+            by_workers OfSat (λ b t. IsSessionOf view now.ran.status b.link t) o.workers (map (back_view view) now.ran.links) s.sats s.each s.workers_are
             (λ k lt. each_well f k (s.entries k (let most : o.workers ≤ 16 = possible.workers in omega (arith, lt, most))) ends);
       }
 

@@ -17,11 +17,11 @@ use Rattle.cm_world.specs.Legal.{Legal}
 use Rattle.cm_world.specs.After.{after}
 use Rattle.cm_world.specs.Step.{Allowed}
 use Rattle.cm_world.specs.End.{outcome_by}
-use Rattle.cm_gate.specs.declared.asked.Asked.{Asked}
+use Rattle.cm_gate.specs.declared.asked.GateCall.{GateCall}
 use Rattle.cm_gate.specs.Logs.{RoseBy}
 use Rattle.cm_laws.specs.Lasting.{HasOneOutcome, KeepsOutcomes, awaited_by, ended_by}
 use Rattle.cm_manager.specs.Turns.{own_entries}
-use Rattle.cm_manager.specs.Work.{Shelf, WorksWith, failures, is_gate_failure, tells_failure}
+use Rattle.cm_manager.specs.Work.{Manifests, WorksWith, failures, is_gate_failure, tells_failure}
 use Rattle.cm_journal.proofs.Made.{of_all_by}
 use Rattle.cm_program.specs.Headline.{WorksEach}
 use Rattle.cm_program.specs.Unfailing.{AreSound, is_failed}
@@ -50,20 +50,20 @@ none_failed (suc n) before now often sound = absurd (sound (one_of n before now 
 abbrev pub TellsNone : Entry → Type 0
 TellsNone e = IsFalse (tells_failure e)
 
-part_tells_none : (shelf : Shelf) (part : List Entry) (log₀ log₁ : Option (List Asked)) (n m : ℕ) → WorksWith shelf part log₀ log₁ n m → (Rose n m → ⊥) → All TellsNone part
-part_tells_none shelf part log₀ log₁ n m works sound = none_passes tells_failure part (none_failed (failures part) n m works.faults sound)
+part_tells_none : (manifests : Manifests) (part : List Entry) (log₀ log₁ : Option (List GateCall)) (n m : ℕ) → WorksWith manifests part log₀ log₁ n m → (Rose n m → ⊥) → All TellsNone part
+part_tells_none manifests part log₀ log₁ n m works sound = none_passes tells_failure part (none_failed (failures part) n m works.faults sound)
 
 -- ---- all lanes
 
-module _ {G : Type 0} (log_of : G → Option (List Asked)) (faults_of : G → ℕ) where
-  pub history_tells_none : (shelf : Shelf) (history : List Entry) (gates₀ gates₁ : List G) → length gates₀ ≡ 16 → length gates₁ ≡ 16 → All (λ (e : Entry). e.caller < 16) history → WorksEach log_of faults_of shelf history gates₀ gates₁ → AreSound faults_of gates₀ gates₁ → All TellsNone history
-  history_tells_none shelf history gates₀ gates₁ sixteen₀ sixteen₁ few works sound = of_all_by TellsNone history few each
+module _ {G : Type 0} (log_of : G → Option (List GateCall)) (faults_of : G → ℕ) where
+  pub history_tells_none : (manifests : Manifests) (history : List Entry) (gates₀ gates₁ : List G) → length gates₀ ≡ 16 → length gates₁ ≡ 16 → All (λ (e : Entry). e.caller < 16) history → WorksEach log_of faults_of manifests history gates₀ gates₁ → AreSound faults_of gates₀ gates₁ → All TellsNone history
+  history_tells_none manifests history gates₀ gates₁ sixteen₀ sixteen₁ few works sound = of_all_by TellsNone history few each
     where
       each : (c : ℕ) → c < 16 → All TellsNone (own_entries c history)
       each c small =
           let g = some_of gates₀ c (subst (λ (n : ℕ). c < n) (sym sixteen₀) small) in
           let h = some_of gates₁ c (subst (λ (n : ℕ). c < n) (sym sixteen₁) small) in
-          part_tells_none shelf (own_entries c history) (log_of g.0) (log_of h.0) (faults_of g.0) (faults_of h.0)
+          part_tells_none manifests (own_entries c history) (log_of g.0) (log_of h.0) (faults_of g.0) (faults_of h.0)
           (works c g.0 h.0 g.1 h.1) (sound c g.0 h.0 g.1 h.1)
 
 -- ---- the replies to ends and awaits
@@ -110,8 +110,8 @@ all_ends_told w (e ∷ es) legal none =
     (λ a is. ends_told w e.caller e.event e.reply legal.0.allowed a is (All-head TellsNone e es none))
     (all_ends_told (after w e) es legal.1 (All-tail TellsNone e es none))
 
-one_told : (front : List Entry) (e : Entry) → KeepsOutcomes front e → All EndTold front → EndTold e → OfEnds e
-one_told front e keeps before own = by e.event refl
+one_told : (prefix : List Entry) (e : Entry) → KeepsOutcomes prefix e → All EndTold prefix → EndTold e → OfEnds e
+one_told prefix e keeps before own = by e.event refl
   where
     by : (v : Event) → e.event ≡ v → EndsWell v e.reply
     by (event.End a f) is = own a (ap ended_by is)
@@ -122,13 +122,13 @@ one_told front e keeps before own = by e.event refl
         subst IsWell (sym awaited.replied) (subst IsWell x.replied (told a x.ends))
     by _ is = tt
 
-awaits_told : (whole front es : List Entry) → whole ≡ front ++ es → HasOneOutcome whole → All EndTold front → All EndTold es → All OfEnds es
-awaits_told whole front [] is one before behind = All-nil OfEnds
-awaits_told whole front (e ∷ es) is one before behind =
+awaits_told : (whole prefix es : List Entry) → whole ≡ prefix ++ es → HasOneOutcome whole → All EndTold prefix → All EndTold es → All OfEnds es
+awaits_told whole prefix [] is one before behind = All-nil OfEnds
+awaits_told whole prefix (e ∷ es) is one before behind =
     let own = All-head EndTold e es behind in
-    All-cons OfEnds e es (one_told front e (one front es e is) before own)
-    (awaits_told whole (front ++ e ∷ []) es (is ∙ sym (append_assoc front (e ∷ []) es)) one
-    (All-append EndTold front (e ∷ []) before (All-cons EndTold e [] own (All-nil EndTold))) (All-tail EndTold e es behind))
+    All-cons OfEnds e es (one_told prefix e (one prefix es e is) before own)
+    (awaits_told whole (prefix ++ e ∷ []) es (is ∙ sym (append_assoc prefix (e ∷ []) es)) one
+    (All-append EndTold prefix (e ∷ []) before (All-cons EndTold e [] own (All-nil EndTold))) (All-tail EndTold e es behind))
 
 -- whoever asks for the outcome of an action is told none that failed
 pub ends_well : (f : Frame) (history : List Entry) → Legal (start f) history → HasOneOutcome history → All TellsNone history → All OfEnds history

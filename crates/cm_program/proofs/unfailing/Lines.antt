@@ -10,66 +10,67 @@ use Rattle.cm_world.specs.declared.frame.Frame.{Frame}
 use Rattle.cm_world.specs.declared.reply.Entry.{Entry}
 use Rattle.cm_command.specs.declared.command.Command.{Command}
 use Rattle.cm_command.specs.declared.script.Line.{Line}
-use Rattle.cm_manager.specs.Calls.{Goes}
+use Rattle.cm_manager.specs.Calls.{RunsOrLoses}
 use Rattle.cm_manager.specs.Done.{Done}
 use Rattle.cm_manager.specs.Done as done
 use Rattle.cm_manager.proofs.calling.Joining.{starts-trans}
 use Rattle.cm_manager.proofs.calling.Keeping.{starts_same}
 use Rattle.cm_session.specs.declared.served.Back.{Back}
 use Rattle.cm_session.specs.Links.{LinkView}
-use Rattle.cm_session.specs.Told.{done_of}
-use Rattle.cm_lanes.specs.Script.{Answered, IsFit, answered_lines, answers_of, Follows, rests, performs, ArePhases, none_left, one_first}
+use Rattle.cm_session.specs.LineOutcome.{done_of}
+use Rattle.cm_lanes.specs.Script.{AnsweredLine, answered_lines, answers_of, PerformsLines, rests, performs, ArePhases, none_left, one_first}
+use Rattle.cm_lanes.specs.ScriptInside.{IsFit}
 use Rattle.cm_journal.proofs.Growing.{calls_grow}
-use Rattle.cm_program.specs.Sessions.{FollowsEach, Sat, sats_by}
+use Rattle.cm_program.specs.Sessions.{FollowsEach, SessionRecord, sats_by}
 use Rattle.cm_program.specs.Unfailing.{IsUnfailing, AreUnfailing}
 use Rattle.cm_program.proofs.unfailing.Ends.{OfEnds}
 use Rattle.cm_program.proofs.unfailing.Results.{calls, within}
 
-abbrev OfAnswer : Answered → Type 0
+abbrev OfAnswer : AnsweredLine → Type 0
 OfAnswer a = IsUnfailing a.result
 
 abbrev OfDone : Done → Type 0
 OfDone d = IsUnfailing d.result
 
-abbrev pub OfSat : Sat → Type 0
+abbrev pub OfSat : SessionRecord → Type 0
 OfSat s = All OfDone (done_of s.told)
 
 module _ (f : Frame) (c : ℕ) where
   -- ---- one lane
 
-  follows_grow : {xs : List Answered} {a b : List Entry} → Follows f c xs a b → StartsWith b a
+  follows_grow : {xs : List AnsweredLine} {a b : List Entry} → PerformsLines f c xs a b → StartsWith b a
   follows_grow (rests l) = l.grows
   follows_grow (performs {a = x} call rest) = starts-trans _ _ _ (calls_grow f c x.line.command _ _ _ call) (follows_grow rest)
 
-  follows : {xs : List Answered} {a b : List Entry} → Follows f c xs a b → All OfEnds b → All OfAnswer xs
+  follows : {xs : List AnsweredLine} {a b : List Entry} → PerformsLines f c xs a b → All OfEnds b → All OfAnswer xs
   follows (rests l) h = All-nil OfAnswer
   follows (performs {a = x} {others = xs} {h₁ = m} {h₂ = b} call rest) h =
       All-cons OfAnswer x xs (calls f c x.line.command _ m x.result call (within m b (follows_grow rest) h)) (follows rest h)
 
   -- ---- one worker
 
-  goes_grow : (cmd : Command) (a b : List Entry) (r : Result Answer Refusal) → Goes f c cmd a b r → StartsWith b a
+  goes_grow : (cmd : Command) (a b : List Entry) (r : Result Answer Refusal) → RunsOrLoses f c cmd a b r → StartsWith b a
   goes_grow cmd a b r (inl call) = calls_grow f c cmd a b r call
   goes_grow cmd a b r (inr lost) = calls_grow f c cmd a b lost.1.0 lost.1.1
 
-  goes : (cmd : Command) (a b : List Entry) (r : Result Answer Refusal) → Goes f c cmd a b r → All OfEnds b → IsUnfailing r
+  goes : (cmd : Command) (a b : List Entry) (r : Result Answer Refusal) → RunsOrLoses f c cmd a b r → All OfEnds b → IsUnfailing r
   goes cmd a b r (inl call) h = calls f c cmd a b r call h
   goes cmd a b r (inr lost) h = subst IsUnfailing (sym lost.0) tt
 
-  done_grow : {ds : List Done} {a b : List Entry} → done.Follows f c ds a b → StartsWith b a
-  done_grow (done.Follows.rests l) = l.grows
-  done_grow (done.Follows.performs {d = d} call rest) = starts-trans _ _ _ (goes_grow d.command _ _ d.result call) (done_grow rest)
+  done_grow : {ds : List Done} {a b : List Entry} → done.PerformsCommands f c ds a b → StartsWith b a
+  done_grow (done.PerformsCommands.rests l) = l.grows
+  done_grow (done.PerformsCommands.performs {d = d} call rest) = starts-trans _ _ _ (goes_grow d.command _ _ d.result call) (done_grow rest)
 
-  done_well : {ds : List Done} {a b : List Entry} → done.Follows f c ds a b → All OfEnds b → All OfDone ds
-  done_well (done.Follows.rests l) h = All-nil OfDone
-  done_well (done.Follows.performs {d = d} {others = ds} {h₁ = m} {h₂ = b} call rest) h =
+  done_well : {ds : List Done} {a b : List Entry} → done.PerformsCommands f c ds a b → All OfEnds b → All OfDone ds
+  done_well (done.PerformsCommands.rests l) h = All-nil OfDone
+  done_well (done.PerformsCommands.performs {d = d} {others = ds} {h₁ = m} {h₂ = b} call rest) h =
       All-cons OfDone d ds (goes d.command _ m d.result call (within m b (done_grow rest) h)) (done_well rest h)
 
-  each_grow : {sats : List Sat} {a b : List Entry} → FollowsEach f c sats a b → StartsWith b a
+  each_grow : {sats : List SessionRecord} {a b : List Entry} → FollowsEach f c sats a b → StartsWith b a
   each_grow (FollowsEach.none_left l) = l.grows
   each_grow (FollowsEach.one_first one rest) = starts-trans _ _ _ (done_grow one) (each_grow rest)
 
-  pub each_well : {sats : List Sat} {a b : List Entry} → FollowsEach f c sats a b → All OfEnds b → All OfSat sats
+  pub each_well : {sats : List SessionRecord} {a b : List Entry} → FollowsEach f c sats a b → All OfEnds b → All OfSat sats
   each_well (FollowsEach.none_left l) h = All-nil OfSat
   each_well (FollowsEach.one_first {s = s} {others = ss} {h₁ = m} {h₂ = b} one rest) h =
       All-cons OfSat s ss (done_well one (within m b (each_grow rest) h)) (each_well rest h)
@@ -79,22 +80,22 @@ module _ (f : Frame) (c : ℕ) where
 here : (n c : ℕ) → n ≡ c → (n == c) ≡ true
 here n c same = grind (arith, same)
 
-module _ (P : Answered → Type 0) where
-  kept_of : (a : Answered) (xs : List Answered) → answers_of a.line.lane (a ∷ xs) ≡ a ∷ answers_of a.line.lane xs
+module _ (P : AnsweredLine → Type 0) where
+  kept_of : (a : AnsweredLine) (xs : List AnsweredLine) → answers_of a.line.lane (a ∷ xs) ≡ a ∷ answers_of a.line.lane xs
   kept_of a xs = ap (λ (b : Bool). cond b (a ∷ answers_of a.line.lane xs) (answers_of a.line.lane xs)) (here a.line.lane a.line.lane refl)
 
-  other_of : (b : Bool) (c : ℕ) (a : Answered) (xs : List Answered) → (a.line.lane == c) ≡ b → All P (answers_of c (a ∷ xs)) → All P (answers_of c xs)
+  other_of : (b : Bool) (c : ℕ) (a : AnsweredLine) (xs : List AnsweredLine) → (a.line.lane == c) ≡ b → All P (answers_of c (a ∷ xs)) → All P (answers_of c xs)
   other_of true c a xs is h = All-tail P a (answers_of c xs) (subst (All P) (ap (λ (b : Bool). cond b (a ∷ answers_of c xs) (answers_of c xs)) is) h)
   other_of false c a xs is h = subst (All P) (ap (λ (b : Bool). cond b (a ∷ answers_of c xs) (answers_of c xs)) is) h
 
-  by_lanes : (xs : List Answered) → All IsFit (answered_lines xs) → ((c : ℕ) → c < 16 → All P (answers_of c xs)) → All P xs
+  by_lanes : (xs : List AnsweredLine) → All IsFit (answered_lines xs) → ((c : ℕ) → c < 16 → All P (answers_of c xs)) → All P xs
   by_lanes [] few each = All-nil P
   by_lanes (a ∷ xs) few each =
       let fit = All-head IsFit a.line (answered_lines xs) few in
       All-cons P a xs (All-head P a (answers_of a.line.lane xs) (subst (All P) (kept_of a xs) (each a.line.lane fit.lane)))
       (by_lanes xs (All-tail IsFit a.line (answered_lines xs) few) (λ c lt. other_of (a.line.lane == c) c a xs refl (each c lt)))
 
-phases_grow : (f : Frame) {answered : List (List Answered)} {a b : List Entry} → ArePhases (λ c. f) answered a b → StartsWith b a
+phases_grow : (f : Frame) {answered : List (List AnsweredLine)} {a b : List Entry} → ArePhases (λ c. f) answered a b → StartsWith b a
 phases_grow f none_left = starts_same _
 phases_grow f (one_first phase rest) = starts-trans _ _ _ phase.grows (phases_grow f rest)
 
@@ -102,7 +103,7 @@ abbrev pub AreFit : List Line → Type 0
 AreFit lines = All IsFit lines
 
 -- what the lanes answer to lines that fit
-pub phases_well : (f : Frame) {answered : List (List Answered)} {a b : List Entry} → All AreFit (map answered_lines answered) → ArePhases (λ c. f) answered a b → All OfEnds b → AreUnfailing answered
+pub phases_well : (f : Frame) {answered : List (List AnsweredLine)} {a b : List Entry} → All AreFit (map answered_lines answered) → ArePhases (λ c. f) answered a b → All OfEnds b → AreUnfailing answered
 phases_well f fit none_left h = All-nil (All OfAnswer)
 phases_well f fit (one_first {answered = xs} {others = others} {h₁ = m} {h₂ = b} phase rest) h =
     All-cons (All OfAnswer) xs others
@@ -115,12 +116,12 @@ phases_well f fit (one_first {answered = xs} {others = others} {h₁ = m} {h₂ 
 same_number : (a : ℕ) → nat_eq a a ≡ true
 same_number a = grind (arith, nat_tests)
 
-module _ (P : Sat → Type 0) (R : Back LinkView → Sat → Type 0) where
-  skip : (b : Bool) (s : Sat) (ss : List Sat) → All P (cond b (s ∷ ss) ss) → All P ss
+module _ (P : SessionRecord → Type 0) (R : Back LinkView → SessionRecord → Type 0) where
+  skip : (b : Bool) (s : SessionRecord) (ss : List SessionRecord) → All P (cond b (s ∷ ss) ss) → All P ss
   skip true s ss h = All-tail P s ss h
   skip false s ss h = h
 
-  pub by_workers : (n : ℕ) (links : List (Back LinkView)) (sats : List Sat) → AllZip R links sats → All (λ (b : Back LinkView). b.worker < n) links → ((k : ℕ) → k < n → All P (sats_by k links sats)) → All P sats
+  pub by_workers : (n : ℕ) (links : List (Back LinkView)) (sats : List SessionRecord) → AllZip R links sats → All (λ (b : Back LinkView). b.worker < n) links → ((k : ℕ) → k < n → All P (sats_by k links sats)) → All P sats
   by_workers n [] [] zip few each = All-nil P
   by_workers n [] (s ∷ ss) zip few each = absurd zip
   by_workers n (b ∷ bs) [] zip few each = absurd zip

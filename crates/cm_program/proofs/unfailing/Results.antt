@@ -24,17 +24,17 @@ use Rattle.cm_world.specs.declared.report.SurveyRow.{SurveyRow}
 use Rattle.cm_world.specs.declared.route.Route.{Route}
 use Rattle.cm_command.specs.declared.command.Command.{Command}
 use Rattle.cm_command.specs.declared.command.Command.TheVariants as command
-use Rattle.cm_answers.specs.declared.acted.Acted.{Acted}
-use Rattle.cm_answers.specs.declared.acted.Acted.TheVariants as acted
+use Rattle.cm_answers.specs.declared.acted.ActionResult.{ActionResult}
+use Rattle.cm_answers.specs.declared.acted.ActionResult.TheVariants as acted
 use Rattle.cm_answers.specs.Answers.{failure, ends_call, ends_eager, refusal_of, decision, decided_by, answer_unless, unless_ended, found_by, acted_answer, is_killed, unmarked}
-use Rattle.cm_answers.specs.Lines.{route_by, line_of, unresolved_line, in_front, surveyed_by, doctored_by}
-use Rattle.cm_manager.specs.Turns.{Makes, IsCut}
-use Rattle.cm_manager.specs.Runs.{Acts, ended, started, started_cut, stopped, stopped_cut, joined, quiet, resolved_first, not_resolved, cut, Eagers, all_done, next_one, cut_at, Tries, decided, needs, failed, cut_try, Onces, is_quiet}
+use Rattle.cm_answers.specs.Lines.{route_by, line_of, unresolved_line, in_prefix, surveyed_by, doctored_by}
+use Rattle.cm_manager.specs.Turns.{AddsOneEntry, EndsWithoutEntry}
+use Rattle.cm_manager.specs.Runs.{RunsAction, ended, started, started_cut, stopped, stopped_cut, joined, quiet, resolved_first, not_resolved, cut, StartsEager, all_done, next_one, cut_at, RetriesEvent, decided, needs, failed, cut_try, StartsSingleRun, is_quiet}
 use Rattle.cm_manager.specs.Sweeps.{Stops, Removes, Clears, Sweeps}
 use Rattle.cm_manager.specs.Shutdowns.{Shuts, Destroys}
-use Rattle.cm_manager.specs.Doctor.{Checks, Each, OfPath, OfRow, Doctors}
+use Rattle.cm_manager.specs.Doctor.{Checks, GathersEach, OfPath, OfRow, Doctors}
 use Rattle.cm_manager.specs.Streams.{Streams, streamed_by}
-use Rattle.cm_manager.specs.Calls.{Way, Finding, Behind, OnRow, Tried, Nothing, Then, TriedThen, OnceCreated, SweptLeft, ActedOn, Calls}
+use Rattle.cm_manager.specs.Calls.{CallWay, Finding, GoesOnWithRow, OnRow, CallsEvent, Nothing, Then, CallsEventThen, OnceCreated, SweptLeft, CallsAction, Calls}
 use Rattle.cm_manager.proofs.left.Closing.{sweeps_close}
 use Rattle.cm_manager.proofs.shutdowns.ShuttingDown.{shuts_close, destroys_close}
 use Rattle.cm_journal.proofs.Growing.{Growing, Following, behind_grows, then_grows, acted_grows, tried_grows, tried_then_grows, created_grows, left_grows, doctors_grow, streams_grow, each_grows, row_grows, tries_grow}
@@ -44,12 +44,12 @@ use Rattle.cm_program.proofs.unfailing.Ends.{OfEnds}
 abbrev AllEnds : List Entry → Type 0
 AllEnds es = All OfEnds es
 
-front_of : (a more : List Entry) → AllEnds (a ++ more) → AllEnds a
-front_of [] more h = All-nil OfEnds
-front_of (e ∷ es) more h = All-cons OfEnds e es (All-head OfEnds e (es ++ more) h) (front_of es more (All-tail OfEnds e (es ++ more) h))
+prefix_of : (a more : List Entry) → AllEnds (a ++ more) → AllEnds a
+prefix_of [] more h = All-nil OfEnds
+prefix_of (e ∷ es) more h = All-cons OfEnds e es (All-head OfEnds e (es ++ more) h) (prefix_of es more (All-tail OfEnds e (es ++ more) h))
 
 pub within : (a b : List Entry) → StartsWith b a → AllEnds b → AllEnds a
-within a b s h = front_of a s.0 (subst AllEnds s.1 h)
+within a b s h = prefix_of a s.0 (subst AllEnds s.1 h)
 
 last_of : (found : List Entry) (x : Entry) → AllEnds (found ++ x ∷ []) → OfEnds x
 last_of [] x h = All-head OfEnds x [] h
@@ -89,17 +89,17 @@ failure_is kind.Stop a outcome.GateFailed h = absurd (cc h)
 failure_is kind.Stop a outcome.Full h = refl
 
 -- what an action came to
-abbrev OfActed : Result Acted Refusal → Type 0
+abbrev OfActed : Result ActionResult Refusal → Type 0
 OfActed (Ok (acted.Ended k a o)) = IsFalse (is_failed o)
 OfActed (Ok (acted.Quiet r)) = IsTrue (is_quiet r)
 OfActed (Err x) = IsUnfailingRefusal x
 
-ends_is : (went : Result Acted Refusal) → OfActed went → OfSome (ends_call went)
+ends_is : (went : Result ActionResult Refusal) → OfActed went → OfSome (ends_call went)
 ends_is (Ok (acted.Ended k a o)) h = failure_is k a o h
 ends_is (Ok (acted.Quiet r)) h = tt
 ends_is (Err x) h = h
 
-eager_is : (went : Result Acted Refusal) → OfActed went → OfSome (ends_eager went)
+eager_is : (went : Result ActionResult Refusal) → OfActed went → OfSome (ends_eager went)
 eager_is (Ok (acted.Ended k a outcome.NoMemory)) h = tt
 eager_is (Ok (acted.Ended k a outcome.Resolved)) h = tt
 eager_is (Ok (acted.Ended k a outcome.Started)) h = tt
@@ -115,13 +115,13 @@ eager_is (Ok (acted.Quiet r)) h = tt
 eager_is (Err x) h = h
 
 module _ (f : Frame) (c : ℕ) where
-  end_is : (a b : List Entry) (n : ℕ) (v : Rattle.cm_world.specs.declared.action.Finish.Finish) (o : Outcome) → Makes c a (event.End n v) (reply.Ended o) b → AllEnds b → IsFalse (is_failed o)
+  end_is : (a b : List Entry) (n : ℕ) (v : Rattle.cm_world.specs.declared.action.Finish.Finish) (o : Outcome) → AddsOneEntry c a (event.End n v) (reply.Ended o) b → AllEnds b → IsFalse (is_failed o)
   end_is a b n v o m h = last_of m.found (record { caller = c; event = event.End n v; reply = reply.Ended o }) (subst AllEnds m.entries h)
 
-  await_is : (a b : List Entry) (n : ℕ) (o : Outcome) → Makes c a (event.Await n) (reply.Ended o) b → AllEnds b → IsFalse (is_failed o)
+  await_is : (a b : List Entry) (n : ℕ) (o : Outcome) → AddsOneEntry c a (event.Await n) (reply.Ended o) b → AllEnds b → IsFalse (is_failed o)
   await_is a b n o m h = last_of m.found (record { caller = c; event = event.Await n; reply = reply.Ended o }) (subst AllEnds m.entries h)
 
-  cut_is : (a b : List Entry) (e : Event) (x : Refusal) → IsCut f c a e b x → IsUnfailingRefusal x
+  cut_is : (a b : List Entry) (e : Event) (x : Refusal) → EndsWithoutEntry f c a e b x → IsUnfailingRefusal x
   cut_is a b e refusal.Memory is = tt
   cut_is a b e refusal.HistoryFull is = tt
   cut_is a b e _ is = absurd is
@@ -147,7 +147,7 @@ module _ (f : Frame) (c : ℕ) where
   sweeps i (Sweeps.cut_reap {x = x} is) = cut_is _ _ (event.Reap i) x is
 
   mutual
-    acts : {k : ActKind} {i : ℕ} {a b : List Entry} {went : Result Acted Refusal} → Acts f c k i a b went → AllEnds b → OfActed went
+    acts : {k : ActKind} {i : ℕ} {a b : List Entry} {went : Result ActionResult Refusal} → RunsAction f c k i a b went → AllEnds b → OfActed went
     acts (ended asks end other) h = end_is _ _ _ _ _ end h
     acts (started asks end rest) h = refl
     acts (started_cut asks end rest) h = eagers rest h
@@ -159,7 +159,7 @@ module _ (f : Frame) (c : ℕ) where
     acts (not_resolved asks one fails) h = acts one h
     acts (cut {k = k} {i = i} {x = x} is) h = cut_is _ _ (event.Begin k i) x is
 
-    eagers : {es : List ℕ} {a b : List Entry} {end : Option Refusal} → Eagers f c es a b end → AllEnds b → OfSome end
+    eagers : {es : List ℕ} {a b : List Entry} {end : Option Refusal} → StartsEager f c es a b end → AllEnds b → OfSome end
     eagers all_done h = tt
     eagers (next_one act fine rest) h = eagers rest h
     eagers (cut_at {went = went} act is) h = some (ends_eager went) _ is (eager_is went (acts act h))
@@ -169,7 +169,7 @@ module _ (f : Frame) (c : ℕ) where
   OfTried (Ok r) = Unit {0}
   OfTried (Err x) = IsUnfailingRefusal x
 
-  tries : (e : Event) {a b : List Entry} {end : Result Reply Refusal} → Tries f c e a b end → AllEnds b → OfTried end
+  tries : (e : Event) {a b : List Entry} {end : Result Reply Refusal} → RetriesEvent f c e a b end → AllEnds b → OfTried end
   tries e (decided asks is) h = tt
   tries e (needs asks is act fine again) h = tries e again h
   tries e (failed {went = went} asks is act fails) h = some (ends_call went) _ fails (ends_is went (acts act h))
@@ -190,9 +190,9 @@ module _ (f : Frame) (c : ℕ) where
   destroys i (Destroys.cut_purge {x = x} s is) = cut_is _ _ (event.Purge i) x is
   destroys i (Destroys.unshut s) = shuts true i s
 
-  onces : (i : ℕ) {a b : List Entry} {end : Option Refusal} → Onces f c i a b end → AllEnds b → OfSome end
-  onces i (Onces.not_once l is) h = tt
-  onces i (Onces.once {went = went} l is act) h = eager_is went (acts act h)
+  onces : (i : ℕ) {a b : List Entry} {end : Option Refusal} → StartsSingleRun f c i a b end → AllEnds b → OfSome end
+  onces i (StartsSingleRun.not_once l is) h = tt
+  onces i (StartsSingleRun.once {went = went} l is act) h = eager_is went (acts act h)
 
 -- ---- answers
 
@@ -205,7 +205,7 @@ decision_is (reply.Listed kids) = tt
 decision_is _ = tt
 
 -- what an action comes to
-acted_is : (made : Option ℕ → Outcome → Answer) → ((a : Option ℕ) (o : Outcome) → IsFalse (is_failed o) → IsUnfailingAnswer (made a o)) → (went : Result Acted Refusal) → OfActed went → IsUnfailing (acted_answer made went)
+acted_is : (made : Option ℕ → Outcome → Answer) → ((a : Option ℕ) (o : Outcome) → IsFalse (is_failed o) → IsUnfailingAnswer (made a o)) → (went : Result ActionResult Refusal) → OfActed went → IsUnfailing (acted_answer made went)
 acted_is made each (Ok (acted.Ended k a o)) h = by (failure k a o) (failure_is k a o h)
   where
     by : (x : Option Refusal) → OfSome x → IsUnfailing (elim x as (λ _. Result Answer Refusal) [ None ↦ Ok (made (Some a) o) | Some x ↦ Err x ])
@@ -238,9 +238,9 @@ abbrev OfChecks : Result (List Checked) Refusal → Type 0
 OfChecks (Ok lines) = All OfLine lines
 OfChecks (Err x) = IsUnfailingRefusal x
 
-in_front_is : (lines : List Checked) (end : Result (List Checked) Refusal) → All OfLine lines → OfChecks end → OfChecks (in_front lines end)
-in_front_is lines (Ok others) h k = All-append OfLine lines others h k
-in_front_is lines (Err x) h k = k
+in_prefix_is : (lines : List Checked) (end : Result (List Checked) Refusal) → All OfLine lines → OfChecks end → OfChecks (in_prefix lines end)
+in_prefix_is lines (Ok others) h k = All-append OfLine lines others h k
+in_prefix_is lines (Err x) h k = k
 
 doctored_is : (end : Result (List Checked) Refusal) → OfChecks end → IsUnfailing (doctored_by end)
 doctored_is (Ok lines) h = h
@@ -258,12 +258,12 @@ line_is m p (Err x) h = one_line m p (Err x) h
 each_is : {A : Type 0} (Item : A → Checks)
     → ((x : A) (a b : List Entry) (end : Result (List Checked) Refusal) → Item x a b end → StartsWith b a)
     → ((x : A) (a b : List Entry) (end : Result (List Checked) Refusal) → Item x a b end → AllEnds b → OfChecks end)
-    → {xs : List A} {a b : List Entry} {end : Result (List Checked) Refusal} → Each Item xs a b end → AllEnds b → OfChecks end
-each_is Item grows is Each.no_item h = All-nil OfLine
-each_is Item grows is (Each.next_item {x = x} {xs = xs} {h₁ = m} {h₂ = b} {lines = lines} {end = end} item rest) h =
-    in_front_is lines end (is x _ m (Ok lines) item (within m b (each_grows Item grows rest) h)) (each_is Item grows is rest h)
-each_is Item grows is (Each.cut_item {x = x} {xs = xs} item) h = is x _ _ _ item h
-each_is Item grows is (Each.lost_item item) h = tt
+    → {xs : List A} {a b : List Entry} {end : Result (List Checked) Refusal} → GathersEach Item xs a b end → AllEnds b → OfChecks end
+each_is Item grows is GathersEach.no_item h = All-nil OfLine
+each_is Item grows is (GathersEach.next_item {x = x} {xs = xs} {h₁ = m} {h₂ = b} {lines = lines} {end = end} item rest) h =
+    in_prefix_is lines end (is x _ m (Ok lines) item (within m b (each_grows Item grows rest) h)) (each_is Item grows is rest h)
+each_is Item grows is (GathersEach.cut_item {x = x} {xs = xs} item) h = is x _ _ _ item h
+each_is Item grows is (GathersEach.lost_item item) h = tt
 
 -- ---- calls
 
@@ -298,26 +298,26 @@ module _ (f : Frame) (c : ℕ) where
   survey_is (Ok r) h = tt
   survey_is (Err x) h = h
 
-  abbrev Saying : (ℕ → Way (Result Answer Refusal)) → Type 0
+  abbrev Saying : (ℕ → CallWay (Result Answer Refusal)) → Type 0
   Saying call = (i : ℕ) (a b : List Entry) (r : Result Answer Refusal) → call i a b r → AllEnds b → IsUnfailing r
 
   finding : (t : Target) (a b : List Entry) (row : Result ℕ Refusal) → Finding f c t a b row → AllEnds b → OfFound row
   finding (target.Inc n) a b row is h = subst OfFound (sym is.1) tt
   finding (target.Named m) a b row is h = subst OfFound (sym is.2) (found_is is.0 (tries f c _ is.1 h))
 
-  behind : (row : Result ℕ Refusal) (call : ℕ → Way (Result Answer Refusal)) (a b : List Entry) (r : Result Answer Refusal) → Saying call → Behind row call a b r → OfFound row → AllEnds b → IsUnfailing r
+  behind : (row : Result ℕ Refusal) (call : ℕ → CallWay (Result Answer Refusal)) (a b : List Entry) (r : Result Answer Refusal) → Saying call → GoesOnWithRow row call a b r → OfFound row → AllEnds b → IsUnfailing r
   behind (Ok i) call a b r says is k h = says i a b r is h
   behind (Err x) call a b r says is k h = subst IsUnfailing (sym is.1) k
 
-  on_row : (t : Target) (call : ℕ → Way (Result Answer Refusal)) (a b : List Entry) (r : Result Answer Refusal) → Growing call → Saying call → OnRow f c t call a b r → AllEnds b → IsUnfailing r
+  on_row : (t : Target) (call : ℕ → CallWay (Result Answer Refusal)) (a b : List Entry) (r : Result Answer Refusal) → Growing call → Saying call → OnRow f c t call a b r → AllEnds b → IsUnfailing r
   on_row t call a b r grows says is h =
       behind is.row call is.h₁ b r says is.behind
       (finding t a is.h₁ is.row is.finding (within is.h₁ b (behind_grows is.row call is.h₁ b r grows is.behind) h)) h
 
-  tried : (e : ℕ → Event) → Saying (Tried f c e)
+  tried : (e : ℕ → Event) → Saying (CallsEvent f c e)
   tried e i a b r is h = subst IsUnfailing (sym is.2) (decided_is is.0 (tries f c (e i) is.1 h))
 
-  abbrev Ending : (ℕ → Reply → Way (Option Refusal)) → Type 0
+  abbrev Ending : (ℕ → Reply → CallWay (Option Refusal)) → Type 0
   Ending follow = (i : ℕ) (r : Reply) (a b : List Entry) (end : Option Refusal) → follow i r a b end → AllEnds b → OfSome end
 
   nothing : (a b : List Entry) (end : Option Refusal) → Nothing a b end → OfSome end
@@ -331,17 +331,17 @@ module _ (f : Frame) (c : ℕ) where
   left i (reply.Left m) a b end is h = sweeps f c i is
   left i _ a b end is h = nothing a b end is
 
-  after : (follow : ℕ → Reply → Way (Option Refusal)) (i : ℕ) (went : Result Reply Refusal) (a b : List Entry) (end : Option Refusal) → Ending follow → Then (follow i) went a b end → AllEnds b → OfSome end
+  after : (follow : ℕ → Reply → CallWay (Option Refusal)) (i : ℕ) (went : Result Reply Refusal) (a b : List Entry) (end : Option Refusal) → Ending follow → Then (follow i) went a b end → AllEnds b → OfSome end
   after follow i (Ok r) a b end ends is h = ends i r a b end is h
   after follow i (Err x) a b end ends is h = nothing a b end is
 
-  tried_then : (e : ℕ → Event) (follow : ℕ → Reply → Way (Option Refusal)) → Following follow → Ending follow → Saying (TriedThen f c e follow)
+  tried_then : (e : ℕ → Event) (follow : ℕ → Reply → CallWay (Option Refusal)) → Following follow → Ending follow → Saying (CallsEventThen f c e follow)
   tried_then e follow grows ends i a b r is h =
       subst IsUnfailing (sym is.answer)
       (ended_is is.end (decided_by is.went) (after follow i is.went is.h₁ b is.end ends is.follows h)
       (decided_is is.went (tries f c (e i) is.tries (within is.h₁ b (then_grows follow i is.went is.h₁ b is.end grows is.follows) h))))
 
-  acting : (k : ActKind) (value : Result Acted Refusal → Result Answer Refusal) → ((went : Result Acted Refusal) → OfActed went → IsUnfailing (value went)) → Saying (ActedOn f c k value)
+  acting : (k : ActKind) (value : Result ActionResult Refusal → Result Answer Refusal) → ((went : Result ActionResult Refusal) → OfActed went → IsUnfailing (value went)) → Saying (CallsAction f c k value)
   acting k value says i a b r is h = subst IsUnfailing (sym is.2) (says is.0 (acts f c is.1 h))
 
   of_row : (row : SurveyRow) (a b : List Entry) (end : Result (List Checked) Refusal) → OfRow f c row a b end → AllEnds b → OfChecks end

@@ -5,7 +5,7 @@ use Rattle.std.specs.Io.KnownBytes.{Consumes, IsAtEnd}
 use Rattle.cm_audit.specs.declared.verdict.Audit.{Audit}
 use Rattle.cm_audit.specs.declared.verdict.Audit.TheVariants as audit
 use Rattle.cm_audit.specs.Verdict.{IsVerdict, journal_limit}
-use Rattle.cm_audit.proofs.Fronts.{fronts_tell}
+use Rattle.cm_audit.proofs.Prefixes.{prefixes_tell}
 use Rattle.cm_program.specs.Audits.{IsJournalVerdict, status_of, verdict_line}
 use Rattle.cm_program.specs.Written.{OfSome}
 
@@ -14,26 +14,26 @@ pub verdict_by : (bytes line : List ℕ) (status : ℕ) (found : Audit) → IsVe
 verdict_by bytes line status found is same told = record { verdict = found; is = is; status_is = same; line_is = told }
 
 -- is that on the whole, too, of which more was read than a journal has
-pub verdict_whole : (front rest line : List ℕ) (status : ℕ) → journal_limit < length front → IsJournalVerdict front status line → IsJournalVerdict (front ++ rest) status line
-verdict_whole front rest line status far h =
-    record { verdict = h.verdict; is = fronts_tell front rest h.verdict far h.is; status_is = h.status_is; line_is = h.line_is }
+pub verdict_whole : (prefix rest line : List ℕ) (status : ℕ) → journal_limit < length prefix → IsJournalVerdict prefix status line → IsJournalVerdict (prefix ++ rest) status line
+verdict_whole prefix rest line status far h =
+    record { verdict = h.verdict; is = prefixes_tell prefix rest h.verdict far h.is; status_is = h.status_is; line_is = h.line_is }
 
-audited_whole : (front rest line : List ℕ) (status : ℕ) → (length front ≤ journal_limit → rest ≡ []) → IsJournalVerdict front status line → IsJournalVerdict (front ++ rest) status line
-audited_whole front rest line status all h = by (either (length front) journal_limit)
+audited_whole : (prefix rest line : List ℕ) (status : ℕ) → (length prefix ≤ journal_limit → rest ≡ []) → IsJournalVerdict prefix status line → IsJournalVerdict (prefix ++ rest) status line
+audited_whole prefix rest line status all h = by (either (length prefix) journal_limit)
   where
     either : (a b : ℕ) → (a ≤ b) ⊎ (b < a)
     either a b = search arith
 
-    by : (length front ≤ journal_limit) ⊎ (journal_limit < length front) → IsJournalVerdict (front ++ rest) status line
-    by (inl short) = subst (λ bytes. IsJournalVerdict bytes status line) (sym (ap (λ r. front ++ r) (all short) ∙ append-nil front)) h
-    by (inr far) = verdict_whole front rest line status far h
+    by : (length prefix ≤ journal_limit) ⊎ (journal_limit < length prefix) → IsJournalVerdict (prefix ++ rest) status line
+    by (inl short) = subst (λ bytes. IsJournalVerdict bytes status line) (sym (ap (λ r. prefix ++ r) (all short) ∙ append-nil prefix)) h
+    by (inr far) = verdict_whole prefix rest line status far h
 
 -- so it is known of all that the source had left
-pub audited_some : (old new : Option (List ℕ)) (front line : List ℕ) (status : ℕ) → Consumes old new front → (length front ≤ journal_limit → IsAtEnd new) → IsJournalVerdict front status line → OfSome (λ bytes. IsJournalVerdict bytes status line) old
-audited_some None new front line status gone all h = (front, h)
-audited_some (Some whole) None front line status gone all h = absurd gone
-audited_some (Some whole) (Some rest) front line status gone all h =
-    subst (λ bytes. IsJournalVerdict bytes status line) (sym gone) (audited_whole front rest line status all h)
+pub audited_some : (old new : Option (List ℕ)) (prefix line : List ℕ) (status : ℕ) → Consumes old new prefix → (length prefix ≤ journal_limit → IsAtEnd new) → IsJournalVerdict prefix status line → OfSome (λ bytes. IsJournalVerdict bytes status line) old
+audited_some None new prefix line status gone all h = (prefix, h)
+audited_some (Some whole) None prefix line status gone all h = absurd gone
+audited_some (Some whole) (Some rest) prefix line status gone all h =
+    subst (λ bytes. IsJournalVerdict bytes status line) (sym gone) (audited_whole prefix rest line status all h)
 
 -- ---- a journal that is legal was read whole
 

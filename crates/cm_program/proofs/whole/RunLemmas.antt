@@ -11,51 +11,53 @@ use Rattle.cm_laws.specs.Story.{Story}
 use Rattle.cm_cache.specs.Keeping.{IsKeptNumber}
 use Rattle.cm_command.specs.declared.script.Line.{Line}
 use Rattle.cm_command.specs.declared.script.Script.{Script}
-use Rattle.cm_gate.specs.declared.asked.Asked.{Asked}
+use Rattle.cm_gate.specs.declared.asked.GateCall.{GateCall}
 use Rattle.cm_reply.specs.Journal.{header_text, journal_text}
 use Rattle.cm_audit.specs.Verdict.{IsLegalJournal, journal_limit}
 use Rattle.cm_typed.specs.Typed.{IsTypedEntry}
-use Rattle.cm_journal.specs.Front.{said_text}
-use Rattle.cm_journal.specs.Legible.{IsRun}
+use Rattle.cm_journal.specs.Prefix.{said_text}
+use Rattle.cm_journal.specs.Legible.{IsWritableRun}
 use Rattle.cm_journal.proofs.Brought.{works_bring_all}
 use Rattle.cm_journal.proofs.Runs.{runs_write}
 use Rattle.cm_manager.specs.Turns.{own_entries}
 use Rattle.cm_manager.specs.Asking.{no_frame}
 use Rattle.cm_manager.specs.Closed.{HasEnds}
 use Rattle.cm_manager.specs.Contract.{RealmPass}
-use Rattle.cm_manager.specs.Managers.{Closes}
-use Rattle.cm_manager.specs.Work.{Shelf}
+use Rattle.cm_manager.specs.Managers.{BearsPassesOut}
+use Rattle.cm_manager.specs.Work.{Manifests}
 use Rattle.cm_lanes.specs.declared.said.Said.{Said}
 use Rattle.cm_lanes.specs.declared.said.Lanes.{Lanes}
-use Rattle.cm_lanes.specs.Script.{Answered, IsFit, said_of, answered_lines}
+use Rattle.cm_lanes.specs.Script.{AnsweredLine, answered_lines}
+use Rattle.cm_lanes.specs.ScriptInside.{IsFit, said_of}
 use Rattle.cm_manager.specs.Kept.{AreSixteen}
 use Rattle.cm_lanes.specs.Lanes.{RanOrNot}
-use Rattle.cm_program.specs.Headline.{EndsWell, IsHistory, RunsScript, shelf_of}
-use Rattle.cm_program.specs.Performing.{Performs}
+use Rattle.cm_program.specs.Headline.{EndsWell, IsHistory, RunsScript, manifests_of}
+use Rattle.cm_program.specs.Performing.{RunsPhases}
 use Rattle.cm_program.specs.Audited.{IsLegibleServed, MayTell}
-use Rattle.cm_program.specs.Printed.{IsPrinted, journal_of, line_text, phases_text, printed_text, summary_text, texts_of, wanted_text}
+use Rattle.cm_program.specs.Printed.{journal_of, line_text, phases_text, summary_text, wanted_text}
+use Rattle.cm_program.specs.PrintedInside.{IsPrinted, printed_text, texts_of}
 use Rattle.cm_program.specs.Reported.{IsReport}
 use Rattle.cm_program.proofs.whole.Reporting.{report_ends}
 use Rattle.cm_call.specs.Calls.{words_of}
 use Rattle.cm_program.specs.Run.{AsksScript, IsFaulty, IsScriptRun, RunsAsServed, RunsOwn, RunsSome}
-use Rattle.cm_program.specs.Stock.{IsFault, Serves, served_script}
-use Rattle.cm_program.specs.Written.{AppendsFront, OfKnown, OfSome}
+use Rattle.cm_program.specs.Stock.{IsScriptRefusal, LoadsScript, served_script}
+use Rattle.cm_program.specs.Written.{AppendsPrefix, OfKnown, OfSome}
 use Rattle.cm_call.specs.declared.call.Call.TheVariants as call
 use Rattle.cm_call.specs.declared.call.RunOptions.{RunOptions}
 use Rattle.cm_call.specs.declared.call.Workload.{Workload}
-use Rattle.cm_program.specs.declared.fault.Fault.{Fault}
-use Rattle.cm_program.specs.declared.performing.Performed.{Performed}
-use Rattle.cm_program.specs.declared.stock.Served.{Served}
+use Rattle.cm_program.specs.declared.fault.ScriptRefusal.{ScriptRefusal}
+use Rattle.cm_program.specs.declared.performing.LanesResult.{LanesResult}
+use Rattle.cm_program.specs.declared.stock.LoadedScript.{LoadedScript}
 use Rattle.cm_call.specs.declared.call.Wanted.{Wanted}
 use Rattle.cm_call.specs.declared.call.Wanted.TheVariants.{Answers, Summary, Environments, Storage}
 use Rattle.cm_program.proofs.whole.Nothing.{ends_well, nothing_ends, nothing_kept, nothing_legal, works_nothing}
 use Rattle.cm_program.proofs.lanes.Histories.{some_of, makes_by, works_by, frame_by, frame_same, nothing_happened, legal_nothing}
-use Rattle.cm_program.proofs.lanes.Printing.{texts_all, results_all, no_want_all, nothing_written, front_of_nothing}
+use Rattle.cm_program.proofs.lanes.Printing.{texts_all, results_all, no_want_all, nothing_written, prefix_of_nothing}
 use Rattle.cm_program.proofs.texts.ScriptLaws.{served_are_not_refused_lem, bytes_ask_for_one_lem}
 use Rattle.cm_program.proofs.lanes.Wanting.{all_wanting, makes_nothing}
 
 -- bytes that are served aren't faulty, so that all may be said of those that are
-pub not_faulty : (P : Type 0) (left : Option (List ℕ)) (served : Served) → OfKnown (λ bytes. Serves bytes served) left → OfKnown (λ bytes. IsFaulty bytes → P) left
+pub not_faulty : (P : Type 0) (left : Option (List ℕ)) (served : LoadedScript) → OfKnown (λ bytes. LoadsScript bytes served) left → OfKnown (λ bytes. IsFaulty bytes → P) left
 not_faulty P None served h = tt
 not_faulty P (Some bytes) served h = λ faulty. absurd (served_are_not_refused_lem bytes served h faulty)
 
@@ -70,7 +72,7 @@ of_faulty P None is = tt
 of_faulty P (Some bytes) is = λ faulty. is
 
 -- what holds of the script that was served holds of whichever the bytes are, since they are served in one way
-pub as_served : (P : Served → Type 0) (left : Option (List ℕ)) (served : Served) → OfKnown (λ bytes. Serves bytes served) left → P served → OfKnown (RunsAsServed P) left
+pub as_served : (P : LoadedScript → Type 0) (left : Option (List ℕ)) (served : LoadedScript) → OfKnown (λ bytes. LoadsScript bytes served) left → P served → OfKnown (RunsAsServed P) left
 as_served P None served known is = tt
 as_served P (Some bytes) served known is = λ other serves. subst P (bytes_ask_for_one_lem bytes served other known serves) is
 
@@ -92,93 +94,93 @@ kept_by f history n realm framed same kept =
     subst (λ (g : Frame). IsKeptNumber g history n) framed (subst (λ (l : List Entry). IsKeptNumber realm.frame l n) (sym same) kept)
 
 -- the texts of the answers, by two names
-said_same : (answered : List (List Answered)) → phases_text answered ≡ said_text answered
+said_same : (answered : List (List AnsweredLine)) → phases_text answered ≡ said_text answered
 unfolding line_text
 said_same answered = refl
 
-module _ {G : Type 0} (log_of : G → Option (List Asked)) (faults_of : G → ℕ) where
+module _ {G : Type 0} (log_of : G → Option (List GateCall)) (faults_of : G → ℕ) where
   -- the history of a script's run
-  pub history_of : (wanted : Wanted) (folder : Option (List ℕ)) (served : Served) (gates₀ gates₁ : List G) (history : List Entry) (status : ℕ) (old new : Option (List ℕ)) → RunsScript log_of faults_of wanted folder served gates₀ gates₁ history status old new → IsHistory history
+  pub history_of : (wanted : Wanted) (folder : Option (List ℕ)) (served : LoadedScript) (gates₀ gates₁ : List G) (history : List Entry) (status : ℕ) (old new : Option (List ℕ)) → RunsScript log_of faults_of wanted folder served gates₀ gates₁ history status old new → IsHistory history
   history_of wanted folder served gates₀ gates₁ history status old new runs = record { frame = served.frame; legal = runs.makes.legal; laws = runs.laws }
 
   -- a realm that was made and closed without a manager
-  pub performs_nothing : (shelf : Shelf) (realm : Story) (phases : List (List Line)) (gates : List G) (made : Story) (done : Performed G) → realm.entries ≡ [] → made ≡ realm
-      → done.book.entries ≡ made.entries → IsKeptNumber made.frame made.entries done.kept → done.gates ≡ gates → done.said ≡ None → Performs log_of faults_of shelf realm.frame phases gates done
-  performs_nothing shelf realm phases gates made done empty is same kept gated unsaid =
+  pub performs_nothing : (manifests : Manifests) (realm : Story) (phases : List (List Line)) (gates : List G) (made : Story) (done : LanesResult G) → realm.entries ≡ [] → made ≡ realm
+      → done.book.entries ≡ made.entries → IsKeptNumber made.frame made.entries done.kept → done.gates ≡ gates → done.said ≡ None → RunsPhases log_of faults_of manifests realm.frame phases gates done
+  performs_nothing manifests realm phases gates made done empty is same kept gated unsaid =
       let none : done.book.entries ≡ [] = same ∙ ap (λ (s : Story). s.entries) is ∙ empty in
       record {
         answered = all_wanting phases;
         makes = makes_nothing realm.frame phases done.book.entries none (subst (Legal (start realm.frame)) (sym none) (nothing_legal realm.frame));
         ends = nothing_ends done.book.entries none;
         kept = kept_by realm.frame done.book.entries done.kept made (ap (λ (s : Story). s.frame) is) same kept;
-        work = works_nothing log_of faults_of shelf done.book.entries gates done.gates none gated;
+        work = works_nothing log_of faults_of manifests done.book.entries gates done.gates none gated;
         said = subst (λ (o : Option (List Said)). IfSome o (λ said. said ≡ flat_map (λ phase. map said_of phase) (all_wanting phases))) (sym unsaid) tt;
       }
 
   -- lanes that ran, or did nothing
-  performs_ran : (shelf : Shelf) (turn : LockView) (f : Frame) (phases : List (List Line)) (passes : List RealmPass) (gates : List G) (back : Lanes G) (realm : Story) (n : ℕ) → passes ≡ new_passes turn.lock f 16 → length gates ≡ 16 → AreSixteen turn back.passes → Closes realm.entries back.passes → HasEnds realm.entries
-      → All (λ (p : RealmPass). p.frame ≡ Some realm.frame) back.passes → IsKeptNumber realm.frame realm.entries n → RanOrNot log_of faults_of shelf phases passes gates back
-      → (book : History) (report : Option (List ℕ)) → book.entries ≡ realm.entries → Performs log_of faults_of shelf f phases gates (record { book = book; kept = n; report = report; gates = back.gates; said = back.said })
-  performs_ran shelf turn f phases passes gates back realm n new count are closed ended framed kept (inl ran) book report same = record {
+  performs_ran : (manifests : Manifests) (turn : LockView) (f : Frame) (phases : List (List Line)) (passes : List RealmPass) (gates : List G) (back : Lanes G) (realm : Story) (n : ℕ) → passes ≡ new_passes turn.lock f 16 → length gates ≡ 16 → AreSixteen turn back.passes → BearsPassesOut realm.entries back.passes → HasEnds realm.entries
+      → All (λ (p : RealmPass). p.frame ≡ Some realm.frame) back.passes → IsKeptNumber realm.frame realm.entries n → RanOrNot log_of faults_of manifests phases passes gates back
+      → (book : History) (report : Option (List ℕ)) → book.entries ≡ realm.entries → RunsPhases log_of faults_of manifests f phases gates (record { book = book; kept = n; report = report; gates = back.gates; said = back.said })
+  performs_ran manifests turn f phases passes gates back realm n new count are closed ended framed kept (inl ran) book report same = record {
     answered = ran.answered;
-    makes = makes_by log_of faults_of shelf turn f phases passes gates back book.entries new count are closes ran;
+    makes = makes_by log_of faults_of manifests turn f phases passes gates back book.entries new count are closes ran;
     ends = ends;
-    kept = kept_by f book.entries n realm (frame_by log_of faults_of shelf turn f phases passes gates back book.entries new count are closes ran realm.frame framed) same kept;
-    work = works_by log_of faults_of shelf turn f phases passes gates back book.entries new count are closes ran;
+    kept = kept_by f book.entries n realm (frame_by log_of faults_of manifests turn f phases passes gates back book.entries new count are closes ran realm.frame framed) same kept;
+    work = works_by log_of faults_of manifests turn f phases passes gates back book.entries new count are closes ran;
     said = ran.said;
   }
     where
-      closes : Closes book.entries back.passes
-      closes = subst (λ (l : List Entry). Closes l back.passes) (sym same) closed
+      closes : BearsPassesOut book.entries back.passes
+      closes = subst (λ (l : List Entry). BearsPassesOut l back.passes) (sym same) closed
 
       ends : HasEnds book.entries
       ends = subst HasEnds (sym same) ended
-  performs_ran shelf turn f phases passes gates back realm n new count are closed ended framed kept (inr un) book report same =
-      let closes = subst (λ (l : List Entry). Closes l back.passes) (sym same) closed in
-      let none = nothing_happened log_of faults_of shelf turn f phases passes gates back book.entries new count are closes un.same_passes in
+  performs_ran manifests turn f phases passes gates back realm n new count are closed ended framed kept (inr un) book report same =
+      let closes = subst (λ (l : List Entry). BearsPassesOut l back.passes) (sym same) closed in
+      let none = nothing_happened log_of faults_of manifests turn f phases passes gates back book.entries new count are closes un.same_passes in
       record {
         answered = all_wanting phases;
-        makes = makes_nothing f phases book.entries none (legal_nothing log_of faults_of shelf turn f phases passes gates back book.entries new count are closes un.same_passes);
+        makes = makes_nothing f phases book.entries none (legal_nothing log_of faults_of manifests turn f phases passes gates back book.entries new count are closes un.same_passes);
         ends = subst HasEnds (sym same) ended;
-        kept = kept_by f book.entries n realm (frame_same log_of faults_of shelf turn f phases passes gates back book.entries new count are closes un.same_passes realm.frame framed) same kept;
-        work = works_nothing log_of faults_of shelf book.entries gates back.gates none un.same_gates;
+        kept = kept_by f book.entries n realm (frame_same log_of faults_of manifests turn f phases passes gates back book.entries new count are closes un.same_passes realm.frame framed) same kept;
+        work = works_nothing log_of faults_of manifests book.entries gates back.gates none un.same_gates;
         said = subst (λ (o : Option (List Said)). IfSome o (λ said. said ≡ flat_map (λ phase. map said_of phase) (all_wanting phases))) (sym un.nothing) tt;
       }
 
   -- the same of what is handed back, by the realm that was closed
-  pub performs_by : (shelf : Shelf) (turn : LockView) (f : Frame) (phases : List (List Line)) (passes : List RealmPass) (gates : List G) (back : Lanes G) (realm : Story) (done : Performed G) → passes ≡ new_passes turn.lock f 16 → length gates ≡ 16 → AreSixteen turn back.passes → Closes realm.entries back.passes → HasEnds realm.entries
-      → All (λ (p : RealmPass). p.frame ≡ Some realm.frame) back.passes → IsKeptNumber realm.frame realm.entries done.kept → RanOrNot log_of faults_of shelf phases passes gates back
-      → done.book.entries ≡ realm.entries → done.gates ≡ back.gates → done.said ≡ back.said → Performs log_of faults_of shelf f phases gates done
-  performs_by shelf turn f phases passes gates back realm done new count are closed ended framed kept ran same gated told =
-      subst (λ (o : Option (List Said)). Performs log_of faults_of shelf f phases gates (record { book = done.book; kept = done.kept; report = done.report; gates = done.gates; said = o })) (sym told)
-      (subst (λ (gs : List G). Performs log_of faults_of shelf f phases gates (record { book = done.book; kept = done.kept; report = done.report; gates = gs; said = back.said })) (sym gated)
-      (performs_ran shelf turn f phases passes gates back realm done.kept new count are closed ended framed kept ran done.book done.report same))
+  pub performs_by : (manifests : Manifests) (turn : LockView) (f : Frame) (phases : List (List Line)) (passes : List RealmPass) (gates : List G) (back : Lanes G) (realm : Story) (done : LanesResult G) → passes ≡ new_passes turn.lock f 16 → length gates ≡ 16 → AreSixteen turn back.passes → BearsPassesOut realm.entries back.passes → HasEnds realm.entries
+      → All (λ (p : RealmPass). p.frame ≡ Some realm.frame) back.passes → IsKeptNumber realm.frame realm.entries done.kept → RanOrNot log_of faults_of manifests phases passes gates back
+      → done.book.entries ≡ realm.entries → done.gates ≡ back.gates → done.said ≡ back.said → RunsPhases log_of faults_of manifests f phases gates done
+  performs_by manifests turn f phases passes gates back realm done new count are closed ended framed kept ran same gated told =
+      subst (λ (o : Option (List Said)). RunsPhases log_of faults_of manifests f phases gates (record { book = done.book; kept = done.kept; report = done.report; gates = done.gates; said = o })) (sym told)
+      (subst (λ (gs : List G). RunsPhases log_of faults_of manifests f phases gates (record { book = done.book; kept = done.kept; report = done.report; gates = gs; said = back.said })) (sym gated)
+      (performs_ran manifests turn f phases passes gates back realm done.kept new count are closed ended framed kept ran done.book done.report same))
 
   -- the frame of the realm that the lanes left
-  frame_left : (shelf : Shelf) (turn : LockView) (f : Frame) (phases : List (List Line)) (passes : List RealmPass) (gates : List G) (back : Lanes G) (realm : Story) → passes ≡ new_passes turn.lock f 16 → length gates ≡ 16 → AreSixteen turn back.passes → Closes realm.entries back.passes
-      → All (λ (p : RealmPass). p.frame ≡ Some realm.frame) back.passes → RanOrNot log_of faults_of shelf phases passes gates back → realm.frame ≡ f
-  frame_left shelf turn f phases passes gates back realm new count are closed framed (inl ran) =
-      frame_by log_of faults_of shelf turn f phases passes gates back realm.entries new count are closed ran realm.frame framed
-  frame_left shelf turn f phases passes gates back realm new count are closed framed (inr un) =
-      frame_same log_of faults_of shelf turn f phases passes gates back realm.entries new count are closed un.same_passes realm.frame framed
+  frame_left : (manifests : Manifests) (turn : LockView) (f : Frame) (phases : List (List Line)) (passes : List RealmPass) (gates : List G) (back : Lanes G) (realm : Story) → passes ≡ new_passes turn.lock f 16 → length gates ≡ 16 → AreSixteen turn back.passes → BearsPassesOut realm.entries back.passes
+      → All (λ (p : RealmPass). p.frame ≡ Some realm.frame) back.passes → RanOrNot log_of faults_of manifests phases passes gates back → realm.frame ≡ f
+  frame_left manifests turn f phases passes gates back realm new count are closed framed (inl ran) =
+      frame_by log_of faults_of manifests turn f phases passes gates back realm.entries new count are closed ran realm.frame framed
+  frame_left manifests turn f phases passes gates back realm new count are closed framed (inr un) =
+      frame_same log_of faults_of manifests turn f phases passes gates back realm.entries new count are closed un.same_passes realm.frame framed
 
   -- so a report on its tree is one on that of the history that is handed back
-  pub reported_by : (wanted : Wanted) (shelf : Shelf) (turn : LockView) (f : Frame) (phases : List (List Line)) (passes : List RealmPass) (gates : List G) (back : Lanes G) (realm : Story) (done : Performed G) → passes ≡ new_passes turn.lock f 16 → length gates ≡ 16 → AreSixteen turn back.passes → Closes realm.entries back.passes
-      → All (λ (p : RealmPass). p.frame ≡ Some realm.frame) back.passes → RanOrNot log_of faults_of shelf phases passes gates back → done.book.entries ≡ realm.entries
+  pub reported_by : (wanted : Wanted) (manifests : Manifests) (turn : LockView) (f : Frame) (phases : List (List Line)) (passes : List RealmPass) (gates : List G) (back : Lanes G) (realm : Story) (done : LanesResult G) → passes ≡ new_passes turn.lock f 16 → length gates ≡ 16 → AreSixteen turn back.passes → BearsPassesOut realm.entries back.passes
+      → All (λ (p : RealmPass). p.frame ≡ Some realm.frame) back.passes → RanOrNot log_of faults_of manifests phases passes gates back → done.book.entries ≡ realm.entries
       → IfSome done.report (IsReport wanted realm.frame realm.entries) → IfSome done.report (IsReport wanted f done.book.entries)
-  reported_by wanted shelf turn f phases passes gates back realm done new count are closed framed ran same made =
+  reported_by wanted manifests turn f phases passes gates back realm done new count are closed framed ran same made =
       subst (λ (l : List Entry). IfSome done.report (IsReport wanted f l)) (sym same)
-      (subst (λ (own : Frame). IfSome done.report (IsReport wanted own realm.entries)) (frame_left shelf turn f phases passes gates back realm new count are closed framed ran) made)
+      (subst (λ (own : Frame). IfSome done.report (IsReport wanted own realm.entries)) (frame_left manifests turn f phases passes gates back realm new count are closed framed ran) made)
 
   -- that of a realm without a manager
-  pub reported_nothing : (wanted : Wanted) (realm made : Story) (done : Performed G) → made ≡ realm → done.book.entries ≡ made.entries
+  pub reported_nothing : (wanted : Wanted) (realm made : Story) (done : LanesResult G) → made ≡ realm → done.book.entries ≡ made.entries
       → IfSome done.report (IsReport wanted made.frame made.entries) → IfSome done.report (IsReport wanted realm.frame done.book.entries)
   reported_nothing wanted realm made done is same reported =
       subst (λ (s : Story). IfSome done.report (IsReport wanted s.frame done.book.entries)) is
       (subst (λ (l : List Entry). IfSome done.report (IsReport wanted made.frame l)) (sym same) reported)
 
   -- what is printed of the answers is what is wanted of them
-  text_is : (wanted : Wanted) (served : Served) (answered : List (List Answered)) (said : List Said) (history : List Entry) (kept : ℕ) (report : List ℕ) → map answered_lines answered ≡ served.phases → said ≡ flat_map (λ phase. map said_of phase) answered
+  text_is : (wanted : Wanted) (served : LoadedScript) (answered : List (List AnsweredLine)) (said : List Said) (history : List Entry) (kept : ℕ) (report : List ℕ) → map answered_lines answered ≡ served.phases → said ≡ flat_map (λ phase. map said_of phase) answered
       → printed_text served.phases said wanted (header_text served.frame) history kept report ≡ wanted_text wanted served.frame answered history kept report
   text_is (Answers journal) served answered said history kept report lines is =
       ap (λ (t : List ℕ). t ++ journal_of journal served.frame history)
@@ -191,12 +193,12 @@ module _ {G : Type 0} (log_of : G → Option (List Asked)) (faults_of : G → �
   text_is Storage served answered said history kept report lines is = refl
 
   -- what is written with the journal
-  journal_is : (folder : Option (List ℕ)) (served : Served) (gates : List G) (done : Performed G) (p : Performs log_of faults_of (shelf_of folder served) served.frame served.phases gates done)
+  journal_is : (folder : Option (List ℕ)) (served : LoadedScript) (gates : List G) (done : LanesResult G) (p : RunsPhases log_of faults_of (manifests_of folder served) served.frame served.phases gates done)
       → All (λ (lines : List Line). All IsFit lines) served.phases → All IsTypedEntry done.book.entries → length gates ≡ 16 → length done.gates ≡ 16 → IsLegibleServed served
       → (text : List ℕ) → text ≡ phases_text p.answered ++ journal_text served.frame done.book.entries → length text ≤ journal_limit → IsLegalJournal text (length done.book.entries)
   journal_is folder served gates done p fit typed count count₁ tells text is short =
       let same : text ≡ said_text p.answered ++ journal_text served.frame done.book.entries = is ∙ ap (λ t. t ++ journal_text served.frame done.book.entries) (said_same p.answered) in
-      let run : IsRun served.frame served.phases p.answered done.book.entries = record {
+      let run : IsWritableRun served.frame served.phases p.answered done.book.entries = record {
         lines = p.makes.lines;
         writable = tells.phases;
         fit = fit;
@@ -207,16 +209,16 @@ module _ {G : Type 0} (log_of : G → Option (List Asked)) (faults_of : G → �
         works = λ c small.
             (let old = some_of gates c (subst (λ (n : ℕ). c < n) (sym count) small) in
             let new = some_of done.gates c (subst (λ (n : ℕ). c < n) (sym count₁) small) in
-            works_bring_all (shelf_of folder served) (own_entries c done.book.entries) _ _ _ _ (p.work c old.0 new.0 old.1 new.1));
+            works_bring_all (manifests_of folder served) (own_entries c done.book.entries) _ _ _ _ (p.work c old.0 new.0 old.1 new.1));
       } in
       subst (λ (t : List ℕ). IsLegalJournal t (length done.book.entries)) (sym same)
       (runs_write served.frame served.phases p.answered done.book.entries run tells.frame (subst (λ (t : List ℕ). length t ≤ journal_limit) same short))
 
   -- what is said of a script's run
-  pub runs_by : (wanted : Wanted) (folder : Option (List ℕ)) (served : Served) (gates : List G) (done : Performed G) (status : ℕ) (old new : Option (List ℕ)) → Performs log_of faults_of (shelf_of folder served) served.frame served.phases gates done
+  pub runs_by : (wanted : Wanted) (folder : Option (List ℕ)) (served : LoadedScript) (gates : List G) (done : LanesResult G) (status : ℕ) (old new : Option (List ℕ)) → RunsPhases log_of faults_of (manifests_of folder served) served.frame served.phases gates done
       → IfSome done.report (IsReport wanted served.frame done.book.entries)
       → ((said : List Said) (report : List ℕ) → done.said ≡ Some said → done.report ≡ Some report → IsPrinted (printed_text served.phases said wanted (header_text served.frame) done.book.entries done.kept report) said status old new)
-      → ((done.said ≡ None) ⊎ (done.report ≡ None) → (status ≡ 6) × AppendsFront old new [])
+      → ((done.said ≡ None) ⊎ (done.report ≡ None) → (status ≡ 6) × AppendsPrefix old new [])
       → All (λ (lines : List Line). All IsFit lines) served.phases → All IsTypedEntry done.book.entries → length gates ≡ 16 → length done.gates ≡ 16 → MayTell wanted served
       → RunsScript log_of faults_of wanted folder served gates done.gates done.book.entries status old new
   runs_by wanted folder served gates done status old new p made told untold fit typed count count₁ tells = by done.said done.report refl refl p.said made
@@ -224,11 +226,11 @@ module _ {G : Type 0} (log_of : G → Option (List Asked)) (faults_of : G → �
       laws : EndsWell served.frame done.book.entries
       laws = ends_well served.frame done.book.entries p.makes.legal p.ends
 
-      unsaid : (status ≡ 6) × AppendsFront old new [] → RunsScript log_of faults_of wanted folder served gates done.gates done.book.entries status old new
+      unsaid : (status ≡ 6) × AppendsPrefix old new [] → RunsScript log_of faults_of wanted folder served gates done.gates done.book.entries status old new
       unsaid none =
           let some = report_ends wanted served.frame done.book.entries laws in
           let text = wanted_text wanted served.frame p.answered done.book.entries done.kept some.0 in
-          record { answered = p.answered; makes = p.makes; laws = laws; work = p.work; kept = done.kept; counts = p.kept; report = some.0; reported = some.1; text = text; prints = refl; all = λ ended. absurd (cc (ended, none.0)); no_want = λ ended. absurd (not_six status none.0 ended); front = front_of_nothing old new text none.1; legal = λ ended wants short. absurd (cc (ended, none.0)) }
+          record { answered = p.answered; makes = p.makes; laws = laws; work = p.work; kept = done.kept; counts = p.kept; report = some.0; reported = some.1; text = text; prints = refl; all = λ ended. absurd (cc (ended, none.0)); had_memory = λ ended. absurd (not_six status none.0 ended); prefix = prefix_of_nothing old new text none.1; legal = λ ended wants short. absurd (cc (ended, none.0)) }
 
       by : (o : Option (List Said)) (r : Option (List ℕ)) → done.said ≡ o → done.report ≡ r → IfSome o (λ said. said ≡ flat_map (λ phase. map said_of phase) p.answered) → IfSome r (IsReport wanted served.frame done.book.entries)
           → RunsScript log_of faults_of wanted folder served gates done.gates done.book.entries status old new
@@ -250,22 +252,22 @@ module _ {G : Type 0} (log_of : G → Option (List Asked)) (faults_of : G → �
             text = printed_text served.phases said wanted (header_text served.frame) done.book.entries done.kept report;
             prints = the_text;
             all = printed.all;
-            no_want = λ ended. no_want_all p.answered (subst (All (λ s. s.result ≢ Err refusal.Memory)) same (printed.no_want ended));
-            front = printed.front;
+            had_memory = λ ended. no_want_all p.answered (subst (All (λ s. s.result ≢ Err refusal.Memory)) same (printed.had_memory ended));
+            prefix = printed.prefix;
             legal = λ ended wants short. journal_is folder served gates done p fit typed count count₁ (tells wants) _
                 (the_text ∙ ap (λ (w : Wanted). wanted_text w served.frame p.answered done.book.entries done.kept report) wants) short;
           }
 
   -- the same of what a run hands back, whose parts were moved and borrowed
-  pub runs_back : (wanted : Wanted) (folder : Option (List ℕ)) (served : Served) (gates gates₁ : List G) (done : Performed G) (book : History) (status : ℕ) (old new : Option (List ℕ)) (frame : Frame) (phases others : List (List Line)) (head : List ℕ)
-      → Performs log_of faults_of (shelf_of folder served) frame phases gates done → IfSome done.report (IsReport wanted frame done.book.entries) → frame ≡ served.frame → phases ≡ served.phases
+  pub runs_back : (wanted : Wanted) (folder : Option (List ℕ)) (served : LoadedScript) (gates gates₁ : List G) (done : LanesResult G) (book : History) (status : ℕ) (old new : Option (List ℕ)) (frame : Frame) (phases others : List (List Line)) (head : List ℕ)
+      → RunsPhases log_of faults_of (manifests_of folder served) frame phases gates done → IfSome done.report (IsReport wanted frame done.book.entries) → frame ≡ served.frame → phases ≡ served.phases
       → ((said : List Said) (report : List ℕ) → done.said ≡ Some said → done.report ≡ Some report → IsPrinted (printed_text others said wanted head done.book.entries done.kept report) said status old new) → others ≡ served.phases → head ≡ header_text served.frame
-      → ((done.said ≡ None) ⊎ (done.report ≡ None) → (status ≡ 6) × AppendsFront old new [])
+      → ((done.said ≡ None) ⊎ (done.report ≡ None) → (status ≡ 6) × AppendsPrefix old new [])
       → book ≡ done.book → gates₁ ≡ done.gates
       → All (λ (lines : List Line). All IsFit lines) served.phases → All IsTypedEntry done.book.entries → length gates ≡ 16 → length done.gates ≡ 16 → MayTell wanted served
       → RunsScript log_of faults_of wanted folder served gates gates₁ book.entries status old new
   runs_back wanted folder served gates gates₁ done book status old new frame phases others head performs made framed lined told lined_too headed untold is same fit typed count count₁ tells =
-      let p = subst (λ (f : Frame). Performs log_of faults_of (shelf_of folder served) f served.phases gates done) framed (subst (λ (l : List (List Line)). Performs log_of faults_of (shelf_of folder served) frame l gates done) lined performs) in
+      let p = subst (λ (f : Frame). RunsPhases log_of faults_of (manifests_of folder served) f served.phases gates done) framed (subst (λ (l : List (List Line)). RunsPhases log_of faults_of (manifests_of folder served) frame l gates done) lined performs) in
       let reported = subst (λ (f : Frame). IfSome done.report (IsReport wanted f done.book.entries)) framed made in
       let printed : (said : List Said) (report : List ℕ) → done.said ≡ Some said → done.report ≡ Some report → IsPrinted (printed_text served.phases said wanted (header_text served.frame) done.book.entries done.kept report) said status old new = λ said report some too.
       subst (λ (h : List ℕ). IsPrinted (printed_text served.phases said wanted h done.book.entries done.kept report) said status old new) headed
@@ -275,7 +277,7 @@ module _ {G : Type 0} (log_of : G → Option (List Asked)) (faults_of : G → �
       (runs_by wanted folder served gates done status old new p reported printed untold fit typed count count₁ tells))
 
   -- a script of which no line was run
-  pub runs_nothing : (wanted : Wanted) (folder : Option (List ℕ)) (served : Served) (gates₀ gates₁ : List G) (history : List Entry) (status : ℕ) (out : Option (List ℕ)) → history ≡ [] → gates₁ ≡ gates₀ → status ≡ 6 → RunsScript log_of faults_of wanted folder served gates₀ gates₁ history status out out
+  pub runs_nothing : (wanted : Wanted) (folder : Option (List ℕ)) (served : LoadedScript) (gates₀ gates₁ : List G) (history : List Entry) (status : ℕ) (out : Option (List ℕ)) → history ≡ [] → gates₁ ≡ gates₀ → status ≡ 6 → RunsScript log_of faults_of wanted folder served gates₀ gates₁ history status out out
   runs_nothing wanted folder served gates₀ gates₁ history status out none same is =
       let answered = all_wanting served.phases in
       let legal = subst (Legal (start served.frame)) (sym none) (nothing_legal served.frame) in
@@ -286,7 +288,7 @@ module _ {G : Type 0} (log_of : G → Option (List Asked)) (faults_of : G → �
         answered = answered;
         makes = makes_nothing served.frame served.phases history none legal;
         laws = laws;
-        work = works_nothing log_of faults_of (shelf_of folder served) history gates₀ gates₁ none same;
+        work = works_nothing log_of faults_of (manifests_of folder served) history gates₀ gates₁ none same;
         kept = 0;
         counts = nothing_kept served.frame history none;
         report = some.0;
@@ -294,8 +296,8 @@ module _ {G : Type 0} (log_of : G → Option (List Asked)) (faults_of : G → �
         text = text;
         prints = refl;
         all = λ ended. absurd (cc (ended, is));
-        no_want = λ ended. absurd (not_six status is ended);
-        front = nothing_written out text;
+        had_memory = λ ended. absurd (not_six status is ended);
+        prefix = nothing_written out text;
         legal = λ ended wants short. absurd (cc (ended, is));
       }
 
@@ -318,30 +320,30 @@ ok_same : {A E : Type 0} {r : Result A E} {x y : A} → r ≡ Ok x → r ≡ Ok 
 ok_same h k = cc (h, k)
 
 -- what holds of what a script asks for is all that is to be said of it
-pub own_served : (P : Served → Type 0) (script : Script) (status : ℕ) (served : Served) → served_script script ≡ Ok served → P served → RunsOwn P script status
+pub own_served : (P : LoadedScript → Type 0) (script : Script) (status : ℕ) (served : LoadedScript) → served_script script ≡ Ok served → P served → RunsOwn P script status
 own_served P script status served is holds = record {
   runs = λ other also. subst P (ok_same is also) holds;
   is_served = λ ended. (served, is);
 }
 
 -- what holds of the script that was served holds of some
-pub some_served : (P : Served → Type 0) (Idle : Type 0) (status : ℕ) (left : Option (List ℕ)) (served : Served) → OfSome (λ bytes. Serves bytes served) left → P served → RunsSome P Idle status left
+pub some_served : (P : LoadedScript → Type 0) (Idle : Type 0) (status : ℕ) (left : Option (List ℕ)) (served : LoadedScript) → OfSome (λ bytes. LoadsScript bytes served) left → P served → RunsSome P Idle status left
 unfolding RunsSome
 some_served P Idle status left served from is = inl (served, (from, is))
 
 -- memory ran out before there was a script
-pub some_unread : (P : Served → Type 0) (Idle : Type 0) (status : ℕ) (left : Option (List ℕ)) → status ≡ 6 → Idle → RunsSome P Idle status left
+pub some_unread : (P : LoadedScript → Type 0) (Idle : Type 0) (status : ℕ) (left : Option (List ℕ)) → status ≡ 6 → Idle → RunsSome P Idle status left
 unfolding RunsSome
 some_unread P Idle status left six idle = inr (six, idle)
 
-pub some_refused : (P : Served → Type 0) (Idle : Type 0) (status : ℕ) (left : Option (List ℕ)) → (status ≡ 7) ⊎ (status ≡ 6) → Idle → IsScriptRun status → RunsSome P Idle status left
+pub some_refused : (P : LoadedScript → Type 0) (Idle : Type 0) (status : ℕ) (left : Option (List ℕ)) → (status ≡ 7) ⊎ (status ≡ 6) → Idle → IsScriptRun status → RunsSome P Idle status left
 some_refused P Idle status left (inr six) idle ran = some_unread P Idle status left six idle
 some_refused P Idle status left (inl seven) idle (inl none) = absurd (cc (seven, none))
 some_refused P Idle status left (inl seven) idle (inr (inl four)) = absurd (cc (seven, four))
 some_refused P Idle status left (inl seven) idle (inr (inr six)) = absurd (cc (seven, six))
 
 -- bytes that are refused are served in no way
-pub refused_runs : (P : Served → Type 0) (left : Option (List ℕ)) (fault : Fault) → OfSome (λ bytes. IsFault bytes fault) left → OfKnown (RunsAsServed P) left
+pub refused_runs : (P : LoadedScript → Type 0) (left : Option (List ℕ)) (fault : ScriptRefusal) → OfSome (λ bytes. IsScriptRefusal bytes fault) left → OfKnown (RunsAsServed P) left
 refused_runs P None fault is = tt
 refused_runs P (Some bytes) fault is = λ served serves. absurd (served_are_not_refused_lem bytes served serves (IsFaulty.refused fault is))
 

@@ -2,7 +2,7 @@
 use Rattle.std.proofs.Common.{◌≡◌, ◌⊎◌, inl, inr, ℕ, List, Option, Bool, true, not, ◌&&◌, ◌==◌, true≢false, refl, sym, ap, ◌∙◌}
 use Rattle.std.specs.Io.KnownBytes.{Keeps}
 use Rattle.cm_program.specs.Run.{IsScriptRun}
-use Rattle.cm_program.specs.Written.{IsSaid, Says, usage_line, read_fault_line, door_fault_line, want_line}
+use Rattle.cm_program.specs.Written.{IsSaid, SaysOnErr, usage_line, read_fault_line, door_fault_line, want_line}
 
 -- a status at which nothing is said
 abbrev IsQuiet : ℕ → Type 0
@@ -19,7 +19,7 @@ unquiet n status line is (inr (inl one)) = absurd (true≢false (sym line ∙ ap
 unquiet n status line is (inr (inr four)) = absurd (true≢false (sym line ∙ ap has_line (sym is ∙ four)))
 
 module _ {E : Type 0} (written_of : E → Option (List ℕ)) (faults_of : E → ℕ) (old new : E) where
-  pub says_usage : (status : ℕ) → status ≡ 2 → IsSaid written_of faults_of old new usage_line → Says written_of faults_of old new status
+  pub says_usage : (status : ℕ) → status ≡ 2 → IsSaid written_of faults_of old new usage_line → SaysOnErr written_of faults_of old new status
   says_usage status is said = record {
     usage = λ s. said;
     read = λ s. absurd (cc (is, s));
@@ -28,7 +28,7 @@ module _ {E : Type 0} (written_of : E → Option (List ℕ)) (faults_of : E → 
     nothing = λ quiet. unquiet 2 status refl is quiet;
   }
 
-  pub says_read_fault : (status : ℕ) → status ≡ 3 → IsSaid written_of faults_of old new read_fault_line → Says written_of faults_of old new status
+  pub says_read_fault : (status : ℕ) → status ≡ 3 → IsSaid written_of faults_of old new read_fault_line → SaysOnErr written_of faults_of old new status
   says_read_fault status is said = record {
     usage = λ s. absurd (cc (is, s));
     read = λ s. said;
@@ -37,7 +37,7 @@ module _ {E : Type 0} (written_of : E → Option (List ℕ)) (faults_of : E → 
     nothing = λ quiet. unquiet 3 status refl is quiet;
   }
 
-  pub says_want : (status : ℕ) → status ≡ 6 → IsSaid written_of faults_of old new want_line → Says written_of faults_of old new status
+  pub says_want : (status : ℕ) → status ≡ 6 → IsSaid written_of faults_of old new want_line → SaysOnErr written_of faults_of old new status
   says_want status is said = record {
     usage = λ s. absurd (cc (is, s));
     read = λ s. absurd (cc (is, s));
@@ -46,7 +46,7 @@ module _ {E : Type 0} (written_of : E → Option (List ℕ)) (faults_of : E → 
     nothing = λ quiet. unquiet 6 status refl is quiet;
   }
 
-  pub says_door_fault : (status : ℕ) → status ≡ 5 → IsSaid written_of faults_of old new door_fault_line → Says written_of faults_of old new status
+  pub says_door_fault : (status : ℕ) → status ≡ 5 → IsSaid written_of faults_of old new door_fault_line → SaysOnErr written_of faults_of old new status
   says_door_fault status is said = record {
     usage = λ s. absurd (cc (is, s));
     read = λ s. absurd (cc (is, s));
@@ -56,7 +56,7 @@ module _ {E : Type 0} (written_of : E → Option (List ℕ)) (faults_of : E → 
   }
 
   -- at 7 the line is the fault's
-  pub says_other : (status : ℕ) → status ≡ 7 → Says written_of faults_of old new status
+  pub says_other : (status : ℕ) → status ≡ 7 → SaysOnErr written_of faults_of old new status
   says_other status is = record {
     usage = λ s. absurd (cc (is, s));
     read = λ s. absurd (cc (is, s));
@@ -65,7 +65,7 @@ module _ {E : Type 0} (written_of : E → Option (List ℕ)) (faults_of : E → 
     nothing = λ quiet. unquiet 7 status refl is quiet;
   }
 
-  pub says_nothing : (status : ℕ) → IsQuiet status → Keeps (written_of old) (written_of new) → Says written_of faults_of old new status
+  pub says_nothing : (status : ℕ) → IsQuiet status → Keeps (written_of old) (written_of new) → SaysOnErr written_of faults_of old new status
   says_nothing status quiet keeps = record {
     usage = λ s. unquiet 2 status refl s quiet;
     read = λ s. unquiet 3 status refl s quiet;
@@ -74,15 +74,15 @@ module _ {E : Type 0} (written_of : E → Option (List ℕ)) (faults_of : E → 
     nothing = λ s. keeps;
   }
 
-  pub says_verdict : (status : ℕ) → (status ≡ 0) ⊎ (status ≡ 1) → Keeps (written_of old) (written_of new) → Says written_of faults_of old new status
+  pub says_verdict : (status : ℕ) → (status ≡ 0) ⊎ (status ≡ 1) → Keeps (written_of old) (written_of new) → SaysOnErr written_of faults_of old new status
   says_verdict status (inl none) keeps = says_nothing status (inl none) keeps
   says_verdict status (inr one) keeps = says_nothing status (inr (inl one)) keeps
 
-  pub says_unwritten : (status : ℕ) → status ≡ 4 → Keeps (written_of old) (written_of new) → Says written_of faults_of old new status
+  pub says_unwritten : (status : ℕ) → status ≡ 4 → Keeps (written_of old) (written_of new) → SaysOnErr written_of faults_of old new status
   says_unwritten status four keeps = says_nothing status (inr (inr four)) keeps
 
   -- a script's run says why where memory ran out, and else nothing
-  pub says_of_run : (status : ℕ) → IsScriptRun status → (status ≡ 6 → IsSaid written_of faults_of old new want_line) → ((status ≡ 0) ⊎ (status ≡ 4) → Keeps (written_of old) (written_of new)) → Says written_of faults_of old new status
+  pub says_of_run : (status : ℕ) → IsScriptRun status → (status ≡ 6 → IsSaid written_of faults_of old new want_line) → ((status ≡ 0) ⊎ (status ≡ 4) → Keeps (written_of old) (written_of new)) → SaysOnErr written_of faults_of old new status
   says_of_run status (inl none) wants keeps = says_nothing status (inl none) (keeps (inl none))
   says_of_run status (inr (inl four)) wants keeps = says_nothing status (inr (inr four)) (keeps (inr four))
   says_of_run status (inr (inr six)) wants keeps = says_want status six (wants six)

@@ -29,7 +29,7 @@ use Rattle.cm_decl.specs.declared.environment.DebugUse.{DebugUse}
 use Rattle.cm_decl.specs.declared.storage.Storage.{Storage}
 use Rattle.cm_decl.specs.declared.storage.StorageUse.{StorageUse}
 use Rattle.cm_decl.specs.declared.storage.StorageOffer.{StorageOffer}
-use Rattle.cm_read.specs.declared.fault.Place.{Place}
+use Rattle.cm_read.specs.declared.fault.ItemPlace.{ItemPlace}
 use Rattle.cm_read.specs.declared.rows.UseSource.TheVariants as source
 use Rattle.cm_read.specs.declared.rows.CapabilityRow.TheVariants as capability_row
 use Rattle.cm_read.specs.declared.rows.UseRow.TheVariants as use_row
@@ -45,18 +45,18 @@ use Rattle.cm_read.specs.Environments.{registration_at, registrations_in_at, env
 use Rattle.cm_write.specs.Writing.{capability_data, use_data, offer_data, expose_data, list_of, origin_text}
 use Rattle.cm_write.specs.Writing.{storage_data, debug_use_data, storage_use_data, storage_offer_data}
 use Rattle.cm_write.specs.Writing.{registration_data, environment_data}
-use Rattle.cm_read.specs.Readable.{MayHave, IsSubDir, IsUsage, IsOffer, IsExpose, IsOrigin, IsCapability}
+use Rattle.cm_read.specs.Readable.{MayHave, IsSubDir, IsUsage, IsOffer, IsExpose, IsOriginRow, IsCapability}
 use Rattle.cm_read.specs.Readable.{MustHave, AreRights, IsStaticSource, IsStorageSource, ForSomeOf}
 use Rattle.cm_read.specs.Readable.{IsRegistration, IsEnvironment, IsDebugUse, IsStorage, IsStorageUse}
 use Rattle.cm_read.specs.Readable.{IsStorageOffer}
 use Rattle.cm_read.proofs.back.RoundTrip.{name_has_no_fault}
 use Rattle.cm_read.proofs.examples.OnLiterals.{read_on_literals}
 
-texts_back : (at : Place) (key : List ℕ) (ts : List (List ℕ)) → texts_in_at at key (items_of (map string ts)) ≡ Ok ts
+texts_back : (at : ItemPlace) (key : List ℕ) (ts : List (List ℕ)) → texts_in_at at key (items_of (map string ts)) ≡ Ok ts
 texts_back at key [] = refl
 texts_back at key (t ∷ ts) = rw (texts_back at key ts) refl
 
-pub rights_back : (at : Place) (key : List ℕ) (r : RightSet) → AreRights r → rights_in_at at key (list_of string (words_of r)) ≡ Ok r
+pub rights_back : (at : ItemPlace) (key : List ℕ) (r : RightSet) → AreRights r → rights_in_at at key (list_of string (words_of r)) ≡ Ok r
 unfolding rights_in_at
 rights_back at key r h = rw (texts_back at key (words_of r)) (rw (words_are_read_back_lem r h) refl)
 
@@ -87,12 +87,12 @@ settled_back children origin.Framework = refl
 settled_back children (origin.Child c) = refl
 settled_back children origin.Void = refl
 
-child_back : (at : Place) (coll : Option (List ℕ)) (name : List ℕ) → coll ≡ None → IsName name → use_from_in_at at (string (origin_text (origin.Child (record { coll = coll; name = name })))) ≡ Ok (origin.Child (record { coll = coll; name = name }))
+child_back : (at : ItemPlace) (coll : Option (List ℕ)) (name : List ℕ) → coll ≡ None → IsName name → use_from_in_at at (string (origin_text (origin.Child (record { coll = coll; name = name })))) ≡ Ok (origin.Child (record { coll = coll; name = name }))
 unfolding read_on_literals
 child_back at None name e h = rw (name_has_no_fault name h) refl
 child_back at (Some c) name e h = absurd (grind (arith, rules))
 
-pub use_from_back : (at : Place) (o : Origin) → IsOrigin true false o → use_from_in_at at (string (origin_text o)) ≡ Ok o
+pub use_from_back : (at : ItemPlace) (o : Origin) → IsOriginRow true false o → use_from_in_at at (string (origin_text o)) ≡ Ok o
 unfolding read_on_literals
 use_from_back at origin.Parent h = refl
 use_from_back at origin.Own h = refl
@@ -100,14 +100,14 @@ use_from_back at origin.Framework h = refl
 use_from_back at (origin.Child c) h = child_back at c.coll c.name h.0 h.1
 use_from_back at origin.Void h = absurd (grind (arith, rules))
 
-source_child_back : (at : Place) (coll : Option (List ℕ)) (name : List ℕ) → coll ≡ None → IsName name
+source_child_back : (at : ItemPlace) (coll : Option (List ℕ)) (name : List ℕ) → coll ≡ None → IsName name
     → use_source_in_at at (string (origin_text (origin.Child (record { coll = coll; name = name }))))
     ≡ Ok (source.From (origin.Child (record { coll = coll; name = name })))
 unfolding read_on_literals
 source_child_back at None name e h = rw (name_has_no_fault name h) refl
 source_child_back at (Some c) name e h = absurd (grind (arith, rules))
 
-pub use_source_back : (at : Place) (o : Origin) → IsOrigin true false o
+pub use_source_back : (at : ItemPlace) (o : Origin) → IsOriginRow true false o
     → use_source_in_at at (string (origin_text o)) ≡ Ok (source.From o)
 unfolding read_on_literals
 use_source_back at origin.Parent h = refl
@@ -116,14 +116,14 @@ use_source_back at origin.Framework h = refl
 use_source_back at (origin.Child c) h = source_child_back at c.coll c.name h.0 h.1
 use_source_back at origin.Void h = absurd (grind (arith, rules))
 
-static_child_back : (at : Place) (coll : Option (List ℕ)) (name : List ℕ) → coll ≡ None → IsName name
+static_child_back : (at : ItemPlace) (coll : Option (List ℕ)) (name : List ℕ) → coll ≡ None → IsName name
     → static_from_in_at at (string (origin_text (origin.Child (record { coll = coll; name = name }))))
     ≡ Ok (origin.Child (record { coll = coll; name = name }))
 unfolding read_on_literals
 static_child_back at None name e h = rw (name_has_no_fault name h) refl
 static_child_back at (Some c) name e h = absurd (grind (arith, rules))
 
-pub static_from_back : (at : Place) (o : Origin) → IsStaticSource o
+pub static_from_back : (at : ItemPlace) (o : Origin) → IsStaticSource o
     → static_from_in_at at (string (origin_text o)) ≡ Ok o
 unfolding read_on_literals
 static_from_back at origin.Parent h = refl
@@ -140,17 +140,17 @@ storage_from_back origin.Framework h = absurd h
 storage_from_back (origin.Child c) h = absurd h
 storage_from_back origin.Void h = refl
 
-capability_parts : (at : Place) (k : Kind) (name path : List ℕ) (rights : Option RightSet) → IsName name → IsTrue (is_path path) → MustHave k rights AreRights → capability_at at (capability_data (record { kind = k; name = name; path = path; rights = rights })) ≡ Ok (capability_row.Capability (record { kind = k; name = name; path = path; rights = rights }) ∷ [])
+capability_parts : (at : ItemPlace) (k : Kind) (name path : List ℕ) (rights : Option RightSet) → IsName name → IsTrue (is_path path) → MustHave k rights AreRights → capability_at at (capability_data (record { kind = k; name = name; path = path; rights = rights })) ≡ Ok (capability_row.Capability (record { kind = k; name = name; path = path; rights = rights }) ∷ [])
 unfolding read_on_literals
 capability_parts at kind.Protocol name path None n p r = rw (name_has_no_fault name n) (rw (path_faultless path p) refl)
 capability_parts at kind.Protocol name path (Some x) n p r = absurd (grind (arith, rules))
 capability_parts at kind.Directory name path None n p r = absurd r
 capability_parts at kind.Directory name path (Some x) n p r = rw (name_has_no_fault name n) (rw (path_faultless path p) (rw (rights_back at (codes "rights") x r) refl))
 
-pub capability_read_back : (at : Place) (c : Capability) → IsCapability c → capability_at at (capability_data c) ≡ Ok (capability_row.Capability c ∷ [])
+pub capability_read_back : (at : ItemPlace) (c : Capability) → IsCapability c → capability_at at (capability_data c) ≡ Ok (capability_row.Capability c ∷ [])
 capability_read_back at c h = capability_parts at c.kind c.name c.path c.rights h.name h.path h.rights
 
-storage_parts : (at : Place) (name : List ℕ) (from : Origin) (backing : List ℕ) (subdir : Option (List ℕ)) (by_moniker : Bool)
+storage_parts : (at : ItemPlace) (name : List ℕ) (from : Origin) (backing : List ℕ) (subdir : Option (List ℕ)) (by_moniker : Bool)
     → IsName name → IsStaticSource from → IsName backing → ForSomeOf subdir IsSubDir
     → capability_at at (storage_data (record { name = name; from = from; backing = backing; subdir = subdir; by_moniker = by_moniker }))
     ≡ Ok (capability_row.Storage (record { name = name; from = from; backing = backing; subdir = subdir; by_moniker = by_moniker }) ∷ [])
@@ -160,44 +160,44 @@ storage_parts at name from backing None false n f b s = rw (name_has_no_fault na
 storage_parts at name from backing (Some y) true n f b s = rw (name_has_no_fault name n) (rw (static_from_back at from f) (rw (name_has_no_fault backing b) (rw (subdir_faultless y s) refl)))
 storage_parts at name from backing (Some y) false n f b s = rw (name_has_no_fault name n) (rw (static_from_back at from f) (rw (name_has_no_fault backing b) (rw (subdir_faultless y s) refl)))
 
-pub storage_read_back : (at : Place) (s : Storage) → IsStorage s → capability_at at (storage_data s) ≡ Ok (capability_row.Storage s ∷ [])
+pub storage_read_back : (at : ItemPlace) (s : Storage) → IsStorage s → capability_at at (storage_data s) ≡ Ok (capability_row.Storage s ∷ [])
 storage_read_back at s h = storage_parts at s.name s.from s.backing s.subdir s.by_moniker h.name h.from h.backing h.subdir
 
-pub debug_use_read_back : (at : Place) (u : DebugUse) → IsDebugUse u → use_at at (debug_use_data u) ≡ Ok (use_row.Debug u ∷ [])
+pub debug_use_read_back : (at : ItemPlace) (u : DebugUse) → IsDebugUse u → use_at at (debug_use_data u) ≡ Ok (use_row.Debug u ∷ [])
 unfolding read_on_literals
 debug_use_read_back at u h = rw (name_has_no_fault u.name h.name) (rw (path_faultless u.path h.path) refl)
 
-pub storage_use_read_back : (at : Place) (u : StorageUse) → IsStorageUse u → use_at at (storage_use_data u) ≡ Ok (use_row.Storage u ∷ [])
+pub storage_use_read_back : (at : ItemPlace) (u : StorageUse) → IsStorageUse u → use_at at (storage_use_data u) ≡ Ok (use_row.Storage u ∷ [])
 unfolding read_on_literals
 storage_use_read_back at u h = rw (name_has_no_fault u.name h.name) (rw (path_faultless u.path h.path) refl)
 
-pub storage_offer_read_back : (children : List Child) (at : Place) (o : StorageOffer) → IsStorageOffer o
+pub storage_offer_read_back : (children : List Child) (at : ItemPlace) (o : StorageOffer) → IsStorageOffer o
     → offer_at children at (storage_offer_data o) ≡ Ok (offered.Storage o ∷ [])
 unfolding read_on_literals
 storage_offer_read_back children at o h =
     rw (name_has_no_fault o.source_name h.source_name) (rw (storage_from_back o.from h.from) (rw (name_has_no_fault o.to h.to)
     (rw (name_has_no_fault o.target_name h.target_name) refl)))
 
-runner_read_back : (at : Place) (r : Registration) → IsRegistration r
+runner_read_back : (at : ItemPlace) (r : Registration) → IsRegistration r
     → registration_at Runners at (registration_data (codes "runner") r) ≡ Ok (r ∷ [])
 unfolding read_on_literals
 runner_read_back at r h =
     rw (name_has_no_fault r.name h.name) (rw (static_from_back at r.from h.from) (rw (name_has_no_fault r.target h.target) refl))
 
-debug_read_back : (at : Place) (r : Registration) → IsRegistration r
+debug_read_back : (at : ItemPlace) (r : Registration) → IsRegistration r
     → registration_at Debug at (registration_data (codes "protocol") r) ≡ Ok (r ∷ [])
 unfolding read_on_literals
 debug_read_back at r h =
     rw (name_has_no_fault r.name h.name) (rw (static_from_back at r.from h.from) (rw (name_has_no_fault r.target h.target) refl))
 
-registrations_back : (which : Registry) (key : List ℕ) (at : Place) (rs : List Registration)
-    → ((at : Place) (r : Registration) → IsRegistration r → registration_at which at (registration_data key r) ≡ Ok (r ∷ []))
+registrations_back : (which : Registry) (key : List ℕ) (at : ItemPlace) (rs : List Registration)
+    → ((at : ItemPlace) (r : Registration) → IsRegistration r → registration_at which at (registration_data key r) ≡ Ok (r ∷ []))
     → All IsRegistration rs → registrations_in_at which at (items_of (map (registration_data key) rs)) ≡ Ok rs
 registrations_back which key at [] one h = refl
 registrations_back which key at (r ∷ rs) one h =
     rw (one at r (h 0 r (omega arith))) (rw (registrations_back which key at rs one (λ k d lt. h (suc k) d (omega arith))) refl)
 
-environment_parts : (at : Place) (name : List ℕ) (extends : Bool) (runners debug : List Registration) → IsName name
+environment_parts : (at : ItemPlace) (name : List ℕ) (extends : Bool) (runners debug : List Registration) → IsName name
     → All IsRegistration runners → All IsRegistration debug
     → environment_item_at at (environment_data (record { name = name; extends = extends; runners = runners; debug = debug }))
     ≡ Ok (record { name = name; extends = extends; runners = runners; debug = debug } ∷ [])
@@ -205,15 +205,15 @@ unfolding read_on_literals
 environment_parts at name true runners debug n r d = rw (name_has_no_fault name n) (rw (registrations_back Runners (codes "runner") at runners runner_read_back r) (rw (registrations_back Debug (codes "protocol") at debug debug_read_back d) refl))
 environment_parts at name false runners debug n r d = rw (name_has_no_fault name n) (rw (registrations_back Runners (codes "runner") at runners runner_read_back r) (rw (registrations_back Debug (codes "protocol") at debug debug_read_back d) refl))
 
-pub environment_read_back : (at : Place) (e : Environment) → IsEnvironment e → environment_item_at at (environment_data e) ≡ Ok (e ∷ [])
+pub environment_read_back : (at : ItemPlace) (e : Environment) → IsEnvironment e → environment_item_at at (environment_data e) ≡ Ok (e ∷ [])
 environment_read_back at e h = environment_parts at e.name e.extends e.runners e.debug h.name h.runners h.debug
 
-offer_child_back : (at : Place) (coll : Option (List ℕ)) (name : List ℕ) → coll ≡ None → IsName name → offer_from_in_at at (string (origin_text (origin.Child (record { coll = coll; name = name })))) ≡ Ok (origin.Child (record { coll = coll; name = name }))
+offer_child_back : (at : ItemPlace) (coll : Option (List ℕ)) (name : List ℕ) → coll ≡ None → IsName name → offer_from_in_at at (string (origin_text (origin.Child (record { coll = coll; name = name })))) ≡ Ok (origin.Child (record { coll = coll; name = name }))
 unfolding read_on_literals
 offer_child_back at None name e h = rw (name_has_no_fault name h) refl
 offer_child_back at (Some c) name e h = absurd (grind (arith, rules))
 
-pub offer_from_back : (at : Place) (o : Origin) → IsOrigin true true o → offer_from_in_at at (string (origin_text o)) ≡ Ok o
+pub offer_from_back : (at : ItemPlace) (o : Origin) → IsOriginRow true true o → offer_from_in_at at (string (origin_text o)) ≡ Ok o
 unfolding read_on_literals
 offer_from_back at origin.Parent h = refl
 offer_from_back at origin.Own h = refl
@@ -221,12 +221,12 @@ offer_from_back at origin.Framework h = refl
 offer_from_back at (origin.Child c) h = offer_child_back at c.coll c.name h.0 h.1
 offer_from_back at origin.Void h = refl
 
-expose_child_back : (at : Place) (coll : Option (List ℕ)) (name : List ℕ) → coll ≡ None → IsName name → expose_from_in_at at (string (origin_text (origin.Child (record { coll = coll; name = name })))) ≡ Ok (origin.Child (record { coll = coll; name = name }))
+expose_child_back : (at : ItemPlace) (coll : Option (List ℕ)) (name : List ℕ) → coll ≡ None → IsName name → expose_from_in_at at (string (origin_text (origin.Child (record { coll = coll; name = name })))) ≡ Ok (origin.Child (record { coll = coll; name = name }))
 unfolding read_on_literals
 expose_child_back at None name e h = rw (name_has_no_fault name h) refl
 expose_child_back at (Some c) name e h = absurd (grind (arith, rules))
 
-pub expose_from_back : (at : Place) (o : Origin) → IsOrigin false true o → expose_from_in_at at (string (origin_text o)) ≡ Ok o
+pub expose_from_back : (at : ItemPlace) (o : Origin) → IsOriginRow false true o → expose_from_in_at at (string (origin_text o)) ≡ Ok o
 unfolding read_on_literals
 expose_from_back at origin.Parent h = absurd (grind (arith, rules))
 expose_from_back at origin.Own h = refl
@@ -234,7 +234,7 @@ expose_from_back at origin.Framework h = refl
 expose_from_back at (origin.Child c) h = expose_child_back at c.coll c.name h.0 h.1
 expose_from_back at origin.Void h = refl
 
-use_parts : (at : Place) (k : Kind) (name : List ℕ) (from : Origin) (path : List ℕ) (rights : Option RightSet) (subdir : Option (List ℕ)) (d : Dependency) (a : Availability) → IsName name → IsOrigin true false from → IsTrue (is_path path) → MustHave k rights AreRights → MayHave k subdir IsSubDir → a ≢ SameAsTarget → use_at at (use_data (record { kind = k; name = name; from = from; path = path; rights = rights; subdir = subdir; dependency = d; availability = a })) ≡ Ok (use_row.Usage (record { kind = k; name = name; from = from; path = path; rights = rights; subdir = subdir; dependency = d; availability = a }) ∷ [])
+use_parts : (at : ItemPlace) (k : Kind) (name : List ℕ) (from : Origin) (path : List ℕ) (rights : Option RightSet) (subdir : Option (List ℕ)) (d : Dependency) (a : Availability) → IsName name → IsOriginRow true false from → IsTrue (is_path path) → MustHave k rights AreRights → MayHave k subdir IsSubDir → a ≢ SameAsTarget → use_at at (use_data (record { kind = k; name = name; from = from; path = path; rights = rights; subdir = subdir; dependency = d; availability = a })) ≡ Ok (use_row.Usage (record { kind = k; name = name; from = from; path = path; rights = rights; subdir = subdir; dependency = d; availability = a }) ∷ [])
 unfolding read_on_literals
 use_parts at kind.Protocol name from path None None d a n f p r s g = rw (name_has_no_fault name n) (rw (use_source_back at from f) (rw (path_faultless path p) (rw (dependency_back d) (rw (availability_back a g) refl))))
 use_parts at kind.Protocol name from path (Some x) subdir d a n f p r s g = absurd (grind (arith, rules))
@@ -243,10 +243,10 @@ use_parts at kind.Directory name from path None subdir d a n f p r s g = absurd 
 use_parts at kind.Directory name from path (Some x) None d a n f p r s g = rw (name_has_no_fault name n) (rw (use_from_back at from f) (rw (path_faultless path p) (rw (rights_back at (codes "rights") x r) (rw (dependency_back d) (rw (availability_back a g) refl)))))
 use_parts at kind.Directory name from path (Some x) (Some y) d a n f p r s g = rw (name_has_no_fault name n) (rw (use_from_back at from f) (rw (path_faultless path p) (rw (rights_back at (codes "rights") x r) (rw (subdir_faultless y s) (rw (dependency_back d) (rw (availability_back a g) refl))))))
 
-pub use_read_back : (at : Place) (u : Usage) → IsUsage u → use_at at (use_data u) ≡ Ok (use_row.Usage u ∷ [])
+pub use_read_back : (at : ItemPlace) (u : Usage) → IsUsage u → use_at at (use_data u) ≡ Ok (use_row.Usage u ∷ [])
 use_read_back at u h = use_parts at u.kind u.name u.from u.path u.rights u.subdir u.dependency u.availability h.name h.from h.path h.rights h.subdir h.availability
 
-offer_parts : (children : List Child) (at : Place) (k : Kind) (to name : List ℕ) (from : Origin) (target : List ℕ) (rights : Option RightSet) (subdir : Option (List ℕ)) (d : Dependency) (a : Availability) → IsName to → IsName name → IsOrigin true true from → IsName target → MayHave k rights AreRights → MayHave k subdir IsSubDir → offer_at children at (offer_data (record { to = to; give = record { kind = k; source_name = name; from = from; target_name = target; rights = rights; subdir = subdir; dependency = d; availability = a } })) ≡ Ok (offered.Offer (record { to = to; give = record { kind = k; source_name = name; from = from; target_name = target; rights = rights; subdir = subdir; dependency = d; availability = a } }) ∷ [])
+offer_parts : (children : List Child) (at : ItemPlace) (k : Kind) (to name : List ℕ) (from : Origin) (target : List ℕ) (rights : Option RightSet) (subdir : Option (List ℕ)) (d : Dependency) (a : Availability) → IsName to → IsName name → IsOriginRow true true from → IsName target → MayHave k rights AreRights → MayHave k subdir IsSubDir → offer_at children at (offer_data (record { to = to; give = record { kind = k; source_name = name; from = from; target_name = target; rights = rights; subdir = subdir; dependency = d; availability = a } })) ≡ Ok (offered.Offer (record { to = to; give = record { kind = k; source_name = name; from = from; target_name = target; rights = rights; subdir = subdir; dependency = d; availability = a } }) ∷ [])
 unfolding read_on_literals
 offer_parts children at kind.Protocol to name from target None None d a o n f t r s = rw (name_has_no_fault name n) (rw (offer_from_back at from f) (rw (name_has_no_fault to o) (rw (name_has_no_fault target t) (rw (dependency_back d) (rw (given_availability_back a) (rw (settled_back children from) refl))))))
 offer_parts children at kind.Protocol to name from target (Some x) subdir d a o n f t r s = absurd (grind (arith, rules))
@@ -256,10 +256,10 @@ offer_parts children at kind.Directory to name from target (Some x) None d a o n
 offer_parts children at kind.Directory to name from target None (Some y) d a o n f t r s = rw (name_has_no_fault name n) (rw (offer_from_back at from f) (rw (name_has_no_fault to o) (rw (name_has_no_fault target t) (rw (subdir_faultless y s) (rw (dependency_back d) (rw (given_availability_back a) (rw (settled_back children from) refl)))))))
 offer_parts children at kind.Directory to name from target (Some x) (Some y) d a o n f t r s = rw (name_has_no_fault name n) (rw (offer_from_back at from f) (rw (name_has_no_fault to o) (rw (name_has_no_fault target t) (rw (rights_back at (codes "rights") x r) (rw (subdir_faultless y s) (rw (dependency_back d) (rw (given_availability_back a) (rw (settled_back children from) refl))))))))
 
-pub offer_read_back : (children : List Child) (at : Place) (o : Offer) → IsOffer o → offer_at children at (offer_data o) ≡ Ok (offered.Offer o ∷ [])
+pub offer_read_back : (children : List Child) (at : ItemPlace) (o : Offer) → IsOffer o → offer_at children at (offer_data o) ≡ Ok (offered.Offer o ∷ [])
 offer_read_back children at o h = offer_parts children at o.give.kind o.to o.give.source_name o.give.from o.give.target_name o.give.rights o.give.subdir o.give.dependency o.give.availability h.to h.give.source_name h.give.from h.give.target_name h.give.rights h.give.subdir
 
-expose_parts : (children : List Child) (at : Place) (k : Kind) (name : List ℕ) (from : Origin) (target : List ℕ) (rights : Option RightSet) (subdir : Option (List ℕ)) (a : Availability) → IsName name → IsOrigin false true from → IsName target → MayHave k rights AreRights → MayHave k subdir IsSubDir → expose_at children at (expose_data (record { kind = k; source_name = name; from = from; target_name = target; rights = rights; subdir = subdir; dependency = Strong; availability = a })) ≡ Ok (record { kind = k; source_name = name; from = from; target_name = target; rights = rights; subdir = subdir; dependency = Strong; availability = a } ∷ [])
+expose_parts : (children : List Child) (at : ItemPlace) (k : Kind) (name : List ℕ) (from : Origin) (target : List ℕ) (rights : Option RightSet) (subdir : Option (List ℕ)) (a : Availability) → IsName name → IsOriginRow false true from → IsName target → MayHave k rights AreRights → MayHave k subdir IsSubDir → expose_at children at (expose_data (record { kind = k; source_name = name; from = from; target_name = target; rights = rights; subdir = subdir; dependency = Strong; availability = a })) ≡ Ok (record { kind = k; source_name = name; from = from; target_name = target; rights = rights; subdir = subdir; dependency = Strong; availability = a } ∷ [])
 unfolding read_on_literals
 expose_parts children at kind.Protocol name from target None None a n f t r s = rw (name_has_no_fault name n) (rw (expose_from_back at from f) (rw (name_has_no_fault target t) (rw (given_availability_back a) (rw (settled_back children from) refl))))
 expose_parts children at kind.Protocol name from target (Some x) subdir a n f t r s = absurd (grind (arith, rules))
@@ -269,7 +269,7 @@ expose_parts children at kind.Directory name from target (Some x) None a n f t r
 expose_parts children at kind.Directory name from target None (Some y) a n f t r s = rw (name_has_no_fault name n) (rw (expose_from_back at from f) (rw (name_has_no_fault target t) (rw (subdir_faultless y s) (rw (given_availability_back a) (rw (settled_back children from) refl)))))
 expose_parts children at kind.Directory name from target (Some x) (Some y) a n f t r s = rw (name_has_no_fault name n) (rw (expose_from_back at from f) (rw (name_has_no_fault target t) (rw (rights_back at (codes "rights") x r) (rw (subdir_faultless y s) (rw (given_availability_back a) (rw (settled_back children from) refl))))))
 
-pub expose_read_back : (children : List Child) (at : Place) (g : Give) → IsExpose g → expose_at children at (expose_data g) ≡ Ok (g ∷ [])
+pub expose_read_back : (children : List Child) (at : ItemPlace) (g : Give) → IsExpose g → expose_at children at (expose_data g) ≡ Ok (g ∷ [])
 expose_read_back children at g h =
     subst (λ d. expose_at children at (expose_data (record g { dependency = d })) ≡ Ok (record g { dependency = d } ∷ [])) (sym h.dependency)
     (expose_parts children at g.kind g.source_name g.from g.target_name g.rights g.subdir g.availability h.give.source_name h.give.from h.give.target_name h.give.rights h.give.subdir)

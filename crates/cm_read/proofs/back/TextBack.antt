@@ -37,7 +37,7 @@ use Rattle.cm_write.specs.Writing.{child_data, collection_data, capability_data,
 use Rattle.cm_write.specs.Writing.{expose_data, storage_data, debug_use_data, storage_use_data}
 use Rattle.cm_write.specs.Writing.{storage_offer_data, registration_data, environment_data, capability_items}
 use Rattle.cm_write.specs.Writing.{use_items, offer_items, decl_data, decl_text}
-use Rattle.cm_read.specs.Readable.{TextsAreReadBack}
+use Rattle.cm_read.specs.ReadableInside.{TextsAreReadBack}
 use Rattle.cm_read.proofs.back.DeclBack.{reads_back}
 use Rattle.cm_read.proofs.back.PairLemmas.{decl_has_numbers, decl_is_shallow}
 

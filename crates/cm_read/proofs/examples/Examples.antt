@@ -8,10 +8,10 @@ use Rattle.cm_names.specs.declared.dependency.Dependency.TheVariants as dependen
 use Rattle.cm_names.specs.declared.availability.Availability.TheVariants as availability
 use Rattle.cm_names.specs.Rights.{reading}
 use Rattle.cm_read.specs.Sections.{rows_at, section_at}
-use Rattle.cm_read.specs.Reading.{Read, bad, start}
+use Rattle.cm_read.specs.Reading.{ReadResult, bad, start}
 use Rattle.serde_json.specs.Data.{Data, Items, array}
 use Rattle.cm_decl.specs.declared.section.Section.{Section}
-use Rattle.cm_read.specs.declared.fault.Place.{Place}
+use Rattle.cm_read.specs.declared.fault.ItemPlace.{ItemPlace}
 use Rattle.cm_read.specs.Manifest.{decl_of_text, decl_of_bytes}
 use Rattle.cm_read.proofs.examples.OnLiterals.{read_on_literals}
 
@@ -198,5 +198,5 @@ pub is_too_large : (bytes : List ℕ) → nat_lt 1048576 (length bytes) ≡ true
 is_too_large bytes h = rw h refl
 
 -- too many rows
-pub has_too_many_rows : {A : Type 0} (read : Place → Data → Read (List A)) (s : Section) (items : Items) (rows : List A) → rows_at read (start s) items ≡ Ok rows → nat_le (length rows) 16384 ≡ false → section_at read s (Some (array items)) ≡ Err (bad (start s) 43 [])
+pub has_too_many_rows : {A : Type 0} (read : ItemPlace → Data → ReadResult (List A)) (s : Section) (items : Items) (rows : List A) → rows_at read (start s) items ≡ Ok rows → nat_le (length rows) 16384 ≡ false → section_at read s (Some (array items)) ≡ Err (bad (start s) 43 [])
 has_too_many_rows read s items rows e h = rw e (rw h refl)

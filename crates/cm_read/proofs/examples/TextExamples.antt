@@ -1,12 +1,12 @@
 -- Declarations' texts, computed from the definition.
 use Rattle.std.proofs.Common.{◌≡◌, ℕ, List, [], codes, Ok, Err, refl}
 use Rattle.cm_decl.specs.declared.decl.Decl.{Decl}
-use Rattle.cm_read.specs.Reading.{Read}
+use Rattle.cm_read.specs.Reading.{ReadResult}
 use Rattle.cm_read.specs.Manifest.{decl_of_text, decl_of_json}
 use Rattle.cm_write.specs.Writing.{decl_text}
 use Rattle.cm_read.proofs.examples.OnLiterals.{read_on_literals}
 
-abbrev text_from : Read Decl → List ℕ
+abbrev text_from : ReadResult Decl → List ℕ
 text_from (Ok d) = decl_text d
 text_from (Err e) = []
 

@@ -17,9 +17,10 @@ use Rattle.cm_decl.specs.declared.rows.Usage.{Usage}
 use Rattle.cm_decl.specs.declared.rows.Give.{Give}
 use Rattle.cm_decl.specs.declared.decl.Decl.{Decl}
 use Rattle.cm_decl.specs.Valid.{is_void, is_parent, is_well_formed}
-use Rattle.cm_read.specs.declared.fault.Place.{Place}
+use Rattle.cm_read.specs.declared.fault.ItemPlace.{ItemPlace}
 use Rattle.cm_read.specs.Numbers.{wrong_type, too_many_rows, max_rows}
-use Rattle.cm_read.specs.Reading.{Read, bad, start, Gives}
+use Rattle.cm_read.specs.Reading.{ReadResult, bad, start}
+use Rattle.cm_read.specs.ReadingInside.{GivesReading}
 use Rattle.cm_read.specs.Fields.{object_at}
 use Rattle.std.specs.Prelude.{◌+◌, filter_map, is_none}
 use Rattle.std.proofs.Common.{◌∷◌, ap}
@@ -43,10 +44,10 @@ use Rattle.cm_read.specs.Environments.{environment_item_at}
 use Rattle.cm_read.specs.Sections.{next as next_place, rows_at, section_at}
 use Rattle.cm_read.specs.Manifest.{program_at, runner_at, sections_at, children_at, section_rows_at}
 use Rattle.cm_read.specs.Manifest.{declared_by, decl_at, of_data, decl_of_json}
-use Rattle.cm_read.specs.Readable.{IsOrigin, IsStaticSource, IsStorageSource, ForSomeOf, AreRows, IsChild}
+use Rattle.cm_read.specs.Readable.{IsOriginRow, IsStaticSource, IsStorageSource, ForSomeOf, AreRows, IsChildRow}
 use Rattle.cm_read.specs.Readable.{IsCollection, IsCapability, IsStorage, IsUsage, IsDebugUse, IsStorageUse}
 use Rattle.cm_read.specs.Readable.{IsOffer, IsStorageOffer, IsExpose, IsRegistration, IsEnvironment, IsReadable}
-use Rattle.cm_read.specs.Readable.{WhatIsReadIsReadable, WhatIsReadIsReadBack, ReadableIsWellFormed}
+use Rattle.cm_read.specs.ReadableInside.{WhatIsReadIsReadable, WhatIsReadIsReadBack, ReadableIsWellFormed}
 use Rattle.cm_read.proofs.reading.ReadLemmas.{Reads, fails, gives, any, next, tested, given, taken}
 use Rattle.cm_read.proofs.reading.FieldsRead.{name_reads}
 use Rattle.cm_read.proofs.back.TextBack.{texts_are_read_back_lem}
@@ -56,7 +57,7 @@ use Rattle.cm_read.proofs.reading.EnvironmentsRead.{environment_item_reads}
 
 -- ---- sections
 
-rows_read : {A : Type 0} (P : A → Type 0) (read : Place → Data → Read (List A)) (at : Place) (items : Items) → ((at : Place) (d : Data) → Reads (All P) (read at d)) → Reads (All P) (rows_at read at items)
+rows_read : {A : Type 0} (P : A → Type 0) (read : ItemPlace → Data → ReadResult (List A)) (at : ItemPlace) (items : Items) → ((at : ItemPlace) (d : Data) → Reads (All P) (read at d)) → Reads (All P) (rows_at read at items)
 rows_read P read at no_items one = gives (All-nil P)
 rows_read P read at (item d ds) one =
     next (one at d) (λ first f. next (rows_read P read (next_place at) ds one) (λ others o. gives (All-append P first others f o)))
@@ -67,7 +68,7 @@ few n e = grind (arith, rules)
 no_rows : {A : Type 0} {P : A → Type 0} → AreRows P []
 no_rows {A} {P} = record { limit = omega arith; each = All-nil P }
 
-section_reads : {A : Type 0} {P : A → Type 0} (read : Place → Data → Read (List A)) (s : Section) (o : Option Data) → ((at : Place) (d : Data) → Reads (All P) (read at d)) → Reads (AreRows P) (section_at read s o)
+section_reads : {A : Type 0} {P : A → Type 0} (read : ItemPlace → Data → ReadResult (List A)) (s : Section) (o : Option Data) → ((at : ItemPlace) (d : Data) → Reads (All P) (read at d)) → Reads (AreRows P) (section_at read s o)
 section_reads read s None one = gives no_rows
 section_reads {A} {P} read s (Some d) one =
     next (any (ok_or (as_array d) (bad (start s) wrong_type []))) (λ items _.
@@ -86,7 +87,7 @@ runner_reads d = given (get (codes "program") d) program_at program_reads
 
 -- the rows of all sections that list them
 record AreSectionRows (r : SectionRows) : Type 0 where
-  children : AreRows IsChild r.children
+  children : AreRows IsChildRow r.children
   collections : AreRows IsCollection r.collections
   capabilities : AreRows IsCapabilityRow r.capabilities
   uses : AreRows IsUseRow r.uses
@@ -94,7 +95,7 @@ record AreSectionRows (r : SectionRows) : Type 0 where
   exposes : AreRows IsExpose r.exposes
   environments : AreRows IsEnvironment r.environments
 
-children_read : (d : Data) → Reads (AreRows IsChild) (children_at d)
+children_read : (d : Data) → Reads (AreRows IsChildRow) (children_at d)
 unfolding children_at
 children_read d = section_reads child_at section.Children (get (codes "children") d) child_reads
 
@@ -180,14 +181,14 @@ json_reads text = data_reads (json.read text)
 pub what_is_read_is_readable_lem : WhatIsReadIsReadable
 what_is_read_is_readable_lem text d e = IfOk-at_ok IsReadable e (json_reads text).value
 
-not_void : (o : Origin) → IsOrigin true false o → not (is_void o) ≡ true
+not_void : (o : Origin) → IsOriginRow true false o → not (is_void o) ≡ true
 not_void origin.Parent h = refl
 not_void origin.Own h = refl
 not_void origin.Framework h = refl
 not_void (origin.Child c) h = refl
 not_void origin.Void h = h
 
-not_parent : (o : Origin) → IsOrigin false true o → not (is_parent o) ≡ true
+not_parent : (o : Origin) → IsOriginRow false true o → not (is_parent o) ≡ true
 not_parent origin.Parent h = h
 not_parent origin.Own h = refl
 not_parent origin.Framework h = refl
@@ -244,11 +245,11 @@ what_is_read_is_read_back_lem text d e = texts_are_read_back_lem d (what_is_read
 -- ---- what the code returns
 
 -- a declaration that was read from a value, unless memory ran out
-pub record IsOfData (r : Read Decl) : Type 0 where
+pub record IsOfData (r : ReadResult Decl) : Type 0 where
   pub readable : IfOk r IsReadable
   pub formed : IfOk r (λ d. IsTrue (is_well_formed d))
 
-pub is_of_data : (r : Read Decl) (d : Data) → Gives r (decl_at d) → IsOfData r
+pub is_of_data : (r : ReadResult Decl) (d : Data) → GivesReading r (decl_at d) → IsOfData r
 is_of_data (Ok x) d e =
     let h : IsReadable x = IfOk-at_ok IsReadable e (decl_reads d).value in
     record { readable = h; formed = readable_is_well_formed_lem x h }

@@ -7,11 +7,11 @@ use Rattle.serde_json.specs.Find.{get, as_array}
 use Rattle.cm_names.specs.Name.{IsName}
 use Rattle.cm_decl.specs.declared.kind.Kind.TheVariants as kind
 use Rattle.cm_decl.specs.declared.origin.Origin.{Origin}
-use Rattle.cm_read.specs.declared.fault.Place.{Place}
+use Rattle.cm_read.specs.declared.fault.ItemPlace.{ItemPlace}
 use Rattle.cm_read.specs.declared.rows.Registry.{Registry}
 use Rattle.cm_read.specs.declared.rows.Registry.TheVariants.{Runners, Debug}
 use Rattle.cm_read.specs.Numbers.{wrong_type}
-use Rattle.cm_read.specs.Reading.{Read, bad}
+use Rattle.cm_read.specs.Reading.{ReadResult, bad}
 use Rattle.cm_read.specs.Fields.{object_at, known_at}
 use Rattle.cm_read.specs.Words.{extends_at}
 use Rattle.cm_read.specs.Environments.{registry_word, registration_fields, runner_names_at, registration_names_at}
@@ -25,11 +25,11 @@ use Rattle.cm_read.proofs.reading.RowsRead.{item_names_reads, as_reads, target_i
 
 -- ---- what is read
 
-runner_names_reads : (at : Place) (d : Data) → Reads (All IsName) (runner_names_at at d)
+runner_names_reads : (at : ItemPlace) (d : Data) → Reads (All IsName) (runner_names_at at d)
 unfolding runner_names_at
 runner_names_reads at d = next (name_reads at (codes "runner") d) (λ name n. gives (one_row IsName name n))
 
-registration_names_reads : (which : Registry) (at : Place) (d : Data) → Reads (All IsName) (registration_names_at which at d)
+registration_names_reads : (which : Registry) (at : ItemPlace) (d : Data) → Reads (All IsName) (registration_names_at which at d)
 registration_names_reads Runners at d = runner_names_reads at d
 registration_names_reads Debug at d = item_names_reads kind.Protocol at d
 
@@ -39,7 +39,7 @@ registrations_are from target names f t ns =
     all_mapped IsName IsRegistration (registration from target) names
     (λ name n. record { name = n; from = f; target = target_is_name target name t n }) ns
 
-registration_reads : (which : Registry) (at : Place) (d : Data) → Reads (All IsRegistration) (registration_at which at d)
+registration_reads : (which : Registry) (at : ItemPlace) (d : Data) → Reads (All IsRegistration) (registration_at which at d)
 unfolding registration_at registered_at
 registration_reads which at d =
     next (any (object_at at d)) (λ members _.
@@ -49,29 +49,29 @@ registration_reads which at d =
     next (as_reads at names d) (λ target t.
     gives (registrations_are from target names f t ns))))))
 
-registrations_read : (which : Registry) (at : Place) (items : Items) → Reads (All IsRegistration) (registrations_in_at which at items)
+registrations_read : (which : Registry) (at : ItemPlace) (items : Items) → Reads (All IsRegistration) (registrations_in_at which at items)
 registrations_read which at no_items = gives (All-nil IsRegistration)
 registrations_read which at (item d ds) =
     next (registration_reads which at d) (λ first f.
     next (registrations_read which at ds) (λ others o. gives (All-append IsRegistration first others f o)))
 
 -- what is read isn't changed by how its faults are told
-inside_reads : {A : Type 0} {P : A → Type 0} (field : List ℕ) (r : Read A) → Reads P r → Reads P (inside field r)
+inside_reads : {A : Type 0} {P : A → Type 0} (field : List ℕ) (r : ReadResult A) → Reads P r → Reads P (inside field r)
 inside_reads field (Ok x) h = gives h.value
 inside_reads field (Err e) h = fails (in_field field e)
 
-registry_in_reads : (which : Registry) (at : Place) (d : Data) → Reads (All IsRegistration) (registry_in_at which at d)
+registry_in_reads : (which : Registry) (at : ItemPlace) (d : Data) → Reads (All IsRegistration) (registry_in_at which at d)
 unfolding registry_in_at
 registry_in_reads which at d =
     next (any (ok_or (as_array d) (bad at wrong_type (registry_word which)))) (λ items _.
     inside_reads (registry_word which) (registrations_in_at which at items) (registrations_read which at items))
 
-registry_reads : (which : Registry) (at : Place) (d : Data) → Reads (All IsRegistration) (registry_at which at d)
+registry_reads : (which : Registry) (at : ItemPlace) (d : Data) → Reads (All IsRegistration) (registry_at which at d)
 unfolding registry_at
 registry_reads which at d =
     defaulted (get (registry_word which) d) [] (registry_in_at which at) (All-nil IsRegistration) (registry_in_reads which at)
 
-pub environment_item_reads : (at : Place) (d : Data) → Reads (All IsEnvironment) (environment_item_at at d)
+pub environment_item_reads : (at : ItemPlace) (d : Data) → Reads (All IsEnvironment) (environment_item_at at d)
 unfolding environment_item_at environment_row_at
 environment_item_reads at d =
     next (any (object_at at d)) (λ members _.

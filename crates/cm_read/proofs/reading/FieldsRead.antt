@@ -14,7 +14,7 @@ use Rattle.cm_names.proofs.texts.NameLemmas.{faultless_name}
 use Rattle.cm_names.proofs.texts.PathLemmas.{faultless_path, faultless_subdir}
 use Rattle.cm_decl.specs.declared.origin.Origin.{Origin}
 use Rattle.cm_decl.specs.declared.origin.Origin.TheVariants as origin
-use Rattle.cm_read.specs.declared.fault.Place.{Place}
+use Rattle.cm_read.specs.declared.fault.ItemPlace.{ItemPlace}
 use Rattle.cm_read.specs.Numbers.{wrong_type, bad_name, bad_path, unknown_word}
 use Rattle.cm_names.specs.Steps.{◌>>=◌}
 use Rattle.cm_read.specs.Reading.{bad}
@@ -32,27 +32,27 @@ use Rattle.cm_read.specs.Words.{expose_from_at, static_origin_named, static_from
 use Rattle.cm_read.specs.Words.{storage_origin_named, storage_from_at, source_from, use_source_in_at}
 use Rattle.cm_read.specs.Words.{use_source_at, environment_from, environment_in_at, environment_at}
 use Rattle.cm_read.specs.Words.{availability_named, availability_at, child_origin, is_declared, settled}
-use Rattle.cm_read.specs.Readable.{AreRights, IsSubDir, IsOrigin, IsStaticSource, IsStorageSource, ForSomeOf}
+use Rattle.cm_read.specs.Readable.{AreRights, IsSubDir, IsOriginRow, IsStaticSource, IsStorageSource, ForSomeOf}
 use Rattle.cm_read.proofs.reading.ReadLemmas.{Reads, fails, gives, any, next, tested, defaulted, given, unless, Means}
 use Rattle.cm_read.proofs.reading.ReadLemmas.{means, means_nothing, listed_reads, each_reads}
 
 -- ---- names, URLs and paths
 
-pub name_from_reads : (at : Place) (key text : List ℕ) → Reads IsName (name_from at key text)
+pub name_from_reads : (at : ItemPlace) (key text : List ℕ) → Reads IsName (name_from at key text)
 name_from_reads at key text = unless (name_fault text) (bad at bad_name key) text (faultless_name text)
 
-pub name_in_reads : (at : Place) (key : List ℕ) (d : Data) → Reads IsName (name_in_at at key d)
+pub name_in_reads : (at : ItemPlace) (key : List ℕ) (d : Data) → Reads IsName (name_in_at at key d)
 unfolding name_in_at
 name_in_reads at key d = next (any (text_at at key d)) (λ text _. name_from_reads at key text)
 
-pub name_reads : (at : Place) (key : List ℕ) (d : Data) → Reads IsName (name_at at key d)
+pub name_reads : (at : ItemPlace) (key : List ℕ) (d : Data) → Reads IsName (name_at at key d)
 unfolding name_at
 name_reads at key d = next (any (needed_at at key d)) (λ value _. name_in_reads at key value)
 
 abbrev pub IsUrl : List ℕ → Type 0
 IsUrl t = IsTrue (is_url_text t)
 
-pub url_reads : (at : Place) (key : List ℕ) (d : Data) → Reads IsUrl (url_at at key d)
+pub url_reads : (at : ItemPlace) (key : List ℕ) (d : Data) → Reads IsUrl (url_at at key d)
 unfolding url_at
 url_reads at key d =
     next (any (needed_at at key d)) (λ value _. next (any (text_at at key value)) (λ text _. tested (is_url_text text) text (bad at bad_name key) (λ e. e)))
@@ -60,36 +60,36 @@ url_reads at key d =
 abbrev pub IsPath : List ℕ → Type 0
 IsPath t = IsTrue (is_path t)
 
-pub path_in_reads : (at : Place) (key : List ℕ) (d : Data) → Reads IsPath (path_in_at at key d)
+pub path_in_reads : (at : ItemPlace) (key : List ℕ) (d : Data) → Reads IsPath (path_in_at at key d)
 unfolding path_in_at
 path_in_reads at key d =
     next (any (text_at at key d)) (λ text _. unless (path_fault text) (bad at bad_path key) text (faultless_path text))
 
-pub path_reads : (at : Place) (key : List ℕ) (d : Data) → Reads IsPath (path_at at key d)
+pub path_reads : (at : ItemPlace) (key : List ℕ) (d : Data) → Reads IsPath (path_at at key d)
 unfolding path_at
 path_reads at key d = next (any (needed_at at key d)) (λ value _. path_in_reads at key value)
 
-pub subdir_in_reads : (at : Place) (key : List ℕ) (d : Data) → Reads IsSubDir (subdir_in_at at key d)
+pub subdir_in_reads : (at : ItemPlace) (key : List ℕ) (d : Data) → Reads IsSubDir (subdir_in_at at key d)
 unfolding subdir_in_at
 subdir_in_reads at key d =
     next (any (text_at at key d)) (λ text _. unless (subdir_fault text) (bad at bad_path key) text (faultless_subdir text))
 
-pub subdir_reads : (at : Place) (key : List ℕ) (d : Data) → Reads (λ o. ForSomeOf o IsSubDir) (subdir_at at key d)
+pub subdir_reads : (at : ItemPlace) (key : List ℕ) (d : Data) → Reads (λ o. ForSomeOf o IsSubDir) (subdir_at at key d)
 unfolding subdir_at
 subdir_reads at key d = given (get key d) (subdir_in_at at key) (subdir_in_reads at key)
 
 -- ---- names and references
 
-pub names_reads : (at : Place) (key : List ℕ) (d : Data) → Reads (All IsName) (names_at at key d)
+pub names_reads : (at : ItemPlace) (key : List ℕ) (d : Data) → Reads (All IsName) (names_at at key d)
 unfolding names_at
 names_reads at key d =
     next (any (texts_at at key d)) (λ texts _. each_reads IsName (name_from at key) texts (name_from_reads at key))
 
-reference_from_reads : (at : Place) (key text : List ℕ) → Reads IsName (reference_from at key text)
+reference_from_reads : (at : ItemPlace) (key text : List ℕ) → Reads IsName (reference_from at key text)
 reference_from_reads at key text =
     next (any (ok_or (behind_mark text) (bad at unknown_word key))) (λ name _. name_from_reads at key name)
 
-pub references_reads : (at : Place) (key : List ℕ) (d : Data) → Reads (All IsName) (references_at at key d)
+pub references_reads : (at : ItemPlace) (key : List ℕ) (d : Data) → Reads (All IsName) (references_at at key d)
 unfolding references_at
 references_reads at key d =
     next (any (texts_at at key d)) (λ texts _. each_reads IsName (reference_from at key) texts (reference_from_reads at key))
@@ -158,31 +158,31 @@ none_has WriteBytes e = true≢false (sym e)
 some_rights : (r : RightSet) → HasRight r → AreRights r
 some_rights r h e = none_has h.right (ap (λ s. has s h.right) (sym e) ∙ h.here)
 
-with_reads : (at : Place) (key : List ℕ) (s : RightSet) (others : Result RightSet RightsFault) → HasRight s → Reads AreRights (rights_from at key (with_rights s others))
+with_reads : (at : ItemPlace) (key : List ℕ) (s : RightSet) (others : Result RightSet RightsFault) → HasRight s → Reads AreRights (rights_from at key (with_rights s others))
 with_reads at key s (Ok q) h = gives (some_rights (union s q) (record { right = h.right; here = union_has s q h.right h.here }))
 with_reads at key s (Err e) h = fails _
 
-first_reads : (at : Place) (key w : List ℕ) (o : Option RightSet) (others : Result RightSet RightsFault) → IfSome o HasRight → Reads AreRights (rights_from at key (with_word [] w o others))
+first_reads : (at : ItemPlace) (key w : List ℕ) (o : Option RightSet) (others : Result RightSet RightsFault) → IfSome o HasRight → Reads AreRights (rights_from at key (with_word [] w o others))
 first_reads at key w None others h = fails _
 first_reads at key w (Some s) others h = with_reads at key s others h
 
-rights_from_reads : (at : Place) (key : List ℕ) (words : List (List ℕ)) → Reads AreRights (rights_from at key (rights_of words))
+rights_from_reads : (at : ItemPlace) (key : List ℕ) (words : List (List ℕ)) → Reads AreRights (rights_from at key (rights_of words))
 unfolding rights_of
 rights_from_reads at key [] = fails _
 rights_from_reads at key (w ∷ ws) = first_reads at key w (rights_of_word w) (rights_behind (w ∷ []) ws) (word_means w).value
 
-pub rights_in_reads : (at : Place) (key : List ℕ) (d : Data) → Reads AreRights (rights_in_at at key d)
+pub rights_in_reads : (at : ItemPlace) (key : List ℕ) (d : Data) → Reads AreRights (rights_in_at at key d)
 unfolding rights_in_at
 rights_in_reads at key d =
     next (any (ok_or (as_array d) (bad at wrong_type key))) (λ items _. next (any (texts_in_at at key items)) (λ words _. rights_from_reads at key words))
 
-pub rights_reads : (at : Place) (key : List ℕ) (d : Data) → Reads AreRights (rights_at at key d)
+pub rights_reads : (at : ItemPlace) (key : List ℕ) (d : Data) → Reads AreRights (rights_at at key d)
 unfolding rights_at
 rights_reads at key d = next (any (needed_at at key d)) (λ value _. rights_in_reads at key value)
 
 -- ---- origins
 
-use_named : (t : List ℕ) → Means (IsOrigin true false) (use_origin_named t)
+use_named : (t : List ℕ) → Means (IsOriginRow true false) (use_origin_named t)
 unfolding use_origin_named
 use_named t =
     means (bytes_eq t (codes "parent")) origin.Parent refl
@@ -190,7 +190,7 @@ use_named t =
     (means (bytes_eq t (codes "framework")) origin.Framework tt
     means_nothing))
 
-expose_named : (parent : Bool) (t : List ℕ) → Means (IsOrigin parent true) (expose_origin_named t)
+expose_named : (parent : Bool) (t : List ℕ) → Means (IsOriginRow parent true) (expose_origin_named t)
 unfolding expose_origin_named
 expose_named parent t =
     means (bytes_eq t (codes "self")) origin.Own tt
@@ -198,65 +198,65 @@ expose_named parent t =
     (means (bytes_eq t (codes "void")) origin.Void refl
     means_nothing))
 
-offer_named : (t : List ℕ) → Means (IsOrigin true true) (offer_origin_named t)
+offer_named : (t : List ℕ) → Means (IsOriginRow true true) (offer_origin_named t)
 unfolding offer_origin_named
 offer_named t = means (bytes_eq t (codes "parent")) origin.Parent refl (expose_named true t)
 
-origin_reads : (P : Origin → Type 0) (at : Place) (named : Option Origin) (name : Option (List ℕ))
+origin_reads : (P : Origin → Type 0) (at : ItemPlace) (named : Option Origin) (name : Option (List ℕ))
     → ((n : List ℕ) → IsName n → P (child_origin n)) → IfSome named P → Reads P (origin_from at named name)
 origin_reads P at named (Some name) c h = next (name_from_reads at (codes "from") name) (λ child n. gives (c child n))
 origin_reads P at None None c h = fails _
 origin_reads P at (Some o) None c h = gives h
 
-a_child : (parent void : Bool) (n : List ℕ) → IsName n → IsOrigin parent void (child_origin n)
+a_child : (parent void : Bool) (n : List ℕ) → IsName n → IsOriginRow parent void (child_origin n)
 a_child parent void n h = (refl, h)
 
-use_from_in_reads : (at : Place) (d : Data) → Reads (IsOrigin true false) (use_from_in_at at d)
+use_from_in_reads : (at : ItemPlace) (d : Data) → Reads (IsOriginRow true false) (use_from_in_at at d)
 unfolding use_from_in_at
 use_from_in_reads at d =
-    next (any (text_at at (codes "from") d)) (λ text _. origin_reads (IsOrigin true false) at (use_origin_named text) (behind_mark text) (a_child true false) (use_named text).value)
+    next (any (text_at at (codes "from") d)) (λ text _. origin_reads (IsOriginRow true false) at (use_origin_named text) (behind_mark text) (a_child true false) (use_named text).value)
 
-offer_from_in_reads : (at : Place) (d : Data) → Reads (IsOrigin true true) (offer_from_in_at at d)
+offer_from_in_reads : (at : ItemPlace) (d : Data) → Reads (IsOriginRow true true) (offer_from_in_at at d)
 unfolding offer_from_in_at
 offer_from_in_reads at d =
-    next (any (text_at at (codes "from") d)) (λ text _. origin_reads (IsOrigin true true) at (offer_origin_named text) (behind_mark text) (a_child true true) (offer_named text).value)
+    next (any (text_at at (codes "from") d)) (λ text _. origin_reads (IsOriginRow true true) at (offer_origin_named text) (behind_mark text) (a_child true true) (offer_named text).value)
 
-expose_from_in_reads : (at : Place) (d : Data) → Reads (IsOrigin false true) (expose_from_in_at at d)
+expose_from_in_reads : (at : ItemPlace) (d : Data) → Reads (IsOriginRow false true) (expose_from_in_at at d)
 unfolding expose_from_in_at
 expose_from_in_reads at d =
-    next (any (text_at at (codes "from") d)) (λ text _. origin_reads (IsOrigin false true) at (expose_origin_named text) (behind_mark text) (a_child false true) (expose_named false text).value)
+    next (any (text_at at (codes "from") d)) (λ text _. origin_reads (IsOriginRow false true) at (expose_origin_named text) (behind_mark text) (a_child false true) (expose_named false text).value)
 
-pub use_from_reads : (at : Place) (d : Data) → Reads (IsOrigin true false) (use_from_at at d)
+pub use_from_reads : (at : ItemPlace) (d : Data) → Reads (IsOriginRow true false) (use_from_at at d)
 unfolding use_from_at
 use_from_reads at d = defaulted (get (codes "from") d) origin.Parent (use_from_in_at at) refl (use_from_in_reads at)
 
-pub offer_from_reads : (at : Place) (d : Data) → Reads (IsOrigin true true) (offer_from_at at d)
+pub offer_from_reads : (at : ItemPlace) (d : Data) → Reads (IsOriginRow true true) (offer_from_at at d)
 unfolding offer_from_at
 offer_from_reads at d = next (any (needed_at at (codes "from") d)) (λ value _. offer_from_in_reads at value)
 
-pub expose_from_reads : (at : Place) (d : Data) → Reads (IsOrigin false true) (expose_from_at at d)
+pub expose_from_reads : (at : ItemPlace) (d : Data) → Reads (IsOriginRow false true) (expose_from_at at d)
 unfolding expose_from_at
 expose_from_reads at d = next (any (needed_at at (codes "from") d)) (λ value _. expose_from_in_reads at value)
 
 -- where a protocol that is used comes from
 abbrev pub IsUseSource : UseSource → Type 0
-IsUseSource (source.From o) = IsOrigin true false o
+IsUseSource (source.From o) = IsOriginRow true false o
 IsUseSource source.Debug = Unit {0}
 
-source_reads : (at : Place) (text : List ℕ) → Reads IsUseSource (source_from at text)
+source_reads : (at : ItemPlace) (text : List ℕ) → Reads IsUseSource (source_from at text)
 source_reads at text = by (bytes_eq text (codes "debug"))
   where
     by : (b : Bool) → Reads IsUseSource (if b then Ok source.Debug else (origin_from at (use_origin_named text) (behind_mark text) >>= λ from. Ok (source.From from)))
     by true = gives tt
     by false =
-        next (origin_reads (IsOrigin true false) at (use_origin_named text) (behind_mark text) (a_child true false) (use_named text).value)
+        next (origin_reads (IsOriginRow true false) at (use_origin_named text) (behind_mark text) (a_child true false) (use_named text).value)
         (λ from f. gives f)
 
-use_source_in_reads : (at : Place) (d : Data) → Reads IsUseSource (use_source_in_at at d)
+use_source_in_reads : (at : ItemPlace) (d : Data) → Reads IsUseSource (use_source_in_at at d)
 unfolding use_source_in_at
 use_source_in_reads at d = next (any (text_at at (codes "from") d)) (λ text _. source_reads at text)
 
-pub use_source_reads : (at : Place) (d : Data) → Reads IsUseSource (use_source_at at d)
+pub use_source_reads : (at : ItemPlace) (d : Data) → Reads IsUseSource (use_source_at at d)
 unfolding use_source_at
 use_source_reads at d =
     defaulted (get (codes "from") d) (source.From origin.Parent) (use_source_in_at at) refl (use_source_in_reads at)
@@ -268,13 +268,13 @@ static_named t =
     (means (bytes_eq t (codes "self")) origin.Own tt
     means_nothing)
 
-static_from_in_reads : (at : Place) (d : Data) → Reads IsStaticSource (static_from_in_at at d)
+static_from_in_reads : (at : ItemPlace) (d : Data) → Reads IsStaticSource (static_from_in_at at d)
 unfolding static_from_in_at
 static_from_in_reads at d =
     next (any (text_at at (codes "from") d)) (λ text _.
     origin_reads IsStaticSource at (static_origin_named text) (behind_mark text) (λ n h. (refl, h)) (static_named text).value)
 
-pub static_from_reads : (at : Place) (d : Data) → Reads IsStaticSource (static_from_at at d)
+pub static_from_reads : (at : ItemPlace) (d : Data) → Reads IsStaticSource (static_from_at at d)
 unfolding static_from_at
 static_from_reads at d = next (any (needed_at at (codes "from") d)) (λ value _. static_from_in_reads at value)
 
@@ -290,21 +290,21 @@ storage_named : (t : List ℕ) → Means IsStorageSource (storage_origin_named t
 unfolding storage_origin_named
 storage_named t = means (bytes_eq t (codes "void")) origin.Void tt (bare_named t)
 
-pub storage_from_reads : (at : Place) (d : Data) → Reads IsStorageSource (storage_from_at at d)
+pub storage_from_reads : (at : ItemPlace) (d : Data) → Reads IsStorageSource (storage_from_at at d)
 unfolding storage_from_at
 storage_from_reads at d =
     next (any (needed_at at (codes "from") d)) (λ value _. listed_reads storage_origin_named at (codes "from") value storage_named)
 
 -- where the source may be missing, void may stand in its place
-pub settled_is : (parent : Bool) (children : List Child) (unknown : Bool) (o : Origin) → IsOrigin parent true o
-    → IsOrigin parent true (settled children unknown o)
+pub settled_is : (parent : Bool) (children : List Child) (unknown : Bool) (o : Origin) → IsOriginRow parent true o
+    → IsOriginRow parent true (settled children unknown o)
 settled_is parent children unknown origin.Parent h = h
 settled_is parent children unknown origin.Own h = h
 settled_is parent children unknown origin.Framework h = h
 settled_is parent children unknown origin.Void h = h
 settled_is parent children unknown (origin.Child c) h = by (unknown && not (is_declared children c))
   where
-    by : (b : Bool) → IsOrigin parent true (if b then origin.Void else origin.Child c)
+    by : (b : Bool) → IsOriginRow parent true (if b then origin.Void else origin.Child c)
     by true = refl
     by false = h
 
@@ -328,7 +328,7 @@ stated_named t =
     means_nothing))
 
 -- no word of a use takes over what its target says
-pub availability_reads : (at : Place) (d : Data) → Reads (λ a. a ≢ SameAsTarget) (availability_at at d)
+pub availability_reads : (at : ItemPlace) (d : Data) → Reads (λ a. a ≢ SameAsTarget) (availability_at at d)
 unfolding availability_at
 availability_reads at d =
     defaulted (get (codes "availability") d) Required _ required_is_stated
@@ -336,15 +336,15 @@ availability_reads at d =
 
 -- ---- environments
 
-environment_from_reads : (at : Place) (o : Option (List ℕ)) → Reads IsName (environment_from at o)
+environment_from_reads : (at : ItemPlace) (o : Option (List ℕ)) → Reads IsName (environment_from at o)
 environment_from_reads at None = fails _
 environment_from_reads at (Some name) = name_from_reads at (codes "environment") name
 
-environment_in_reads : (at : Place) (d : Data) → Reads IsName (environment_in_at at d)
+environment_in_reads : (at : ItemPlace) (d : Data) → Reads IsName (environment_in_at at d)
 unfolding environment_in_at
 environment_in_reads at d =
     next (any (text_at at (codes "environment") d)) (λ text _. environment_from_reads at (behind_mark text))
 
-pub environment_reads : (at : Place) (d : Data) → Reads (λ o. ForSomeOf o IsName) (environment_at at d)
+pub environment_reads : (at : ItemPlace) (d : Data) → Reads (λ o. ForSomeOf o IsName) (environment_at at d)
 unfolding environment_at
 environment_reads at d = given (get (codes "environment") d) (environment_in_at at) (environment_in_reads at)

@@ -5,7 +5,8 @@ use Rattle.std.specs.Str.{bytes_eq}
 use Rattle.std.specs.declared.alloc.Global.{Global}
 use Rattle.serde_json.specs.declared.value.Value.{Value}
 use Rattle.serde_json.specs.View.{members_view}
-use Rattle.cm_read.specs.Fields.{unknown_in, map_now}
+use Rattle.cm_read.specs.Fields.{unknown_in}
+use Rattle.cm_read.specs.FieldsInside.{map_now}
 
 list_any_map : {A B : Type 0} (f : A → B) (p : B → Bool) (xs : List A) → list_any p (map f xs) ≡ list_any (λ x. p (f x)) xs
 list_any_map f p [] = refl

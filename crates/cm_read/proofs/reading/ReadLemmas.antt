@@ -5,11 +5,11 @@ use Rattle.std.specs.List.{flat_map}
 use Rattle.std.specs.List.{cons_option}
 use Rattle.std.proofs.lemmas.List.Elements.{All-nil, All-cons, All-append}
 use Rattle.serde_json.specs.Data.{Data}
-use Rattle.cm_read.specs.declared.fault.Place.{Place}
+use Rattle.cm_read.specs.declared.fault.ItemPlace.{ItemPlace}
 use Rattle.cm_read.specs.declared.fault.ReadFault.{ReadFault}
 use Rattle.cm_read.specs.Numbers.{not_with_many, unknown_word}
 use Rattle.cm_names.specs.Steps.{◌>>=◌}
-use Rattle.cm_read.specs.Reading.{Read, bad}
+use Rattle.cm_read.specs.Reading.{ReadResult, bad}
 use Rattle.cm_read.specs.Fields.{or_default, if_there, unless_fault, each, text_at, listed_at}
 use Rattle.cm_read.specs.Items.{alone}
 use Rattle.cm_read.specs.Readable.{ForSomeOf}
@@ -17,7 +17,7 @@ use Rattle.cm_read.specs.Readable.{ForSomeOf}
 -- ---- what is read
 
 -- what is read, if there is no fault, has the property
-pub record Reads {A : Type 0} (P : A → Type 0) (r : Read A) : Type 0 where
+pub record Reads {A : Type 0} (P : A → Type 0) (r : ReadResult A) : Type 0 where
   pub value : IfOk r P
 
 pub fails : {A : Type 0} {P : A → Type 0} (e : ReadFault) → Reads P (Err e)
@@ -27,20 +27,20 @@ pub gives : {A : Type 0} {P : A → Type 0} {x : A} → P x → Reads P (Ok x)
 gives h = record { value = h }
 
 -- nothing is said of the value
-pub any : {A : Type 0} (r : Read A) → Reads (λ (x : A). Unit {0}) r
+pub any : {A : Type 0} (r : ReadResult A) → Reads (λ (x : A). Unit {0}) r
 any (Ok x) = record { value = tt }
 any (Err e) = record { value = tt }
 
 -- the value is the one that is read
-pub exact : {A : Type 0} (r : Read A) → Reads (λ (x : A). r ≡ Ok x) r
+pub exact : {A : Type 0} (r : ReadResult A) → Reads (λ (x : A). r ≡ Ok x) r
 exact (Ok x) = record { value = refl }
 exact (Err e) = record { value = tt }
 
 -- reading goes on with a value that has the property
-pub next : {A B : Type 0} {P : A → Type 0} {Q : B → Type 0} {r : Read A} {f : A → Read B} → Reads P r → ((x : A) → P x → Reads Q (f x)) → Reads Q (r >>= f)
+pub next : {A B : Type 0} {P : A → Type 0} {Q : B → Type 0} {r : ReadResult A} {f : A → ReadResult B} → Reads P r → ((x : A) → P x → Reads Q (f x)) → Reads Q (r >>= f)
 next {A} {B} {P} {Q} {r} {f} g h = by r g.value
   where
-    by : (s : Read A) → IfOk s P → Reads Q (s >>= f)
+    by : (s : ReadResult A) → IfOk s P → Reads Q (s >>= f)
     by (Ok x) p = h x p
     by (Err e) p = fails e
 
@@ -50,14 +50,14 @@ tested false x e h = fails e
 
 -- ---- fields
 
-pub defaulted : {A : Type 0} {P : A → Type 0} (o : Option Data) (default : A) (read : Data → Read A) → P default → ((d : Data) → Reads P (read d)) → Reads P (or_default o default read)
+pub defaulted : {A : Type 0} {P : A → Type 0} (o : Option Data) (default : A) (read : Data → ReadResult A) → P default → ((d : Data) → Reads P (read d)) → Reads P (or_default o default read)
 defaulted None default read h f = gives h
 defaulted (Some d) default read h f = f d
 
 given_is : {A : Type 0} {P : A → Type 0} (x : A) → P x → Reads (λ o. ForSomeOf o P) (Ok (Some x))
 given_is x p = gives p
 
-pub given : {A : Type 0} {P : A → Type 0} (o : Option Data) (read : Data → Read A) → ((d : Data) → Reads P (read d)) → Reads (λ x. ForSomeOf x P) (if_there o read)
+pub given : {A : Type 0} {P : A → Type 0} (o : Option Data) (read : Data → ReadResult A) → ((d : Data) → Reads P (read d)) → Reads (λ x. ForSomeOf x P) (if_there o read)
 given None read f = gives tt
 given {A} {P} (Some d) read f = next (f d) (λ x p. given_is {A = A} {P = P} x p)
 
@@ -65,7 +65,7 @@ pub unless : {A F : Type 0} {P : A → Type 0} (o : Option F) (e : ReadFault) (x
 unless None e x h = gives (h refl)
 unless (Some f) e x h = fails e
 
-pub alone_reads : {A : Type 0} {P : A → Type 0} (at : Place) (key : List ℕ) (names : List (List ℕ)) (x : A) → P x → Reads P (alone at key names x)
+pub alone_reads : {A : Type 0} {P : A → Type 0} (at : ItemPlace) (key : List ℕ) (names : List (List ℕ)) (x : A) → P x → Reads P (alone at key names x)
 alone_reads {A} {P} at key names x p = by (nat_lt 1 (length names))
   where
     by : (b : Bool) → Reads P (if b then Err (bad at not_with_many key) else Ok x)
@@ -89,7 +89,7 @@ pub meant : {A : Type 0} {P : A → Type 0} (o : Option A) (e : ReadFault) → M
 meant None e h = fails e
 meant (Some x) e h = gives h.value
 
-pub listed_reads : {A : Type 0} {P : A → Type 0} (meaning : List ℕ → Option A) (at : Place) (key : List ℕ) (d : Data)
+pub listed_reads : {A : Type 0} {P : A → Type 0} (meaning : List ℕ → Option A) (at : ItemPlace) (key : List ℕ) (d : Data)
     → ((t : List ℕ) → Means P (meaning t)) → Reads P (listed_at meaning at key d)
 listed_reads meaning at key d h =
     next (any (text_at at key d)) (λ text _. meant (meaning text) (bad at unknown_word key) (h text))
@@ -121,6 +121,6 @@ all_in_turn P Q f [] h ps = All-nil Q
 all_in_turn P Q f (x ∷ xs) h ps =
     All-append Q (f x) (flat_map f xs) (h x (ps 0 x (omega arith))) (all_in_turn P Q f xs h (λ k d lt. ps (suc k) d (omega arith)))
 
-pub each_reads : {A : Type 0} (P : A → Type 0) (read : List ℕ → Read A) (ts : List (List ℕ)) → ((t : List ℕ) → Reads P (read t)) → Reads (All P) (each read ts)
+pub each_reads : {A : Type 0} (P : A → Type 0) (read : List ℕ → ReadResult A) (ts : List (List ℕ)) → ((t : List ℕ) → Reads P (read t)) → Reads (All P) (each read ts)
 each_reads P read [] h = gives (All-nil P)
 each_reads P read (t ∷ ts) h = next (h t) (λ x p. next (each_reads P read ts h) (λ xs ps. gives (All-cons P x xs p ps)))

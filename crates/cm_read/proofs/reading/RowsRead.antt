@@ -17,9 +17,9 @@ use Rattle.cm_names.proofs.texts.PathLemmas.{service_is_path}
 use Rattle.cm_decl.specs.Words.{kind_word}
 use Rattle.cm_decl.specs.declared.kind.Kind.{Kind}
 use Rattle.cm_decl.specs.declared.kind.Kind.TheVariants as kind
-use Rattle.cm_read.specs.declared.fault.Place.{Place}
+use Rattle.cm_read.specs.declared.fault.ItemPlace.{ItemPlace}
 use Rattle.cm_read.specs.declared.rows.Terms.{Terms}
-use Rattle.cm_read.specs.Reading.{Read}
+use Rattle.cm_read.specs.Reading.{ReadResult}
 use Rattle.cm_read.specs.Fields.{needed_at, if_there, object_at, no_unknown, known_at, unknown_in, subdir_in_at, subdir_at, rights_in_at}
 use Rattle.cm_decl.specs.declared.rows.Child.{Child}
 use Rattle.cm_decl.specs.declared.origin.Origin.{Origin}
@@ -53,8 +53,8 @@ use Rattle.cm_read.specs.Items.{storage_offer_rows, storage_offer_at, offer_of_s
 use Rattle.cm_read.specs.Items.{expose_at, capability_in, storage_in, usage_in, debug_use_in, storage_use_in}
 use Rattle.cm_read.specs.Items.{offer_in, storage_offer_in, child_row_at, collection_row_at}
 use Rattle.cm_read.specs.Items.{protocols_used_at, offered_at, storages_offered_at, exposed_at}
-use Rattle.cm_read.specs.Readable.{AreRights, IsSubDir, IsOrigin, IsStorageSource, ForSomeOf}
-use Rattle.cm_read.specs.Readable.{MayHave, IsChild, IsCollection, IsCapability, IsUsage, IsGive, IsOffer}
+use Rattle.cm_read.specs.Readable.{AreRights, IsSubDir, IsOriginRow, IsStorageSource, ForSomeOf}
+use Rattle.cm_read.specs.Readable.{MayHave, IsChildRow, IsCollection, IsCapability, IsUsage, IsGiveRow, IsOffer}
 use Rattle.cm_read.specs.Readable.{IsExpose, IsDebugUse, IsStorage, IsStorageUse, IsStorageOffer}
 use Rattle.cm_read.proofs.reading.ReadLemmas.{Reads, gives, any, exact, next, given, alone_reads, one_row, all_mapped}
 use Rattle.cm_read.proofs.reading.ReadLemmas.{all_in_turn}
@@ -66,7 +66,7 @@ use Rattle.cm_read.proofs.reading.FieldsRead.{storage_from_reads, settled_is, av
 
 -- ---- children and collections
 
-pub child_reads : (at : Place) (d : Data) → Reads (All IsChild) (child_at at d)
+pub child_reads : (at : ItemPlace) (d : Data) → Reads (All IsChildRow) (child_at at d)
 unfolding child_at child_row_at
 child_reads at d =
     next (any (object_at at d)) (λ members _.
@@ -75,10 +75,10 @@ child_reads at d =
     next (url_reads at (codes "url") d) (λ url u.
     next (any (startup_at at d)) (λ eager _.
     next (environment_reads at d) (λ environment e.
-    gives (one_row IsChild (record { name = name; url = url; eager = eager; environment = environment })
+    gives (one_row IsChildRow (record { name = name; url = url; eager = eager; environment = environment })
     (record { name = n; url = u; environment = e }))))))))
 
-pub collection_reads : (at : Place) (d : Data) → Reads (All IsCollection) (collection_at at d)
+pub collection_reads : (at : ItemPlace) (d : Data) → Reads (All IsCollection) (collection_at at d)
 unfolding collection_at collection_row_at
 collection_reads at d =
     next (any (object_at at d)) (λ members _.
@@ -93,33 +93,33 @@ collection_reads at d =
 
 -- ---- names and paths
 
-pub item_names_reads : (k : Kind) (at : Place) (d : Data) → Reads (All IsName) (item_names_at k at d)
+pub item_names_reads : (k : Kind) (at : ItemPlace) (d : Data) → Reads (All IsName) (item_names_at k at d)
 unfolding item_names_at
 item_names_reads k at d = next (any (needed_at at (kind_word k) d)) (λ value _. names_reads at (kind_word k) value)
 
-storage_name_reads : (at : Place) (d : Data) → Reads IsName (storage_name_at at d)
+storage_name_reads : (at : ItemPlace) (d : Data) → Reads IsName (storage_name_at at d)
 unfolding storage_name_at
 storage_name_reads at d = name_reads at (codes "storage") d
 
-backing_reads : (at : Place) (d : Data) → Reads IsName (backing_at at d)
+backing_reads : (at : ItemPlace) (d : Data) → Reads IsName (backing_at at d)
 unfolding backing_at
 backing_reads at d = name_reads at (codes "backing_dir") d
 
-storage_names_reads : (at : Place) (d : Data) → Reads (All IsName) (storage_names_at at d)
+storage_names_reads : (at : ItemPlace) (d : Data) → Reads (All IsName) (storage_names_at at d)
 unfolding storage_names_at
 storage_names_reads at d =
     next (any (needed_at at (codes "storage") d)) (λ value _. names_reads at (codes "storage") value)
 
-directory_name_reads : (at : Place) (d : Data) → Reads IsName (directory_name_at at d)
+directory_name_reads : (at : ItemPlace) (d : Data) → Reads IsName (directory_name_at at d)
 unfolding directory_name_at
 directory_name_reads at d = name_reads at (codes "directory") d
 
-protocol_path_in_reads : (at : Place) (names : List (List ℕ)) (d : Data) → Reads IsPath (protocol_path_in_at at names d)
+protocol_path_in_reads : (at : ItemPlace) (names : List (List ℕ)) (d : Data) → Reads IsPath (protocol_path_in_at at names d)
 unfolding protocol_path_in_at
 protocol_path_in_reads at names d =
     next (path_in_reads at (codes "path") d) (λ path p. alone_reads at (codes "path") names path p)
 
-protocol_path_reads : (at : Place) (names : List (List ℕ)) (d : Data) → Reads (λ o. ForSomeOf o IsPath) (protocol_path_at at names d)
+protocol_path_reads : (at : ItemPlace) (names : List (List ℕ)) (d : Data) → Reads (λ o. ForSomeOf o IsPath) (protocol_path_at at names d)
 unfolding protocol_path_at
 protocol_path_reads at names d =
     given (get (codes "path") d) (protocol_path_in_at at names) (protocol_path_in_reads at names)
@@ -138,7 +138,7 @@ protocol_is_row : (path : Option (List ℕ)) (name : List ℕ) → ForSomeOf pat
     → IsCapabilityRow (protocol_capability_row path name)
 protocol_is_row path name p n = (record { name = n; path = path_is_path path name p n; rights = refl }, tt)
 
-protocol_capability_reads : (at : Place) (d : Data) → Reads (All IsCapabilityRow) (protocol_capability_at at d)
+protocol_capability_reads : (at : ItemPlace) (d : Data) → Reads (All IsCapabilityRow) (protocol_capability_at at d)
 unfolding protocol_capability_at
 protocol_capability_reads at d =
     next (item_names_reads kind.Protocol at d) (λ names ns.
@@ -146,7 +146,7 @@ protocol_capability_reads at d =
     gives (all_mapped IsName IsCapabilityRow (protocol_capability_row path) names
     (λ name n. protocol_is_row path name p n) ns)))
 
-directory_capability_reads : (at : Place) (d : Data) → Reads (All IsCapabilityRow) (directory_capability_at at d)
+directory_capability_reads : (at : ItemPlace) (d : Data) → Reads (All IsCapabilityRow) (directory_capability_at at d)
 unfolding directory_capability_at
 directory_capability_reads at d =
     next (directory_name_reads at d) (λ name n.
@@ -156,7 +156,7 @@ directory_capability_reads at d =
     (capability_row.Capability (record { kind = kind.Directory; name = name; path = path; rights = Some rights }))
     (record { name = n; path = p; rights = r }, tt)))))
 
-storage_reads : (at : Place) (d : Data) → Reads (All IsCapabilityRow) (storage_at at d)
+storage_reads : (at : ItemPlace) (d : Data) → Reads (All IsCapabilityRow) (storage_at at d)
 unfolding storage_at
 storage_reads at d =
     next (storage_name_reads at d) (λ name n.
@@ -168,12 +168,12 @@ storage_reads at d =
     (capability_row.Storage (record { name = name; from = from; backing = backing; subdir = subdir; by_moniker = by_moniker }))
     (tt, record { name = n; from = f; backing = b; subdir = s })))))))
 
-capability_of_sort_reads : (s : Sort) (at : Place) (d : Data) → Reads (All IsCapabilityRow) (capability_of_sort s at d)
+capability_of_sort_reads : (s : Sort) (at : ItemPlace) (d : Data) → Reads (All IsCapabilityRow) (capability_of_sort s at d)
 capability_of_sort_reads (sort.Routed kind.Protocol) at d = protocol_capability_reads at d
 capability_of_sort_reads (sort.Routed kind.Directory) at d = directory_capability_reads at d
 capability_of_sort_reads sort.Storage at d = storage_reads at d
 
-pub capability_reads : (at : Place) (d : Data) → Reads (All IsCapabilityRow) (capability_at at d)
+pub capability_reads : (at : ItemPlace) (d : Data) → Reads (All IsCapabilityRow) (capability_at at d)
 unfolding capability_at
 capability_reads at d =
     next (any (object_at at d)) (λ members _.
@@ -196,7 +196,7 @@ protocol_is_use (source.From from) path dependency a name f p s n =
 protocol_is_use source.Debug path dependency a name f p s n =
     (tt, (record { name = n; path = path_is_path path name p n }, tt))
 
-protocol_use_reads : (at : Place) (d : Data) → Reads (All IsUseRow) (protocol_use_at at d)
+protocol_use_reads : (at : ItemPlace) (d : Data) → Reads (All IsUseRow) (protocol_use_at at d)
 unfolding protocol_use_at protocols_used_at
 protocol_use_reads at d =
     next (item_names_reads kind.Protocol at d) (λ names ns.
@@ -207,7 +207,7 @@ protocol_use_reads at d =
     gives (all_mapped IsName IsUseRow (protocol_use_row from path dependency availability) names
     (λ name n. protocol_is_use from path dependency availability name f p a n) ns))))))
 
-directory_use_reads : (at : Place) (d : Data) → Reads (All IsUseRow) (directory_use_at at d)
+directory_use_reads : (at : ItemPlace) (d : Data) → Reads (All IsUseRow) (directory_use_at at d)
 unfolding directory_use_at
 directory_use_reads at d =
     next (directory_name_reads at d) (λ name n.
@@ -220,7 +220,7 @@ directory_use_reads at d =
     gives (one_row IsUseRow (use_row.Usage (record { kind = kind.Directory; name = name; from = from; path = path; rights = Some rights; subdir = subdir; dependency = dependency; availability = availability }))
     (record { name = n; from = f; path = p; rights = r; subdir = s; availability = a }, (tt, tt))))))))))
 
-storage_use_reads : (at : Place) (d : Data) → Reads (All IsUseRow) (storage_use_at at d)
+storage_use_reads : (at : ItemPlace) (d : Data) → Reads (All IsUseRow) (storage_use_at at d)
 unfolding storage_use_at
 storage_use_reads at d =
     next (storage_name_reads at d) (λ name n.
@@ -229,12 +229,12 @@ storage_use_reads at d =
     next (availability_reads at d) (λ availability _.
     gives (one_row IsUseRow (use_row.Storage (record { name = name; path = path })) (tt, (tt, record { name = n; path = p })))))))
 
-use_of_sort_reads : (s : Sort) (at : Place) (d : Data) → Reads (All IsUseRow) (use_of_sort s at d)
+use_of_sort_reads : (s : Sort) (at : ItemPlace) (d : Data) → Reads (All IsUseRow) (use_of_sort s at d)
 use_of_sort_reads (sort.Routed kind.Protocol) at d = protocol_use_reads at d
 use_of_sort_reads (sort.Routed kind.Directory) at d = directory_use_reads at d
 use_of_sort_reads sort.Storage at d = storage_use_reads at d
 
-pub use_reads : (at : Place) (d : Data) → Reads (All IsUseRow) (use_at at d)
+pub use_reads : (at : ItemPlace) (d : Data) → Reads (All IsUseRow) (use_at at d)
 unfolding use_at
 use_reads at d =
     next (any (object_at at d)) (λ members _.
@@ -262,11 +262,11 @@ no_member known k (member l d ms) out e = by (list_any (λ w. bytes_eq w l) know
     by true here f others = compared (slice_cmp nat_cmp k l) refl here (others f)
     by false here f others = absurd (true≢false (ap is_some f))
 
-none_unknown : (at : Place) (o : Option (List ℕ)) (u : Unit {0}) → no_unknown at o ≡ Ok u → o ≡ None
+none_unknown : (at : ItemPlace) (o : Option (List ℕ)) (u : Unit {0}) → no_unknown at o ≡ Ok u → o ≡ None
 none_unknown at None u e = refl
 none_unknown at (Some k) u e = cc
 
-no_field : (at : Place) (d : Data) (all : Members) (known : List (List ℕ)) (k : List ℕ) (u : Unit {0}) → list_any (λ w. bytes_eq w k) known ≡ false → object_at at d ≡ Ok all → known_at at known all ≡ Ok u → get k d ≡ None
+no_field : (at : ItemPlace) (d : Data) (all : Members) (known : List (List ℕ)) (k : List ℕ) (u : Unit {0}) → list_any (λ w. bytes_eq w k) known ≡ false → object_at at d ≡ Ok all → known_at at known all ≡ Ok u → get k d ≡ None
 no_field at null all known k u out o e = refl
 no_field at (boolean b) all known k u out o e = refl
 no_field at (number n) all known k u out o e = refl
@@ -279,7 +279,7 @@ no_field at (object ms) all known k u out o e =
 -- ---- what offers and exposes have in common
 
 -- a field that a protocol has not
-may_have : {A : Type 0} {P : A → Type 0} (k : Kind) (o : Option Data) (read : Data → Read A) → (k ≡ kind.Protocol → o ≡ None) → ((d : Data) → Reads P (read d)) → Reads (λ x. MayHave k x P) (if_there o read)
+may_have : {A : Type 0} {P : A → Type 0} (k : Kind) (o : Option Data) (read : Data → ReadResult A) → (k ≡ kind.Protocol → o ≡ None) → ((d : Data) → Reads P (read d)) → Reads (λ x. MayHave k x P) (if_there o read)
 may_have {A} {P} kind.Protocol o read h f = by o (h refl)
   where
     by : (o : Option Data) → o ≡ None → Reads (λ x. MayHave kind.Protocol x P) (if_there o read)
@@ -287,19 +287,19 @@ may_have {A} {P} kind.Protocol o read h f = by o (h refl)
     by (Some d) e = absurd (true≢false (ap is_some e))
 may_have kind.Directory o read h f = given o read f
 
-given_rights_reads : (k : Kind) (at : Place) (d : Data) → (k ≡ kind.Protocol → get (codes "rights") d ≡ None) → Reads (λ x. MayHave k x AreRights) (given_rights_at at d)
+given_rights_reads : (k : Kind) (at : ItemPlace) (d : Data) → (k ≡ kind.Protocol → get (codes "rights") d ≡ None) → Reads (λ x. MayHave k x AreRights) (given_rights_at at d)
 unfolding given_rights_at
 given_rights_reads k at d h = may_have k (get (codes "rights") d) (rights_in_at at (codes "rights")) h (rights_in_reads at (codes "rights"))
 
-given_subdir_reads : (k : Kind) (at : Place) (d : Data) → (k ≡ kind.Protocol → get (codes "subdir") d ≡ None) → Reads (λ x. MayHave k x IsSubDir) (subdir_at at (codes "subdir") d)
+given_subdir_reads : (k : Kind) (at : ItemPlace) (d : Data) → (k ≡ kind.Protocol → get (codes "subdir") d ≡ None) → Reads (λ x. MayHave k x IsSubDir) (subdir_at at (codes "subdir") d)
 unfolding subdir_at
 given_subdir_reads k at d h = may_have k (get (codes "subdir") d) (subdir_in_at at (codes "subdir")) h (subdir_in_reads at (codes "subdir"))
 
-as_in_reads : (at : Place) (names : List (List ℕ)) (d : Data) → Reads IsName (as_in_at at names d)
+as_in_reads : (at : ItemPlace) (names : List (List ℕ)) (d : Data) → Reads IsName (as_in_at at names d)
 unfolding as_in_at
 as_in_reads at names d = next (name_in_reads at (codes "as") d) (λ name n. alone_reads at (codes "as") names name n)
 
-pub as_reads : (at : Place) (names : List (List ℕ)) (d : Data) → Reads (λ o. ForSomeOf o IsName) (as_at at names d)
+pub as_reads : (at : ItemPlace) (names : List (List ℕ)) (d : Data) → Reads (λ o. ForSomeOf o IsName) (as_at at names d)
 unfolding as_at
 as_reads at names d = given (get (codes "as") d) (as_in_at at names) (as_in_reads at names)
 
@@ -309,12 +309,12 @@ target_is_name (Some target) name t n = t
 
 -- what an item says of all its rows
 record AreTerms (parent : Bool) (t : Terms) : Type 0 where
-  from : IsOrigin parent true t.from
+  from : IsOriginRow parent true t.from
   target : ForSomeOf t.target IsName
   rights : MayHave t.kind t.rights AreRights
   subdir : MayHave t.kind t.subdir IsSubDir
 
-row_is_give : (parent : Bool) (t : Terms) (name : List ℕ) → AreTerms parent t → IsName name → IsGive parent (give_row t name)
+row_is_give : (parent : Bool) (t : Terms) (name : List ℕ) → AreTerms parent t → IsName name → IsGiveRow parent (give_row t name)
 row_is_give parent t name h n = record {
   source_name = n;
   from = h.from;
@@ -325,7 +325,7 @@ row_is_give parent t name h n = record {
 
 -- ---- offers
 
-targets_reads : (at : Place) (d : Data) → Reads (All IsName) (targets_at at d)
+targets_reads : (at : ItemPlace) (d : Data) → Reads (All IsName) (targets_at at d)
 unfolding targets_at
 targets_reads at d = next (any (needed_at at (codes "to") d)) (λ value _. references_reads at (codes "to") value)
 
@@ -336,16 +336,16 @@ IsOfferRow row = IfSome (offer_in row) IsOffer × IfSome (storage_offer_in row) 
 offers_are : (targets : List (List ℕ)) (t : Terms) (names : List (List ℕ)) → All IsName targets → AreTerms true t
     → All IsName names → All IsOfferRow (flat_map (offer_rows targets) (map (give_row t) names))
 offers_are targets t names ts h ns =
-    all_in_turn (IsGive true) IsOfferRow (offer_rows targets) (map (give_row t) names)
+    all_in_turn (IsGiveRow true) IsOfferRow (offer_rows targets) (map (give_row t) names)
     (λ give g. all_mapped IsName IsOfferRow (λ to. offered.Offer (offer_row give to)) targets (λ to o. (record { to = o; give = g }, tt)) ts)
-    (all_mapped IsName (IsGive true) (give_row t) names (λ name n. row_is_give true t name h n) ns)
+    (all_mapped IsName (IsGiveRow true) (give_row t) names (λ name n. row_is_give true t name h n) ns)
 
 unknown_in_offer : (k : Kind) (key : List ℕ)
     → list_any (λ w. bytes_eq w key) (offer_fields (sort.Routed kind.Protocol)) ≡ false → k ≡ kind.Protocol
     → list_any (λ w. bytes_eq w key) (offer_fields (sort.Routed k)) ≡ false
 unknown_in_offer k key out e = ap (λ p. list_any (λ w. bytes_eq w key) (offer_fields (sort.Routed p))) e ∙ out
 
-routed_offer_reads : (k : Kind) (children : List Child) (at : Place) (d : Data)
+routed_offer_reads : (k : Kind) (children : List Child) (at : ItemPlace) (d : Data)
     → (k ≡ kind.Protocol → get (codes "rights") d ≡ None) → (k ≡ kind.Protocol → get (codes "subdir") d ≡ None)
     → Reads (All IsOfferRow) (routed_offer_at k children at d)
 unfolding routed_offer_at offered_at
@@ -370,7 +370,7 @@ storage_offers_are from target targets names f t ts ns =
     (λ name n. all_mapped IsName IsOfferRow (λ to. offered.Storage (storage_offer from target name to)) targets
     (λ to o. (tt, record { to = o; source_name = n; from = f; target_name = target_is_name target name t n })) ts) ns
 
-storage_offer_reads : (at : Place) (d : Data) → Reads (All IsOfferRow) (storage_offer_at at d)
+storage_offer_reads : (at : ItemPlace) (d : Data) → Reads (All IsOfferRow) (storage_offer_at at d)
 unfolding storage_offer_at storages_offered_at
 storage_offer_reads at d =
     next (storage_names_reads at d) (λ names ns.
@@ -380,7 +380,7 @@ storage_offer_reads at d =
     next (any (given_availability_at at d)) (λ availability _.
     gives (storage_offers_are from target targets names f t ts ns))))))
 
-offer_of_sort_reads : (s : Sort) (children : List Child) (at : Place) (d : Data) (members : Members) (u : Unit {0})
+offer_of_sort_reads : (s : Sort) (children : List Child) (at : ItemPlace) (d : Data) (members : Members) (u : Unit {0})
     → object_at at d ≡ Ok members → known_at at (offer_fields s) members ≡ Ok u
     → Reads (All IsOfferRow) (offer_of_sort s children at d)
 offer_of_sort_reads (sort.Routed k) children at d members u m known =
@@ -389,7 +389,7 @@ offer_of_sort_reads (sort.Routed k) children at d members u m known =
     (λ e. no_field at d members (offer_fields (sort.Routed k)) (codes "subdir") u (unknown_in_offer k (codes "subdir") refl e) m known)
 offer_of_sort_reads sort.Storage children at d members u m known = storage_offer_reads at d
 
-pub offer_reads : (children : List Child) (at : Place) (d : Data) → Reads (All IsOfferRow) (offer_at children at d)
+pub offer_reads : (children : List Child) (at : ItemPlace) (d : Data) → Reads (All IsOfferRow) (offer_at children at d)
 unfolding offer_at
 offer_reads children at d =
     next (exact (object_at at d)) (λ members m.
@@ -406,7 +406,7 @@ exposes_are t names h strong ns =
 unknown_in_expose : (k : Kind) (key : List ℕ) → list_any (λ w. bytes_eq w key) (expose_fields kind.Protocol) ≡ false → k ≡ kind.Protocol → list_any (λ w. bytes_eq w key) (expose_fields k) ≡ false
 unknown_in_expose k key out e = ap (λ p. list_any (λ w. bytes_eq w key) (expose_fields p)) e ∙ out
 
-pub expose_reads : (children : List Child) (at : Place) (d : Data) → Reads (All IsExpose) (expose_at children at d)
+pub expose_reads : (children : List Child) (at : ItemPlace) (d : Data) → Reads (All IsExpose) (expose_at children at d)
 unfolding expose_at exposed_at
 expose_reads children at d =
     next (exact (object_at at d)) (λ members m.

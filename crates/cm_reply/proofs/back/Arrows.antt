@@ -8,8 +8,9 @@ use Rattle.std.proofs.lemmas.List.{length-drop}
 use Rattle.memchr.specs.Find.{FindsLastNeedle, OccursAt}
 use Rattle.memchr.proofs.lemmas.MatchLemmas.{OccursAt-split, OccursAt-from_part}
 use Rattle.cm_world.specs.declared.event.Event.{Event}
-use Rattle.cm_reply.specs.Lists.{Text}
-use Rattle.cm_reply.specs.Lines.{arrow, asked_text, IsCutAtLast, IsEntryLine, IsSomeEntryLine}
+use Rattle.cm_reply.specs.Lists.{TextBytes}
+use Rattle.cm_reply.specs.Lines.{arrow, asked_text, IsEntryLine}
+use Rattle.cm_reply.specs.LinesInside.{IsCutAtLast, IsSomeEntryLine}
 use Rattle.cm_reply.specs.Reading.{IsAskable, text_of_asked}
 use Rattle.cm_reply.specs.declared.entry_words.EntryFault.{EntryFault}
 use Rattle.cm_reply.specs.declared.entry_words.EntryFault.TheVariants.{NotAnEntry, Memory}
@@ -18,13 +19,13 @@ use Rattle.cm_reply.specs.declared.reading.Asked.{Asked}
 -- ---- one arrow
 
 -- an arrow that begins at a place
-occurs : (t rest : Text) (i : ℕ) → drop i t ≡ arrow ++ rest → OccursAt t arrow i
+occurs : (t rest : TextBytes) (i : ℕ) → drop i t ≡ arrow ++ rest → OccursAt t arrow i
 occurs t rest i e =
     let long : i + 4 ≤ length t = omega (arith, ap length e, length-drop i t, length-append arrow rest) in
     OccursAt-from_part t arrow i long (ap (take 4) e)
 
 -- the last arrow parts the line
-pub cut_last : (t : Text) (k : ℕ) → FindsLastNeedle t arrow (Some k) → IsCutAtLast t (take k t) (drop (k + 4) t)
+pub cut_last : (t : TextBytes) (k : ℕ) → FindsLastNeedle t arrow (Some k) → IsCutAtLast t (take k t) (drop (k + 4) t)
 cut_last t k h =
     let fits : k + 4 ≤ length t = h.1.fits in
     let long : length (take k t) ≡ k = length-take-le k t (omega arith) in
@@ -39,72 +40,72 @@ cut_last t k h =
       ];
     }
 
-pub no_arrow : (t front rest : Text) → FindsLastNeedle t arrow None → t ≡ front ++ (arrow ++ rest) → ⊥
-no_arrow t front rest none e =
-    let at : drop (length front) t ≡ arrow ++ rest = ap (drop (length front)) e ∙ drop-append_seam front (arrow ++ rest) in
-    let it : OccursAt t arrow (length front) = occurs t rest (length front) at in
-    let inside : length front + 4 ≤ length t = it.fits in
-    none (length front) (omega arith) (omega arith) it
+pub no_arrow : (t prefix rest : TextBytes) → FindsLastNeedle t arrow None → t ≡ prefix ++ (arrow ++ rest) → ⊥
+no_arrow t prefix rest none e =
+    let at : drop (length prefix) t ≡ arrow ++ rest = ap (drop (length prefix)) e ∙ drop-append_seam prefix (arrow ++ rest) in
+    let it : OccursAt t arrow (length prefix) = occurs t rest (length prefix) at in
+    let inside : length prefix + 4 ≤ length t = it.fits in
+    none (length prefix) (omega arith) (omega arith) it
 
 -- ---- a line is parted in one way
 
-at_place : (t a r : Text) → IsCutAtLast t a r → drop (length a) t ≡ arrow ++ r
+at_place : (t a r : TextBytes) → IsCutAtLast t a r → drop (length a) t ≡ arrow ++ r
 at_place t a r h = ap (drop (length a)) h.whole ∙ drop-append_seam a (arrow ++ r)
 
-in_front : (t a r : Text) → IsCutAtLast t a r → take (length a) t ≡ a
-in_front t a r h = ap (take (length a)) h.whole ∙ take-append_seam a (arrow ++ r)
+in_prefix : (t a r : TextBytes) → IsCutAtLast t a r → take (length a) t ≡ a
+in_prefix t a r h = ap (take (length a)) h.whole ∙ take-append_seam a (arrow ++ r)
 
-same_place : (t a b r s : Text) → IsCutAtLast t a r → IsCutAtLast t b s → length a ≡ length b
+same_place : (t a b r s : TextBytes) → IsCutAtLast t a r → IsCutAtLast t b s → length a ≡ length b
 same_place t a b r s h k = omega (arith, h.last b s k.whole, k.last a r h.whole)
 
-pub one_cut : (t a b r s : Text) → IsCutAtLast t a r → IsCutAtLast t b s → (a ≡ b) × (r ≡ s)
+pub one_cut : (t a b r s : TextBytes) → IsCutAtLast t a r → IsCutAtLast t b s → (a ≡ b) × (r ≡ s)
 one_cut t a b r s h k =
     let place : length a ≡ length b = same_place t a b r s h k in
     let both : arrow ++ r ≡ arrow ++ s = sym (at_place t a r h) ∙ ap (λ n. drop n t) place ∙ at_place t b s k in
-    (sym (in_front t a r h) ∙ ap (λ n. take n t) place ∙ in_front t b s k, ap (drop 4) both)
+    (sym (in_prefix t a r h) ∙ ap (λ n. take n t) place ∙ in_prefix t b s k, ap (drop 4) both)
 
 -- ---- entries
 
-cut_of : (t : Text) (n c : ℕ) (e : Event) (r : Text) → IsEntryLine t n c e r → IsCutAtLast t (asked_text n c e) r
+cut_of : (t : TextBytes) (n c : ℕ) (e : Event) (r : TextBytes) → IsEntryLine t n c e r → IsCutAtLast t (asked_text n c e) r
 cut_of t n c e r h = record { whole = h.whole; last = h.last }
 
--- a line that is cut so, whose front is asked, is an entry's
-pub entry_is : (t front rest : Text) (a : Asked) → IsCutAtLast t front rest → IsUtf8 rest → IsAskable a → front ≡ text_of_asked a → IsEntryLine t a.number a.caller a.event rest
-entry_is t front rest a cut utf8 is same =
+-- a line that is cut so, whose prefix is asked, is an entry's
+pub entry_is : (t prefix rest : TextBytes) (a : Asked) → IsCutAtLast t prefix rest → IsUtf8 rest → IsAskable a → prefix ≡ text_of_asked a → IsEntryLine t a.number a.caller a.event rest
+entry_is t prefix rest a cut utf8 is same =
     let here : IsCutAtLast t (text_of_asked a) rest = subst (λ x. IsCutAtLast t x rest) same cut in
     record { of_64_bits = is.of_64_bits; of_32_bits = is.of_32_bits; legible = is.legible; utf8 = utf8; whole = here.whole; last = here.last }
 
--- what is so of the front and the rest of an entry's line
-pub record IsParted (front rest : Text) : Type 0 where
+-- what is so of the prefix and the rest of an entry's line
+pub record IsParted (prefix rest : TextBytes) : Type 0 where
   pub asked : Asked
   pub askable : IsAskable asked
-  pub front_is : front ≡ text_of_asked asked
+  pub prefix_is : prefix ≡ text_of_asked asked
   pub utf8 : IsUtf8 rest
 
-pub parted : (t front rest : Text) → IsCutAtLast t front rest → IsSomeEntryLine t → IsParted front rest
-parted t front rest cut some =
+pub parted : (t prefix rest : TextBytes) → IsCutAtLast t prefix rest → IsSomeEntryLine t → IsParted prefix rest
+parted t prefix rest cut some =
     let n : ℕ = some.0 in
     let c : ℕ = some.1 in
     let e : Event = some.2 in
-    let r : Text = some.3 in
+    let r : TextBytes = some.3 in
     let line : IsEntryLine t n c e r = some.4 in
-    let same : (front ≡ asked_text n c e) × (rest ≡ r) = one_cut t front (asked_text n c e) rest r cut (cut_of t n c e r line) in
+    let same : (prefix ≡ asked_text n c e) × (rest ≡ r) = one_cut t prefix (asked_text n c e) rest r cut (cut_of t n c e r line) in
     record {
       asked = record { number = n; caller = c; event = e };
       askable = record { of_64_bits = line.of_64_bits; of_32_bits = line.of_32_bits; legible = line.legible };
-      front_is = same.0;
+      prefix_is = same.0;
       utf8 = subst IsUtf8 (sym same.1) line.utf8;
     }
 
 -- a line without an arrow is none's
-pub no_entry : (t : Text) → ((front rest : Text) → t ≡ front ++ (arrow ++ rest) → ⊥) → IsSomeEntryLine t → ⊥
+pub no_entry : (t : TextBytes) → ((prefix rest : TextBytes) → t ≡ prefix ++ (arrow ++ rest) → ⊥) → IsSomeEntryLine t → ⊥
 no_entry t none some = none (asked_text some.0 some.1 some.2) some.3 some.4.whole
 
 pub fault_is : (f : EntryFault) → f ≢ Memory → f ≡ NotAnEntry
 fault_is NotAnEntry h = refl
 fault_is Memory h = absurd (h refl)
 
--- a fault that is another than that there is none, is want of memory
+-- a fault that is another than that there is none, is out of memory
 pub memory_is : (f : EntryFault) → (f ≡ NotAnEntry → ⊥) → f ≡ Memory
 memory_is NotAnEntry h = absurd (h refl)
 memory_is Memory h = refl

@@ -3,7 +3,8 @@ use Rattle.std.proofs.Common.{◌≡◌, ℕ, ◌+◌, ◌<◌, ◌^◌, List, [
 use Rattle.std.specs.List.{slice_split}
 use Rattle.std.proofs.lemmas.List.Splits.{slice_split_at}
 use Rattle.std.proofs.Math.Seq.{get_or-append_seam}
-use Rattle.cm_command.specs.Numbers.{IsNumber, IsNumberText, value_behind}
+use Rattle.cm_command.specs.Numbers.{IsNumberText, value_behind}
+use Rattle.cm_command.specs.NumbersInside.{IsU64Text}
 use Rattle.cm_command.specs.Counts.{IsWordFault, IsSureFault}
 use Rattle.cm_command.specs.declared.tokens.WordFault.{WordFault}
 use Rattle.cm_command.specs.declared.tokens.WordFault.TheVariants as word_fault
@@ -21,15 +22,15 @@ use Rattle.cm_reply.specs.declared.entry_words.EntryFault.TheVariants.{Memory}
 pub number_is : (t : List ℕ) (n m : ℕ) → m < 2 ^ 64 → t ≡ decimal m → IsNumberText t n → n ≡ m
 number_is t n m small e h = sym h.1 ∙ ap (value_behind 0) e ∙ (decimal_is m small).1
 
-is_number : (t : List ℕ) (m : ℕ) → m < 2 ^ 64 → t ≡ decimal m → IsNumber t
+is_number : (t : List ℕ) (m : ℕ) → m < 2 ^ 64 → t ≡ decimal m → IsU64Text t
 is_number t m small e = (m, subst (λ x. IsNumberText x m) (sym e) (decimal_is m small), small)
 
 -- a number's text has no fault
-pub number_faults : (t : List ℕ) (m : ℕ) (f : WordFault) (g : EntryFault) → m < 2 ^ 64 → t ≡ decimal m → IsSureFault IsNumber t f → g ≡ fault_of f → g ≡ Memory
+pub number_faults : (t : List ℕ) (m : ℕ) (f : WordFault) (g : EntryFault) → m < 2 ^ 64 → t ≡ decimal m → IsSureFault IsU64Text t f → g ≡ fault_of f → g ≡ Memory
 number_faults t m (word_fault.Bad n) g small e h is = absurd (h.0 (is_number t m small e))
 number_faults t m word_fault.Memory g small e h is = is
 
--- a word of the kind has no other fault than want of memory
+-- a word of the kind has no other fault than lack of memory
 pub word_faults : (P : List ℕ → Type 0) (t : List ℕ) (f : WordFault) (g : EntryFault) → P t → IsWordFault P t f → g ≡ fault_of f → g ≡ Memory
 word_faults P t (word_fault.Bad n) g is h e = absurd (h.0 is)
 word_faults P t word_fault.Memory g is h e = e
@@ -60,7 +61,7 @@ not_cut k t b x clean e =
 pub digits_lack : (n : ℕ) → n < 2 ^ 64 → Lacks 32 (decimal n)
 digits_lack n small = decimal_lacks (decimal n) (decimal_is n small).0
 
--- a word without a space that stands in front of the first one, and what is behind it
+-- a word without a space that stands before the first one, and what is behind it
 pub word_is : (t w v more x : List ℕ) → Lacks 32 v → Lacks 32 w → t ≡ w ++ 32 ∷ more → t ≡ v ++ 32 ∷ x → (w ≡ v) × (more ≡ x)
 word_is t w v more x other clean whole e = cut_once 32 w v more x clean other (sym whole ∙ e)
 

@@ -43,9 +43,9 @@ use Rattle.cm_write.specs.Writing.{Pairs, with_pairs, object_of, list_of, startu
 use Rattle.cm_write.specs.Writing.{child_pairs, collection_pairs, capability_pairs, use_pairs, give_pairs, offer_pairs, storage_pairs, debug_use_pairs, storage_use_pairs, storage_offer_pairs, registration_pairs, environment_pairs, decl_pairs}
 use Rattle.cm_write.specs.Writing.{child_data, collection_data, capability_data, use_data, offer_data, expose_data, storage_data, debug_use_data, storage_use_data, storage_offer_data, registration_data, environment_data, capability_items, use_items, offer_items, decl_data, decl_text}
 use Rattle.cm_read.specs.Readable as readable
-use Rattle.cm_read.specs.Readable.{IsReadable, ForSomeOf, MayHave, MustHave, IsSubDir, IsOrigin, IsStaticSource, IsStorageSource}
+use Rattle.cm_read.specs.Readable.{IsReadable, ForSomeOf, MayHave, MustHave, IsSubDir, IsOriginRow, IsStaticSource, IsStorageSource}
 use Rattle.cm_read.specs.Manifest.{decl_of_json}
-use Rattle.cm_read.specs.Reading.{Fails}
+use Rattle.cm_read.specs.ReadingInside.{FailsReading}
 use Rattle.cm_read.specs.declared.fault.ReadFault.{ReadFault}
 use Rattle.cm_read.specs.declared.fault.ReadFault.TheVariants as read_fault
 use Rattle.cm_read.proofs.back.TextBack.{texts_are_read_back_lem}
@@ -180,7 +180,7 @@ child_of_none : (coll : Option (List ℕ)) → coll ≡ None → IfSome coll IsN
 child_of_none None e = tt
 child_of_none (Some c) e = absurd (cc e)
 
-origin_low : (parent void : Bool) (o : Origin) → IsOrigin parent void o → Low (origin_text o)
+origin_low : (parent void : Bool) (o : Origin) → IsOriginRow parent void o → Low (origin_text o)
 origin_low parent void origin.Parent h = low_by (origin_text origin.Parent) refl
 origin_low parent void origin.Own h = low_by (origin_text origin.Own) refl
 origin_low parent void origin.Framework h = low_by (origin_text origin.Framework) refl
@@ -229,7 +229,7 @@ limits_texts k rights subdir h = both_pairs (rights_pair rights) (subdir_pair su
 
 -- ---- rows
 
-child_texts : (c : Child) → readable.IsChild c → AreTexts (child_data c)
+child_texts : (c : Child) → readable.IsChildRow c → AreTexts (child_data c)
 child_texts c h =
     object_texts (child_pairs c) ((low_by (codes "name") refl, name_low c.name h.name), ((low_by (codes "url") refl, url_low c.url h.url), ((low_by (codes "startup") refl, startup_low c.eager), environment_texts c.environment h.environment)))
 
@@ -255,7 +255,7 @@ debug_use_texts u h = object_texts (debug_use_pairs u) ((low_by (codes "protocol
 storage_use_texts : (u : StorageUse) → readable.IsStorageUse u → AreTexts (storage_use_data u)
 storage_use_texts u h = object_texts (storage_use_pairs u) ((low_by (codes "storage") refl, name_low u.name h.name), ((low_by (codes "from") refl, low_by (codes "parent") refl), ((low_by (codes "path") refl, path_low u.path h.path), tt)))
 
-give_texts : (parent : Bool) (g : Give) → readable.IsGive parent g → PairsAre (give_pairs g)
+give_texts : (parent : Bool) (g : Give) → readable.IsGiveRow parent g → PairsAre (give_pairs g)
 give_texts parent g h =
     ((kind_low g.kind, name_low g.source_name h.source_name), ((low_by (codes "from") refl, origin_low parent true g.from h.from), ((low_by (codes "as") refl, name_low g.target_name h.target_name), ((low_by (codes "availability") refl, availability_low g.availability), limits_texts g.kind g.rights g.subdir h.subdir))))
 
@@ -306,7 +306,7 @@ offers_texts d h =
 
 decl_texts : (d : Decl) → IsReadable d → AreTexts (decl_data d)
 decl_texts d h =
-    object_texts (decl_pairs d) ((low_by (codes "children") refl, list_texts readable.IsChild child_data d.children child_texts h.children.each), ((low_by (codes "collections") refl, list_texts readable.IsCollection collection_data d.collections collection_texts h.collections.each), ((low_by (codes "capabilities") refl, capabilities_texts d h), ((low_by (codes "use") refl, uses_texts d h), ((low_by (codes "offer") refl, offers_texts d h), ((low_by (codes "expose") refl, list_texts readable.IsExpose expose_data d.exposes expose_texts h.exposes.each), both_pairs (environments_pair d.environments) (program_pair d.runner) (environments_texts d.environments h.environments.each) (program_texts d.runner h.runner)))))))
+    object_texts (decl_pairs d) ((low_by (codes "children") refl, list_texts readable.IsChildRow child_data d.children child_texts h.children.each), ((low_by (codes "collections") refl, list_texts readable.IsCollection collection_data d.collections collection_texts h.collections.each), ((low_by (codes "capabilities") refl, capabilities_texts d h), ((low_by (codes "use") refl, uses_texts d h), ((low_by (codes "offer") refl, offers_texts d h), ((low_by (codes "expose") refl, list_texts readable.IsExpose expose_data d.exposes expose_texts h.exposes.each), both_pairs (environments_pair d.environments) (program_pair d.runner) (environments_texts d.environments h.environments.each) (program_texts d.runner h.runner)))))))
 
 pub decl_utf8 : (d : Decl) → IsReadable d → IsUtf8 (decl_text d)
 decl_utf8 d h = text_utf8 (decl_data d) (decl_texts d h)
@@ -317,7 +317,7 @@ pub decl_one : (t : List ℕ) (d e : Decl) → decl_of_json t ≡ Ok d → IsRea
 decl_one t d e read is same = let both : Ok d ≡ Ok e = sym read ∙ ap decl_of_json same ∙ texts_are_read_back_lem e is in cc both
 
 -- its reader has no fault
-pub decl_faults : (t : List ℕ) (f : ReadFault) (g : EntryFault) (e : Decl) → Fails f (decl_of_json t) → g ≡ decl_fault f → IsReadable e → t ≡ decl_text e → g ≡ entry_fault.Memory
+pub decl_faults : (t : List ℕ) (f : ReadFault) (g : EntryFault) (e : Decl) → FailsReading f (decl_of_json t) → g ≡ decl_fault f → IsReadable e → t ≡ decl_text e → g ≡ entry_fault.Memory
 decl_faults t (read_fault.Bad n s i field) g e fails same is text =
     let both : Err (read_fault.Bad n s i field) ≡ Ok e = sym fails ∙ ap decl_of_json text ∙ texts_are_read_back_lem e is in absurd (cc both)
 decl_faults t read_fault.Memory g e fails same is text = same

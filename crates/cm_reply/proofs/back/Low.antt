@@ -13,7 +13,7 @@ use Rattle.cm_names.specs.declared.rights.Right.TheVariants.{Connect, Enumerate,
 use Rattle.cm_names.specs.Name.{IsName, continues_name}
 use Rattle.cm_names.specs.Path.{is_path, is_subdir, is_relative, is_part, is_part_byte, is_slash, is_dots}
 use Rattle.cm_names.specs.Child.{child_text, in_collection}
-use Rattle.cm_names.specs.Moniker.{IsChild}
+use Rattle.cm_names.specs.Moniker.{IsChildName}
 use Rattle.cm_names.specs.Rights.{word_of}
 use Rattle.cm_names.specs.Urls.{is_url_byte, is_url_text}
 use Rattle.cm_names.proofs.texts.NameLemmas.{begins_continues}
@@ -53,7 +53,7 @@ collected None name h k = name_low name h
 collected (Some coll) name h k =
     low_both coll (codes ":" ++ name) (name_low coll k) (low_both (codes ":") name (low_by (codes ":") refl) (name_low name h))
 
-pub child_low : (c : ChildName) → IsChild c → Low (child_text c)
+pub child_low : (c : ChildName) → IsChildName c → Low (child_text c)
 child_low c h = collected c.coll c.name h.0 h.1
 
 -- ---- URLs, paths and subdirectories
@@ -95,8 +95,8 @@ pub path_low : (t : List ℕ) → IsTrue (is_path t) → Low t
 path_low [] h = All-nil (λ b. b < 128)
 path_low (b ∷ bs) h =
     let both = and_parts (nat_le (length (b ∷ bs)) 4096 && is_slash b) (is_relative bs) h in
-    let front = and_parts (nat_le (length (b ∷ bs)) 4096) (is_slash b) both.0 in
-    let slash : b ≡ 47 = eqb-true b 47 front.1 in
+    let prefix = and_parts (nat_le (length (b ∷ bs)) 4096) (is_slash b) both.0 in
+    let slash : b ≡ 47 = eqb-true b 47 prefix.1 in
     All-cons (λ c. c < 128) b bs (omega arith) (relative_low bs both.1)
 
 pub subdir_low : (t : List ℕ) → IsTrue (is_subdir t) → Low t

@@ -21,7 +21,7 @@ use Rattle.cm_reply.specs.States.{act_word, outcome_text}
 use Rattle.cm_reply.specs.Events.{mark_word, finish_text}
 use Rattle.cm_reply.specs.Legible.{IsLegible}
 use Rattle.cm_reply.specs.EventWords.{Told, event_of, told_text, word_of, event_named, EachIsTold}
-use Rattle.cm_reply.specs.Reading.{Finds, IsOr, outcome_named, section_named, IsPlain, note_words}
+use Rattle.cm_reply.specs.Reading.{FindsEvent, IsOr, outcome_named, section_named, IsPlain, note_words}
 use Rattle.cm_reply.specs.declared.entry_words.EntryFault.{EntryFault}
 use Rattle.cm_reply.specs.declared.event_words.EventWord.{EventWord}
 use Rattle.cm_reply.specs.declared.event_words.EventWord.TheVariants as word
@@ -115,11 +115,11 @@ each_is_told_lem (event.Tail i f) = record { word = word.Tail; told = (i, f); ev
 each_is_told_lem (event.Reap i) = record { word = word.Reap; told = i; event = refl; text = refl }
 
 -- what is found of a word is found of the word that it is
-pub finds_same : (v first : EventWord) (t : List ℕ) (result : Result Event EntryFault) → first ≡ v → Finds v t result → Finds first t result
-finds_same v first t result same finds = subst (λ w. Finds w t result) (sym same) finds
+pub finds_same : (v first : EventWord) (t : List ℕ) (result : Result Event EntryFault) → first ≡ v → FindsEvent v t result → FindsEvent first t result
+finds_same v first t result same finds = subst (λ w. FindsEvent w t result) (sym same) finds
 
 -- what is found of the word that stands there
-pub found_by : (v first : EventWord) (x : Told v) (t : List ℕ) (result : Result Event EntryFault) → first ≡ v → Finds first t result → IsLegible (event_of v x) → t ≡ told_text v x → IsOr result (event_of v x)
+pub found_by : (v first : EventWord) (x : Told v) (t : List ℕ) (result : Result Event EntryFault) → first ≡ v → FindsEvent first t result → IsLegible (event_of v x) → t ≡ told_text v x → IsOr result (event_of v x)
 found_by v first x t result same finds legible e = finds_same first v t result (sym same) finds x legible e
 
 -- ---- actions and marks

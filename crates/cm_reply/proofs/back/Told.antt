@@ -20,11 +20,12 @@ use Rattle.cm_command.specs.declared.command.Command.{Command}
 use Rattle.cm_command.proofs.bytes.Pieces.{Lacks}
 use Rattle.cm_command.proofs.line.LineGrammar as grammar
 use Rattle.cm_command.proofs.line.SpacelessWords.{url_lacks}
-use Rattle.cm_reply.specs.Lists.{Text}
+use Rattle.cm_reply.specs.Lists.{TextBytes}
 use Rattle.cm_reply.specs.States.{act_word, outcome_text}
 use Rattle.cm_reply.specs.Events.{mark_word, finish_text, event_text}
 use Rattle.cm_reply.specs.Legible.{IsLegible, IsLegibleFinish, IsLegibleOutcome, IsLegibleNote}
-use Rattle.cm_reply.specs.Lines.{asked_text, IsCutAtLast, IsEntryLine, AreSame, EntriesReadOneWay}
+use Rattle.cm_reply.specs.Lines.{asked_text, IsEntryLine}
+use Rattle.cm_reply.specs.LinesInside.{IsCutAtLast, AreSame, EntriesReadOneWay}
 use Rattle.cm_reply.specs.EventWords.{Told, event_of, told_text, word_of, IsTold, event_named}
 use Rattle.cm_reply.specs.Reading.{IsPlain, outcome_named, section_named, note_words, IsAskable, text_of_asked, line_of}
 use Rattle.cm_reply.specs.declared.reading.Asked.{Asked}
@@ -38,7 +39,7 @@ use Rattle.cm_reply.proofs.back.Arrows.{one_cut, entry_is}
 
 -- ---- words
 
-numbers_one : (n m : ℕ) (x y : Text) → n < 2 ^ 64 → m < 2 ^ 64 → decimal n ++ 32 ∷ x ≡ decimal m ++ 32 ∷ y → (n ≡ m) × (x ≡ y)
+numbers_one : (n m : ℕ) (x y : TextBytes) → n < 2 ^ 64 → m < 2 ^ 64 → decimal n ++ 32 ∷ x ≡ decimal m ++ 32 ∷ y → (n ≡ m) × (x ≡ y)
 numbers_one n m x y small low e =
     let parts : (decimal n ≡ decimal m) × (x ≡ y) = cut_once 32 (decimal n) (decimal m) x y (digits_lack n small) (digits_lack m low) e in
     (decimal_injective n m small low parts.0, parts.1)
@@ -182,14 +183,14 @@ entries_read_one_way_lem t n m c d e f r s h k =
     let second = numbers_one c d _ _ (small c h.of_32_bits) (small d k.of_32_bits) first.1 in
     record { numbers = first.0; callers = second.0; events = events_one e f h.legible k.legible second.1; replies = both.1 }
 
-line_same : (n c : ℕ) (e : Event) (r : Text) (m d : ℕ) (f : Event) (s : Text) → n ≡ m → c ≡ d → e ≡ f → r ≡ s → line_of n c e r ≡ line_of m d f s
+line_same : (n c : ℕ) (e : Event) (r : TextBytes) (m d : ℕ) (f : Event) (s : TextBytes) → n ≡ m → c ≡ d → e ≡ f → r ≡ s → line_of n c e r ≡ line_of m d f s
 line_same n c e r m d f s a b x y =
     ap (λ k. line_of k c e r) a ∙ ap (λ k. line_of m k e r) b ∙ ap (λ k. line_of m d k r) x ∙ ap (line_of m d f) y
 
 -- what was read of a line that is cut so is the entry that the line tells of
-pub line_found : (t front rest reply : Text) (a : Asked) → IsCutAtLast t front rest → IsAskable a → front ≡ text_of_asked a → reply ≡ rest → (n c : ℕ) (e : Event) (r : Text) → IsEntryLine t n c e r → line_of a.number a.caller a.event reply ≡ line_of n c e r
-line_found t front rest reply a cut is same text n c e r line =
-    let both : (front ≡ asked_text n c e) × (rest ≡ r) = one_cut t front (asked_text n c e) rest r cut (record { whole = line.whole; last = line.last }) in
-    let here : IsEntryLine t a.number a.caller a.event rest = entry_is t front rest a cut (subst IsUtf8 (sym both.1) line.utf8) is same in
+pub line_found : (t prefix rest reply : TextBytes) (a : Asked) → IsCutAtLast t prefix rest → IsAskable a → prefix ≡ text_of_asked a → reply ≡ rest → (n c : ℕ) (e : Event) (r : TextBytes) → IsEntryLine t n c e r → line_of a.number a.caller a.event reply ≡ line_of n c e r
+line_found t prefix rest reply a cut is same text n c e r line =
+    let both : (prefix ≡ asked_text n c e) × (rest ≡ r) = one_cut t prefix (asked_text n c e) rest r cut (record { whole = line.whole; last = line.last }) in
+    let here : IsEntryLine t a.number a.caller a.event rest = entry_is t prefix rest a cut (subst IsUtf8 (sym both.1) line.utf8) is same in
     let one : AreSame a.number a.caller a.event rest n c e r = entries_read_one_way_lem t a.number n a.caller c a.event e rest r here line in
     line_same a.number a.caller a.event reply n c e r one.numbers one.callers one.events (text ∙ both.1)

@@ -6,13 +6,13 @@ use Rattle.cm_turn.specs.History.{StartsWith}
 use Rattle.cm_turn.specs.Passes.{HasCaller}
 use Rattle.cm_session.specs.declared.doorway.Accepted.{Accepted}
 use Rattle.cm_session.specs.declared.doorway.Opening.{Opening}
-use Rattle.cm_io.specs.Doors.{Place}
+use Rattle.cm_io.specs.Doors.{DoorPlace}
 use Rattle.cm_io.specs.declared.door.DoorCounts.{DoorCounts}
 use Rattle.cm_session.specs.declared.served.Back.{Back}
 use Rattle.cm_session.specs.declared.served.Cause.{Cause}
 use Rattle.cm_session.specs.Closing.{ClosesDoor, CountsLinks, cause_of, links_from}
 use Rattle.cm_session.specs.Doorway.{DoorPass, IsCounted, failures_of, links_of, sessions_in, sessions_of}
-use Rattle.cm_session.specs.Parts.{Links}
+use Rattle.cm_session.specs.PoolParts.{Links}
 use Rattle.cm_session.proofs.work.Places.{at_place, there_at}
 use Rattle.cm_session.proofs.links.Spreading.{by_worker, count_from, gathered, spread}
 
@@ -53,7 +53,7 @@ module _ {L : Type 0} (passes : List DoorPass) (links : List (Links L)) (room : 
       grind (arith, few, sessions, fits, all_counted)
 
   -- all that the closed door says
-  pub closes_door : (now : DoorCounts) (place_now : Place) (all : List (Back L)) (lost failed : Bool) (why : Cause) → IsCounted o.counts now entries → place_now ≡ o.place → links_of entries ≤ o.sessions → all ≡ links_from 0 links → (failed ≡ true → 0 < failures_of entries) → (failed ≡ false → failures_of entries ≡ 0) → why ≡ cause_of lost failed → ClosesDoor passes now place_now (length all) lost why
+  pub closes_door : (now : DoorCounts) (place_now : DoorPlace) (all : List (Back L)) (lost failed : Bool) (why : Cause) → IsCounted o.counts now entries → place_now ≡ o.place → links_of entries ≤ o.sessions → all ≡ links_from 0 links → (failed ≡ true → 0 < failures_of entries) → (failed ≡ false → failures_of entries ≡ 0) → why ≡ cause_of lost failed → ClosesDoor passes now place_now (length all) lost why
   closes_door now place_now all lost failed why counted place few all_is failure no_failure why_is = record {
     opening = o;
     entries = entries;
@@ -80,5 +80,5 @@ module _ {L : Type 0} (passes closed : List DoorPass) (same : closed ≡ passes)
   pub fit_closed : links_of entries ≤ o.sessions → length (links_from 0 links) ≤ room
   fit_closed few = all_fit passes links room counts o entries known_here callers_here few
 
-  pub closed_door : (now : DoorCounts) (place_now : Place) (all : List (Back L)) (lost failed : Bool) (why : Cause) → IsCounted o.counts now entries → place_now ≡ o.place → links_of entries ≤ o.sessions → all ≡ links_from 0 links → (failed ≡ true → 0 < failures_of entries) → (failed ≡ false → failures_of entries ≡ 0) → why ≡ cause_of lost failed → ClosesDoor passes now place_now (length all) lost why
+  pub closed_door : (now : DoorCounts) (place_now : DoorPlace) (all : List (Back L)) (lost failed : Bool) (why : Cause) → IsCounted o.counts now entries → place_now ≡ o.place → links_of entries ≤ o.sessions → all ≡ links_from 0 links → (failed ≡ true → 0 < failures_of entries) → (failed ≡ false → failures_of entries ≡ 0) → why ≡ cause_of lost failed → ClosesDoor passes now place_now (length all) lost why
   closed_door now place_now all lost failed why counted place few all_is failure no_failure why_is = closes_door passes links room counts o entries known_here callers_here now place_now all lost failed why counted place few all_is failure no_failure why_is

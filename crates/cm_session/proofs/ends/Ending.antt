@@ -7,22 +7,22 @@ use Rattle.std.proofs.lemmas.List.{length-append, length-map, take_all, drop_all
 use Rattle.std.proofs.lemmas.Option.{slice_get-get_or, slice_get_within, get_or_from_slice_get}
 use Rattle.std.proofs.Math.ListN.{get_or-append}
 use Rattle.std.proofs.Math.Seq.{get_or-append_seam}
-use Rattle.cm_gate.specs.declared.asked.Asked.{Asked}
+use Rattle.cm_gate.specs.declared.asked.GateCall.{GateCall}
 use Rattle.std.proofs.lemmas.List.FromFn.{length-range_with_len}
 use Rattle.cm_manager.specs.Contract.{RealmPass}
 use Rattle.cm_manager.specs.Kept.{AreSixteen}
 use Rattle.cm_manager.specs.Gated.{gates_view}
-use Rattle.cm_manager.specs.Work.{Shelf}
+use Rattle.cm_manager.specs.Work.{Manifests}
 use Rattle.cm_turn.specs.Passes.{LockView, new_pass, new_passes}
-use Rattle.cm_session.specs.declared.crew.Parts.{Parts}
+use Rattle.cm_session.specs.declared.pool.PoolParts.{PoolParts}
 use Rattle.cm_session.specs.declared.doorway.Accepted.{Accepted}
 use Rattle.cm_session.specs.declared.doorway.Opening.{Opening}
 use Rattle.cm_session.specs.declared.workers.Worker.{Worker}
-use Rattle.cm_session.specs.Crew.{CrewWorked, DidWork, HasServed, IsReady, Worked}
-use Rattle.cm_session.specs.Doorway.{DoorPass, IsOver, sessions_of}
+use Rattle.cm_session.specs.Pool.{PoolWorked, DidWork, HasServed, IsReadyWorker, WorkerWorked}
+use Rattle.cm_session.specs.Doorway.{DoorPass, IsDoorDone, sessions_of}
 use Rattle.cm_session.specs.Links.{LinkView}
-use Rattle.cm_session.specs.Parts.{AreParts, HasPasses, HasRoomIn, HasRooms, Links}
-use Rattle.cm_session.specs.Serving.{AreWell, EndsLost, StopsAtLoss, Visit}
+use Rattle.cm_session.specs.PoolParts.{AreWorkerParts, HasPasses, PoolPartsHaveRoom, HasRooms, Links}
+use Rattle.cm_session.specs.Serving.{AreWell, EndsLost, StopsAtLoss, ServedLink}
 use Rattle.cm_session.proofs.work.Making.{Made}
 use Rattle.cm_session.proofs.work.Places.{all_places, any_place, as_long, at_map, at_place, field_at, item_at, there_at}
 use Rattle.cm_session.proofs.work.Working.{some_same}
@@ -44,15 +44,15 @@ new_length door o (suc n) =
 new_or : (door : LockView) (o : Opening) (n c : ℕ) (d : DoorPass) → c < n → get_or (new_passes door.lock o n) c d ≡ new_pass door.lock o c
 new_or door o zero c d lt = absurd (omega (arith, lt))
 new_or door o (suc n) c d lt =
-    let front = new_passes {E = Accepted} door.lock o n in
+    let prefix = new_passes {E = Accepted} door.lock o n in
     let last : DoorPass = new_pass door.lock o n in
-    let len : length front ≡ n = new_length door o n in
+    let len : length prefix ≡ n = new_length door o n in
     dite (dec_lt c n)
-    (λ low. get_or-append front (last ∷ []) d c (omega (arith, len, low)) ∙ new_or door o n c d low)
+    (λ low. get_or-append prefix (last ∷ []) d c (omega (arith, len, low)) ∙ new_or door o n c d low)
     (λ high.
-    let here : c ≡ length front = omega (arith, len, high, lt) in
+    let here : c ≡ length prefix = omega (arith, len, high, lt) in
     let is : n ≡ c = omega (arith, high, lt) in
-    ap (λ k. get_or (front ++ last ∷ []) k d) here ∙ (get_or-append_seam front last [] d ∙ ap (λ k. new_pass door.lock o k) is))
+    ap (λ k. get_or (prefix ++ last ∷ []) k d) here ∙ (get_or-append_seam prefix last [] d ∙ ap (λ k. new_pass door.lock o k) is))
 
 -- the pass at a place
 pub new_at : (door : LockView) (o : Opening) (n c : ℕ) (d : DoorPass) → slice_get (new_passes door.lock o n) c ≡ Some d → d ≡ new_pass door.lock o c
@@ -64,28 +64,28 @@ either_way : {A B : Type 0} (b : Bool) → (b ≡ false → A) → (b ≡ true �
 either_way true left right = inr (right refl)
 either_way false left right = inl (left refl)
 
-module _ {G L : Type 0} (log_of : G → Option (List Asked)) (faults_of : G → ℕ) (view : L → LinkView) (shelf : Shelf) (workers : ℕ) where
+module _ {G L : Type 0} (log_of : G → Option (List GateCall)) (faults_of : G → ℕ) (view : L → LinkView) (manifests : Manifests) (workers : ℕ) where
   -- these are the visits of the workers, in their order
-  pub record Team (xs ys : List (Worker G L)) (visits : List (List Visit)) : Type 0 where
+  pub record Visited (xs ys : List (Worker G L)) (visits : List (List ServedLink)) : Type 0 where
     pub count : length visits ≡ length xs
-    pub each : (k : ℕ) (x y : Worker G L) (vs : List Visit) → slice_get xs k ≡ Some x → slice_get ys k ≡ Some y → slice_get visits k ≡ Some vs → Worked log_of faults_of view shelf workers vs x y
+    pub each : (k : ℕ) (x y : Worker G L) (vs : List ServedLink) → slice_get xs k ≡ Some x → slice_get ys k ≡ Some y → slice_get visits k ≡ Some vs → WorkerWorked log_of faults_of view manifests workers vs x y
 
-  pub team_of : (xs ys : List (Worker G L)) → length ys ≡ length xs → ((k : ℕ) (d : Worker G L) → k < length xs → DidWork log_of faults_of view shelf workers (get_or xs k d) (get_or ys k d)) → (visits : List (List Visit)) × Team xs ys visits
-  team_of [] ys long did = ([], record { count = refl; each = λ k x y vs a b c. absurd (omega (arith, slice_get_within [] k x a)) })
-  team_of (x ∷ xs) [] long did = absurd (cc long)
-  team_of (x ∷ xs) (y ∷ ys) long did =
-      let others = team_of xs ys (cc long) (λ k d lt. did (suc k) d (grind (arith, lt))) in
+  pub visited_of : (xs ys : List (Worker G L)) → length ys ≡ length xs → ((k : ℕ) (d : Worker G L) → k < length xs → DidWork log_of faults_of view manifests workers (get_or xs k d) (get_or ys k d)) → (visits : List (List ServedLink)) × Visited xs ys visits
+  visited_of [] ys long did = ([], record { count = refl; each = λ k x y vs a b c. absurd (omega (arith, slice_get_within [] k x a)) })
+  visited_of (x ∷ xs) [] long did = absurd (cc long)
+  visited_of (x ∷ xs) (y ∷ ys) long did =
+      let others = visited_of xs ys (cc long) (λ k d lt. did (suc k) d (grind (arith, lt))) in
       let first = did 0 x (grind arith) in
       (first.visits ∷ others.0, record { count = ap suc others.1.count; each = each first.visits first.worked others.0 others.1 }) where
-        each : (v : List Visit) → Worked log_of faults_of view shelf workers v x y → (vs : List (List Visit)) → Team xs ys vs → (k : ℕ) (a b : Worker G L) (c : List Visit) → slice_get (x ∷ xs) k ≡ Some a → slice_get (y ∷ ys) k ≡ Some b → slice_get (v ∷ vs) k ≡ Some c → Worked log_of faults_of view shelf workers c a b
-        each v worked vs team zero a b c ha hb hc =
-            subst (λ (z : List Visit). Worked log_of faults_of view shelf workers z a b) (some_same v c hc)
-            (subst (λ (z : Worker G L). Worked log_of faults_of view shelf workers v a z) (some_same y b hb)
-            (subst (λ (z : Worker G L). Worked log_of faults_of view shelf workers v z y) (some_same x a ha) worked))
-        each v worked vs team (suc k) a b c ha hb hc = team.each k a b c ha hb hc
+        each : (v : List ServedLink) → WorkerWorked log_of faults_of view manifests workers v x y → (vs : List (List ServedLink)) → Visited xs ys vs → (k : ℕ) (a b : Worker G L) (c : List ServedLink) → slice_get (x ∷ xs) k ≡ Some a → slice_get (y ∷ ys) k ≡ Some b → slice_get (v ∷ vs) k ≡ Some c → WorkerWorked log_of faults_of view manifests workers c a b
+        each v worked vs visited zero a b c ha hb hc =
+            subst (λ (z : List ServedLink). WorkerWorked log_of faults_of view manifests workers z a b) (some_same v c hc)
+            (subst (λ (z : Worker G L). WorkerWorked log_of faults_of view manifests workers v a z) (some_same y b hb)
+            (subst (λ (z : Worker G L). WorkerWorked log_of faults_of view manifests workers v z y) (some_same x a ha) worked))
+        each v worked vs visited (suc k) a b c ha hb hc = visited.each k a b c ha hb hc
 
   -- what was at one place, and what is there now
-  pub record PlaceAt (passes : List RealmPass) (at_door : List DoorPass) (gates : List G) (parts : Parts G L) (k : ℕ) (vs : List Visit) : Type 0 where
+  pub record PlaceAt (passes : List RealmPass) (at_door : List DoorPass) (gates : List G) (parts : PoolParts G L) (k : ℕ) (vs : List ServedLink) : Type 0 where
     pub p : RealmPass
     pub q : RealmPass
     pub d : DoorPass
@@ -100,26 +100,26 @@ module _ {G L : Type 0} (log_of : G → Option (List Asked)) (faults_of : G → 
     pub g_is : slice_get gates k ≡ Some g
     pub h_is : slice_get parts.gates.items k ≡ Some h
     pub r_is : slice_get parts.links.items k ≡ Some r
-    pub served : HasServed view shelf vs p q (gates_view log_of faults_of g) (gates_view log_of faults_of h) d e r.items
+    pub served : HasServed view manifests vs p q (gates_view log_of faults_of g) (gates_view log_of faults_of h) d e r.items
     pub idle : workers ≤ d.caller → vs ≡ []
     pub stops : StopsAtLoss vs
     pub well : parts.lost ≡ false → AreWell vs
-    pub over : parts.lost ≡ false → d.caller < workers → IsOver (sessions_of e) e.seen
+    pub over : parts.lost ≡ false → d.caller < workers → IsDoorDone (sessions_of e) e.seen
 
   -- what was at all places
-  pub record Places (passes : List RealmPass) (at_door : List DoorPass) (gates : List G) (parts : Parts G L) (visits : List (List Visit)) : Type 0 where
+  pub record Places (passes : List RealmPass) (at_door : List DoorPass) (gates : List G) (parts : PoolParts G L) (visits : List (List ServedLink)) : Type 0 where
     pub count : length visits ≡ length passes
     pub passes_long : length parts.passes.items ≡ length passes
     pub doors_long : length parts.at_door.items ≡ length passes
     pub gates_long : length parts.gates.items ≡ length passes
     pub links_long : length parts.links.items ≡ length passes
-    pub each : (k : ℕ) (vs : List Visit) → slice_get visits k ≡ Some vs → PlaceAt passes at_door gates parts k vs
+    pub each : (k : ℕ) (vs : List ServedLink) → slice_get visits k ≡ Some vs → PlaceAt passes at_door gates parts k vs
     pub lost : parts.lost ≡ true → Any EndsLost visits
 
   -- of the workers that were made, did their work and were taken apart
-  pub places_of : (passes : List RealmPass) (at_door : List DoorPass) (gates : List G) (links : List (Links L)) (xs ys : List (Worker G L)) (parts : Parts G L) (visits : List (List Visit)) → Made passes at_door gates links xs → length ys ≡ length xs → Team xs ys visits → AreParts ys parts → Places passes at_door gates parts visits
-  places_of passes at_door gates links xs ys parts visits made long team are = record {
-    count = team.count ∙ as_many;
+  pub places_of : (passes : List RealmPass) (at_door : List DoorPass) (gates : List G) (links : List (Links L)) (xs ys : List (Worker G L)) (parts : PoolParts G L) (visits : List (List ServedLink)) → Made passes at_door gates links xs → length ys ≡ length xs → Visited xs ys visits → AreWorkerParts ys parts → Places passes at_door gates parts visits
+  places_of passes at_door gates links xs ys parts visits made long visited are = record {
+    count = visited.count ∙ as_many;
     passes_long = as_long Some (λ (w : Worker G L). w.pass) parts.passes.items ys are.passes ∙ long ∙ as_many;
     doors_long = as_long Some (λ (w : Worker G L). w.at_door) parts.at_door.items ys are.at_door ∙ long ∙ as_many;
     gates_long = ap (λ (l : List G). length l) are.gates ∙ length-map ys (λ (w : Worker G L). w.gates) ∙ long ∙ as_many;
@@ -130,12 +130,12 @@ module _ {G L : Type 0} (log_of : G → Option (List Asked)) (faults_of : G → 
     as_many : length xs ≡ length passes
     as_many = as_long (λ (w : Worker G L). w.pass) Some xs passes made.passes_are
 
-    place : (k : ℕ) (vs : List Visit) → slice_get visits k ≡ Some vs → PlaceAt passes at_door gates parts k vs
+    place : (k : ℕ) (vs : List ServedLink) → slice_get visits k ≡ Some vs → PlaceAt passes at_door gates parts k vs
     place k vs there =
         let within : k < length visits = slice_get_within visits k vs there in
-        let x = there_at xs k (grind (arith, within, team.count)) in
-        let y = there_at ys k (grind (arith, within, team.count, long)) in
-        let worked = team.each k x.0 y.0 vs x.1 y.1 there in
+        let x = there_at xs k (grind (arith, within, visited.count)) in
+        let y = there_at ys k (grind (arith, within, visited.count, long)) in
+        let worked = visited.each k x.0 y.0 vs x.1 y.1 there in
         record {
           p = worked.p;
           q = worked.q;
@@ -162,8 +162,8 @@ module _ {G L : Type 0} (log_of : G → Option (List Asked)) (faults_of : G → 
     lost_at any =
         let y_is : slice_get ys any.0 ≡ Some any.1 = slice_get-get_or ys any.0 any.1 any.2 ∙ ap Some any.3 in
         let x = there_at xs any.0 (grind (arith, any.2, long)) in
-        let v = there_at visits any.0 (grind (arith, any.2, long, team.count)) in
-        any_place EndsLost visits any.0 v.0 v.1 ((team.each any.0 x.0 any.1 v.0 x.1 y_is v.1).lost any.4)
+        let v = there_at visits any.0 (grind (arith, any.2, long, visited.count)) in
+        any_place EndsLost visits any.0 v.0 v.1 ((visited.each any.0 x.0 any.1 v.0 x.1 y_is v.1).lost any.4)
 
 -- ---- before the work
 
@@ -172,9 +172,9 @@ sixteen_long turn passes are = sym (length-map passes (λ (p : RealmPass). p.cal
 
 module _ {G L : Type 0} where
   -- the workers that are made of sixteen passes, and of those of a new door, are ready
-  pub ready_all : (realm door : LockView) (o : Opening) (workers : ℕ) (passes : List RealmPass) (at_door : List DoorPass) (gates : List G) (links : List (Links L)) (xs : List (Worker G L)) → AreSixteen realm passes → at_door ≡ new_passes door.lock o 16 → HasRooms 16 o.sessions workers links → Made passes at_door gates links xs → All (λ (w : Worker G L). w.lost ≡ false) xs → All (IsReady realm door workers) xs
-  ready_all realm door o workers passes at_door gates links xs are new rooms made well = all_places (IsReady realm door workers) xs each where
-    each : (k : ℕ) (x : Worker G L) → slice_get xs k ≡ Some x → IsReady realm door workers x
+  pub ready_all : (realm door : LockView) (o : Opening) (workers : ℕ) (passes : List RealmPass) (at_door : List DoorPass) (gates : List G) (links : List (Links L)) (xs : List (Worker G L)) → AreSixteen realm passes → at_door ≡ new_passes door.lock o 16 → HasRooms 16 o.sessions workers links → Made passes at_door gates links xs → All (λ (w : Worker G L). w.lost ≡ false) xs → All (IsReadyWorker realm door workers) xs
+  ready_all realm door o workers passes at_door gates links xs are new rooms made well = all_places (IsReadyWorker realm door workers) xs each where
+    each : (k : ℕ) (x : Worker G L) → slice_get xs k ≡ Some x → IsReadyWorker realm door workers x
     each k x there =
         let within : k < length xs = slice_get_within xs k x there in
         let long : length xs ≡ length passes = as_long (λ (w : Worker G L). w.pass) Some xs passes made.passes_are in
@@ -198,22 +198,22 @@ module _ {G L : Type 0} where
           well = at_place (λ (w : Worker G L). w.lost ≡ false) xs k x well there;
         }
 
-module _ {G L : Type 0} (log_of : G → Option (List Asked)) (faults_of : G → ℕ) (view : L → LinkView) (shelf : Shelf) (workers : ℕ) where
+module _ {G L : Type 0} (log_of : G → Option (List GateCall)) (faults_of : G → ℕ) (view : L → LinkView) (manifests : Manifests) (workers : ℕ) where
   -- the workers that did their work have their passes
-  pub have_passes : (xs ys : List (Worker G L)) → CrewWorked log_of faults_of view shelf workers xs ys → All HasPasses ys
+  pub have_passes : (xs ys : List (Worker G L)) → PoolWorked log_of faults_of view manifests workers xs ys → All HasPasses ys
   have_passes xs ys did k d lt =
       let w = did.each k d (grind (arith, did.long, lt)) in
       record { pass = w.worked.q; there = w.worked.now; at_door = w.worked.e; there_too = w.worked.now_at_door }
 
   -- they are as many as there is room for
-  pub room_left : (realm : LockView) (passes : List RealmPass) (xs ys : List (Worker G L)) (parts : Parts G L) → AreSixteen realm passes → map (λ (w : Worker G L). w.pass) xs ≡ map Some passes → CrewWorked log_of faults_of view shelf workers xs ys → HasRoomIn 16 parts → HasRoomIn (length ys) parts
+  pub room_left : (realm : LockView) (passes : List RealmPass) (xs ys : List (Worker G L)) (parts : PoolParts G L) → AreSixteen realm passes → map (λ (w : Worker G L). w.pass) xs ≡ map Some passes → PoolWorked log_of faults_of view manifests workers xs ys → PoolPartsHaveRoom 16 parts → PoolPartsHaveRoom (length ys) parts
   room_left realm passes xs ys parts are made did room =
-      subst (λ (n : ℕ). HasRoomIn n parts) (sym (did.long ∙ as_long (λ (w : Worker G L). w.pass) Some xs passes made ∙ sixteen_long realm passes are)) room
+      subst (λ (n : ℕ). PoolPartsHaveRoom n parts) (sym (did.long ∙ as_long (λ (w : Worker G L). w.pass) Some xs passes made ∙ sixteen_long realm passes are)) room
 
   -- the workers of a slice that took the place of a whole vector
-  pub crew_worked : (xs s ys : List (Worker G L)) (n : ℕ) → s ≡ xs → n ≡ length xs → length ys ≡ length s → ((k : ℕ) (d : Worker G L) → k < length s → DidWork log_of faults_of view shelf workers (get_or s k d) (get_or ys k d)) → CrewWorked log_of faults_of view shelf workers xs (take n (ys ++ drop (length ys) xs))
-  crew_worked xs s ys n s_is n_is many did =
+  pub pool_worked : (xs s ys : List (Worker G L)) (n : ℕ) → s ≡ xs → n ≡ length xs → length ys ≡ length s → ((k : ℕ) (d : Worker G L) → k < length s → DidWork log_of faults_of view manifests workers (get_or s k d) (get_or ys k d)) → PoolWorked log_of faults_of view manifests workers xs (take n (ys ++ drop (length ys) xs))
+  pool_worked xs s ys n s_is n_is many did =
       let long : length ys ≡ length xs = many ∙ ap (λ (l : List (Worker G L)). length l) s_is in
-      let each : (k : ℕ) (d : Worker G L) → k < length xs → DidWork log_of faults_of view shelf workers (get_or xs k d) (get_or ys k d) = λ k d lt.
-      subst (λ (l : List (Worker G L)). DidWork log_of faults_of view shelf workers (get_or l k d) (get_or ys k d)) s_is (did k d (subst (λ (l : List (Worker G L)). k < length l) (sym s_is) lt)) in
-      subst (λ (l : List (Worker G L)). CrewWorked log_of faults_of view shelf workers xs l) (sym (whole_slice xs ys n n_is long)) (record { long = long; each = each })
+      let each : (k : ℕ) (d : Worker G L) → k < length xs → DidWork log_of faults_of view manifests workers (get_or xs k d) (get_or ys k d) = λ k d lt.
+      subst (λ (l : List (Worker G L)). DidWork log_of faults_of view manifests workers (get_or l k d) (get_or ys k d)) s_is (did k d (subst (λ (l : List (Worker G L)). k < length l) (sym s_is) lt)) in
+      subst (λ (l : List (Worker G L)). PoolWorked log_of faults_of view manifests workers xs l) (sym (whole_slice xs ys n n_is long)) (record { long = long; each = each })

@@ -3,8 +3,8 @@ use Rattle.std.proofs.Common.{◌≡◌, ◌≢◌, ◌⊎◌, ℕ, suc, ◌+◌
 use Rattle.std.specs.List.{slice_get}
 use Rattle.std.proofs.lemmas.List.{length-map, map-append}
 use Rattle.std.proofs.lemmas.Option.{slice_get_within}
-use Rattle.cm_gate.specs.declared.asked.Asked.{Asked}
-use Rattle.cm_io.specs.Doors.{Place}
+use Rattle.cm_gate.specs.declared.asked.GateCall.{GateCall}
+use Rattle.cm_io.specs.Doors.{DoorPlace}
 use Rattle.cm_io.specs.Outside.{Rose}
 use Rattle.cm_io.specs.declared.door.DoorCounts.{DoorCounts}
 use Rattle.cm_manager.specs.Closed.{HasEnds}
@@ -12,20 +12,20 @@ use Rattle.cm_manager.proofs.left.HavingEnds.{grown_has_ends}
 use Rattle.cm_manager.proofs.calling.Keeping.{keeps_nothing}
 use Rattle.cm_manager.specs.Contract.{GatesView, RealmPass}
 use Rattle.cm_manager.specs.Gated.{gates_view}
-use Rattle.cm_manager.specs.Kept.{AreSixteen, IsOwnPass, Keeps, KeepsEach}
-use Rattle.cm_manager.specs.Work.{Shelf}
+use Rattle.cm_manager.specs.Kept.{AreSixteen, IsOwnPass, KeepsPass, KeepsEach}
+use Rattle.cm_manager.specs.Work.{Manifests}
 use Rattle.cm_turn.specs.Passes.{AreAll, LockView, new_pass, new_passes}
-use Rattle.cm_session.specs.declared.crew.Parts.{Parts}
+use Rattle.cm_session.specs.declared.pool.PoolParts.{PoolParts}
 use Rattle.cm_session.specs.declared.doorway.Opening.{Opening}
 use Rattle.cm_session.specs.declared.served.Back.{Back}
 use Rattle.cm_session.specs.declared.served.Cause.{Cause}
 use Rattle.cm_session.specs.declared.served.Cause.TheVariants as cause
 use Rattle.cm_session.specs.declared.served.Served.{Served}
 use Rattle.cm_session.specs.Closing.{ClosesDoor, CountsLinks, backs_of, cause_of, links_from}
-use Rattle.cm_session.specs.Doorway.{DoorPass, IsOver, failures_of, links_of, sessions_in, sessions_of}
+use Rattle.cm_session.specs.Doorway.{DoorPass, IsDoorDone, failures_of, links_of, sessions_in, sessions_of}
 use Rattle.cm_session.specs.Links.{LinkView}
-use Rattle.cm_session.specs.Parts.{Links}
-use Rattle.cm_session.specs.Serving.{AreWell, IsOfLink, Serves, ServesAll, StopsAtLoss, Visit, back_view, worker_by_worker}
+use Rattle.cm_session.specs.PoolParts.{Links}
+use Rattle.cm_session.specs.Serving.{AreWell, IsOfLink, ServesVisits, ServesAll, StopsAtLoss, ServedLink, back_view, worker_by_worker}
 use Rattle.cm_session.specs.Session.{KeepsOrNot}
 use Rattle.cm_session.proofs.links.Accepts.{over_later}
 use Rattle.cm_session.proofs.ends.Ending.{PlaceAt, Places, new_at}
@@ -40,16 +40,16 @@ map_then : {A B C : Type 0} (f : B → C) (g : A → B) (xs : List A) → map f 
 map_then f g [] = refl
 map_then f g (x ∷ xs) = ap (λ (l : List _). f (g x) ∷ l) (map_then f g xs)
 
-pub woven : {L : Type 0} (view : L → LinkView) (k : ℕ) (links : List (Links L)) (visits : List (List Visit)) → length links ≡ length visits → ((i : ℕ) (r : Links L) (vs : List Visit) → slice_get links i ≡ Some r → slice_get visits i ≡ Some vs → map view r.items ≡ map (λ v. v.now) vs) → map (back_view view) (links_from k links) ≡ worker_by_worker k visits
-woven view k [] [] long each = refl
-woven view k [] (vs ∷ visits) long each = absurd (cc long)
-woven view k (r ∷ rs) [] long each = absurd (cc long)
-woven {L} view k (r ∷ rs) (vs ∷ visits) long each =
+pub merged : {L : Type 0} (view : L → LinkView) (k : ℕ) (links : List (Links L)) (visits : List (List ServedLink)) → length links ≡ length visits → ((i : ℕ) (r : Links L) (vs : List ServedLink) → slice_get links i ≡ Some r → slice_get visits i ≡ Some vs → map view r.items ≡ map (λ v. v.now) vs) → map (back_view view) (links_from k links) ≡ worker_by_worker k visits
+merged view k [] [] long each = refl
+merged view k [] (vs ∷ visits) long each = absurd (cc long)
+merged view k (r ∷ rs) [] long each = absurd (cc long)
+merged {L} view k (r ∷ rs) (vs ∷ visits) long each =
     let back : LinkView → Back LinkView = λ l. record { worker = k; link = l } in
-    let first : map (back_view view) (backs_of k r.items) ≡ map (λ (v : Visit). back v.now) vs =
-    map_then (back_view view) (λ (l : L). record { worker = k; link = l }) r.items ∙ sym (map_then back view r.items) ∙ ap (map back) (each 0 r vs refl refl) ∙ map_then back (λ (v : Visit). v.now) vs in
-    let rest = woven view (k + 1) rs visits (cc long) (λ i x y a b. each (suc i) x y a b) in
-    map-append (back_view view) (backs_of k r.items) (links_from (k + 1) rs) ∙ ap (λ (l : List (Back LinkView)). l ++ map (back_view view) (links_from (k + 1) rs)) first ∙ ap (λ (l : List (Back LinkView)). map (λ (v : Visit). back v.now) vs ++ l) rest
+    let first : map (back_view view) (backs_of k r.items) ≡ map (λ (v : ServedLink). back v.now) vs =
+    map_then (back_view view) (λ (l : L). record { worker = k; link = l }) r.items ∙ sym (map_then back view r.items) ∙ ap (map back) (each 0 r vs refl refl) ∙ map_then back (λ (v : ServedLink). v.now) vs in
+    let rest = merged view (k + 1) rs visits (cc long) (λ i x y a b. each (suc i) x y a b) in
+    map-append (back_view view) (backs_of k r.items) (links_from (k + 1) rs) ∙ ap (λ (l : List (Back LinkView)). l ++ map (back_view view) (links_from (k + 1) rs)) first ∙ ap (λ (l : List (Back LinkView)). map (λ (v : ServedLink). back v.now) vs ++ l) rest
 
 -- ---- why no more links were served
 
@@ -72,11 +72,11 @@ pub well_means : (lost failed : Bool) (why : Cause) → why ≡ cause_of lost fa
 well_means true failed why is other = absurd (other is)
 well_means false failed why is other = refl
 
-module _ {G L : Type 0} (log_of : G → Option (List Asked)) (faults_of : G → ℕ) (view : L → LinkView) (shelf : Shelf) (workers : ℕ) (door : LockView) (o : Opening) (passes : List RealmPass) (at_door : List DoorPass) (gates : List G) (parts : Parts G L) (visits : List (List Visit)) (pl : Places log_of faults_of view shelf workers passes at_door gates parts visits) (sixteen : length passes ≡ 16) (new : at_door ≡ new_passes door.lock o 16) where
+module _ {G L : Type 0} (log_of : G → Option (List GateCall)) (faults_of : G → ℕ) (view : L → LinkView) (manifests : Manifests) (workers : ℕ) (door : LockView) (o : Opening) (passes : List RealmPass) (at_door : List DoorPass) (gates : List G) (parts : PoolParts G L) (visits : List (List ServedLink)) (pl : Places log_of faults_of view manifests workers passes at_door gates parts visits) (sixteen : length passes ≡ 16) (new : at_door ≡ new_passes door.lock o 16) where
   -- one worker's place, with its pass at the door
   record DoorAt (k : ℕ) (e : DoorPass) : Type 0 where
-    vs : List Visit
-    place : PlaceAt log_of faults_of view shelf workers passes at_door gates parts k vs
+    vs : List ServedLink
+    place : PlaceAt log_of faults_of view manifests workers passes at_door gates parts k vs
     there : slice_get visits k ≡ Some vs
     is : place.e ≡ e
     first : place.d ≡ new_pass door.lock o k
@@ -123,12 +123,12 @@ module _ {G L : Type 0} (log_of : G → Option (List Asked)) (faults_of : G → 
     each k e r there r_there =
         let at = door_at k e there in
         let r_is : at.place.r ≡ r = some_same at.place.r r (sym at.place.r_is ∙ r_there) in
-        let as_many : length r.items ≡ length at.vs = sym (length-map r.items view) ∙ ap (λ (x : Links L). length (map view x.items)) (sym r_is) ∙ ap (λ (l : List LinkView). length l) at.place.served.links_are ∙ length-map at.vs (λ (v : Visit). v.now) in
+        let as_many : length r.items ≡ length at.vs = sym (length-map r.items view) ∙ ap (λ (x : Links L). length (map view x.items)) (sym r_is) ∙ ap (λ (l : List LinkView). length l) at.place.served.links_are ∙ length-map at.vs (λ (v : ServedLink). v.now) in
         ap (λ (p : DoorPass). links_of p.mine) (sym at.is) ∙ at.place.served.counts ∙ sym as_many
 
   -- ---- what the closed door says
 
-  module _ (first : DoorCounts) (opened : o.counts ≡ first) (some_worker : 0 < workers) (now : DoorCounts) (place_now : Place) (links : ℕ) (why : Cause) (is : ClosesDoor parts.at_door.items now place_now links parts.lost why) where
+  module _ (first : DoorCounts) (opened : o.counts ≡ first) (some_worker : 0 < workers) (now : DoorCounts) (place_now : DoorPlace) (links : ℕ) (why : Cause) (is : ClosesDoor parts.at_door.items now place_now links parts.lost why) where
     zero_at : (e : DoorPass) × (slice_get parts.at_door.items 0 ≡ Some e)
     zero_at = there_at parts.at_door.items 0 (grind (arith, pl.doors_long, sixteen))
 
@@ -151,20 +151,20 @@ module _ {G L : Type 0} (log_of : G → Option (List Asked)) (faults_of : G → 
     pub fault_rose : why ≡ cause.DoorFault → Rose first.faults now.faults
     fault_rose fault = subst (λ (x : DoorCounts). Rose x.faults now.faults) counts_first (is.counted.faults (is.failure (fault_means parts.lost is.failed why is.why_is fault)))
 
-    -- where no session ended for want of memory, the first worker found that no further accept was due
-    over_at_end : parts.lost ≡ false → IsOver o.sessions is.entries
+    -- where no session ended for lack of memory, the first worker found that no further accept was due
+    over_at_end : parts.lost ≡ false → IsDoorDone o.sessions is.entries
     over_at_end well =
         let at = door_at 0 zero_at.0 zero_at.1 in
         let caller : at.place.d.caller ≡ 0 = ap (λ (p : DoorPass). p.caller) at.first in
-        let over : IsOver (sessions_of at.place.e) at.place.e.seen = at.place.over well (subst (λ (n : ℕ). n < workers) (sym caller) some_worker) in
+        let over : IsDoorDone (sessions_of at.place.e) at.place.e.seen = at.place.over well (subst (λ (n : ℕ). n < workers) (sym caller) some_worker) in
         let sessions : sessions_of at.place.e ≡ o.sessions = ap (λ (p : DoorPass). sessions_of p) at.is ∙ ap sessions_in at.frame in
         let seen = at_place (λ (p : DoorPass). Rattle.cm_turn.specs.History.StartsWith is.entries p.seen) parts.at_door.items 0 zero_at.0 is.seen zero_at.1 in
-        let found : IsOver o.sessions zero_at.0.seen = subst (λ (p : DoorPass). IsOver o.sessions p.seen) at.is (subst (λ (n : ℕ). IsOver n at.place.e.seen) sessions over) in
-        subst (λ l. IsOver o.sessions l) (sym seen.1) (over_later o.sessions zero_at.0.seen seen.0 found)
+        let found : IsDoorDone o.sessions zero_at.0.seen = subst (λ (p : DoorPass). IsDoorDone o.sessions p.seen) at.is (subst (λ (n : ℕ). IsDoorDone n at.place.e.seen) sessions over) in
+        subst (λ l. IsDoorDone o.sessions l) (sym seen.1) (over_later o.sessions zero_at.0.seen seen.0 found)
 
     pub done_over : why ≡ cause.Done → (links ≡ o.sessions) ⊎ Rose first.closings now.closings
     done_over done = (let means = done_means parts.lost is.failed why is.why_is done in by (over_at_end means.0) (is.no_failure means.1)) where
-      by : IsOver o.sessions is.entries → failures_of is.entries ≡ 0 → (links ≡ o.sessions) ⊎ Rose first.closings now.closings
+      by : IsDoorDone o.sessions is.entries → failures_of is.entries ≡ 0 → (links ≡ o.sessions) ⊎ Rose first.closings now.closings
       by (inl many) none = (let few = few_links in inl (omega (arith, few, many, is.links_are)))
       by (inr (inl closed)) none = inr (subst (λ (x : DoorCounts). Rose x.closings now.closings) counts_first (is.counted.closings closed))
       by (inr (inr failed)) none = absurd (omega (arith, failed, none))
@@ -178,34 +178,34 @@ module _ {G L : Type 0} (log_of : G → Option (List Asked)) (faults_of : G → 
     -- ---- all that comes back
 
     module _ {D : Type 0} (back : Served D L G) (passes_are : back.passes ≡ parts.passes.items) (gates_are : back.gates ≡ parts.gates.items) (links_are : back.links ≡ links_from 0 parts.links.items) (why_is : back.cause ≡ why) where
-      kept_at : (k : ℕ) (vs : List Visit) (p q : RealmPass) (g h : G) → slice_get visits k ≡ Some vs → slice_get passes k ≡ Some p → slice_get back.passes k ≡ Some q → slice_get gates k ≡ Some g → slice_get back.gates k ≡ Some h → Serves shelf vs p q (gates_view log_of faults_of g) (gates_view log_of faults_of h)
+      kept_at : (k : ℕ) (vs : List ServedLink) (p q : RealmPass) (g h : G) → slice_get visits k ≡ Some vs → slice_get passes k ≡ Some p → slice_get back.passes k ≡ Some q → slice_get gates k ≡ Some g → slice_get back.gates k ≡ Some h → ServesVisits manifests vs p q (gates_view log_of faults_of g) (gates_view log_of faults_of h)
       kept_at k vs p q g h v_there p_there q_there g_there h_there =
           let place = pl.each k vs v_there in
           let p_same = some_same place.p p (sym place.p_is ∙ p_there) in
           let q_same = some_same place.q q (sym place.q_is ∙ subst (λ (l : List RealmPass). slice_get l k ≡ Some q) passes_are q_there) in
           let g_same = some_same place.g g (sym place.g_is ∙ g_there) in
           let h_same = some_same place.h h (sym place.h_is ∙ subst (λ (l : List G). slice_get l k ≡ Some h) gates_are h_there) in
-          subst (λ (x : G). Serves shelf vs p q (gates_view log_of faults_of g) (gates_view log_of faults_of x)) h_same
-          (subst (λ (x : G). Serves shelf vs p q (gates_view log_of faults_of x) (gates_view log_of faults_of place.h)) g_same
-          (subst (λ (x : RealmPass). Serves shelf vs p x (gates_view log_of faults_of place.g) (gates_view log_of faults_of place.h)) q_same
-          (subst (λ (x : RealmPass). Serves shelf vs x place.q (gates_view log_of faults_of place.g) (gates_view log_of faults_of place.h)) p_same place.served.serves)))
+          subst (λ (x : G). ServesVisits manifests vs p q (gates_view log_of faults_of g) (gates_view log_of faults_of x)) h_same
+          (subst (λ (x : G). ServesVisits manifests vs p q (gates_view log_of faults_of x) (gates_view log_of faults_of place.h)) g_same
+          (subst (λ (x : RealmPass). ServesVisits manifests vs p x (gates_view log_of faults_of place.g) (gates_view log_of faults_of place.h)) q_same
+          (subst (λ (x : RealmPass). ServesVisits manifests vs x place.q (gates_view log_of faults_of place.g) (gates_view log_of faults_of place.h)) p_same place.served.serves)))
 
-      now_links : (k : ℕ) (r : Links L) (vs : List Visit) → slice_get parts.links.items k ≡ Some r → slice_get visits k ≡ Some vs → map view r.items ≡ map (λ v. v.now) vs
+      now_links : (k : ℕ) (r : Links L) (vs : List ServedLink) → slice_get parts.links.items k ≡ Some r → slice_get visits k ≡ Some vs → map view r.items ≡ map (λ v. v.now) vs
       now_links k r vs r_there v_there = (let place = pl.each k vs v_there in subst (λ (x : Links L). map view x.items ≡ map (λ v. v.now) vs) (some_same place.r r (sym place.r_is ∙ r_there)) place.served.links_are)
 
-      pub serves_all : ServesAll log_of faults_of view shelf workers passes gates back
+      pub serves_all : ServesAll log_of faults_of view manifests workers passes gates back
       serves_all = record {
         visits = visits;
         count = pl.count ∙ sixteen;
-        links = ap (map (back_view view)) links_are ∙ woven view 0 parts.links.items visits (pl.links_long ∙ sym pl.count) now_links;
-        came = all_places (λ (vs : List Visit). All (λ v. IsOfLink view v.was) vs) visits (λ k vs there. (pl.each k vs there).served.came);
+        links = ap (map (back_view view)) links_are ∙ merged view 0 parts.links.items visits (pl.links_long ∙ sym pl.count) now_links;
+        came = all_places (λ (vs : List ServedLink). All (λ v. IsOfLink view v.was) vs) visits (λ k vs there. (pl.each k vs there).served.came);
         each = kept_at;
         idle = λ k vs past there. (pl.each k vs there).idle (idle_at k vs past there);
         stops = all_places StopsAtLoss visits (λ k vs there. (pl.each k vs there).stops);
         well = λ other. all_places AreWell visits (λ k vs there. (pl.each k vs there).well (well_means parts.lost is.failed why is.why_is (λ same. other (why_is ∙ same))));
         lost = λ memory. pl.lost (memory_means parts.lost is.failed why is.why_is (sym why_is ∙ memory));
       } where
-        idle_at : (k : ℕ) (vs : List Visit) → workers ≤ k → (there : slice_get visits k ≡ Some vs) → workers ≤ (pl.each k vs there).d.caller
+        idle_at : (k : ℕ) (vs : List ServedLink) → workers ≤ k → (there : slice_get visits k ≡ Some vs) → workers ≤ (pl.each k vs there).d.caller
         idle_at k vs past there =
             let place = pl.each k vs there in
             let first : place.d ≡ new_pass door.lock o k = new_at door o 16 k place.d (subst (λ (l : List DoorPass). slice_get l k ≡ Some place.d) new place.d_is) in
@@ -217,7 +217,7 @@ module _ {G L : Type 0} (log_of : G → Option (List Asked)) (faults_of : G → 
         g : GatesView
         h : GatesView
         there : slice_get passes k ≡ Some p
-        keeps : KeepsOrNot shelf p q g h
+        keeps : KeepsOrNot manifests p q g h
 
       back_at : (k : ℕ) (q : RealmPass) → slice_get back.passes k ≡ Some q → BackAt k q
       back_at k q there =
@@ -229,7 +229,7 @@ module _ {G L : Type 0} (log_of : G → Option (List Asked)) (faults_of : G → 
             g = gates_view log_of faults_of place.g;
             h = gates_view log_of faults_of place.h;
             there = place.p_is;
-            keeps = subst (λ (x : RealmPass). KeepsOrNot shelf place.p x (gates_view log_of faults_of place.g) (gates_view log_of faults_of place.h)) (some_same place.q q (sym place.q_is ∙ q_there)) (serves_keep shelf v.0 place.p place.q (gates_view log_of faults_of place.g) (gates_view log_of faults_of place.h) place.served.serves);
+            keeps = subst (λ (x : RealmPass). KeepsOrNot manifests place.p x (gates_view log_of faults_of place.g) (gates_view log_of faults_of place.h)) (some_same place.q q (sym place.q_is ∙ q_there)) (serves_keep manifests v.0 place.p place.q (gates_view log_of faults_of place.g) (gates_view log_of faults_of place.h) place.served.serves);
           }
 
       back_long : length back.passes ≡ length passes
@@ -237,37 +237,37 @@ module _ {G L : Type 0} (log_of : G → Option (List Asked)) (faults_of : G → 
 
       pub sixteen_back : (realm : LockView) → AreSixteen realm passes → AreSixteen realm back.passes
       sixteen_back realm are = record {
-        lock = all_places (λ (p : RealmPass). p.lock ≡ realm.lock) back.passes (λ k q there. (let at = back_at k q there in lock_kept shelf at.p q at.g at.h at.keeps ∙ at_place (λ (p : RealmPass). p.lock ≡ realm.lock) passes k at.p are.lock at.there));
-        callers = map_same (λ (p : RealmPass). p.caller) passes back.passes back_long (λ k p q p_there q_there. (let at = back_at k q q_there in caller_kept shelf at.p q at.g at.h at.keeps ∙ ap (λ (p : RealmPass). p.caller) (some_same at.p p (sym at.there ∙ p_there)))) ∙ are.callers;
+        lock = all_places (λ (p : RealmPass). p.lock ≡ realm.lock) back.passes (λ k q there. (let at = back_at k q there in lock_kept manifests at.p q at.g at.h at.keeps ∙ at_place (λ (p : RealmPass). p.lock ≡ realm.lock) passes k at.p are.lock at.there));
+        callers = map_same (λ (p : RealmPass). p.caller) passes back.passes back_long (λ k p q p_there q_there. (let at = back_at k q q_there in caller_kept manifests at.p q at.g at.h at.keeps ∙ ap (λ (p : RealmPass). p.caller) (some_same at.p p (sym at.there ∙ p_there)))) ∙ are.callers;
       }
 
       pub gates_back : length back.gates ≡ 16
       gates_back = ap (λ (l : List G). length l) gates_are ∙ pl.gates_long ∙ sixteen
 
-      pub keeps_each : length gates ≡ 16 → All IsOwnPass passes → KeepsEach log_of faults_of shelf passes back.passes gates back.gates
+      pub keeps_each : length gates ≡ 16 → All IsOwnPass passes → KeepsEach log_of faults_of manifests passes back.passes gates back.gates
       keeps_each many own = record {
         passes = back_long;
         gates = gates_back ∙ sym many;
         each = each;
       } where
-        each : (k : ℕ) (p q : RealmPass) (g h : G) → slice_get passes k ≡ Some p → slice_get back.passes k ≡ Some q → slice_get gates k ≡ Some g → slice_get back.gates k ≡ Some h → Keeps shelf p q (gates_view log_of faults_of g) (gates_view log_of faults_of h)
+        each : (k : ℕ) (p q : RealmPass) (g h : G) → slice_get passes k ≡ Some p → slice_get back.passes k ≡ Some q → slice_get gates k ≡ Some g → slice_get back.gates k ≡ Some h → KeepsPass manifests p q (gates_view log_of faults_of g) (gates_view log_of faults_of h)
         each k p q g h p_there q_there g_there h_there =
             let v = there_at visits k (grind (arith, slice_get_within passes k p p_there, pl.count)) in
-            keeps_kept shelf p q (gates_view log_of faults_of g) (gates_view log_of faults_of h) (at_place IsOwnPass passes k p own p_there)
-            (serves_keep shelf v.0 p q (gates_view log_of faults_of g) (gates_view log_of faults_of h) (kept_at k v.0 p q g h v.1 p_there q_there g_there h_there))
+            keeps_kept manifests p q (gates_view log_of faults_of g) (gates_view log_of faults_of h) (at_place IsOwnPass passes k p own p_there)
+            (serves_keep manifests v.0 p q (gates_view log_of faults_of g) (gates_view log_of faults_of h) (kept_at k v.0 p q g h v.1 p_there q_there g_there h_there))
 
       pub ends_back : All (λ (p : RealmPass). HasEnds p.mine) passes → All (λ (p : RealmPass). HasEnds p.mine) back.passes
       ends_back ends = all_places (λ (p : RealmPass). HasEnds p.mine) back.passes (λ k q there. (let at = back_at k q there in after at.p q at.g at.h at.keeps (at_place (λ (p : RealmPass). HasEnds p.mine) passes k at.p ends at.there))) where
-        after : (p q : RealmPass) (g h : GatesView) → KeepsOrNot shelf p q g h → HasEnds p.mine → HasEnds q.mine
+        after : (p q : RealmPass) (g h : GatesView) → KeepsOrNot manifests p q g h → HasEnds p.mine → HasEnds q.mine
         after p q g h (inl same) has = subst (λ (x : RealmPass). HasEnds x.mine) (sym same.0) has
         after p q g h (inr keeps) has = grown_has_ends p.mine keeps.part q.mine has keeps.closed keeps.mine
 
 -- ---- where nothing was done
 
-pub keeps_all : {G : Type 0} (log_of : G → Option (List Asked)) (faults_of : G → ℕ) (shelf : Shelf) (passes : List RealmPass) (gates : List G) → All IsOwnPass passes → KeepsEach log_of faults_of shelf passes passes gates gates
-keeps_all log_of faults_of shelf passes gates own = record { passes = refl; gates = refl; each = each } where
-  each : (k : ℕ) (p q : RealmPass) (g h : _) → slice_get passes k ≡ Some p → slice_get passes k ≡ Some q → slice_get gates k ≡ Some g → slice_get gates k ≡ Some h → Keeps shelf p q (gates_view log_of faults_of g) (gates_view log_of faults_of h)
+pub keeps_all : {G : Type 0} (log_of : G → Option (List GateCall)) (faults_of : G → ℕ) (manifests : Manifests) (passes : List RealmPass) (gates : List G) → All IsOwnPass passes → KeepsEach log_of faults_of manifests passes passes gates gates
+keeps_all log_of faults_of manifests passes gates own = record { passes = refl; gates = refl; each = each } where
+  each : (k : ℕ) (p q : RealmPass) (g h : _) → slice_get passes k ≡ Some p → slice_get passes k ≡ Some q → slice_get gates k ≡ Some g → slice_get gates k ≡ Some h → KeepsPass manifests p q (gates_view log_of faults_of g) (gates_view log_of faults_of h)
   each k p q g h p_there q_there g_there h_there =
-      subst (λ (x : RealmPass). Keeps shelf p x (gates_view log_of faults_of g) (gates_view log_of faults_of h)) (some_same p q (sym p_there ∙ q_there))
-      (subst (λ (x : _). Keeps shelf p p (gates_view log_of faults_of g) (gates_view log_of faults_of x)) (some_same g h (sym g_there ∙ h_there))
-      (keeps_nothing shelf p (gates_view log_of faults_of g) (at_place IsOwnPass passes k p own p_there)))
+      subst (λ (x : RealmPass). KeepsPass manifests p x (gates_view log_of faults_of g) (gates_view log_of faults_of h)) (some_same p q (sym p_there ∙ q_there))
+      (subst (λ (x : _). KeepsPass manifests p p (gates_view log_of faults_of g) (gates_view log_of faults_of x)) (some_same g h (sym g_there ∙ h_there))
+      (keeps_nothing manifests p (gates_view log_of faults_of g) (at_place IsOwnPass passes k p own p_there)))

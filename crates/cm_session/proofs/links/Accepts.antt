@@ -4,19 +4,19 @@ use Rattle.std.proofs.lemmas.List.{length-append}
 use Rattle.std.proofs.lemmas.List.Elements.{filter-append, All-push, All-nil}
 use Rattle.cm_io.specs.declared.door.Accept.{Accept}
 use Rattle.cm_io.specs.declared.door.Accept.TheVariants as accept
-use Rattle.cm_turn.specs.Passes.{HeldView, Enters, Leaves, IsOwn, with_state}
+use Rattle.cm_turn.specs.Passes.{HeldView, Enters, LeavesTurn, IsOwn, with_state}
 use Rattle.cm_session.specs.declared.doorway.Accepted.{Accepted}
-use Rattle.cm_session.specs.declared.doorway.Came.{Came}
-use Rattle.cm_session.specs.declared.doorway.Came.TheVariants as came
+use Rattle.cm_session.specs.declared.doorway.Accepting.{Accepting}
+use Rattle.cm_session.specs.declared.doorway.Accepting.TheVariants as came
 use Rattle.cm_session.specs.declared.doorway.Opening.{Opening}
-use Rattle.cm_session.specs.Doorway.{accepted_by, came_of, closings_of, failures_of, is_closing, is_failure, is_link, links_of, sessions_in, sessions_of, DoorPass, DoorwayView, IsLater, IsOver, TakesTurn, TurnedBy}
+use Rattle.cm_session.specs.Doorway.{accepted_by, came_of, closings_of, failures_of, is_closing, is_failure, is_link, links_of, sessions_in, sessions_of, DoorPass, DoorwayView, IsLater, IsDoorDone, TakesTurn, TurnedBy}
 
 -- how many of a list's entries pass, with more behind them
 pub count_more : {A : Type 0} (p : A → Bool) (xs ys : List A) → length (filter p (xs ++ ys)) ≡ length (filter p xs) + length (filter p ys)
 count_more p xs ys = ap (λ (l : List _). length l) (filter-append p xs ys) ∙ length-append (filter p xs) (filter p ys)
 
 -- an accept by this worker
-abbrev pub entry_of : ℕ → Came → Accepted
+abbrev pub entry_of : ℕ → Accepting → Accepted
 entry_of w c = record { worker = w; came = c }
 
 -- what an entry counts
@@ -44,7 +44,7 @@ pub with_failure : (es : List Accepted) (w : ℕ) → CountsMore es (es ++ entry
 with_failure es w = counts_with es (entry_of w came.Failed)
 
 -- what is over stays so
-pub over_later : (sessions : ℕ) (es more : List Accepted) → IsOver sessions es → IsOver sessions (es ++ more)
+pub over_later : (sessions : ℕ) (es more : List Accepted) → IsDoorDone sessions es → IsDoorDone sessions (es ++ more)
 over_later sessions es more (inl many) = inl (grind (arith, many, count_more is_link es more))
 over_later sessions es more (inr (inl closed)) = inr (inl (grind (arith, closed, count_more is_closing es more)))
 over_later sessions es more (inr (inr failed)) = inr (inr (grind (arith, failed, count_more is_failure es more)))
@@ -82,9 +82,9 @@ made_by w sessions found left mine mine' (Some a) is grows = grows (entry_of w (
 made_by w sessions found left mine mine' None is grows = grows [] (is.0 ∙ sym (append-nil found))
 
 -- where no accept is due, what was found is over
-pub over_found : {L : Type 0} (w sessions : ℕ) (found left : List Accepted) (a : Option (Accept L)) → TurnedBy w sessions found left a → a ≡ None → IsOver sessions left
+pub over_found : {L : Type 0} (w sessions : ℕ) (found left : List Accepted) (a : Option (Accept L)) → TurnedBy w sessions found left a → a ≡ None → IsDoorDone sessions left
 over_found w sessions found left (Some a) is none = absurd (cc none)
-over_found w sessions found left None is none = subst (IsOver sessions) (sym is.0) is.1
+over_found w sessions found left None is none = subst (IsDoorDone sessions) (sym is.0) is.1
 
 -- a whole turn
 pub turn_taken : {L : Type 0} (p q : DoorPass) (o : Opening) (found left : List Accepted) (a : Option (Accept L)) → p.frame ≡ Some o → TurnedBy p.caller o.sessions found left a → links_of left ≤ o.sessions → IsLater p q → q.seen ≡ left → IsOwn (λ (e : Accepted). e.worker) q → ((es : List Accepted) → left ≡ found ++ es → q.mine ≡ p.mine ++ es) → TakesTurn p q a
@@ -96,7 +96,7 @@ turn_taken p q o found left a framed turned few same seen own grows =
       same = same;
       made = made_by p.caller o.sessions found left p.mine q.mine a turned grows;
       few = grind (arith, sessions, within, seen_few);
-      over = λ none. subst (λ (n : ℕ). IsOver n q.seen) (sym sessions) (subst (IsOver o.sessions) (sym seen) (over_found p.caller o.sessions found left a turned none));
+      over = λ none. subst (λ (n : ℕ). IsDoorDone n q.seen) (sym sessions) (subst (IsDoorDone o.sessions) (sym seen) (over_found p.caller o.sessions found left a turned none));
     }
 
 -- what an enter and a leave of a door's turn say
@@ -104,7 +104,7 @@ abbrev pub DoorEnters : {D : Type 0} → DoorPass → HeldView (DoorwayView D) A
 DoorEnters {D} p h = Enters (λ (s : DoorwayView D). s.entries) (λ (s : DoorwayView D). s.opening) (λ (e : Accepted). e.worker) p h
 
 abbrev pub DoorLeaves : {D : Type 0} → HeldView (DoorwayView D) Accepted Opening → DoorPass → Type 0
-DoorLeaves {D} h q = Leaves (λ (s : DoorwayView D). s.entries) (λ (e : Accepted). e.worker) h q
+DoorLeaves {D} h q = LeavesTurn (λ (s : DoorwayView D). s.entries) (λ (e : Accepted). e.worker) h q
 
 -- the door's entries as the pass in a held turn has seen them
 seen_as : {D : Type 0} (p : DoorPass) (h : HeldView (DoorwayView D) Accepted Opening) (x : DoorwayView D) → DoorEnters p h → x ≡ h.state → h.pass.seen ≡ x.entries

@@ -3,7 +3,7 @@ use Rattle.std.proofs.Common.{◌≡◌, ℕ, zero, suc, ◌+◌, ◌<◌, ◌�
 use Rattle.std.proofs.lemmas.List.{length-append, length-map, length_push}
 use Rattle.cm_session.specs.declared.served.Back.{Back}
 use Rattle.cm_session.specs.Closing.{backs_of, links_from}
-use Rattle.cm_session.specs.Parts.{Links}
+use Rattle.cm_session.specs.PoolParts.{Links}
 use Rattle.cm_session.proofs.work.Making.{no_length}
 
 -- ---- the links of one worker

@@ -10,7 +10,7 @@ use Rattle.cm_session.specs.declared.doorway.Accepted.{Accepted}
 use Rattle.cm_session.specs.declared.served.Back.{Back}
 use Rattle.cm_session.specs.Closing.{backs_of, links_from}
 use Rattle.cm_session.specs.Doorway.{is_link, links_of}
-use Rattle.cm_session.specs.Parts.{Links}
+use Rattle.cm_session.specs.PoolParts.{Links}
 use Rattle.cm_session.proofs.links.Accepts.{count_more}
 
 -- the entries of one worker

@@ -1,10 +1,11 @@
 -- Lemmas on bytes that are cut where a line ends.
 use Rattle.std.proofs.Common.{◌≡◌, ◌≢◌, ◌<◌, ◌⊎◌, inl, inr, ℕ, suc, true, List, [], ◌∷◌, ◌++◌, length, length-append, refl, ap, sym, ◌∙◌, append_assoc, append-nil, arith}
 use Rattle.std.proofs.lemmas.Bool.Decides.{nat_tests}
-use Rattle.cm_io.specs.Lines.{IsFirstLine, IsUnbroken, Reader, lines}
+use Rattle.cm_io.specs.Lines.{lines}
+use Rattle.cm_io.specs.LinesInside.{IsFirstLine, IsUnbroken, Reader}
 use Rattle.cm_io.proofs.LineLemmas.{lines-first, lines-last, lines-nil}
-use Rattle.cm_reply.specs.Lists.{Text}
-use Rattle.cm_session.specs.Links.{Begins, in_front_of_some, whole_lines}
+use Rattle.cm_reply.specs.Lists.{TextBytes}
+use Rattle.cm_session.specs.Links.{BeginsWithBytes, in_prefix_of_some, whole_lines}
 
 -- ---- the lines that 0x0A ends
 
@@ -12,47 +13,47 @@ whole-nil : whole_lines [] ≡ []
 unfolding whole_lines
 whole-nil = refl
 
-whole-in_front : (byte : ℕ) (bytes : Text) → byte ≢ 10 → whole_lines (byte ∷ bytes) ≡ in_front_of_some byte (whole_lines bytes)
+whole-in_prefix : (byte : ℕ) (bytes : TextBytes) → byte ≢ 10 → whole_lines (byte ∷ bytes) ≡ in_prefix_of_some byte (whole_lines bytes)
 unfolding whole_lines
-whole-in_front byte bytes h = grind (arith, nat_tests)
+whole-in_prefix byte bytes h = grind (arith, nat_tests)
 
-whole-ended : (bytes : Text) → whole_lines (10 ∷ bytes) ≡ [] ∷ whole_lines bytes
+whole-ended : (bytes : TextBytes) → whole_lines (10 ∷ bytes) ≡ [] ∷ whole_lines bytes
 unfolding whole_lines
 whole-ended bytes = refl
 
-unbroken-tail : (byte : ℕ) (bytes : Text) → IsUnbroken (byte ∷ bytes) → IsUnbroken bytes
+unbroken-tail : (byte : ℕ) (bytes : TextBytes) → IsUnbroken (byte ∷ bytes) → IsUnbroken bytes
 unbroken-tail byte bytes h = λ k d lt. h (suc k) d (omega arith)
 
-unbroken-head : (byte : ℕ) (bytes : Text) → IsUnbroken (byte ∷ bytes) → byte ≢ 10
+unbroken-head : (byte : ℕ) (bytes : TextBytes) → IsUnbroken (byte ∷ bytes) → byte ≢ 10
 unbroken-head byte bytes h = h 0 0 (omega arith)
 
-whole-unbroken : (bytes : Text) → IsUnbroken bytes → whole_lines bytes ≡ []
+whole-unbroken : (bytes : TextBytes) → IsUnbroken bytes → whole_lines bytes ≡ []
 whole-unbroken [] h = whole-nil
 whole-unbroken (byte ∷ bytes) h =
-    whole-in_front byte bytes (unbroken-head byte bytes h) ∙ ap (in_front_of_some byte) (whole-unbroken bytes (unbroken-tail byte bytes h))
+    whole-in_prefix byte bytes (unbroken-head byte bytes h) ∙ ap (in_prefix_of_some byte) (whole-unbroken bytes (unbroken-tail byte bytes h))
 
-whole-first : (line rest : Text) → IsUnbroken line → whole_lines (line ++ 10 ∷ rest) ≡ line ∷ whole_lines rest
+whole-first : (line rest : TextBytes) → IsUnbroken line → whole_lines (line ++ 10 ∷ rest) ≡ line ∷ whole_lines rest
 whole-first [] rest h = whole-ended rest
 whole-first (byte ∷ line) rest h =
-    whole-in_front byte (line ++ 10 ∷ rest) (unbroken-head byte line h) ∙ ap (in_front_of_some byte) (whole-first line rest (unbroken-tail byte line h))
+    whole-in_prefix byte (line ++ 10 ∷ rest) (unbroken-head byte line h) ∙ ap (in_prefix_of_some byte) (whole-first line rest (unbroken-tail byte line h))
 
 -- ---- where bytes are cut
 
 -- `gone` ends where a line ends, and has these lines
-pub record AtLine (gone : Text) (done : List Text) : Type 0 where
-  pub all : (f : Text) → lines (gone ++ f) ≡ done ++ lines f
-  pub whole : (f : Text) → whole_lines (gone ++ f) ≡ done ++ whole_lines f
+pub record AtLine (gone : TextBytes) (done : List TextBytes) : Type 0 where
+  pub all : (f : TextBytes) → lines (gone ++ f) ≡ done ++ lines f
+  pub whole : (f : TextBytes) → whole_lines (gone ++ f) ≡ done ++ whole_lines f
 
 -- `gone` goes up to the source's end, and has these lines, of which the last isn't ended
-pub record AtEnd (gone : Text) (done : List Text) (reader : Reader) : Type 0 where
+pub record AtEnd (gone : TextBytes) (done : List TextBytes) (reader : Reader) : Type 0 where
   pub all : lines gone ≡ done
-  pub whole : Begins done (whole_lines gone)
+  pub whole : BeginsWithBytes done (whole_lines gone)
   pub none : reader.held ≡ []
   pub over : reader.over ≡ true
 
 -- the lines `done` were taken of the bytes, and the reader holds the others
-pub record Cut (bytes : Text) (reader : Reader) (done : List Text) : Type 0 where
-  pub gone : Text
+pub record Cut (bytes : TextBytes) (reader : Reader) (done : List TextBytes) : Type 0 where
+  pub gone : TextBytes
   pub parted : bytes ≡ gone ++ reader.held
   pub at : AtLine gone done ⊎ AtEnd gone done reader
 
@@ -63,38 +64,38 @@ cut-none reader e = record {
   at = inl (record { all = λ f. refl; whole = λ f. refl });
 }
 
-at-line : (gone line : Text) (done : List Text) → AtLine gone done → IsUnbroken line → AtLine (gone ++ (line ++ 10 ∷ [])) (done ++ line ∷ [])
+at-line : (gone line : TextBytes) (done : List TextBytes) → AtLine gone done → IsUnbroken line → AtLine (gone ++ (line ++ 10 ∷ [])) (done ++ line ∷ [])
 at-line gone line done at unbroken =
-    let shifted : (f : Text) → (gone ++ (line ++ 10 ∷ [])) ++ f ≡ gone ++ (line ++ 10 ∷ f) =
-    λ f. append_assoc gone (line ++ 10 ∷ []) f ∙ ap (λ (l : Text). gone ++ l) (append_assoc line (10 ∷ []) f) in
+    let shifted : (f : TextBytes) → (gone ++ (line ++ 10 ∷ [])) ++ f ≡ gone ++ (line ++ 10 ∷ f) =
+    λ f. append_assoc gone (line ++ 10 ∷ []) f ∙ ap (λ (l : TextBytes). gone ++ l) (append_assoc line (10 ∷ []) f) in
     record {
-      all = λ f. ap lines (shifted f) ∙ at.all (line ++ 10 ∷ f) ∙ ap (λ (ls : List Text). done ++ ls) (lines-first line f unbroken) ∙ sym (append_assoc done (line ∷ []) (lines f));
-      whole = λ f. ap whole_lines (shifted f) ∙ at.whole (line ++ 10 ∷ f) ∙ ap (λ (ls : List Text). done ++ ls) (whole-first line f unbroken) ∙ sym (append_assoc done (line ∷ []) (whole_lines f));
+      all = λ f. ap lines (shifted f) ∙ at.all (line ++ 10 ∷ f) ∙ ap (λ (ls : List TextBytes). done ++ ls) (lines-first line f unbroken) ∙ sym (append_assoc done (line ∷ []) (lines f));
+      whole = λ f. ap whole_lines (shifted f) ∙ at.whole (line ++ 10 ∷ f) ∙ ap (λ (ls : List TextBytes). done ++ ls) (whole-first line f unbroken) ∙ sym (append_assoc done (line ∷ []) (whole_lines f));
     }
 
-at-end : (gone line : Text) (done : List Text) (reader : Reader) → AtLine gone done → IsUnbroken line → 0 < length line → reader.held ≡ [] → reader.over ≡ true
+at-end : (gone line : TextBytes) (done : List TextBytes) (reader : Reader) → AtLine gone done → IsUnbroken line → 0 < length line → reader.held ≡ [] → reader.over ≡ true
     → AtEnd (gone ++ line) (done ++ line ∷ []) reader
 at-end gone line done reader at unbroken some none over = record {
-  all = at.all line ∙ ap (λ (ls : List Text). done ++ ls) (lines-last line unbroken some);
+  all = at.all line ∙ ap (λ (ls : List TextBytes). done ++ ls) (lines-last line unbroken some);
   whole =
-      (line ∷ [], ap (λ (ls : List Text). ls ++ line ∷ []) (sym (append-nil done) ∙ sym (at.whole line ∙ ap (λ (ls : List Text). done ++ ls) (whole-unbroken line unbroken))));
+      (line ∷ [], ap (λ (ls : List TextBytes). ls ++ line ∷ []) (sym (append-nil done) ∙ sym (at.whole line ∙ ap (λ (ls : List TextBytes). done ++ ls) (whole-unbroken line unbroken))));
   none = none;
   over = over;
 }
 
 -- all bytes, behind what is gone
-parted-more : (bytes given held gone : Text) → bytes ≡ gone ++ held → bytes ++ given ≡ gone ++ (held ++ given)
-parted-more bytes given held gone e = ap (λ (l : Text). l ++ given) e ∙ append_assoc gone held given
+parted-more : (bytes given held gone : TextBytes) → bytes ≡ gone ++ held → bytes ++ given ≡ gone ++ (held ++ given)
+parted-more bytes given held gone e = ap (λ (l : TextBytes). l ++ given) e ∙ append_assoc gone held given
 
 -- behind the end nothing is taken
-none-taken : (given held : Text) → held ≡ [] → given ≡ [] → held ++ given ≡ []
-none-taken given held e e' = ap (λ (l : Text). l ++ given) e ∙ e'
+none-taken : (given held : TextBytes) → held ≡ [] → given ≡ [] → held ++ given ≡ []
+none-taken given held e e' = ap (λ (l : TextBytes). l ++ given) e ∙ e'
 
-no-line : (taken : Text) (reader : Reader) (line : Text) → taken ≡ [] → IsFirstLine taken reader line → ⊥
+no-line : (taken : TextBytes) (reader : Reader) (line : TextBytes) → taken ≡ [] → IsFirstLine taken reader line → ⊥
 no-line taken reader line e (unbroken, inl h) = absurd (omega (arith, ap length (sym h ∙ e), length-append line (10 ∷ reader.held)))
 no-line taken reader line e (unbroken, inr (h, some, none, over)) = absurd (omega (arith, some, ap length (sym h ∙ e)))
 
-pub cut-more : (bytes given : Text) (before after : Reader) (done : List Text) (line : Text) → Cut bytes before done → (before.over ≡ true → given ≡ [])
+pub cut-more : (bytes given : TextBytes) (before after : Reader) (done : List TextBytes) (line : TextBytes) → Cut bytes before done → (before.over ≡ true → given ≡ [])
     → IsFirstLine (before.held ++ given) after line → Cut (bytes ++ given) after (done ++ line ∷ [])
 cut-more bytes given before after done line cut still (unbroken, how) =
     let whole = parted-more bytes given before.held cut.gone cut.parted in
@@ -102,12 +103,12 @@ cut-more bytes given before after done line cut still (unbroken, how) =
       | inl at ↦ elim how [
         | inl e ↦ record {
           gone = cut.gone ++ (line ++ 10 ∷ []);
-          parted = whole ∙ ap (λ (l : Text). cut.gone ++ l) (e ∙ sym (append_assoc line (10 ∷ []) after.held)) ∙ sym (append_assoc cut.gone (line ++ 10 ∷ []) after.held);
+          parted = whole ∙ ap (λ (l : TextBytes). cut.gone ++ l) (e ∙ sym (append_assoc line (10 ∷ []) after.held)) ∙ sym (append_assoc cut.gone (line ++ 10 ∷ []) after.held);
           at = inl (at-line cut.gone line done at unbroken);
         }
         | inr (e, some, none, over) ↦ record {
           gone = cut.gone ++ line;
-          parted = whole ∙ ap (λ (l : Text). cut.gone ++ l) e ∙ sym (append-nil (cut.gone ++ line)) ∙ ap (λ (l : Text). (cut.gone ++ line) ++ l) (sym none);
+          parted = whole ∙ ap (λ (l : TextBytes). cut.gone ++ l) e ∙ sym (append-nil (cut.gone ++ line)) ∙ ap (λ (l : TextBytes). (cut.gone ++ line) ++ l) (sym none);
           at = inr (at-end cut.gone line done after at unbroken some none over);
         }
       ]
@@ -115,44 +116,44 @@ cut-more bytes given before after done line cut still (unbroken, how) =
     ]
 
 -- the lines that were taken come first of all
-pub cut-begins : (bytes given : Text) (before : Reader) (done : List Text) → Cut bytes before done → (before.over ≡ true → given ≡ []) → Begins (lines (bytes ++ given)) done
+pub cut-begins : (bytes given : TextBytes) (before : Reader) (done : List TextBytes) → Cut bytes before done → (before.over ≡ true → given ≡ []) → BeginsWithBytes (lines (bytes ++ given)) done
 cut-begins bytes given before done cut still =
     let whole = parted-more bytes given before.held cut.gone cut.parted in
     elim cut.at [
       | inl at ↦ (lines (before.held ++ given), ap lines whole ∙ at.all (before.held ++ given))
-      | inr end ↦ ([], ap lines (whole ∙ ap (λ (l : Text). cut.gone ++ l) (none-taken given before.held end.none (still end.over)) ∙ append-nil cut.gone) ∙ end.all ∙ sym (append-nil done))
+      | inr end ↦ ([], ap lines (whole ∙ ap (λ (l : TextBytes). cut.gone ++ l) (none-taken given before.held end.none (still end.over)) ∙ append-nil cut.gone) ∙ end.all ∙ sym (append-nil done))
     ]
 
 -- and they are all lines where nothing else was taken
-pub cut-end : (bytes given : Text) (before : Reader) (done : List Text) → Cut bytes before done → before.held ++ given ≡ [] → lines (bytes ++ given) ≡ done
+pub cut-end : (bytes given : TextBytes) (before : Reader) (done : List TextBytes) → Cut bytes before done → before.held ++ given ≡ [] → lines (bytes ++ given) ≡ done
 cut-end bytes given before done cut none =
-    let whole : bytes ++ given ≡ cut.gone = parted-more bytes given before.held cut.gone cut.parted ∙ ap (λ (l : Text). cut.gone ++ l) none ∙ append-nil cut.gone in
+    let whole : bytes ++ given ≡ cut.gone = parted-more bytes given before.held cut.gone cut.parted ∙ ap (λ (l : TextBytes). cut.gone ++ l) none ∙ append-nil cut.gone in
     elim cut.at [
-      | inl at ↦ ap lines (whole ∙ sym (append-nil cut.gone)) ∙ at.all [] ∙ ap (λ (ls : List Text). done ++ ls) lines-nil ∙ append-nil done
+      | inl at ↦ ap lines (whole ∙ sym (append-nil cut.gone)) ∙ at.all [] ∙ ap (λ (ls : List TextBytes). done ++ ls) lines-nil ∙ append-nil done
       | inr end ↦ ap lines whole ∙ end.all
     ]
 
 -- the lines that are whole were taken, where none of them is left
-pub cut-fault : (bytes given : Text) (before : Reader) (done : List Text) → Cut bytes before done → (before.over ≡ true → given ≡ []) → IsUnbroken (before.held ++ given)
-    → Begins done (whole_lines (bytes ++ given))
+pub cut-fault : (bytes given : TextBytes) (before : Reader) (done : List TextBytes) → Cut bytes before done → (before.over ≡ true → given ≡ []) → IsUnbroken (before.held ++ given)
+    → BeginsWithBytes done (whole_lines (bytes ++ given))
 cut-fault bytes given before done cut still unbroken =
     let whole = parted-more bytes given before.held cut.gone cut.parted in
     elim cut.at [
       | inl at ↦
-          ([], sym (append-nil (whole_lines (bytes ++ given)) ∙ ap whole_lines whole ∙ at.whole (before.held ++ given) ∙ ap (λ (ls : List Text). done ++ ls) (whole-unbroken (before.held ++ given) unbroken) ∙ append-nil done))
+          ([], sym (append-nil (whole_lines (bytes ++ given)) ∙ ap whole_lines whole ∙ at.whole (before.held ++ given) ∙ ap (λ (ls : List TextBytes). done ++ ls) (whole-unbroken (before.held ++ given) unbroken) ∙ append-nil done))
       | inr end ↦
-          (end.whole.0, end.whole.1 ∙ ap (λ (l : Text). whole_lines l ++ end.whole.0) (sym (whole ∙ ap (λ (l : Text). cut.gone ++ l) (none-taken given before.held end.none (still end.over)) ∙ append-nil cut.gone)))
+          (end.whole.0, end.whole.1 ∙ ap (λ (l : TextBytes). whole_lines l ++ end.whole.0) (sym (whole ∙ ap (λ (l : TextBytes). cut.gone ++ l) (none-taken given before.held end.none (still end.over)) ∙ append-nil cut.gone)))
     ]
 
 -- the lines that were taken are whole ones, or the last of them isn't and the source came to its end
-pub cut-ended : (bytes given : Text) (before : Reader) (done : List Text) → Cut bytes before done → Begins (whole_lines (bytes ++ given)) done ⊎ (before.over ≡ true)
+pub cut-ended : (bytes given : TextBytes) (before : Reader) (done : List TextBytes) → Cut bytes before done → BeginsWithBytes (whole_lines (bytes ++ given)) done ⊎ (before.over ≡ true)
 cut-ended bytes given before done cut =
     elim cut.at [
       | inl at ↦ inl (whole_lines (before.held ++ given), ap whole_lines (parted-more bytes given before.held cut.gone cut.parted) ∙ at.whole (before.held ++ given))
       | inr end ↦ inr end.over
     ]
 
-pub cut-ended-so-far : (bytes : Text) (reader : Reader) (done : List Text) → Cut bytes reader done → Begins (whole_lines bytes) done ⊎ (reader.over ≡ true)
+pub cut-ended-so-far : (bytes : TextBytes) (reader : Reader) (done : List TextBytes) → Cut bytes reader done → BeginsWithBytes (whole_lines bytes) done ⊎ (reader.over ≡ true)
 cut-ended-so-far bytes reader done cut =
     elim cut.at [
       | inl at ↦ inl (whole_lines reader.held, ap whole_lines cut.parted ∙ at.whole reader.held)
@@ -160,8 +161,8 @@ cut-ended-so-far bytes reader done cut =
     ]
 
 -- one line more comes next
-pub cut-next : (bytes given : Text) (before after : Reader) (done : List Text) (line : Text) → Cut bytes before done → (before.over ≡ true → given ≡ [])
-    → IsFirstLine (before.held ++ given) after line → (rest : List Text) × (lines (bytes ++ given) ≡ done ++ line ∷ rest)
+pub cut-next : (bytes given : TextBytes) (before after : Reader) (done : List TextBytes) (line : TextBytes) → Cut bytes before done → (before.over ≡ true → given ≡ [])
+    → IsFirstLine (before.held ++ given) after line → (rest : List TextBytes) × (lines (bytes ++ given) ≡ done ++ line ∷ rest)
 cut-next bytes given before after done line cut still first =
     let more = cut-more bytes given before after done line cut still first in
     let begins = cut-begins (bytes ++ given) [] after (done ++ line ∷ []) more (λ _. refl) in

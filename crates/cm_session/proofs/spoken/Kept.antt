@@ -4,66 +4,66 @@ use Rattle.cm_world.specs.declared.frame.Frame.{Frame}
 use Rattle.cm_world.specs.declared.reply.Entry.{Entry}
 use Rattle.cm_manager.specs.Asking.{frame_in, frame_of}
 use Rattle.cm_manager.specs.Contract.{RealmPass, GatesView}
-use Rattle.cm_manager.specs.Done.{Done, Follows}
-use Rattle.cm_manager.specs.Kept.{IsOwnPass, Keeps}
-use Rattle.cm_manager.specs.Work.{Shelf}
+use Rattle.cm_manager.specs.Done.{Done, PerformsCommands}
+use Rattle.cm_manager.specs.Kept.{IsOwnPass, KeepsPass}
+use Rattle.cm_manager.specs.Work.{Manifests}
 use Rattle.cm_manager.proofs.calling.Keeping.{keeps_nothing, keeps_trans, starts_same}
 use Rattle.cm_session.specs.Session.{KeepsOrNot}
-use Rattle.cm_session.specs.Steps.{Does}
-use Rattle.cm_session.specs.Told.{Told, performed, bad, too_long, done_of}
+use Rattle.cm_session.specs.Steps.{DoesLine}
+use Rattle.cm_session.specs.LineOutcome.{LineOutcome, performed, bad, too_long, done_of}
 
 -- ---- the pass and the gates
 
-pub kept_same : (shelf : Shelf) (p : RealmPass) (g : GatesView) → KeepsOrNot shelf p p g g
-kept_same shelf p g = inl (refl, refl)
+pub kept_same : (manifests : Manifests) (p : RealmPass) (g : GatesView) → KeepsOrNot manifests p p g g
+kept_same manifests p g = inl (refl, refl)
 
-pub kept_then : (shelf : Shelf) (p q r : RealmPass) (g h k : GatesView) → KeepsOrNot shelf p q g h → KeepsOrNot shelf q r h k → KeepsOrNot shelf p r g k
-kept_then shelf p q r g h k (inl (same, gates)) b =
-    subst (λ (x : RealmPass). KeepsOrNot shelf x r g k) same (subst (λ (x : GatesView). KeepsOrNot shelf q r x k) gates b)
-kept_then shelf p q r g h k (inr a) (inl (same, gates)) =
-    inr (subst (λ (x : RealmPass). Keeps shelf p x g k) (sym same) (subst (λ (x : GatesView). Keeps shelf p q g x) (sym gates) a))
-kept_then shelf p q r g h k (inr a) (inr b) = inr (keeps_trans shelf p q r g h k a b)
+pub kept_then : (manifests : Manifests) (p q r : RealmPass) (g h k : GatesView) → KeepsOrNot manifests p q g h → KeepsOrNot manifests q r h k → KeepsOrNot manifests p r g k
+kept_then manifests p q r g h k (inl (same, gates)) b =
+    subst (λ (x : RealmPass). KeepsOrNot manifests x r g k) same (subst (λ (x : GatesView). KeepsOrNot manifests q r x k) gates b)
+kept_then manifests p q r g h k (inr a) (inl (same, gates)) =
+    inr (subst (λ (x : RealmPass). KeepsPass manifests p x g k) (sym same) (subst (λ (x : GatesView). KeepsPass manifests p q g x) (sym gates) a))
+kept_then manifests p q r g h k (inr a) (inr b) = inr (keeps_trans manifests p q r g h k a b)
 
 -- a pass that has its caller's entries is kept in any case
-pub keeps_kept : (shelf : Shelf) (p q : RealmPass) (g h : GatesView) → IsOwnPass p → KeepsOrNot shelf p q g h → Keeps shelf p q g h
-keeps_kept shelf p q g h own (inl (same, gates)) =
-    subst (λ (x : RealmPass). Keeps shelf p x g h) (sym same) (subst (λ (x : GatesView). Keeps shelf p p g x) (sym gates) (keeps_nothing shelf p g own))
-keeps_kept shelf p q g h own (inr is) = is
+pub keeps_kept : (manifests : Manifests) (p q : RealmPass) (g h : GatesView) → IsOwnPass p → KeepsOrNot manifests p q g h → KeepsPass manifests p q g h
+keeps_kept manifests p q g h own (inl (same, gates)) =
+    subst (λ (x : RealmPass). KeepsPass manifests p x g h) (sym same) (subst (λ (x : GatesView). KeepsPass manifests p p g x) (sym gates) (keeps_nothing manifests p g own))
+keeps_kept manifests p q g h own (inr is) = is
 
-pub lock_kept : (shelf : Shelf) (p q : RealmPass) (g h : GatesView) → KeepsOrNot shelf p q g h → q.lock ≡ p.lock
-lock_kept shelf p q g h (inl (same, gates)) = ap (λ (x : RealmPass). x.lock) same
-lock_kept shelf p q g h (inr is) = is.lock
+pub lock_kept : (manifests : Manifests) (p q : RealmPass) (g h : GatesView) → KeepsOrNot manifests p q g h → q.lock ≡ p.lock
+lock_kept manifests p q g h (inl (same, gates)) = ap (λ (x : RealmPass). x.lock) same
+lock_kept manifests p q g h (inr is) = is.lock
 
-pub caller_kept : (shelf : Shelf) (p q : RealmPass) (g h : GatesView) → KeepsOrNot shelf p q g h → q.caller ≡ p.caller
-caller_kept shelf p q g h (inl (same, gates)) = ap (λ (x : RealmPass). x.caller) same
-caller_kept shelf p q g h (inr is) = is.caller
+pub caller_kept : (manifests : Manifests) (p q : RealmPass) (g h : GatesView) → KeepsOrNot manifests p q g h → q.caller ≡ p.caller
+caller_kept manifests p q g h (inl (same, gates)) = ap (λ (x : RealmPass). x.caller) same
+caller_kept manifests p q g h (inr is) = is.caller
 
-pub frame_kept : (shelf : Shelf) (p q : RealmPass) (g h : GatesView) → KeepsOrNot shelf p q g h → frame_of q ≡ frame_of p
-frame_kept shelf p q g h (inl (same, gates)) = ap frame_of same
-frame_kept shelf p q g h (inr is) = ap frame_in is.frame
+pub frame_kept : (manifests : Manifests) (p q : RealmPass) (g h : GatesView) → KeepsOrNot manifests p q g h → frame_of q ≡ frame_of p
+frame_kept manifests p q g h (inl (same, gates)) = ap frame_of same
+frame_kept manifests p q g h (inr is) = ap frame_in is.frame
 
 -- ---- what is performed
 
 -- what is performed from the second place on is performed behind these commands
 abbrev pub GoesOn : Frame → ℕ → List Done → List Entry → List Entry → Type 0
-GoesOn f c ds h₀ h₁ = (rest : List Done) (end : List Entry) → Follows f c rest h₁ end → Follows f c (ds ++ rest) h₀ end
+GoesOn f c ds h₀ h₁ = (rest : List Done) (end : List Entry) → PerformsCommands f c rest h₁ end → PerformsCommands f c (ds ++ rest) h₀ end
 
-done-append : (xs ys : List Told) → done_of (xs ++ ys) ≡ done_of xs ++ done_of ys
+done-append : (xs ys : List LineOutcome) → done_of (xs ++ ys) ≡ done_of xs ++ done_of ys
 done-append [] ys = refl
 done-append (performed d ∷ xs) ys = ap (λ (l : List Done). d ∷ l) (done-append xs ys)
 done-append (bad at ∷ xs) ys = done-append xs ys
 done-append (too_long ∷ xs) ys = done-append xs ys
 
 -- one line more
-does_follow : (f : Frame) (c : ℕ) (t : Told) (a b : List Entry) → Does f c t a b → GoesOn f c (done_of (t ∷ [])) a b
-does_follow f c (performed d) a b goes = λ rest end follows. Follows.performs goes follows
-does_follow f c (bad at) a b same = λ rest end follows. subst (λ (x : List Entry). Follows f c rest x end) same follows
-does_follow f c too_long a b same = λ rest end follows. subst (λ (x : List Entry). Follows f c rest x end) same follows
+does_follow : (f : Frame) (c : ℕ) (t : LineOutcome) (a b : List Entry) → DoesLine f c t a b → GoesOn f c (done_of (t ∷ [])) a b
+does_follow f c (performed d) a b goes = λ rest end follows. PerformsCommands.performs goes follows
+does_follow f c (bad at) a b same = λ rest end follows. subst (λ (x : List Entry). PerformsCommands f c rest x end) same follows
+does_follow f c too_long a b same = λ rest end follows. subst (λ (x : List Entry). PerformsCommands f c rest x end) same follows
 
 goes_both : (f : Frame) (c : ℕ) (xs ys : List Done) (a b d : List Entry) → GoesOn f c xs a b → GoesOn f c ys b d → GoesOn f c (xs ++ ys) a d
-goes_both f c xs ys a b d first second = λ rest end follows. subst (λ (l : List Done). Follows f c l a end) (sym (append_assoc xs ys rest)) (first (ys ++ rest) end (second rest end follows))
+goes_both f c xs ys a b d first second = λ rest end follows. subst (λ (l : List Done). PerformsCommands f c l a end) (sym (append_assoc xs ys rest)) (first (ys ++ rest) end (second rest end follows))
 
-pub goes_more : (f : Frame) (c : ℕ) (told : List Told) (t : Told) (a b d : List Entry) → GoesOn f c (done_of told) a b → Does f c t b d → GoesOn f c (done_of (told ++ t ∷ [])) a d
+pub goes_more : (f : Frame) (c : ℕ) (told : List LineOutcome) (t : LineOutcome) (a b d : List Entry) → GoesOn f c (done_of told) a b → DoesLine f c t b d → GoesOn f c (done_of (told ++ t ∷ [])) a d
 goes_more f c told t a b d before does =
     subst (λ (l : List Done). GoesOn f c l a d) (sym (done-append told (t ∷ []))) (goes_both f c (done_of told) (done_of (t ∷ [])) a b d before (does_follow f c t b d does))
 
@@ -71,12 +71,12 @@ pub goes_none : (f : Frame) (c : ℕ) (a : List Entry) → GoesOn f c (done_of [
 goes_none f c a = λ rest end follows. follows
 
 -- all of it
-pub goes_all : (f : Frame) (c : ℕ) (ds : List Done) (a b : List Entry) → GoesOn f c ds a b → Follows f c ds a b
+pub goes_all : (f : Frame) (c : ℕ) (ds : List Done) (a b : List Entry) → GoesOn f c ds a b → PerformsCommands f c ds a b
 goes_all f c ds a b on =
-    subst (λ (l : List Done). Follows f c l a b) (append-nil ds) (on [] b (Follows.rests (record { grows = starts_same b; own = refl })))
+    subst (λ (l : List Done). PerformsCommands f c l a b) (append-nil ds) (on [] b (PerformsCommands.rests (record { grows = starts_same b; own = refl })))
 
 -- what a later pass does, as the first one's caller in its frame
-pub does_as : (shelf : Shelf) (p q r : RealmPass) (g h : GatesView) (t : Told) → KeepsOrNot shelf p q g h → Does (frame_of q) q.caller t q.seen r.seen → Does (frame_of p) p.caller t q.seen r.seen
-does_as shelf p q r g h t kept does =
-    subst (λ (f : Frame). Does f p.caller t q.seen r.seen) (frame_kept shelf p q g h kept)
-    (subst (λ (c : ℕ). Does (frame_of q) c t q.seen r.seen) (caller_kept shelf p q g h kept) does)
+pub does_as : (manifests : Manifests) (p q r : RealmPass) (g h : GatesView) (t : LineOutcome) → KeepsOrNot manifests p q g h → DoesLine (frame_of q) q.caller t q.seen r.seen → DoesLine (frame_of p) p.caller t q.seen r.seen
+does_as manifests p q r g h t kept does =
+    subst (λ (f : Frame). DoesLine f p.caller t q.seen r.seen) (frame_kept manifests p q g h kept)
+    (subst (λ (c : ℕ). DoesLine (frame_of q) c t q.seen r.seen) (caller_kept manifests p q g h kept) does)

@@ -1,19 +1,20 @@
 -- Lemmas on the order in which a session reads and writes.
 use Rattle.std.proofs.Common.{◌≡◌, ◌≢◌, ◌⊎◌, inl, inr, ◌+◌, ℕ, suc, cond, nat_eq, Bool, true, false, true≢false, List, [], ◌∷◌, ◌++◌, length, map, Option, None, Some, refl, ap, sym, ◌∙◌, subst, append_assoc, append-nil, length-append, arith}
 use Rattle.std.proofs.lemmas.Bool.Decides.{nat_tests}
-use Rattle.cm_io.specs.Lines.{IsFirstLine, IsUnbroken, Reader}
-use Rattle.cm_io.specs.Orders.{Came, InStep, Move, Pulled, PutsInOrder, ReadsUnbroken, WritesPieces, ends_in, gave, given_in, hung_up, joined, wrote, written_in}
+use Rattle.cm_io.specs.LinesInside.{IsFirstLine, IsUnbroken, Reader}
+use Rattle.cm_io.specs.Orders.{MovesCame, InStep, Move, ends_in, gave, given_in, hung_up, joined, wrote, written_in}
+use Rattle.cm_io.specs.OrdersInside.{Pulled, PutsInOrder, ReadsUnbroken, WritesPieces}
 use Rattle.cm_io.specs.declared.output.Put.{Put}
 use Rattle.cm_io.specs.declared.output.Put.TheVariants as put
 use Rattle.cm_io.proofs.Ordering.{came-none, came-trans, joined-more}
-use Rattle.cm_reply.specs.Lists.{Text}
+use Rattle.cm_reply.specs.Lists.{TextBytes}
 use Rattle.cm_session.specs.declared.ended.Ended.{Ended}
 use Rattle.cm_session.specs.declared.ended.Ended.TheVariants as ended
 use Rattle.cm_session.specs.Steps.{RepliesInOrder}
 
 -- ---- how many lines end
 
-ends-append : (xs ys : Text) → ends_in (xs ++ ys) ≡ ends_in xs + ends_in ys
+ends-append : (xs ys : TextBytes) → ends_in (xs ++ ys) ≡ ends_in xs + ends_in ys
 ends-append [] ys = omega arith
 ends-append (x ∷ xs) ys = by (nat_eq x 10) (ends-append xs ys)
   where
@@ -22,10 +23,10 @@ ends-append (x ∷ xs) ys = by (nat_eq x 10) (ends-append xs ys)
     by true ih = omega (arith, ih)
     by false ih = ih
 
-ends-other : (byte : ℕ) (bytes : Text) → byte ≢ 10 → ends_in (byte ∷ bytes) ≡ ends_in bytes
+ends-other : (byte : ℕ) (bytes : TextBytes) → byte ≢ 10 → ends_in (byte ∷ bytes) ≡ ends_in bytes
 ends-other byte bytes h = grind (arith, nat_tests)
 
-unbroken-ends : (bytes : Text) → IsUnbroken bytes → ends_in bytes ≡ 0
+unbroken-ends : (bytes : TextBytes) → IsUnbroken bytes → ends_in bytes ≡ 0
 unbroken-ends [] h = refl
 unbroken-ends (byte ∷ bytes) h = ends-other byte bytes (h 0 0 (omega arith)) ∙ unbroken-ends bytes (λ k d lt. h (suc k) d (omega arith))
 
@@ -33,49 +34,49 @@ unbroken-ends (byte ∷ bytes) h = ends-other byte bytes (h 0 0 (omega arith)) �
 
 given-append : (xs ys : List Move) → given_in (xs ++ ys) ≡ given_in xs ++ given_in ys
 given-append [] ys = refl
-given-append (gave piece ∷ xs) ys = ap (λ (l : Text). piece ++ l) (given-append xs ys) ∙ sym (append_assoc piece (given_in xs) (given_in ys))
+given-append (gave piece ∷ xs) ys = ap (λ (l : TextBytes). piece ++ l) (given-append xs ys) ∙ sym (append_assoc piece (given_in xs) (given_in ys))
 given-append (wrote bytes ∷ xs) ys = given-append xs ys
 given-append (hung_up ∷ xs) ys = given-append xs ys
 
 written-append : (xs ys : List Move) → written_in (xs ++ ys) ≡ written_in xs ++ written_in ys
 written-append [] ys = refl
 written-append (gave piece ∷ xs) ys = written-append xs ys
-written-append (wrote bytes ∷ xs) ys = ap (λ (l : Text). bytes ++ l) (written-append xs ys) ∙ sym (append_assoc bytes (written_in xs) (written_in ys))
+written-append (wrote bytes ∷ xs) ys = ap (λ (l : TextBytes). bytes ++ l) (written-append xs ys) ∙ sym (append_assoc bytes (written_in xs) (written_in ys))
 written-append (hung_up ∷ xs) ys = written-append xs ys
 
-given-gave : (pieces : List Text) → given_in (map gave pieces) ≡ joined pieces
+given-gave : (pieces : List TextBytes) → given_in (map gave pieces) ≡ joined pieces
 given-gave [] = refl
-given-gave (p ∷ pieces) = ap (λ (l : Text). p ++ l) (given-gave pieces)
+given-gave (p ∷ pieces) = ap (λ (l : TextBytes). p ++ l) (given-gave pieces)
 
-given-wrote : (pieces : List Text) → given_in (map wrote pieces) ≡ []
+given-wrote : (pieces : List TextBytes) → given_in (map wrote pieces) ≡ []
 given-wrote [] = refl
 given-wrote (p ∷ pieces) = given-wrote pieces
 
-written-gave : (pieces : List Text) → written_in (map gave pieces) ≡ []
+written-gave : (pieces : List TextBytes) → written_in (map gave pieces) ≡ []
 written-gave [] = refl
 written-gave (p ∷ pieces) = written-gave pieces
 
-written-wrote : (pieces : List Text) → written_in (map wrote pieces) ≡ joined pieces
+written-wrote : (pieces : List TextBytes) → written_in (map wrote pieces) ≡ joined pieces
 written-wrote [] = refl
-written-wrote (p ∷ pieces) = ap (λ (l : Text). p ++ l) (written-wrote pieces)
+written-wrote (p ∷ pieces) = ap (λ (l : TextBytes). p ++ l) (written-wrote pieces)
 
 -- the bytes that moves gave, behind reads and behind writes
-given-reads : (moves : List Move) (pieces : List Text) → given_in (moves ++ map gave pieces) ≡ given_in moves ++ joined pieces
-given-reads moves pieces = given-append moves (map gave pieces) ∙ ap (λ (l : Text). given_in moves ++ l) (given-gave pieces)
+given-reads : (moves : List Move) (pieces : List TextBytes) → given_in (moves ++ map gave pieces) ≡ given_in moves ++ joined pieces
+given-reads moves pieces = given-append moves (map gave pieces) ∙ ap (λ (l : TextBytes). given_in moves ++ l) (given-gave pieces)
 
-given-writes : (moves : List Move) (pieces : List Text) → given_in (moves ++ map wrote pieces) ≡ given_in moves
-given-writes moves pieces = given-append moves (map wrote pieces) ∙ ap (λ (l : Text). given_in moves ++ l) (given-wrote pieces) ∙ append-nil (given_in moves)
+given-writes : (moves : List Move) (pieces : List TextBytes) → given_in (moves ++ map wrote pieces) ≡ given_in moves
+given-writes moves pieces = given-append moves (map wrote pieces) ∙ ap (λ (l : TextBytes). given_in moves ++ l) (given-wrote pieces) ∙ append-nil (given_in moves)
 
-written-reads : (moves : List Move) (pieces : List Text) → written_in (moves ++ map gave pieces) ≡ written_in moves
-written-reads moves pieces = written-append moves (map gave pieces) ∙ ap (λ (l : Text). written_in moves ++ l) (written-gave pieces) ∙ append-nil (written_in moves)
+written-reads : (moves : List Move) (pieces : List TextBytes) → written_in (moves ++ map gave pieces) ≡ written_in moves
+written-reads moves pieces = written-append moves (map gave pieces) ∙ ap (λ (l : TextBytes). written_in moves ++ l) (written-gave pieces) ∙ append-nil (written_in moves)
 
-written-writes : (moves : List Move) (pieces : List Text) → written_in (moves ++ map wrote pieces) ≡ written_in moves ++ joined pieces
-written-writes moves pieces = written-append moves (map wrote pieces) ∙ ap (λ (l : Text). written_in moves ++ l) (written-wrote pieces)
+written-writes : (moves : List Move) (pieces : List TextBytes) → written_in (moves ++ map wrote pieces) ≡ written_in moves ++ joined pieces
+written-writes moves pieces = written-append moves (map wrote pieces) ∙ ap (λ (l : TextBytes). written_in moves ++ l) (written-wrote pieces)
 
 -- ---- in step
 
 -- pieces that are read while no line ends in what is there
-reads-in_step : (replies : List Text) (moves : List Move) (taken : Text) (pieces : List Text) → InStep replies moves → written_in moves ≡ joined replies
+reads-in_step : (replies : List TextBytes) (moves : List Move) (taken : TextBytes) (pieces : List TextBytes) → InStep replies moves → written_in moves ≡ joined replies
     → ends_in (given_in moves) ≡ length replies + ends_in taken → ReadsUnbroken taken pieces → InStep replies (moves ++ map gave pieces)
 reads-in_step replies moves taken [] s w l r = subst (InStep replies) (sym (append-nil moves)) s
 reads-in_step replies moves taken (p ∷ pieces) s w l r =
@@ -83,14 +84,14 @@ reads-in_step replies moves taken (p ∷ pieces) s w l r =
     let here : ends_in (given_in moves) ≡ length replies = omega (arith, l, none) in
     let written : written_in (moves ++ gave p ∷ []) ≡ joined replies = written-append moves (gave p ∷ []) ∙ append-nil (written_in moves) ∙ w in
     let one : ends_in (given_in (moves ++ gave p ∷ [])) ≡ ends_in (given_in moves) + ends_in p =
-    ap ends_in (given-append moves (gave p ∷ []) ∙ ap (λ (x : Text). given_in moves ++ x) (append-nil p)) ∙ ends-append (given_in moves) p in
+    ap ends_in (given-append moves (gave p ∷ []) ∙ ap (λ (x : TextBytes). given_in moves ++ x) (append-nil p)) ∙ ends-append (given_in moves) p in
     let both : ends_in (taken ++ p) ≡ ends_in taken + ends_in p = ends-append taken p in
     let lines : ends_in (given_in (moves ++ gave p ∷ [])) ≡ length replies + ends_in (taken ++ p) = omega (arith, one, both, l) in
     subst (InStep replies) (append_assoc moves (gave p ∷ []) (map gave pieces))
     (reads-in_step replies (moves ++ gave p ∷ []) (taken ++ p) pieces (InStep.read_on p s w here) written lines r.1)
 
 -- pieces of a reply that are written
-writes-in_step : (replies : List Text) (moves : List Move) (pieces : List Text) → InStep replies moves → InStep replies (moves ++ map wrote pieces)
+writes-in_step : (replies : List TextBytes) (moves : List Move) (pieces : List TextBytes) → InStep replies moves → InStep replies (moves ++ map wrote pieces)
 writes-in_step replies moves [] s = subst (InStep replies) (sym (append-nil moves)) s
 writes-in_step replies moves (p ∷ pieces) s =
     subst (InStep replies) (append_assoc moves (wrote p ∷ []) (map wrote pieces)) (writes-in_step replies (moves ++ wrote p ∷ []) pieces (InStep.wrote_on p s))
@@ -99,34 +100,34 @@ writes-in_step replies moves (p ∷ pieces) s =
 
 -- these replies were made and written, the moves gave these bytes, and no ended line but those in what the reader
 -- holds waits for a reply; behind the end nothing is read
-pub record InHand (replies : List Text) (moves : List Move) (bytes : Text) (reader : Reader) : Type 0 where
+pub record InHand (replies : List TextBytes) (moves : List Move) (bytes : TextBytes) (reader : Reader) : Type 0 where
   pub in_step : InStep replies moves
   pub written : written_in moves ≡ joined replies
   pub given : given_in moves ≡ bytes
   pub lines : reader.over ≡ false → ends_in bytes ≡ length replies + ends_in reader.held
 
 pub in-hand-none : (reader : Reader) → reader.held ≡ [] → InHand [] [] [] reader
-in-hand-none reader none = record { in_step = InStep.begun; written = refl; given = refl; lines = λ not. ap (λ (t : Text). 0 + ends_in t) (sym none) }
+in-hand-none reader none = record { in_step = InStep.begun; written = refl; given = refl; lines = λ not. ap (λ (t : TextBytes). 0 + ends_in t) (sym none) }
 
 -- the reads of a step, in step with what was done before
-pub record HasRead (replies : List Text) (moves : List Move) (a b : Option (List Move)) (given : Text) : Type 0 where
-  pub pieces : List Text
+pub record HasRead (replies : List TextBytes) (moves : List Move) (a b : Option (List Move)) (given : TextBytes) : Type 0 where
+  pub pieces : List TextBytes
   pub all : given ≡ joined pieces
-  pub came : Came a b (map gave pieces)
+  pub came : MovesCame a b (map gave pieces)
   pub in_step : InStep replies (moves ++ map gave pieces)
 
 bool_or : (b : Bool) → (b ≡ true) ⊎ (b ≡ false)
 bool_or true = inl refl
 bool_or false = inr refl
 
-pub has-read : (replies : List Text) (moves : List Move) (bytes given : Text) (reader : Reader) (a b : Option (List Move)) → InHand replies moves bytes reader
+pub has-read : (replies : List TextBytes) (moves : List Move) (bytes given : TextBytes) (reader : Reader) (a b : Option (List Move)) → InHand replies moves bytes reader
     → Pulled a b reader.held given → (reader.over ≡ true → b ≡ a) → (reader.over ≡ true → given ≡ []) → HasRead replies moves a b given
 has-read replies moves bytes given reader a b hand pulled still none =
     elim (bool_or reader.over) [
       | inl over ↦ record {
         pieces = [];
         all = none over;
-        came = subst (λ (o : Option (List Move)). Came a o []) (sym (still over)) (came-none a);
+        came = subst (λ (o : Option (List Move)). MovesCame a o []) (sym (still over)) (came-none a);
         in_step = subst (InStep replies) (sym (append-nil moves)) hand.in_step;
       }
       | inr not ↦ record {
@@ -138,42 +139,42 @@ has-read replies moves bytes given reader a b hand pulled still none =
     ]
 
 -- the moves of a step that ends without a line
-abbrev pub moves_behind : (replies : List Text) (moves : List Move) (a b : Option (List Move)) (given : Text) → HasRead replies moves a b given → List Move
+abbrev pub moves_behind : (replies : List TextBytes) (moves : List Move) (a b : Option (List Move)) (given : TextBytes) → HasRead replies moves a b given → List Move
 moves_behind replies moves a b given r = moves ++ map gave r.pieces
 
 -- and of one that made a reply
-abbrev pub moves_with : (replies : List Text) (moves : List Move) (a b c : Option (List Move)) (given reply : Text) (end : Option Ended) → HasRead replies moves a b given → RepliesInOrder end b c reply → List Move
+abbrev pub moves_with : (replies : List TextBytes) (moves : List Move) (a b c : Option (List Move)) (given reply : TextBytes) (end : Option Ended) → HasRead replies moves a b given → RepliesInOrder end b c reply → List Move
 moves_with replies moves a b c given reply end r w = (moves ++ map gave r.pieces) ++ map wrote w.pieces
 
-pub read-given : (replies : List Text) (moves : List Move) (bytes given : Text) (a b : Option (List Move)) (r : HasRead replies moves a b given) → given_in moves ≡ bytes
+pub read-given : (replies : List TextBytes) (moves : List Move) (bytes given : TextBytes) (a b : Option (List Move)) (r : HasRead replies moves a b given) → given_in moves ≡ bytes
     → given_in (moves_behind replies moves a b given r) ≡ bytes ++ given
-read-given replies moves bytes given a b r is = given-reads moves r.pieces ∙ ap (λ (l : Text). l ++ joined r.pieces) is ∙ ap (λ (l : Text). bytes ++ l) (sym r.all)
+read-given replies moves bytes given a b r is = given-reads moves r.pieces ∙ ap (λ (l : TextBytes). l ++ joined r.pieces) is ∙ ap (λ (l : TextBytes). bytes ++ l) (sym r.all)
 
-pub read-came : (replies : List Text) (moves : List Move) (given : Text) (o a b : Option (List Move)) (r : HasRead replies moves a b given) → Came o a moves
-    → Came o b (moves_behind replies moves a b given r)
+pub read-came : (replies : List TextBytes) (moves : List Move) (given : TextBytes) (o a b : Option (List Move)) (r : HasRead replies moves a b given) → MovesCame o a moves
+    → MovesCame o b (moves_behind replies moves a b given r)
 read-came replies moves given o a b r came = came-trans o a b moves (map gave r.pieces) came r.came
 
-pub reply-in_step : (replies : List Text) (moves : List Move) (a b c : Option (List Move)) (given reply : Text) (end : Option Ended) (r : HasRead replies moves a b given) (w : RepliesInOrder end b c reply)
+pub reply-in_step : (replies : List TextBytes) (moves : List Move) (a b c : Option (List Move)) (given reply : TextBytes) (end : Option Ended) (r : HasRead replies moves a b given) (w : RepliesInOrder end b c reply)
     → InStep (replies ++ reply ∷ []) (moves_with replies moves a b c given reply end r w)
 reply-in_step replies moves a b c given reply end r w = writes-in_step (replies ++ reply ∷ []) (moves ++ map gave r.pieces) w.pieces (InStep.made reply r.in_step)
 
-pub reply-given : (replies : List Text) (moves : List Move) (bytes : Text) (a b c : Option (List Move)) (given reply : Text) (end : Option Ended) (r : HasRead replies moves a b given) (w : RepliesInOrder end b c reply)
+pub reply-given : (replies : List TextBytes) (moves : List Move) (bytes : TextBytes) (a b c : Option (List Move)) (given reply : TextBytes) (end : Option Ended) (r : HasRead replies moves a b given) (w : RepliesInOrder end b c reply)
     → given_in moves ≡ bytes → given_in (moves_with replies moves a b c given reply end r w) ≡ bytes ++ given
 reply-given replies moves bytes a b c given reply end r w is = given-writes (moves ++ map gave r.pieces) w.pieces ∙ read-given replies moves bytes given a b r is
 
-pub reply-came : (replies : List Text) (moves : List Move) (o a b c : Option (List Move)) (given reply : Text) (end : Option Ended) (r : HasRead replies moves a b given) (w : RepliesInOrder end b c reply)
-    → Came o a moves → Came o c (moves_with replies moves a b c given reply end r w)
+pub reply-came : (replies : List TextBytes) (moves : List Move) (o a b c : Option (List Move)) (given reply : TextBytes) (end : Option Ended) (r : HasRead replies moves a b given) (w : RepliesInOrder end b c reply)
+    → MovesCame o a moves → MovesCame o c (moves_with replies moves a b c given reply end r w)
 reply-came replies moves o a b c given reply end r w came = came-trans o b c (moves ++ map gave r.pieces) (map wrote w.pieces) (read-came replies moves given o a b r came) w.came
 
 -- a line was taken, and its reply written whole
-pub in-hand-more : (replies : List Text) (moves : List Move) (bytes : Text) (before after : Reader) (a b c : Option (List Move)) (given line reply : Text)
+pub in-hand-more : (replies : List TextBytes) (moves : List Move) (bytes : TextBytes) (before after : Reader) (a b c : Option (List Move)) (given line reply : TextBytes)
     → (r : HasRead replies moves a b given) → (w : RepliesInOrder None b c reply)
     → InHand replies moves bytes before → (before.over ≡ true → after.over ≡ true) → IsFirstLine (before.held ++ given) after line
     → InHand (replies ++ reply ∷ []) (moves_with replies moves a b c given reply None r w) (bytes ++ given) after
 in-hand-more replies moves bytes before after a b c given line reply r w hand stays (unbroken, how) = record {
   in_step = reply-in_step replies moves a b c given reply None r w;
-  written = written-writes (moves ++ map gave r.pieces) w.pieces ∙ ap (λ (l : Text). l ++ joined w.pieces) (written-reads moves r.pieces ∙ hand.written)
-      ∙ ap (λ (l : Text). joined replies ++ l) (w.whole refl) ∙ sym (joined-more replies reply);
+  written = written-writes (moves ++ map gave r.pieces) w.pieces ∙ ap (λ (l : TextBytes). l ++ joined w.pieces) (written-reads moves r.pieces ∙ hand.written)
+      ∙ ap (λ (l : TextBytes). joined replies ++ l) (w.whole refl) ∙ sym (joined-more replies reply);
   given = reply-given replies moves bytes a b c given reply None r w hand.given;
   lines = λ not. elim how [
     | inl taken ↦
@@ -197,17 +198,17 @@ none-is-no-end : (e : Ended) → Some e ≡ None → ⊥
 none-is-no-end e is = cc
 
 -- what was put is all of the reply, or the session ends
-pub put-ordered : (end : Option Ended) (a b x y : Option (List Move)) (text : Text) (p : Put) → a ≡ x → b ≡ y → PutsInOrder x y text p → (end ≡ None → p ≡ put.Done) → RepliesInOrder end a b text
+pub put-ordered : (end : Option Ended) (a b x y : Option (List Move)) (text : TextBytes) (p : Put) → a ≡ x → b ≡ y → PutsInOrder x y text p → (end ≡ None → p ≡ put.Done) → RepliesInOrder end a b text
 put-ordered end a b x y text p first last puts done = record {
   pieces = puts.pieces;
-  came = subst (λ (o : Option (List Move)). Came o b (map wrote puts.pieces)) (sym first) (subst (λ (o : Option (List Move)). Came x o (map wrote puts.pieces)) (sym last) puts.came);
+  came = subst (λ (o : Option (List Move)). MovesCame o b (map wrote puts.pieces)) (sym first) (subst (λ (o : Option (List Move)). MovesCame x o (map wrote puts.pieces)) (sym last) puts.came);
   whole = λ is. subst (WritesPieces text puts.pieces) (done is) puts.are;
 }
 
 -- the session ends, whatever was put
-pub put-last : (e : Ended) (a b x y : Option (List Move)) (text : Text) (p : Put) → a ≡ x → b ≡ y → PutsInOrder x y text p → RepliesInOrder (Some e) a b text
+pub put-last : (e : Ended) (a b x y : Option (List Move)) (text : TextBytes) (p : Put) → a ≡ x → b ≡ y → PutsInOrder x y text p → RepliesInOrder (Some e) a b text
 put-last e a b x y text p first last puts = put-ordered (Some e) a b x y text p first last puts (λ is. absurd (none-is-no-end e is))
 
 -- or nothing was
-pub put-none : (e : Ended) (o : Option (List Move)) (text : Text) → RepliesInOrder (Some e) o o text
+pub put-none : (e : Ended) (o : Option (List Move)) (text : TextBytes) → RepliesInOrder (Some e) o o text
 put-none e o text = record { pieces = []; came = came-none o; whole = λ is. absurd (none-is-no-end e is) }

@@ -4,11 +4,11 @@ use Rattle.std.proofs.lemmas.List.{map-append, length-append}
 use Rattle.std.proofs.lemmas.List.Elements.{All-push, All-nil}
 use Rattle.std.proofs.lemmas.List.Quantifiers.{Any-push}
 use Rattle.cm_manager.specs.Contract.{RealmPass}
-use Rattle.cm_session.specs.declared.crew.Parts.{Parts}
+use Rattle.cm_session.specs.declared.pool.PoolParts.{PoolParts}
 use Rattle.cm_session.specs.declared.workers.Worker.{Worker}
 use Rattle.cm_session.specs.Doorway.{DoorPass}
 use Rattle.cm_session.proofs.work.Places.{any_append}
-use Rattle.cm_session.specs.Parts.{AreParts, HasRoomIn, IsEmpty, Links, PutsParts}
+use Rattle.cm_session.specs.PoolParts.{AreWorkerParts, PoolPartsHaveRoom, NoWorkerParts, Links, PutsPoolParts}
 
 one_more : (n : ℕ) → suc n ≡ n + 1
 one_more n = grind arith
@@ -46,20 +46,20 @@ put_some : {A B : Type 0} (f : A → Option B) (done : List A) (x : A) (y : B) (
 put_some f done x y old new are more here = put_behind f done x (Some y) (map Some old) (map Some new) are (ap (map Some) more ∙ map-append Some old (y ∷ [])) (sym here)
 
 module _ {G L : Type 0} where
-  -- workers were made of the fronts of four lists
-  pub record Making (passes : List RealmPass) (at_door : List DoorPass) (gates : List G) (links : List (Links L)) (capacity : ℕ) (crew : List (Worker G L)) (passes_left : List RealmPass) (at_door_left : List DoorPass) (gates_left : List G) (links_left : List (Links L)) : Type 0 where
-    pub passes_are : map (λ w. w.pass) crew ++ map Some passes_left ≡ map Some passes
-    pub at_door_are : map (λ w. w.at_door) crew ++ map Some at_door_left ≡ map Some at_door
-    pub gates_are : map (λ w. w.gates) crew ++ gates_left ≡ gates
-    pub links_are : map (λ w. w.links) crew ++ links_left ≡ links
+  -- workers were made of the prefixes of four lists
+  pub record Making (passes : List RealmPass) (at_door : List DoorPass) (gates : List G) (links : List (Links L)) (capacity : ℕ) (pool : List (Worker G L)) (passes_left : List RealmPass) (at_door_left : List DoorPass) (gates_left : List G) (links_left : List (Links L)) : Type 0 where
+    pub passes_are : map (λ w. w.pass) pool ++ map Some passes_left ≡ map Some passes
+    pub at_door_are : map (λ w. w.at_door) pool ++ map Some at_door_left ≡ map Some at_door
+    pub gates_are : map (λ w. w.gates) pool ++ gates_left ≡ gates
+    pub links_are : map (λ w. w.links) pool ++ links_left ≡ links
     pub as_many_doors : length at_door_left ≡ length passes_left
     pub as_many_gates : length gates_left ≡ length passes_left
     pub as_many_links : length links_left ≡ length passes_left
-    pub well : All (λ w. w.lost ≡ false) crew
-    pub room : length crew + length passes_left ≤ capacity
+    pub well : All (λ w. w.lost ≡ false) pool
+    pub room : length pool + length passes_left ≤ capacity
 
-  pub making_none : (passes : List RealmPass) (at_door : List DoorPass) (gates : List G) (links : List (Links L)) (capacity : ℕ) (crew : List (Worker G L)) → crew ≡ [] → length at_door ≡ length passes → length gates ≡ length passes → length links ≡ length passes → length passes ≤ capacity → Making passes at_door gates links capacity crew passes at_door gates links
-  making_none passes at_door gates links capacity crew none doors many lists room = subst (λ (l : List (Worker G L)). Making passes at_door gates links capacity l passes at_door gates links) (sym none) (record {
+  pub making_none : (passes : List RealmPass) (at_door : List DoorPass) (gates : List G) (links : List (Links L)) (capacity : ℕ) (pool : List (Worker G L)) → pool ≡ [] → length at_door ≡ length passes → length gates ≡ length passes → length links ≡ length passes → length passes ≤ capacity → Making passes at_door gates links capacity pool passes at_door gates links
+  making_none passes at_door gates links capacity pool none doors many lists room = subst (λ (l : List (Worker G L)). Making passes at_door gates links capacity l passes at_door gates links) (sym none) (record {
     passes_are = refl;
     at_door_are = refl;
     gates_are = refl;
@@ -71,55 +71,55 @@ module _ {G L : Type 0} where
     room = grind (arith, room);
   })
 
-  pub making_more : (passes : List RealmPass) (at_door : List DoorPass) (gates : List G) (links : List (Links L)) (capacity : ℕ) (crew : List (Worker G L)) (w : Worker G L) (p : RealmPass) (d : DoorPass) (g : G) (l : Links L) (ps' ps : List RealmPass) (ds' ds : List DoorPass) (gs' gs : List G) (ls' ls : List (Links L)) → Making passes at_door gates links capacity crew ps' ds' gs' ls' → ps' ≡ p ∷ ps → ds' ≡ d ∷ ds → gs' ≡ g ∷ gs → ls' ≡ l ∷ ls → w.pass ≡ Some p → w.at_door ≡ Some d → w.gates ≡ g → w.links ≡ l → w.lost ≡ false → Making passes at_door gates links capacity (crew ++ w ∷ []) ps ds gs ls
-  making_more passes at_door gates links capacity crew w p d g l ps' ps ds' ds gs' gs ls' ls is ps_is ds_is gs_is ls_is pass_is door_is gates_is links_is well =
+  pub making_more : (passes : List RealmPass) (at_door : List DoorPass) (gates : List G) (links : List (Links L)) (capacity : ℕ) (pool : List (Worker G L)) (w : Worker G L) (p : RealmPass) (d : DoorPass) (g : G) (l : Links L) (ps' ps : List RealmPass) (ds' ds : List DoorPass) (gs' gs : List G) (ls' ls : List (Links L)) → Making passes at_door gates links capacity pool ps' ds' gs' ls' → ps' ≡ p ∷ ps → ds' ≡ d ∷ ds → gs' ≡ g ∷ gs → ls' ≡ l ∷ ls → w.pass ≡ Some p → w.at_door ≡ Some d → w.gates ≡ g → w.links ≡ l → w.lost ≡ false → Making passes at_door gates links capacity (pool ++ w ∷ []) ps ds gs ls
+  making_more passes at_door gates links capacity pool w p d g l ps' ps ds' ds gs' gs ls' ls is ps_is ds_is gs_is ls_is pass_is door_is gates_is links_is well =
       record {
-        passes_are = step_over (λ (w : Worker G L). w.pass) crew w (Some p) (map Some ps') (map Some ps) (map Some passes) is.passes_are (some_step ps' ps p ps_is) pass_is;
-        at_door_are = step_over (λ (w : Worker G L). w.at_door) crew w (Some d) (map Some ds') (map Some ds) (map Some at_door) is.at_door_are (some_step ds' ds d ds_is) door_is;
-        gates_are = step_over (λ (w : Worker G L). w.gates) crew w g gs' gs gates is.gates_are gs_is gates_is;
-        links_are = step_over (λ (w : Worker G L). w.links) crew w l ls' ls links is.links_are ls_is links_is;
+        passes_are = step_over (λ (w : Worker G L). w.pass) pool w (Some p) (map Some ps') (map Some ps) (map Some passes) is.passes_are (some_step ps' ps p ps_is) pass_is;
+        at_door_are = step_over (λ (w : Worker G L). w.at_door) pool w (Some d) (map Some ds') (map Some ds) (map Some at_door) is.at_door_are (some_step ds' ds d ds_is) door_is;
+        gates_are = step_over (λ (w : Worker G L). w.gates) pool w g gs' gs gates is.gates_are gs_is gates_is;
+        links_are = step_over (λ (w : Worker G L). w.links) pool w l ls' ls links is.links_are ls_is links_is;
         as_many_doors = shorter ds' ds ps' ps d p is.as_many_doors ds_is ps_is;
         as_many_gates = shorter gs' gs ps' ps g p is.as_many_gates gs_is ps_is;
         as_many_links = shorter ls' ls ps' ps l p is.as_many_links ls_is ps_is;
-        well = All-push (λ (w : Worker G L). w.lost ≡ false) crew w is.well well;
-        room = fits (length crew) (length ps') (length ps) (length (crew ++ w ∷ [])) capacity (ap (λ (l : List RealmPass). length l) ps_is) (length-append crew (w ∷ [])) is.room;
+        well = All-push (λ (w : Worker G L). w.lost ≡ false) pool w is.well well;
+        room = fits (length pool) (length ps') (length ps) (length (pool ++ w ∷ [])) capacity (ap (λ (l : List RealmPass). length l) ps_is) (length-append pool (w ∷ [])) is.room;
       } where
         fits : (a b c n capacity : ℕ) → b ≡ suc c → n ≡ a + 1 → a + b ≤ capacity → n + c ≤ capacity
         fits a b c n capacity left more room = grind (arith, left, more, room)
 
   -- one worker more, by the push
-  pub making_pushed : (passes : List RealmPass) (at_door : List DoorPass) (gates : List G) (links : List (Links L)) (capacity capacity' : ℕ) (crew crew' : List (Worker G L)) (w : Worker G L) (p : RealmPass) (d : DoorPass) (g : G) (l : Links L) (ps' ps : List RealmPass) (ds' ds : List DoorPass) (gs' gs : List G) (ls' ls : List (Links L)) → Making passes at_door gates links capacity crew ps' ds' gs' ls' → ps' ≡ p ∷ ps → ds' ≡ d ∷ ds → gs' ≡ g ∷ gs → ls' ≡ l ∷ ls → crew' ≡ crew ++ w ∷ [] → capacity' ≡ capacity → w.pass ≡ Some p → w.at_door ≡ Some d → w.gates ≡ g → w.links ≡ l → w.lost ≡ false → Making passes at_door gates links capacity' crew' ps ds gs ls
-  making_pushed passes at_door gates links capacity capacity' crew crew' w p d g l ps' ps ds' ds gs' gs ls' ls is ps_is ds_is gs_is ls_is pushed same pass_is door_is gates_is links_is well =
-      subst (λ (n : ℕ). Making passes at_door gates links n crew' ps ds gs ls) (sym same)
+  pub making_pushed : (passes : List RealmPass) (at_door : List DoorPass) (gates : List G) (links : List (Links L)) (capacity capacity' : ℕ) (pool pool' : List (Worker G L)) (w : Worker G L) (p : RealmPass) (d : DoorPass) (g : G) (l : Links L) (ps' ps : List RealmPass) (ds' ds : List DoorPass) (gs' gs : List G) (ls' ls : List (Links L)) → Making passes at_door gates links capacity pool ps' ds' gs' ls' → ps' ≡ p ∷ ps → ds' ≡ d ∷ ds → gs' ≡ g ∷ gs → ls' ≡ l ∷ ls → pool' ≡ pool ++ w ∷ [] → capacity' ≡ capacity → w.pass ≡ Some p → w.at_door ≡ Some d → w.gates ≡ g → w.links ≡ l → w.lost ≡ false → Making passes at_door gates links capacity' pool' ps ds gs ls
+  making_pushed passes at_door gates links capacity capacity' pool pool' w p d g l ps' ps ds' ds gs' gs ls' ls is ps_is ds_is gs_is ls_is pushed same pass_is door_is gates_is links_is well =
+      subst (λ (n : ℕ). Making passes at_door gates links n pool' ps ds gs ls) (sym same)
       (subst (λ (x : List (Worker G L)). Making passes at_door gates links capacity x ps ds gs ls) (sym pushed)
-      (making_more passes at_door gates links capacity crew w p d g l ps' ps ds' ds gs' gs ls' ls is ps_is ds_is gs_is ls_is pass_is door_is gates_is links_is well))
+      (making_more passes at_door gates links capacity pool w p d g l ps' ps ds' ds gs' gs ls' ls is ps_is ds_is gs_is ls_is pass_is door_is gates_is links_is well))
 
   -- all of what was made
-  pub record Made (passes : List RealmPass) (at_door : List DoorPass) (gates : List G) (links : List (Links L)) (crew : List (Worker G L)) : Type 0 where
-    pub passes_are : map (λ w. w.pass) crew ≡ map Some passes
-    pub at_door_are : map (λ w. w.at_door) crew ≡ map Some at_door
-    pub gates_are : map (λ w. w.gates) crew ≡ gates
-    pub links_are : map (λ w. w.links) crew ≡ links
+  pub record Made (passes : List RealmPass) (at_door : List DoorPass) (gates : List G) (links : List (Links L)) (pool : List (Worker G L)) : Type 0 where
+    pub passes_are : map (λ w. w.pass) pool ≡ map Some passes
+    pub at_door_are : map (λ w. w.at_door) pool ≡ map Some at_door
+    pub gates_are : map (λ w. w.gates) pool ≡ gates
+    pub links_are : map (λ w. w.links) pool ≡ links
 
-  pub making_all : (passes : List RealmPass) (at_door : List DoorPass) (gates : List G) (links : List (Links L)) (capacity : ℕ) (crew : List (Worker G L)) (ps : List RealmPass) (ds : List DoorPass) (gs : List G) (ls : List (Links L)) → Making passes at_door gates links capacity crew ps ds gs ls → length ps ≡ 0 → Made passes at_door gates links crew
-  making_all passes at_door gates links capacity crew ps ds gs ls is none = record {
-    passes_are = all_over (λ (w : Worker G L). w.pass) crew (map Some ps) (map Some passes) is.passes_are (none_left ps none);
-    at_door_are = all_over (λ (w : Worker G L). w.at_door) crew (map Some ds) (map Some at_door) is.at_door_are (none_left ds (is.as_many_doors ∙ none));
-    gates_are = all_over (λ (w : Worker G L). w.gates) crew gs gates is.gates_are (is.as_many_gates ∙ none);
-    links_are = all_over (λ (w : Worker G L). w.links) crew ls links is.links_are (is.as_many_links ∙ none);
+  pub making_all : (passes : List RealmPass) (at_door : List DoorPass) (gates : List G) (links : List (Links L)) (capacity : ℕ) (pool : List (Worker G L)) (ps : List RealmPass) (ds : List DoorPass) (gs : List G) (ls : List (Links L)) → Making passes at_door gates links capacity pool ps ds gs ls → length ps ≡ 0 → Made passes at_door gates links pool
+  making_all passes at_door gates links capacity pool ps ds gs ls is none = record {
+    passes_are = all_over (λ (w : Worker G L). w.pass) pool (map Some ps) (map Some passes) is.passes_are (none_left ps none);
+    at_door_are = all_over (λ (w : Worker G L). w.at_door) pool (map Some ds) (map Some at_door) is.at_door_are (none_left ds (is.as_many_doors ∙ none));
+    gates_are = all_over (λ (w : Worker G L). w.gates) pool gs gates is.gates_are (is.as_many_gates ∙ none);
+    links_are = all_over (λ (w : Worker G L). w.links) pool ls links is.links_are (is.as_many_links ∙ none);
   }
 
   -- ---- taken apart
 
-  -- the front of the workers is taken apart
-  pub record Taking (crew left : List (Worker G L)) (parts : Parts G L) : Type 0 where
+  -- the prefix of the workers is taken apart
+  pub record Taking (pool left : List (Worker G L)) (parts : PoolParts G L) : Type 0 where
     pub done : List (Worker G L)
-    pub whole : crew ≡ done ++ left
-    pub are : AreParts done parts
-    pub room : HasRoomIn (length left) parts
+    pub whole : pool ≡ done ++ left
+    pub are : AreWorkerParts done parts
+    pub room : PoolPartsHaveRoom (length left) parts
 
-  pub taking_none : (crew : List (Worker G L)) (parts : Parts G L) → IsEmpty parts → HasRoomIn (length crew) parts → Taking crew crew parts
-  taking_none crew parts empty room = record {
+  pub taking_none : (pool : List (Worker G L)) (parts : PoolParts G L) → NoWorkerParts parts → PoolPartsHaveRoom (length pool) parts → Taking pool pool parts
+  taking_none pool parts empty room = record {
     done = [];
     whole = refl;
     are = record {
@@ -139,8 +139,8 @@ module _ {G L : Type 0} where
     Any-before any = any_append (λ (w : Worker G L). w.lost ≡ true) done (w ∷ []) any
   any_later done w false before here = Any-push (λ (w : Worker G L). w.lost ≡ true) done w (here refl)
 
-  pub taking_more : (crew left ws : List (Worker G L)) (w : Worker G L) (parts parts' : Parts G L) → Taking crew left parts → left ≡ w ∷ ws → PutsParts w parts parts' → Taking crew ws parts'
-  taking_more crew left ws w parts parts' is left_is puts = record {
+  pub taking_more : (pool left ws : List (Worker G L)) (w : Worker G L) (parts parts' : PoolParts G L) → Taking pool left parts → left ≡ w ∷ ws → PutsPoolParts w parts parts' → Taking pool ws parts'
+  taking_more pool left ws w parts parts' is left_is puts = record {
     done = is.done ++ w ∷ [];
     whole = is.whole ∙ ap (λ (x : List (Worker G L)). is.done ++ x) left_is ∙ sym (append_assoc is.done (w ∷ []) ws);
     are = record {
@@ -151,8 +151,8 @@ module _ {G L : Type 0} where
       well = λ no. (let both = puts.well no in All-push (λ (w : Worker G L). w.lost ≡ false) is.done w (is.are.well both.0) both.1);
       lost = λ yes. any_later is.done w parts.lost is.are.lost (puts.lost yes);
     };
-    room = puts.room (length ws) (subst (λ (n : ℕ). HasRoomIn n parts) (ap (λ (x : List (Worker G L)). length x) left_is ∙ one_more (length ws)) is.room);
+    room = puts.room (length ws) (subst (λ (n : ℕ). PoolPartsHaveRoom n parts) (ap (λ (x : List (Worker G L)). length x) left_is ∙ one_more (length ws)) is.room);
   }
 
-  pub taking_all : (crew left : List (Worker G L)) (parts : Parts G L) → Taking crew left parts → length left ≡ 0 → AreParts crew parts
-  taking_all crew left parts is none = subst (λ (l : List (Worker G L)). AreParts l parts) (sym (is.whole ∙ ap (λ (l : List (Worker G L)). is.done ++ l) (no_length left none) ∙ append-nil is.done)) is.are
+  pub taking_all : (pool left : List (Worker G L)) (parts : PoolParts G L) → Taking pool left parts → length left ≡ 0 → AreWorkerParts pool parts
+  taking_all pool left parts is none = subst (λ (l : List (Worker G L)). AreWorkerParts l parts) (sym (is.whole ∙ ap (λ (l : List (Worker G L)). is.done ++ l) (no_length left none) ∙ append-nil is.done)) is.are

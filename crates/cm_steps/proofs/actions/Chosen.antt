@@ -15,8 +15,8 @@ use Rattle.cm_order.specs.Picking.{PicksNow, IsPicked, MayBePicked}
 use Rattle.cm_order.specs.declared.picking.Picked.{Picked}
 use Rattle.cm_order.specs.declared.picking.Picked.TheVariants.{StopNow, ShutNow}
 use Rattle.cm_laws.specs.Story.{Story, world_of}
-use Rattle.cm_steps.specs.Steps.{HasRoom, Refuses, WaitsToPick}
-use Rattle.cm_steps.specs.Answers.{AnswersPick, PicksBy}
+use Rattle.cm_steps.specs.Steps.{RealmHasRoom, RefusesStep, WaitsToPick}
+use Rattle.cm_steps.specs.Answers.{AnswersPick, PicksOrWaits}
 use Rattle.cm_steps.specs.Chosen.{Chooses, AnswersThis}
 use Rattle.cm_steps.proofs.actions.Picks.{picks_on}
 use Rattle.cm_steps.specs.declared.nostep.NoStep.{NoStep}
@@ -64,13 +64,13 @@ stops_this rows next t i on work eager yes_on it none made =
     }
 
 -- what chooses a row isn't waiting
-pub chosen_can : (w : World) (t i : ℕ) (a : PickAnswer) → PicksBy w t a → Chooses i a → CanPick w.rows t
+pub chosen_can : (w : World) (t i : ℕ) (a : PickAnswer) → PicksOrWaits w t a → Chooses i a → CanPick w.rows t
 chosen_can w t i (pick.Busy n) it this = absurd this
 chosen_can w t i pick.Done it this = absurd this
 chosen_can w t i (pick.Shuts j) it this = record { inc = j; row = it.row; may = it.may }
 chosen_can w t i (pick.Stops work) it this = record { inc = work.inc; row = it.row; may = it.may }
 
-pub never_busy : (s : Story) (t : ℕ) (e : NoStep) → CanPick (world_of s).rows t → Refuses s 2 (WaitsToPick (world_of s) t) e → Refuses s 2 (λ a. ⊥) e
+pub never_busy : (s : Story) (t : ℕ) (e : NoStep) → CanPick (world_of s).rows t → RefusesStep s 2 (WaitsToPick (world_of s) t) e → RefusesStep s 2 (λ a. ⊥) e
 never_busy s t (Busy a) can it = absurd (it.1.stuck can)
 never_busy s t HistoryFull can it = it
 never_busy s t Memory can it = it

@@ -15,14 +15,15 @@ use Rattle.cm_world.specs.declared.action.Finish.TheVariants as finish
 use Rattle.cm_world.specs.declared.event.Event.{Event}
 use Rattle.cm_world.specs.declared.event.Event.TheVariants as event
 use Rattle.cm_world.specs.declared.reply.Reply.{Reply}
-use Rattle.cm_world.specs.Rows.{row_of, facts_of, is_live, is_gone, has_doomed, is_subtree_shut}
+use Rattle.cm_world.specs.Rows.{row_of, is_live, is_gone, has_doomed, is_subtree_shut}
+use Rattle.cm_world.specs.RowsInside.{facts_of}
 use Rattle.cm_world.specs.World.{World, act_of, outcome_of}
 use Rattle.cm_world.specs.Begin.{same_act, begin_at, begin_reply}
 use Rattle.cm_world.specs.End.{fits_kind, HasValid}
 use Rattle.cm_world.specs.Reports.{exit_reply}
 use Rattle.cm_world.specs.Step.{MayEnd, MayAwait, is_join, may_close, may_purge, IsEnabled}
 use Rattle.cm_world.specs.Stopping.{CanPick}
-use Rattle.cm_order.specs.Picking.{IsPicked, PicksNow, WaitsFor}
+use Rattle.cm_order.specs.Picking.{IsPicked, PicksNow, PickWaitsFor}
 use Rattle.cm_order.specs.declared.picking.Picked.{Picked}
 use Rattle.cm_order.specs.declared.picking.Picked.TheVariants.{StopNow, ShutNow, Waits, Done}
 use Rattle.cm_steps.specs.Enabled.{goes_with, MayEndBut, IsEnabledBut, BringsValid, EnabledByBoth}
@@ -143,7 +144,7 @@ HasPick rows t = IsTrue (may_close rows t) × (IsTrue (is_subtree_shut rows t) �
 pub not_closing : (rows : List Row) (t : ℕ) → may_close rows t ≡ false → HasPick rows t → ⊥
 not_closing rows t no_way it = true≢false (sym it.0 ∙ no_way)
 
-pub waiting : (rows : List Row) (t a : ℕ) → WaitsFor rows t a → HasPick rows t → ⊥
+pub waiting : (rows : List Row) (t a : ℕ) → PickWaitsFor rows t a → HasPick rows t → ⊥
 waiting rows t a waits it = elim it.1 [
   | inl shut ↦ true≢false (sym shut ∙ waits.undone)
   | inr can ↦ waits.stuck can

@@ -28,13 +28,13 @@ use Rattle.cm_steps.specs.declared.ending.Ending.TheVariants as ending
 use Rattle.cm_laws.specs.Story.{entry_of}
 use Rattle.cm_laws.specs.Tasks.{IsNumbered, HasRow, IsTasked}
 use Rattle.cm_steps.specs.Tasks.{is_open_resolve}
-use Rattle.cm_steps.specs.Inside.{story_of, world_in, IsKept}
-use Rattle.cm_steps.specs.Ends.{inc_of, finish_of, takes_of, CanTake}
+use Rattle.cm_steps.specs.Inside.{story_of, world_in, IsRealmInvariant}
+use Rattle.cm_steps.specs.Ends.{inc_of, finish_of, takes_of, CanTakeEnd}
 use Rattle.cm_steps.proofs.steps.Counts.{open_less, resolve_less, count_le, count_one, count_same}
 use Rattle.cm_laws.proofs.actions.Tasks.{numbered_ended}
 use Rattle.cm_laws.proofs.actions.Ends.{kind_of_resolve, tasked_by}
 use Rattle.cm_laws.proofs.sound.Expiries.{tasked_expired_by}
-use Rattle.cm_cache.specs.Beside.{is_emptied, followed, IsTold, IsBeside}
+use Rattle.cm_cache.specs.Beside.{is_emptied, followed, IsReported, IsBeside}
 use Rattle.cm_steps.proofs.steps.Going.{goes_on, one_longer}
 use Rattle.cm_steps.specs.Planned.{IsPlannedBy}
 use Rattle.cm_steps.proofs.asked.Keepers.{goes_beside}
@@ -74,7 +74,7 @@ resolves_left acts caller a (finish.Other p) o may =
     let less = count_le (λ (x : Act). x.action == a) is_open_resolve (put_outcome o) acts (λ x. never_open (same_act x.kind Resolve)) in omega arith
 
 -- the row of an open resolve can take a declaration over, in memory that is kept
-pub can_take : (t : Tree) (acts : List Act) (caller a i : ℕ) (e : Ending) → (may : MayEnd acts caller a (finish_of e)) → i ≡ may.act.inc → IsTasked t.rows acts → count_by is_open_resolve acts ≤ t.spare → CanTake t i e
+pub can_take : (t : Tree) (acts : List Act) (caller a i : ℕ) (e : Ending) → (may : MayEnd acts caller a (finish_of e)) → i ≡ may.act.inc → IsTasked t.rows acts → count_by is_open_resolve acts ≤ t.spare → CanTakeEnd t i e
 can_take t acts caller a i (ending.Other o) may here tasked spare = tt
 can_take t acts caller a i (ending.Resolved p) may here tasked spare =
     let task : HasRow t.rows may.act = tasked.rows_of a may.act may.there may.pending in
@@ -105,7 +105,7 @@ pub record IsEnded (old new : Inside) (caller a i : ℕ) (f : Finish) (o : Outco
   pub reserved : new.records.book.reserved ≡ old.records.book.reserved - 1
   pub most : new.records.book.limit ≡ old.records.book.limit
   pub doomed : Bool
-  pub told : IsTold (world_in old) (entry_of caller (End a f) (Ended o)) doomed
+  pub told : IsReported (world_in old) (entry_of caller (End a f) (Ended o)) doomed
   pub keeper : new.records.keeper ≡ followed (End a f) (Ended o) doomed old.records.keeper
   pub plan : IsPlannedBy (is_emptied (End a f) (Ended o) doomed) old.records.plan new.records.plan
 
@@ -128,7 +128,7 @@ world_ended old new caller a f o x there e =
     ∙ ap (made new.table.rows new.table.next_inc (length new.acts.items) new.acts.items new.joins.items (length new.records.book.entries)) (sym e.frame)
 
 -- and are kept as before
-pub kept_ended : (old new : Inside) (caller a : ℕ) (f : Finish) (o : Outcome) → (may : MayEnd old.acts.items caller a f) → o ≡ outcome_by old.frame.limits.rows old.table.rows old.table.next_inc f → IsKept old → IsEnded old new caller a may.act.inc f o → IsKept new
+pub kept_ended : (old new : Inside) (caller a : ℕ) (f : Finish) (o : Outcome) → (may : MayEnd old.acts.items caller a f) → o ≡ outcome_by old.frame.limits.rows old.table.rows old.table.next_inc f → IsRealmInvariant old → IsEnded old new caller a may.act.inc f o → IsRealmInvariant new
 kept_ended old new caller a f o may named kept e = record {
   stands =
       goes_on (story_of old) (story_of new) (world_in old) (world_in new) (entry_of caller (End a f) (Ended o)) kept.stands e.frame e.entries

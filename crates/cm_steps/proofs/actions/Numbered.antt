@@ -8,7 +8,7 @@ use Rattle.std.proofs.lemmas.List.Sums.{position_or_len_is}
 use Rattle.std.proofs.lemmas.List.Quantifiers.{position-Some}
 use Rattle.cm_world.specs.declared.action.Act.{Act}
 use Rattle.cm_laws.specs.Tasks.{IsNumbered}
-use Rattle.cm_table.proofs.lists.Halves.{not_same, lt_le, find-nth, nth-some}
+use Rattle.cm_table.proofs.lists.BinarySearch.{not_same, lt_le, find-nth, nth-some}
 
 -- ---- the first item that passes
 

@@ -9,7 +9,7 @@ use Rattle.cm_world.specs.Rows.{is_gone, is_closed, is_resolved, is_on}
 use Rattle.cm_world.specs.World.{World}
 use Rattle.cm_world.specs.Route.{IsWalked}
 use Rattle.cm_world.specs.Openings.{unready, unopened, routed, opened, WalksUnless}
-use Rattle.cm_world.specs.After.{moves}
+use Rattle.cm_world.specs.AfterInside.{moves}
 use Rattle.cm_world.specs.Legal.{IsStep}
 use Rattle.cm_laws.specs.Story.{entry_of}
 use Rattle.cm_cache.specs.Keeping.{asked_by, asks_if}

@@ -10,16 +10,16 @@ use Rattle.cm_world.specs.declared.route.Start.TheVariants.{UseAt}
 use Rattle.cm_world.specs.declared.route.Walked.{Walked}
 use Rattle.cm_world.specs.World.{World}
 use Rattle.cm_world.specs.Route.{IsWalked}
-use Rattle.cm_world.specs.After.{moves}
-use Rattle.cm_world.specs.Sound.{IsRising}
+use Rattle.cm_world.specs.AfterInside.{moves}
+use Rattle.cm_world.specs.Sound.{IncarnationsIncrease}
 use Rattle.cm_laws.specs.Story.{world_of, IsLegal}
 use Rattle.cm_laws.proofs.sound.Healthy.{trees_stay_sound}
-use Rattle.cm_cache.specs.Answers.{kept_at}
+use Rattle.cm_cache.specs.AnswersInside.{kept_at}
 use Rattle.cm_cache.specs.Keeping.{asked_by}
-use Rattle.cm_cache.specs.Beside.{Held, nothing_held, asked_for, followed, IsTold, IsBeside}
+use Rattle.cm_cache.specs.Beside.{CacheContents, nothing_held, asked_for, followed, IsReported, IsBeside}
 use Rattle.cm_cache.specs.Steps.{may_doom}
 use Rattle.cm_cache.proofs.histories.Going.{nothing_at_first, beside_is_right, unasked_go_on, asked_go_on}
-use Rattle.cm_steps.specs.Inside.{story_of, world_in, Stands}
+use Rattle.cm_steps.specs.Inside.{story_of, world_in, LeavesTree}
 use Rattle.cm_steps.specs.declared.realm.Realm.TheInside.{Inside}
 
 -- ---- entries
@@ -32,30 +32,30 @@ quiet_dooms (Exited i) (reply.Left m) quiet = absurd (true≢false quiet)
 quiet_dooms event r quiet = refl
 
 -- the incarnations of the tree rise
-pub rising_in : (a : Inside) → Stands (story_of a) (world_in a) → IsRising a.table.next_inc a.table.rows
+pub increasing_in : (a : Inside) → LeavesTree (story_of a) (world_in a) → IncarnationsIncrease a.table.next_inc a.table.rows
 unfolding world_of IsLegal
-rising_in a stands =
-    subst (λ (w : World). IsRising w.next_inc w.rows) stands.world (trees_stay_sound a.frame a.records.book.entries stands.legal).orderly.rising
+increasing_in a stands =
+    subst (λ (w : World). IncarnationsIncrease w.next_inc w.rows) stands.world (trees_stay_sound a.frame a.records.book.entries stands.legal).orderly.increasing
 
 -- ---- what is kept
 
 -- nothing beside the empty history
-pub beside_new : (f : Frame) (entries : List Entry) (h : Held) → entries ≡ [] → h ≡ nothing_held → IsBeside f entries h
+pub beside_new : (f : Frame) (entries : List Entry) (h : CacheContents) → entries ≡ [] → h ≡ nothing_held → IsBeside f entries h
 beside_new f entries h none held =
     subst (IsBeside f entries) (sym held) (subst (λ es. IsBeside f es nothing_held) (sym none) (nothing_at_first f))
 
 -- with an entry more that asks for no use
-pub goes_beside : (a : Inside) (e : Entry) (doomed : Bool) (entries : List Entry) (h : Held) → Stands (story_of a) (world_in a) → IsBeside a.frame a.records.book.entries a.records.keeper → entries ≡ a.records.book.entries ++ e ∷ [] → asked_by (world_in a) e.event ≡ None → IsTold (world_in a) e doomed → h ≡ followed e.event e.reply doomed a.records.keeper → IsBeside a.frame entries h
+pub goes_beside : (a : Inside) (e : Entry) (doomed : Bool) (entries : List Entry) (h : CacheContents) → LeavesTree (story_of a) (world_in a) → IsBeside a.frame a.records.book.entries a.records.keeper → entries ≡ a.records.book.entries ++ e ∷ [] → asked_by (world_in a) e.event ≡ None → IsReported (world_in a) e doomed → h ≡ followed e.event e.reply doomed a.records.keeper → IsBeside a.frame entries h
 unfolding world_of IsLegal
 goes_beside a e doomed entries h stands beside more none told held =
     subst (IsBeside a.frame entries) (sym held)
     (subst (λ es. IsBeside a.frame es (followed e.event e.reply doomed a.records.keeper)) (sym more)
-    (unasked_go_on a.frame a.records.book.entries e doomed a.records.keeper (trees_stay_sound a.frame a.records.book.entries stands.legal).orderly.rising
+    (unasked_go_on a.frame a.records.book.entries e doomed a.records.keeper (trees_stay_sound a.frame a.records.book.entries stands.legal).orderly.increasing
     (subst (λ (w : World). asked_by w e.event ≡ None) (sym stands.world) none)
-    (subst (λ (w : World). IsTold w e doomed) (sym stands.world) told) beside))
+    (subst (λ (w : World). IsReported w e doomed) (sym stands.world) told) beside))
 
 -- with one that asks for a use, whose walk comes to this
-pub asks_beside : (a : Inside) (e : Entry) (i : ℕ) (path : List ℕ) (v : Walked) (entries : List Entry) (h : Held) → Stands (story_of a) (world_in a) → IsBeside a.frame a.records.book.entries a.records.keeper → entries ≡ a.records.book.entries ++ e ∷ [] → asked_by (world_in a) e.event ≡ Some (record { inc = i; path = path }) → IsWalked a.table.rows a.frame.builtins (UseAt i path) v → h ≡ asked_for i path v a.records.keeper → IsBeside a.frame entries h
+pub asks_beside : (a : Inside) (e : Entry) (i : ℕ) (path : List ℕ) (v : Walked) (entries : List Entry) (h : CacheContents) → LeavesTree (story_of a) (world_in a) → IsBeside a.frame a.records.book.entries a.records.keeper → entries ≡ a.records.book.entries ++ e ∷ [] → asked_by (world_in a) e.event ≡ Some (record { inc = i; path = path }) → IsWalked a.table.rows a.frame.builtins (UseAt i path) v → h ≡ asked_for i path v a.records.keeper → IsBeside a.frame entries h
 unfolding world_of IsLegal
 asks_beside a e i path v entries h stands beside more asks walked held =
     subst (IsBeside a.frame entries) (sym held)
@@ -65,7 +65,7 @@ asks_beside a e i path v entries h stands beside more asks walked held =
     (subst (λ (w : World). IsWalked w.rows w.frame.builtins (UseAt i path) v) (sym stands.world) walked) beside))
 
 -- an answer that is kept is that of the walk in the tree as it is
-pub right_in : (a : Inside) (i : ℕ) (path : List ℕ) (v : Walked) → Stands (story_of a) (world_in a) → IsBeside a.frame a.records.book.entries a.records.keeper → kept_at a.records.keeper.answers i path ≡ Some v → IsWalked a.table.rows a.frame.builtins (UseAt i path) v
+pub right_in : (a : Inside) (i : ℕ) (path : List ℕ) (v : Walked) → LeavesTree (story_of a) (world_in a) → IsBeside a.frame a.records.book.entries a.records.keeper → kept_at a.records.keeper.answers i path ≡ Some v → IsWalked a.table.rows a.frame.builtins (UseAt i path) v
 unfolding world_of
 right_in a i path v stands beside is =
     subst (λ (w : World). IsWalked w.rows w.frame.builtins (UseAt i path) v) stands.world

@@ -19,10 +19,10 @@ use Rattle.cm_laws.proofs.sound.Marks.{IsLight, light_end, light_lasts}
 use Rattle.cm_laws.proofs.sound.Healthy.{IsHealthy}
 use Rattle.cm_laws.proofs.lasting.MarksLast.{healthy_of}
 use Rattle.cm_steps.specs.declared.realm.Realm.TheInside.{Inside}
-use Rattle.cm_steps.specs.Inside.{story_of, world_in, Stands}
+use Rattle.cm_steps.specs.Inside.{story_of, world_in, LeavesTree}
 
 -- the rows of a realm are orderly
-pub orderly_in : (a : Inside) → Stands (story_of a) (world_in a) → IsOrderly a.table.rows a.table.next_inc
+pub orderly_in : (a : Inside) → LeavesTree (story_of a) (world_in a) → IsOrderly a.table.rows a.table.next_inc
 orderly_in a stands =
     let healthy : IsHealthy (world_in a) = subst IsHealthy stands.world (healthy_of (story_of a) stands.legal) in
     healthy.sound.orderly

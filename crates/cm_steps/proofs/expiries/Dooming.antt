@@ -7,10 +7,11 @@ use Rattle.std.specs.Option.{option_eq, option_map_or}
 use Rattle.std.specs.Cmp.{unsigned_Decides}
 use Rattle.std.proofs.lemmas.Bool.{lt-ltb, le-ltb}
 use Rattle.cm_world.specs.declared.row.Row.{Row}
-use Rattle.cm_world.specs.Rows.{row_of, has_parent, is_behind, is_closed}
+use Rattle.cm_world.specs.Rows.{row_of, has_parent, is_closed}
+use Rattle.cm_world.specs.RowsInside.{is_behind}
 use Rattle.cm_world.specs.End.{changed, set_doomed}
 use Rattle.cm_world.specs.Marks.{is_dynamic}
-use Rattle.cm_world.specs.Sound.{IsRising, IsOrderly}
+use Rattle.cm_world.specs.Sound.{IncarnationsIncrease, IsOrderly}
 use Rattle.cm_world.specs.Expiring.{runs_once, goes_with, expired, doomed_children}
 use Rattle.cm_world.proofs.trees.Finding.{none_some, some_same}
 use Rattle.cm_world.proofs.trees.Walks.{find-lives}
@@ -112,23 +113,23 @@ none_else i (x ∷ xs) high = skip_by (x.inc == i) refl (none_else i xs (λ s h.
       absurd (omega arith)
   skip_by false same later = ap (λ ys. x ∷ ys) later
 
-own_by : (t : Bool) (i next : ℕ) (x : Row) (xs : List Row) → (x.inc == i) ≡ t → IsRising next (x ∷ xs) → ((r : Row) → cond t (Some x) (row_of xs i) ≡ Some r → is_dynamic r ≡ true) → (((r : Row) → row_of xs i ≡ Some r → is_dynamic r ≡ true) → map (λ r. cond ((r.inc == i) && not r.doomed) (set_doomed r) r) xs ≡ changed i doomed_if_dynamic xs) → cond (t && not x.doomed) (set_doomed x) x ∷ map (λ r. cond ((r.inc == i) && not r.doomed) (set_doomed r) r) xs ≡ cond t (doomed_if_dynamic x ∷ xs) (x ∷ changed i doomed_if_dynamic xs)
-own_by true i next x xs same rising dynamic later =
+own_by : (t : Bool) (i next : ℕ) (x : Row) (xs : List Row) → (x.inc == i) ≡ t → IncarnationsIncrease next (x ∷ xs) → ((r : Row) → cond t (Some x) (row_of xs i) ≡ Some r → is_dynamic r ≡ true) → (((r : Row) → row_of xs i ≡ Some r → is_dynamic r ≡ true) → map (λ r. cond ((r.inc == i) && not r.doomed) (set_doomed r) r) xs ≡ changed i doomed_if_dynamic xs) → cond (t && not x.doomed) (set_doomed x) x ∷ map (λ r. cond ((r.inc == i) && not r.doomed) (set_doomed r) r) xs ≡ cond t (doomed_if_dynamic x ∷ xs) (x ∷ changed i doomed_if_dynamic xs)
+own_by true i next x xs same increasing dynamic later =
     let is : x.inc ≡ i = (unsigned_Decides x.inc i).0 same in
-    ap (λ ys. cond (true && not x.doomed) (set_doomed x) x ∷ ys) (none_else i xs (λ s h. subst (λ n. n < s) is (rising.0.1 s h)))
+    ap (λ ys. cond (true && not x.doomed) (set_doomed x) x ∷ ys) (none_else i xs (λ s h. subst (λ n. n < s) is (increasing.0.1 s h)))
     ∙ ap (λ y. y ∷ xs) (own_first (is_dynamic x) x.doomed x (dynamic x refl))
-own_by false i next x xs same rising dynamic later = ap (λ ys. x ∷ ys) (later dynamic)
+own_by false i next x xs same increasing dynamic later = ap (λ ys. x ∷ ys) (later dynamic)
 
-own_goes : (i next : ℕ) (xs : List Row) → IsRising next xs → ((r : Row) → row_of xs i ≡ Some r → is_dynamic r ≡ true) → map (λ r. cond ((r.inc == i) && not r.doomed) (set_doomed r) r) xs ≡ changed i doomed_if_dynamic xs
-own_goes i next [] rising dynamic = refl
-own_goes i next (x ∷ xs) rising dynamic =
-    own_by (x.inc == i) i next x xs refl rising dynamic (own_goes i next xs rising.1)
+own_goes : (i next : ℕ) (xs : List Row) → IncarnationsIncrease next xs → ((r : Row) → row_of xs i ≡ Some r → is_dynamic r ≡ true) → map (λ r. cond ((r.inc == i) && not r.doomed) (set_doomed r) r) xs ≡ changed i doomed_if_dynamic xs
+own_goes i next [] increasing dynamic = refl
+own_goes i next (x ∷ xs) increasing dynamic =
+    own_by (x.inc == i) i next x xs refl increasing dynamic (own_goes i next xs increasing.1)
 
 pub expired_once : (rows : List Row) (next i : ℕ) → IsOrderly rows next → is_closed rows i ≡ false → runs_once rows i ≡ true → expired i rows ≡ changed i doomed_if_dynamic rows
 expired_once rows next i orderly unclosed once =
     each_as (λ r. cond (goes_with rows i r && not r.doomed) (set_doomed r) r) (λ r. cond ((r.inc == i) && not r.doomed) (set_doomed r) r)
     (λ r. ap (λ b. cond (b && not r.doomed) (set_doomed r) r) (open_goes rows i true unclosed once r)) rows
-    ∙ own_goes i next rows orderly.rising (λ r lives. once_row rows i r lives once)
+    ∙ own_goes i next rows orderly.increasing (λ r lives. once_row rows i r lives once)
 
 -- ---- children, one after another
 
@@ -210,45 +211,45 @@ module _ (p : ℕ) where
       ap (λ t. cond (t && not (is_behind after x.inc)) (doomed_if_dynamic x) x) own
       ∙ sym (ap (λ t. cond (t && not (is_behind (Some r.inc) x.inc)) (doomed_if_dynamic x) x) own)
 
-  step_before : (a b : Bool) (after : Option ℕ) (x : Row) (xs : List Row) (next : ℕ) (r : Row) → has_parent p x ≡ a → is_behind after x.inc ≡ b → (a ≡ true → b ≡ false) → IsRising next (x ∷ xs) → find (λ y. has_parent p y && is_behind after y.inc) xs ≡ Some r → changed r.inc doomed_if_dynamic (doomed_up_to p after xs) ≡ doomed_up_to p (Some r.inc) xs → changed r.inc doomed_if_dynamic (doomed_up_to p after (x ∷ xs)) ≡ doomed_up_to p (Some r.inc) (x ∷ xs)
-  step_before a b after x xs next r own at not_it rising e later =
-      let lives : row_of xs r.inc ≡ Some r = find-lives (λ y. has_parent p y && is_behind after y.inc) xs next r rising.1 e in
-      let low : x.inc < r.inc = rising.0.1 r.inc (ap is_some lives) in
+  step_before : (a b : Bool) (after : Option ℕ) (x : Row) (xs : List Row) (next : ℕ) (r : Row) → has_parent p x ≡ a → is_behind after x.inc ≡ b → (a ≡ true → b ≡ false) → IncarnationsIncrease next (x ∷ xs) → find (λ y. has_parent p y && is_behind after y.inc) xs ≡ Some r → changed r.inc doomed_if_dynamic (doomed_up_to p after xs) ≡ doomed_up_to p (Some r.inc) xs → changed r.inc doomed_if_dynamic (doomed_up_to p after (x ∷ xs)) ≡ doomed_up_to p (Some r.inc) (x ∷ xs)
+  step_before a b after x xs next r own at not_it increasing e later =
+      let lives : row_of xs r.inc ≡ Some r = find-lives (λ y. has_parent p y && is_behind after y.inc) xs next r increasing.1 e in
+      let low : x.inc < r.inc = increasing.0.1 r.inc (ap is_some lives) in
       later_row ((up after x).inc == r.inc) r (up after x) (doomed_up_to p after xs) (doomed_up_to p (Some r.inc) xs) refl (subst (λ n. n < r.inc) (sym (up_inc after x)) low) later
       ∙ ap (λ y. y ∷ doomed_up_to p (Some r.inc) xs) (before_by a b after x r own at low not_it)
 
   -- the next one is doomed, and all behind it are as they were
-  step_here : (after : Option ℕ) (x : Row) (xs : List Row) (next : ℕ) → has_parent p x ≡ true → is_behind after x.inc ≡ true → IsRising next (x ∷ xs) → changed x.inc doomed_if_dynamic (doomed_up_to p after (x ∷ xs)) ≡ doomed_up_to p (Some x.inc) (x ∷ xs)
-  step_here after x xs next own at rising =
+  step_here : (after : Option ℕ) (x : Row) (xs : List Row) (next : ℕ) → has_parent p x ≡ true → is_behind after x.inc ≡ true → IncarnationsIncrease next (x ∷ xs) → changed x.inc doomed_if_dynamic (doomed_up_to p after (x ∷ xs)) ≡ doomed_up_to p (Some x.inc) (x ∷ xs)
+  step_here after x xs next own at increasing =
       let was : up after x ≡ x = ap (λ t. cond (has_parent p x && not t) (doomed_if_dynamic x) x) at ∙ off (has_parent p x) x in
       let is : up (Some x.inc) x ≡ doomed_if_dynamic x = ap (λ t. cond (t && not (is_behind (Some x.inc) x.inc)) (doomed_if_dynamic x) x) own ∙ ap (λ t. cond (not t) (doomed_if_dynamic x) x) (le-ltb x.inc x.inc (omega arith)) in
-      let behind_was : doomed_up_to p after xs ≡ xs = none_up after xs (λ s h. behind_more after x.inc s at (rising.0.1 s h)) in
-      let behind_is : doomed_up_to p (Some x.inc) xs ≡ xs = none_up (Some x.inc) xs (λ s h. lt-ltb x.inc s (rising.0.1 s h)) in
+      let behind_was : doomed_up_to p after xs ≡ xs = none_up after xs (λ s h. behind_more after x.inc s at (increasing.0.1 s h)) in
+      let behind_is : doomed_up_to p (Some x.inc) xs ≡ xs = none_up (Some x.inc) xs (λ s h. lt-ltb x.inc s (increasing.0.1 s h)) in
       ap (λ y. changed x.inc doomed_if_dynamic (y ∷ doomed_up_to p after xs)) was
       ∙ ap (λ ys. changed x.inc doomed_if_dynamic (x ∷ ys)) behind_was
       ∙ ap (λ t. cond t (doomed_if_dynamic x ∷ xs) (x ∷ changed x.inc doomed_if_dynamic xs)) ((unsigned_Decides x.inc x.inc).1 refl)
       ∙ sym (ap (λ y. y ∷ doomed_up_to p (Some x.inc) xs) is ∙ ap (λ ys. doomed_if_dynamic x ∷ ys) behind_is)
 
-  step_by : (a b : Bool) (after : Option ℕ) (x : Row) (xs : List Row) (next : ℕ) (r : Row) → has_parent p x ≡ a → is_behind after x.inc ≡ b → IsRising next (x ∷ xs) → (find (λ y. has_parent p y && is_behind after y.inc) xs ≡ Some r → changed r.inc doomed_if_dynamic (doomed_up_to p after xs) ≡ doomed_up_to p (Some r.inc) xs) → cond (a && b) (Some x) (find (λ y. has_parent p y && is_behind after y.inc) xs) ≡ Some r → changed r.inc doomed_if_dynamic (doomed_up_to p after (x ∷ xs)) ≡ doomed_up_to p (Some r.inc) (x ∷ xs)
-  step_by true true after x xs next r own at rising later e =
+  step_by : (a b : Bool) (after : Option ℕ) (x : Row) (xs : List Row) (next : ℕ) (r : Row) → has_parent p x ≡ a → is_behind after x.inc ≡ b → IncarnationsIncrease next (x ∷ xs) → (find (λ y. has_parent p y && is_behind after y.inc) xs ≡ Some r → changed r.inc doomed_if_dynamic (doomed_up_to p after xs) ≡ doomed_up_to p (Some r.inc) xs) → cond (a && b) (Some x) (find (λ y. has_parent p y && is_behind after y.inc) xs) ≡ Some r → changed r.inc doomed_if_dynamic (doomed_up_to p after (x ∷ xs)) ≡ doomed_up_to p (Some r.inc) (x ∷ xs)
+  step_by true true after x xs next r own at increasing later e =
       subst (λ y. changed y.inc doomed_if_dynamic (doomed_up_to p after (x ∷ xs)) ≡ doomed_up_to p (Some y.inc) (x ∷ xs)) (some_same x r e)
-      (step_here after x xs next own at rising)
-  step_by true false after x xs next r own at rising later e =
-      step_before true false after x xs next r own at (λ h. refl) rising e (later e)
-  step_by false b after x xs next r own at rising later e =
-      step_before false b after x xs next r own at (λ h. absurd (true≢false (sym h))) rising e (later e)
+      (step_here after x xs next own at increasing)
+  step_by true false after x xs next r own at increasing later e =
+      step_before true false after x xs next r own at (λ h. refl) increasing e (later e)
+  step_by false b after x xs next r own at increasing later e =
+      step_before false b after x xs next r own at (λ h. absurd (true≢false (sym h))) increasing e (later e)
 
-  up_step : (after : Option ℕ) (rows : List Row) (next : ℕ) (r : Row) → IsRising next rows → find (λ y. has_parent p y && is_behind after y.inc) rows ≡ Some r → changed r.inc doomed_if_dynamic (doomed_up_to p after rows) ≡ doomed_up_to p (Some r.inc) rows
-  up_step after [] next r rising e = absurd (none_some r e)
-  up_step after (x ∷ xs) next r rising e =
-      step_by (has_parent p x) (is_behind after x.inc) after x xs next r refl refl rising (up_step after xs next r rising.1) e
+  up_step : (after : Option ℕ) (rows : List Row) (next : ℕ) (r : Row) → IncarnationsIncrease next rows → find (λ y. has_parent p y && is_behind after y.inc) rows ≡ Some r → changed r.inc doomed_if_dynamic (doomed_up_to p after rows) ≡ doomed_up_to p (Some r.inc) rows
+  up_step after [] next r increasing e = absurd (none_some r e)
+  up_step after (x ∷ xs) next r increasing e =
+      step_by (has_parent p x) (is_behind after x.inc) after x xs next r refl refl increasing (up_step after xs next r increasing.1) e
 
   -- the next child, by its incarnation
   pub up_more : (after : Option ℕ) (rows : List Row) (next j : ℕ) → IsOrderly rows next → next_of (has_parent p) after rows ≡ Some j → changed j doomed_if_dynamic (doomed_up_to p after rows) ≡ doomed_up_to p (Some j) rows
   up_more after rows next j orderly e =
       let n : IsNext (has_parent p) after rows j = is_next (has_parent p) after rows next j orderly e in
       subst (λ i. changed i doomed_if_dynamic (doomed_up_to p after rows) ≡ doomed_up_to p (Some i) rows) n.inc
-      (up_step after rows next n.row orderly.rising n.found)
+      (up_step after rows next n.row orderly.increasing n.found)
 
   -- all of them, where there is no next one
   all_at : (a b : Bool) (x : Row) (o : Option Row) → cond (a && b) (Some x) o ≡ None → (cond (a && not b) (doomed_if_dynamic x) x ≡ cond a (doomed_if_dynamic x) x) × (o ≡ None)

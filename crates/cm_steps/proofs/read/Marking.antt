@@ -3,7 +3,8 @@ use Rattle.std.proofs.Common.{◌≡◌, ℕ, ◌||◌, List, Bool, true, false,
 use Rattle.std.specs.Option.{option_map_or}
 use Rattle.cm_world.specs.declared.row.Row.{Row}
 use Rattle.cm_world.specs.declared.view.Facts.{Facts}
-use Rattle.cm_world.specs.Rows.{row_of, facts_of, at_or_above, is_gone, is_closed}
+use Rattle.cm_world.specs.Rows.{row_of, at_or_above, is_gone, is_closed}
+use Rattle.cm_world.specs.RowsInside.{facts_of}
 use Rattle.cm_world.specs.Sound.{IsOrderly}
 use Rattle.cm_world.proofs.trees.Climbing.{above_root}
 use Rattle.cm_walk.proofs.ways.Up.{no_row, no_mark_here, mark_found, parent_told, gone_told, closed_told, or_last_false}

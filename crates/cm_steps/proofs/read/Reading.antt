@@ -12,13 +12,14 @@ use Rattle.cm_world.specs.declared.action.Work.{Work}
 use Rattle.cm_world.specs.declared.reply.Reply.{Reply}
 use Rattle.cm_world.specs.declared.reply.Reply.TheVariants.{Gone, Already, Joined, Shut, Need, Begun, Shown}
 use Rattle.cm_world.specs.declared.event.Event.TheVariants.{Begin}
-use Rattle.cm_world.specs.Rows.{row_of, decl_of, child_of, moniker_of, is_gone, is_closed, facts_of}
+use Rattle.cm_world.specs.Rows.{row_of, decl_of, child_of, moniker_of, is_gone, is_closed}
+use Rattle.cm_world.specs.RowsInside.{facts_of}
 use Rattle.cm_world.specs.Begin.{same_act, is_so, needs_decl, begin_idle, begin_at, begin_reply}
 use Rattle.cm_world.specs.Work.{base_of, eager_of, runner_of, program_work, work_of}
 use Rattle.cm_world.specs.Reports.{look_at, show_reply}
-use Rattle.cm_world.specs.After.{moves}
+use Rattle.cm_world.specs.AfterInside.{moves}
 use Rattle.cm_world.proofs.trees.Finding.{some_same, row_of-inc}
-pub use Rattle.cm_walk.proofs.routes.Steps.{if_ok}
+pub use Rattle.cm_walk.proofs.routes.StepsAlong.{if_ok}
 use Rattle.cm_steps.specs.Answers.{AnswersBegin, AnswersIdle}
 use Rattle.cm_steps.specs.Eager.{eager_by, eager_kids, above_url}
 use Rattle.cm_steps.specs.declared.replies.beginning.BeginAnswer.{BeginAnswer}

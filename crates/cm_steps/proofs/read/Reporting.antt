@@ -10,7 +10,8 @@ use Rattle.cm_world.specs.declared.view.Facts.{Facts}
 use Rattle.cm_world.specs.declared.report.Kid.{Kid}
 use Rattle.cm_world.specs.declared.report.SurveyRow.{SurveyRow}
 use Rattle.cm_world.specs.declared.reply.Reply.TheVariants.{Gone, Surveyed}
-use Rattle.cm_world.specs.Rows.{row_of, decl_of, name_of, moniker_of, has_parent, subtree, is_gone, is_resolved, is_on, is_shut, facts_of}
+use Rattle.cm_world.specs.Rows.{row_of, decl_of, moniker_of, has_parent, subtree, is_gone, is_resolved, is_on, is_shut}
+use Rattle.cm_world.specs.RowsInside.{name_of, facts_of}
 use Rattle.cm_world.specs.Reports.{kid_by, kid_of, paths_used, survey_row, survey_reply}
 use Rattle.cm_world.proofs.trees.Finding.{row_of-inc}
 use Rattle.cm_steps.specs.Reporting.{kid_as, kid_in, paths_by, surveyed_row}

@@ -26,16 +26,16 @@ swap_one false true n differ hits = omega arith
 swap_one false false n differ hits = absurd (true≢false (sym hits))
 swap_one true s n differ hits = absurd (true≢false differ)
 
-same_front : (t : Bool) (n m : ℕ) → n + 1 ≡ m → (cond t 1 0 + n) + 1 ≡ cond t 1 0 + m
-same_front true n m e = omega arith
-same_front false n m e = omega arith
+same_prefix : (t : Bool) (n m : ℕ) → n + 1 ≡ m → (cond t 1 0 + n) + 1 ≡ cond t 1 0 + m
+same_prefix true n m e = omega arith
+same_prefix false n m e = omega arith
 
 less_by : {A : Type 0} (b : Bool) (p q : A → Bool) (f : A → A) (y x : A) (ys : List A) → (find p ys ≡ Some x → count_by q (edit_first p f ys) + 1 ≡ count_by q ys) → cond b (Some y) (find p ys) ≡ Some x → q x ≡ true → q (f x) ≡ false → count_by q (cond b (f y ∷ ys) (y ∷ edit_first p f ys)) + 1 ≡ count_by q (y ∷ ys)
 less_by true p q f y x ys more found was is =
     let one : y ≡ x = some_same y x found in
     ap (λ n. n + 1) (count-cons q (f y) ys) ∙ swap_one (q (f y)) (q y) (count_by q ys) (ap (λ z. q (f z)) one ∙ is) (ap q one ∙ was) ∙ sym (count-cons q y ys)
 less_by false p q f y x ys more found was is =
-    ap (λ n. n + 1) (count-cons q y (edit_first p f ys)) ∙ same_front (q y) (count_by q (edit_first p f ys)) (count_by q ys) (more found) ∙ sym (count-cons q y ys)
+    ap (λ n. n + 1) (count-cons q y (edit_first p f ys)) ∙ same_prefix (q y) (count_by q (edit_first p f ys)) (count_by q ys) (more found) ∙ sym (count-cons q y ys)
 
 -- the first that passes p leaves those that pass q
 pub count_less : {A : Type 0} (p q : A → Bool) (f : A → A) (xs : List A) (x : A) → find p xs ≡ Some x → q x ≡ true → q (f x) ≡ false → count_by q (edit_first p f xs) + 1 ≡ count_by q xs
@@ -47,15 +47,15 @@ drops_one false true n differ = omega arith
 drops_one false false n differ = omega arith
 drops_one true s n differ = absurd (true≢false differ)
 
-front_le : (t : Bool) (n m : ℕ) → n ≤ m → cond t 1 0 + n ≤ cond t 1 0 + m
-front_le true n m e = omega arith
-front_le false n m e = omega arith
+prefix_le : (t : Bool) (n m : ℕ) → n ≤ m → cond t 1 0 + n ≤ cond t 1 0 + m
+prefix_le true n m e = omega arith
+prefix_le false n m e = omega arith
 
 le_by : {A : Type 0} (b : Bool) (p q : A → Bool) (f : A → A) (y : A) (ys : List A) → ((x : A) → q (f x) ≡ false) → count_by q (edit_first p f ys) ≤ count_by q ys → count_by q (cond b (f y ∷ ys) (y ∷ edit_first p f ys)) ≤ count_by q (y ∷ ys)
 le_by true p q f y ys differ more =
     subst (λ n. n ≤ count_by q (y ∷ ys)) (sym (count-cons q (f y) ys)) (subst (λ n. cond (q (f y)) 1 0 + count_by q ys ≤ n) (sym (count-cons q y ys)) (drops_one (q (f y)) (q y) (count_by q ys) (differ y)))
 le_by false p q f y ys differ more =
-    subst (λ n. n ≤ count_by q (y ∷ ys)) (sym (count-cons q y (edit_first p f ys))) (subst (λ n. cond (q y) 1 0 + count_by q (edit_first p f ys) ≤ n) (sym (count-cons q y ys)) (front_le (q y) (count_by q (edit_first p f ys)) (count_by q ys) more))
+    subst (λ n. n ≤ count_by q (y ∷ ys)) (sym (count-cons q y (edit_first p f ys))) (subst (λ n. cond (q y) 1 0 + count_by q (edit_first p f ys) ≤ n) (sym (count-cons q y ys)) (prefix_le (q y) (count_by q (edit_first p f ys)) (count_by q ys) more))
 
 pub count_le : {A : Type 0} (p q : A → Bool) (f : A → A) (xs : List A) → ((x : A) → q (f x) ≡ false) → count_by q (edit_first p f xs) ≤ count_by q xs
 count_le p q f [] differ = omega arith

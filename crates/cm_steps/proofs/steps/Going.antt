@@ -4,14 +4,15 @@ use Rattle.cm_world.specs.declared.event.Event.{Event}
 use Rattle.cm_world.specs.declared.reply.Reply.{Reply}
 use Rattle.cm_world.specs.declared.reply.Entry.{Entry}
 use Rattle.cm_world.specs.World.{World, start}
-use Rattle.cm_world.specs.After.{moves, moved, counted, after}
+use Rattle.cm_world.specs.After.{moved, counted, after}
+use Rattle.cm_world.specs.AfterInside.{moves}
 use Rattle.cm_world.specs.Legal.{IsStep, Legal, replay}
 use Rattle.cm_world.proofs.trees.Histories.{Legal-push, replay-push, moved-quiet}
 use Rattle.cm_laws.specs.Story.{Story, world_of, IsLegal, entry_of}
-use Rattle.cm_steps.specs.Inside.{Stands}
+use Rattle.cm_steps.specs.Inside.{LeavesTree}
 
 -- with one entry more that the tree allows, it is legal and leaves the tree behind that entry
-pub goes_on : (old new : Story) (w v : World) (e : Entry) → Stands old w → new.frame ≡ old.frame → new.entries ≡ old.entries ++ e ∷ [] → IsStep w e → after w e ≡ v → Stands new v
+pub goes_on : (old new : Story) (w v : World) (e : Entry) → LeavesTree old w → new.frame ≡ old.frame → new.entries ≡ old.entries ++ e ∷ [] → IsStep w e → after w e ≡ v → LeavesTree new v
 unfolding world_of IsLegal
 goes_on old new w v e stands same more step moved = record {
   legal =

@@ -4,7 +4,7 @@ use Rattle.cm_world.specs.World.{World}
 use Rattle.cm_world.specs.Rows.{is_live}
 use Rattle.cm_laws.specs.Story.{world_of, IsLegal}
 use Rattle.cm_laws.proofs.destroyed.Rooted.{root_stays}
-use Rattle.cm_steps.specs.Inside.{IsKept}
+use Rattle.cm_steps.specs.Inside.{IsRealmInvariant}
 use Rattle.cm_steps.specs.declared.realm.Realm.TheInside.{Inside}
 
 lives_by : (lives doomed : Bool) → IsTrue (not (not lives || doomed)) → IsTrue lives
@@ -12,7 +12,7 @@ lives_by true doomed here = refl
 lives_by false doomed here = absurd (true≢false (sym here))
 
 -- every legal history leaves it where it is
-pub root_in : (a : Inside) → IsKept a → IsTrue (is_live a.table.rows 0)
+pub root_in : (a : Inside) → IsRealmInvariant a → IsTrue (is_live a.table.rows 0)
 unfolding world_of IsLegal
 root_in a kept =
     subst (λ (w : World). IsTrue (is_live w.rows 0)) kept.stands.world

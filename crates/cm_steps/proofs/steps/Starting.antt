@@ -13,14 +13,14 @@ use Rattle.cm_laws.specs.Story.{world_of, IsLegal}
 use Rattle.cm_laws.specs.Tasks.{IsNumbered, IsTasked}
 use Rattle.cm_steps.specs.Tasks.{is_open_resolve}
 use Rattle.cm_order.specs.Plans.{KnowsNone}
-use Rattle.cm_steps.specs.Inside.{story_of, world_in, Stands, IsKept}
+use Rattle.cm_steps.specs.Inside.{story_of, world_in, LeavesTree, IsRealmInvariant}
 use Rattle.cm_steps.proofs.Planning.{planned_none}
 use Rattle.cm_steps.specs.declared.realm.Realm.TheInside.{Inside}
 use Rattle.cm_laws.proofs.actions.Tasks.{tasked_new}
 use Rattle.cm_cache.specs.Beside.{nothing_held}
 use Rattle.cm_steps.proofs.asked.Keepers.{beside_new}
 
-stands_new : (a : Inside) → a.table ≡ first_tree a.frame.root a.frame.builtins a.frame.limits.rows → a.acts.items ≡ [] → a.joins.items ≡ [] → a.records.book.entries ≡ [] → Stands (story_of a) (world_in a)
+stands_new : (a : Inside) → a.table ≡ first_tree a.frame.root a.frame.builtins a.frame.limits.rows → a.acts.items ≡ [] → a.joins.items ≡ [] → a.records.book.entries ≡ [] → LeavesTree (story_of a) (world_in a)
 unfolding world_of IsLegal
 stands_new a table acts joins entries =
     let made : Tree → List Act → List Join → List Entry → World = λ t xs js es. record { frame = a.frame; rows = t.rows; next_inc = t.next_inc; next_action = length xs + 1; acts = xs; joins = js; entries = length es } in
@@ -35,7 +35,7 @@ stands_new a table acts joins entries =
     }
 
 -- the fields of a new realm are the tree that no entry leaves
-pub kept_new : (a : Inside) (f : Frame) → a.frame ≡ f → a.table ≡ first_tree f.root f.builtins f.limits.rows → a.acts.items ≡ [] → a.resolves ≡ 0 → a.joins.items ≡ [] → a.records.book ≡ record { entries = []; reserved = 0; limit = f.limits.entries } → a.records.keeper ≡ nothing_held → KnowsNone a.records.plan → IsKept a
+pub kept_new : (a : Inside) (f : Frame) → a.frame ≡ f → a.table ≡ first_tree f.root f.builtins f.limits.rows → a.acts.items ≡ [] → a.resolves ≡ 0 → a.joins.items ≡ [] → a.records.book ≡ record { entries = []; reserved = 0; limit = f.limits.entries } → a.records.keeper ≡ nothing_held → KnowsNone a.records.plan → IsRealmInvariant a
 kept_new a f frame first acts resolves joins empty held unknown =
     let table : a.table ≡ first_tree a.frame.root a.frame.builtins a.frame.limits.rows =
     first ∙ ap (λ (g : Frame). first_tree g.root g.builtins g.limits.rows) (sym frame) in

@@ -13,13 +13,13 @@ use Rattle.cm_world.specs.After.{moved, counted, after}
 use Rattle.cm_world.specs.Legal.{IsStep}
 use Rattle.cm_world.specs.Sound.{IsSound}
 use Rattle.cm_laws.specs.Story.{world_of, IsLegal}
-use Rattle.cm_laws.specs.Shutdowns.{TreesStaySound}
+use Rattle.cm_laws.specs.ShutdownsInside.{TreesStaySound}
 use Rattle.cm_laws.specs.Tasks.{IsNumbered, IsTasked}
 use Rattle.cm_steps.specs.Tasks.{is_open_resolve}
-use Rattle.cm_steps.specs.Inside.{story_of, world_in, IsKept}
+use Rattle.cm_steps.specs.Inside.{story_of, world_in, IsRealmInvariant}
 use Rattle.cm_steps.specs.declared.realm.Realm.TheInside.{Inside}
 use Rattle.cm_cache.specs.Keeping.{asked_by}
-use Rattle.cm_cache.specs.Beside.{is_emptied, followed, IsTold, IsBeside}
+use Rattle.cm_cache.specs.Beside.{is_emptied, followed, IsReported, IsBeside}
 use Rattle.cm_steps.proofs.steps.Going.{goes_on, one_longer}
 use Rattle.cm_steps.specs.Planned.{IsPlannedBy}
 use Rattle.cm_steps.proofs.asked.Keepers.{goes_beside}
@@ -43,7 +43,7 @@ pub record IsRowStep (old new : Inside) (e : Entry) (rows : List Row) (next : �
   pub book : new.records.book ≡ record old.records.book { entries = old.records.book.entries ++ e ∷ [] }
   pub doomed : Bool
   pub unasked : asked_by (world_in old) e.event ≡ None
-  pub told : IsTold (world_in old) e doomed
+  pub told : IsReported (world_in old) e doomed
   pub keeper : new.records.keeper ≡ followed e.event e.reply doomed old.records.keeper
   pub plan : IsPlannedBy (is_emptied e.event e.reply doomed) old.records.plan new.records.plan
 
@@ -62,7 +62,7 @@ world_stepped old new e rows next moves s =
     ∙ ap (made new.table new.acts.items new.joins.items (length new.records.book.entries)) (sym s.frame)
 
 -- and are kept as before
-pub kept_rows : (old new : Inside) (e : Entry) (rows : List Row) (next : ℕ) → IsKept old → IsStep (world_in old) e → moved (world_in old) e.caller e.event e.reply ≡ record (world_in old) { rows = rows; next_inc = next } → IsTasked rows old.acts.items → IsRowStep old new e rows next → IsKept new
+pub kept_rows : (old new : Inside) (e : Entry) (rows : List Row) (next : ℕ) → IsRealmInvariant old → IsStep (world_in old) e → moved (world_in old) e.caller e.event e.reply ≡ record (world_in old) { rows = rows; next_inc = next } → IsTasked rows old.acts.items → IsRowStep old new e rows next → IsRealmInvariant new
 kept_rows old new e rows next kept step moves tasked s = record {
   stands =
       goes_on (story_of old) (story_of new) (world_in old) (world_in new) e kept.stands s.frame (ap (λ (h : History). h.entries) s.book) step
@@ -91,7 +91,7 @@ kept_rows old new e rows next kept step moves tasked s = record {
 }
 
 -- the tree that the fields are is sound, as that of every legal history is
-pub sound_in : TreesStaySound → (a : Inside) → IsKept a → IsSound a.table.rows a.table.next_inc
+pub sound_in : TreesStaySound → (a : Inside) → IsRealmInvariant a → IsSound a.table.rows a.table.next_inc
 unfolding world_of IsLegal
 sound_in law a kept =
     subst (λ (w : World). IsSound w.rows w.next_inc) kept.stands.world (law a.frame a.records.book.entries kept.stands.legal)

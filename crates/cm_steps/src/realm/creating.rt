@@ -3,9 +3,9 @@
 
 ghost use Rattle.std.specs.Prelude.{◌≡◌, IfOk, IfErr, OnOk, OnErr};
 ghost use Rattle.cm_world.specs.Create.{IsCreateReply};
-ghost use Rattle.cm_dynamic.specs.Laws.{CanTake};
-ghost use Rattle.cm_laws.specs.Story.{world_of, Tells};
-ghost use Rattle.cm_steps.specs.Steps.{HasRoom, RefusesQuiet};
+ghost use Rattle.cm_dynamic.specs.Laws.{CanTakeChild};
+ghost use Rattle.cm_laws.specs.Story.{world_of, AddsEntry};
+ghost use Rattle.cm_steps.specs.Steps.{RealmHasRoom, RefusesQuiet};
 ghost use Rattle.cm_steps.specs.Answers.{CreatesBy};
 
 use super::Realm;
@@ -44,8 +44,8 @@ impl Realm {
         gives: List<Give>,
     ) -> Result<Reply, NoStep>
         ensures step { IfOk result (λ reply.
-            Tells self.old self.new caller (Event.Create parent coll name url gives) reply) }
-        ensures room { OnOk result (HasRoom self.old 1) }
+            AddsEntry self.old self.new caller (Event.Create parent coll name url gives) reply) }
+        ensures room { OnOk result (RealmHasRoom self.old 1) }
         ensures refused { IfErr result (RefusesQuiet self.old) }
         ensures err { OnErr result (self.new ≡ self.old) }
     {
@@ -70,8 +70,8 @@ impl Realm {
         requires { let w = world_of self.old in
             CreatesBy w.frame.limits.rows w.rows w.next_inc parent coll name gives answer }
         ensures step { IfOk result (λ reply.
-            Tells self.old self.new caller (Event.Create parent coll name url gives) reply) }
-        ensures room { OnOk result (HasRoom self.old 1) }
+            AddsEntry self.old self.new caller (Event.Create parent coll name url gives) reply) }
+        ensures room { OnOk result (RealmHasRoom self.old 1) }
         ensures refused { IfErr result (RefusesQuiet self.old) }
         ensures err { OnErr result (self.new ≡ self.old) }
     {
@@ -99,10 +99,10 @@ impl Realm {
         requires creates { let w = world_of self.old in
             IsCreateReply w.frame.limits.rows w.rows w.next_inc parent coll name gives
             (Reply.Created w.next_inc) }
-        requires takes { CanTake (world_of self.old).rows parent coll name }
+        requires takes { CanTakeChild (world_of self.old).rows parent coll name }
         ensures step { IfOk result (λ reply.
-            Tells self.old self.new caller (Event.Create parent coll name url gives) reply) }
-        ensures room { OnOk result (HasRoom self.old 1) }
+            AddsEntry self.old self.new caller (Event.Create parent coll name url gives) reply) }
+        ensures room { OnOk result (RealmHasRoom self.old 1) }
         ensures refused { IfErr result (RefusesQuiet self.old) }
         ensures err { OnErr result (self.new ≡ self.old) }
     {

@@ -8,7 +8,7 @@ ghost use Rattle.std.specs.Prelude.{◌≡◌, IsTrue, IfSome, IfNone, None};
 ghost use Rattle.std.specs.List.{list_any};
 ghost use Rattle.cm_world.specs.World.{outcome_of};
 ghost use Rattle.cm_world.specs.Step.{MayEnd, is_join};
-ghost use Rattle.cm_laws.specs.Story.{world_of, Tells};
+ghost use Rattle.cm_laws.specs.Story.{world_of, AddsEntry};
 ghost use Rattle.cm_steps.specs.Ends.{finish_of};
 
 use super::Realm;
@@ -28,7 +28,7 @@ impl Realm {
     /// marked to be destroyed, or, where its collection runs each child once, it itself.
     pub fn end(&mut self, caller: u32, action: u64, ending: Ending) -> Reply
         requires may { MayEnd (world_of self.old).acts caller action (finish_of ending) }
-        ensures step { Tells self.old self.new caller (Event.End action (finish_of ending)) result }
+        ensures step { AddsEntry self.old self.new caller (Event.End action (finish_of ending)) result }
     {
         let inc = inc_at(self.acts.as_slice(), action);
         let closing = self.records.plan.closes(&self.table, inc);
@@ -50,7 +50,7 @@ impl Realm {
     pub fn await_end(&mut self, caller: u32, action: u64) -> Option<Reply>
         requires joined { IsTrue (list_any (is_join caller action) (world_of self.old).joins) }
         ensures some { let event = Event.Await action in
-            IfSome result (λ reply. Tells self.old self.new caller event reply) }
+            IfSome result (λ reply. AddsEntry self.old self.new caller event reply) }
         ensures none { IfNone result (outcome_of (world_of self.old).acts action ≡ None) }
         ensures kept { IfNone result (self.new ≡ self.old) }
     {

@@ -11,8 +11,8 @@ ghost use Rattle.cm_world.specs.Expiring.{runs_once as once};
 ghost use Rattle.cm_world.specs.Marks.{lost_of, mark_reply};
 ghost use Rattle.cm_world.specs.Step.{may_purge};
 ghost use Rattle.cm_table.specs.Change.{with_changed};
-ghost use Rattle.cm_laws.specs.Story.{world_of, Tells};
-ghost use Rattle.cm_steps.specs.Steps.{HasRoom, RefusesQuiet};
+ghost use Rattle.cm_laws.specs.Story.{world_of, AddsEntry};
+ghost use Rattle.cm_steps.specs.Steps.{RealmHasRoom, RefusesQuiet};
 ghost use Rattle.cm_steps.specs.Answers.{AnswersMark, AnswersPurge};
 
 use super::Realm;
@@ -43,8 +43,8 @@ impl Realm {
     /// - `Memory` where memory runs out.
     pub fn mark(&mut self, caller: u32, doom: bool, inc: u64) -> Result<Reply, NoStep>
         ensures step { IfOk result (λ reply.
-            Tells self.old self.new caller (Event.Mark doom inc) reply) }
-        ensures room { OnOk result (HasRoom self.old 1) }
+            AddsEntry self.old self.new caller (Event.Mark doom inc) reply) }
+        ensures room { OnOk result (RealmHasRoom self.old 1) }
         ensures refused { IfErr result (RefusesQuiet self.old) }
         ensures err { OnErr result (self.new ≡ self.old) }
     {
@@ -62,8 +62,8 @@ impl Realm {
     ) -> Result<Reply, NoStep>
         requires { AnswersMark (world_of self.old).rows doom inc answer }
         ensures step { IfOk result (λ reply.
-            Tells self.old self.new caller (Event.Mark doom inc) reply) }
-        ensures room { OnOk result (HasRoom self.old 1) }
+            AddsEntry self.old self.new caller (Event.Mark doom inc) reply) }
+        ensures room { OnOk result (RealmHasRoom self.old 1) }
         ensures refused { IfErr result (RefusesQuiet self.old) }
         ensures err { OnErr result (self.new ≡ self.old) }
     {
@@ -77,8 +77,8 @@ impl Realm {
     fn put_mark(&mut self, caller: u32, doom: bool, inc: u64) -> Result<Reply, NoStep>
         requires { mark_reply (world_of self.old).rows doom inc ≡ Reply.Marked }
         ensures step { IfOk result (λ reply.
-            Tells self.old self.new caller (Event.Mark doom inc) reply) }
-        ensures room { OnOk result (HasRoom self.old 1) }
+            AddsEntry self.old self.new caller (Event.Mark doom inc) reply) }
+        ensures room { OnOk result (RealmHasRoom self.old 1) }
         ensures refused { IfErr result (RefusesQuiet self.old) }
         ensures err { OnErr result (self.new ≡ self.old) }
     {
@@ -97,8 +97,8 @@ impl Realm {
     /// - `Memory` where memory runs out.
     pub fn reap(&mut self, alloc: Global, caller: u32, inc: u64) -> Result<Reply, NoStep>
         ensures step { IfOk result (λ reply.
-            Tells self.old self.new caller (Event.Reap inc) reply) }
-        ensures room { OnOk result (HasRoom self.old 1) }
+            AddsEntry self.old self.new caller (Event.Reap inc) reply) }
+        ensures room { OnOk result (RealmHasRoom self.old 1) }
         ensures refused { IfErr result (RefusesQuiet self.old) }
         ensures err { OnErr result (self.new ≡ self.old) }
     {
@@ -125,8 +125,8 @@ impl Realm {
     pub fn purge(&mut self, alloc: Global, caller: u32, inc: u64) -> Result<Reply, NoStep>
         requires purgeable { IsTrue (may_purge (world_of self.old).rows inc) }
         ensures step { IfOk result (λ reply.
-            Tells self.old self.new caller (Event.Purge inc) reply) }
-        ensures room { OnOk result (HasRoom self.old 1) }
+            AddsEntry self.old self.new caller (Event.Purge inc) reply) }
+        ensures room { OnOk result (RealmHasRoom self.old 1) }
         ensures refused { IfErr result (RefusesQuiet self.old) }
         ensures err { OnErr result (self.new ≡ self.old) }
     {
@@ -139,8 +139,8 @@ impl Realm {
         requires purgeable { IsTrue (may_purge (world_of self.old).rows inc) }
         requires answer { AnswersPurge (world_of self.old).rows inc answer }
         ensures step { IfOk result (λ reply.
-            Tells self.old self.new caller (Event.Purge inc) reply) }
-        ensures room { OnOk result (HasRoom self.old 1) }
+            AddsEntry self.old self.new caller (Event.Purge inc) reply) }
+        ensures room { OnOk result (RealmHasRoom self.old 1) }
         ensures refused { IfErr result (RefusesQuiet self.old) }
         ensures err { OnErr result (self.new ≡ self.old) }
     {
@@ -158,8 +158,8 @@ impl Realm {
         requires lost { let rows = (world_of self.old).rows in
             lost ≡ map (lost_of rows) (subtree rows inc) }
         ensures step { IfOk result (λ reply.
-            Tells self.old self.new caller (Event.Purge inc) reply) }
-        ensures room { OnOk result (HasRoom self.old 1) }
+            AddsEntry self.old self.new caller (Event.Purge inc) reply) }
+        ensures room { OnOk result (RealmHasRoom self.old 1) }
         ensures refused { IfErr result (RefusesQuiet self.old) }
         ensures err { OnErr result (self.new ≡ self.old) }
     {

@@ -7,10 +7,10 @@ ghost use Rattle.std.specs.Prelude.{◌≡◌, ℕ, Some, Err, IsTrue, IfOk, IfE
 ghost use Rattle.std.specs.Prelude.{IfSome, IfNone};
 ghost use Rattle.cm_world.specs.Step.{PicksOff, may_close};
 ghost use Rattle.cm_order.specs.Picking.{MayBePicked};
-ghost use Rattle.cm_laws.specs.Story.{world_of, Tells};
+ghost use Rattle.cm_laws.specs.Story.{world_of, AddsEntry};
 ghost use Rattle.cm_laws.specs.Clients.{picked_by};
-ghost use Rattle.cm_steps.specs.Steps.{HasRoom, LacksRoom, Refuses, RefusesQuiet, WaitsToPick};
-ghost use Rattle.cm_steps.specs.Answers.{PicksBy};
+ghost use Rattle.cm_steps.specs.Steps.{RealmHasRoom, LacksRoom, RefusesStep, RefusesQuiet, WaitsToPick};
+ghost use Rattle.cm_steps.specs.Answers.{PicksOrWaits};
 ghost use Rattle.cm_steps.specs.Chosen.{Chooses, PicksThis};
 
 use super::Realm;
@@ -38,11 +38,11 @@ impl Realm {
     pub fn pick(&mut self, alloc: Global, caller: u32, target: u64) -> Result<Reply, NoStep>
         requires closing { IsTrue (may_close (world_of self.old).rows target) }
         ensures step { IfOk result (λ reply.
-            Tells self.old self.new caller (Event.Pick target) reply) }
-        ensures room { OnOk result (HasRoom self.old 2) }
+            AddsEntry self.old self.new caller (Event.Pick target) reply) }
+        ensures room { OnOk result (RealmHasRoom self.old 2) }
         ensures full { LacksRoom self.old 2 → result ≡ Err NoStep.HistoryFull }
         ensures refused { let waits = WaitsToPick (world_of self.old) target in
-            IfErr result (Refuses self.old 2 waits) }
+            IfErr result (RefusesStep self.old 2 waits) }
         ensures err { OnErr result (self.new ≡ self.old) }
     {
         if !self.has_room(2) {
@@ -80,9 +80,9 @@ impl Realm {
         ensures none { let may = MayBePicked (world_of self.old).rows target inc in
             IfOk result (λ told. IfNone told (may → ⊥)) }
         ensures same { IfOk result (λ told. IfNone told (self.new ≡ self.old)) }
-        ensures room { OnOk result (HasRoom self.old 2) }
+        ensures room { OnOk result (RealmHasRoom self.old 2) }
         ensures full { LacksRoom self.old 2 → result ≡ Err NoStep.HistoryFull }
-        ensures refused { IfErr result (Refuses self.old 2 (λ a. ⊥)) }
+        ensures refused { IfErr result (RefusesStep self.old 2 (λ a. ⊥)) }
         ensures err { OnErr result (self.new ≡ self.old) }
     {
         if !self.has_room(2) {
@@ -109,15 +109,15 @@ impl Realm {
 
     /// Takes the step that a pick comes to, where there is room.
     fn pick_by(&mut self, caller: u32, target: u64, answer: PickAnswer) -> Result<Reply, NoStep>
-        requires room { HasRoom self.old 2 }
+        requires room { RealmHasRoom self.old 2 }
         requires closing { IsTrue (may_close (world_of self.old).rows target) }
-        requires answer { PicksBy (world_of self.old) target answer }
+        requires answer { PicksOrWaits (world_of self.old) target answer }
         ensures step { IfOk result (λ reply.
-            Tells self.old self.new caller (Event.Pick target) reply) }
+            AddsEntry self.old self.new caller (Event.Pick target) reply) }
         ensures chosen { (i : ℕ) → Chooses i answer →
             IfOk result (λ reply. picked_by (Event.Pick target) reply ≡ Some i) }
         ensures refused { let waits = WaitsToPick (world_of self.old) target in
-            IfErr result (Refuses self.old 2 waits) }
+            IfErr result (RefusesStep self.old 2 waits) }
         ensures err { OnErr result (self.new ≡ self.old) }
     {
         match answer {
@@ -137,7 +137,7 @@ impl Realm {
         requires closing { IsTrue (may_close (world_of self.old).rows target) }
         requires picks { PicksOff (world_of self.old).rows target inc }
         ensures step { IfOk result (λ reply.
-            Tells self.old self.new caller (Event.Pick target) reply) }
+            AddsEntry self.old self.new caller (Event.Pick target) reply) }
         ensures same { IfOk result (λ reply. reply ≡ Reply.ShutDown inc) }
         ensures refused { IfErr result (RefusesQuiet self.old) }
         ensures err { OnErr result (self.new ≡ self.old) }

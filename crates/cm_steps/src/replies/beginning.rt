@@ -4,7 +4,8 @@ ghost use Rattle.std.specs.Prelude.{◌≡◌, ◌++◌, [], IfOk, OnOk, Some, i
 ghost use Rattle.std.specs.Prelude.{option_map, option_and_then, option_to_list, unwrap_or};
 ghost use Rattle.std.specs.Option.{option_copied};
 ghost use Rattle.cm_world.specs.declared.row.Row.{Row};
-ghost use Rattle.cm_world.specs.Rows.{row_of, decl_of, facts_of, is_closed};
+ghost use Rattle.cm_world.specs.Rows.{row_of, decl_of, is_closed};
+ghost use Rattle.cm_world.specs.RowsInside.{facts_of};
 ghost use Rattle.cm_world.specs.Begin as begin;
 ghost use Rattle.cm_world.specs.Begin.{same_act};
 ghost use Rattle.cm_world.specs.Work as works;

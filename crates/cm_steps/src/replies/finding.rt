@@ -11,7 +11,7 @@ use cm_names::{ChildName, List, Memory, Moniker, Shared};
 use cm_table::Table;
 use cm_walk::above::is_closed;
 use cm_walk::locate;
-use cm_world::{Located, Reply, Steps, View};
+use cm_world::{Located, Reply, StepCount, View};
 use std::alloc::Global;
 use std::marker::Brand;
 use std::sync::ledger::{Blank, Ledger};
@@ -39,12 +39,12 @@ fn located<L: Ledger>(table: &Table, moniker: &Moniker, blank: Blank) -> Located
     requires root { IsTrue (is_live table.now.rows 0) }
     ensures { result ≡ located_from table.now.rows 0 0 moniker.now.parts }
 {
-    let mut steps = Steps::<L>::new(blank);
+    let mut steps = StepCount::<L>::new(blank);
     locate(table, moniker, &mut steps)
 }
 
 /// What is said where so many of these names are found, and the next one isn't. No tree has 2^32 - 1
-/// of them one below the other, since it has at most so many rows; that would be want of memory.
+/// of them one below the other, since it has at most so many rows; that would be out of memory.
 #[tactic(auto, using(crate::proofs::read::Leading::missing_reply))]
 fn missing(
     alloc: Global,
@@ -62,10 +62,10 @@ fn missing(
 }
 
 /// What is said where nothing stands behind these names.
-fn not_found(alloc: Global, front: &[Shared<ChildName>]) -> Result<Reply, Memory>
-    ensures { IfOk result (λ told. told ≡ reply.NotFound (record { parts = front.now })) }
+fn not_found(alloc: Global, prefix: &[Shared<ChildName>]) -> Result<Reply, Memory>
+    ensures { IfOk result (λ told. told ≡ reply.NotFound (record { parts = prefix.now })) }
 {
-    let parts = List::from_vec(front.to_vec(alloc)?);
+    let parts = List::from_vec(prefix.to_vec(alloc)?);
     Ok(Reply::NotFound(Moniker { parts }))
 }
 

@@ -11,7 +11,7 @@ ghost use Rattle.cm_steps.specs.Chosen.{AnswersThis};
 
 use crate::replies::beginning::program_work;
 use cm_names::{Boxed, List, Memory};
-use cm_order::{Picked, Plan, may_pick, pick_with};
+use cm_order::{DescentPlan, Picked, may_pick, pick_with};
 use cm_table::Table;
 use cm_walk::above::is_on;
 use cm_world::Work;
@@ -34,7 +34,7 @@ pub enum PickAnswer {
 pub fn pick_answer(
     alloc: Global,
     table: &Table,
-    plan: &mut Plan,
+    plan: &mut DescentPlan,
     next_action: u64,
     target: u64,
 ) -> Result<PickAnswer, Memory>
@@ -61,7 +61,7 @@ pub fn pick_answer(
 pub fn this_answer(
     alloc: Global,
     table: &Table,
-    plan: &mut Plan,
+    plan: &mut DescentPlan,
     next_action: u64,
     target: u64,
     inc: u64,
@@ -90,7 +90,7 @@ pub fn this_answer(
 fn choice(
     alloc: Global,
     table: &Table,
-    plan: &mut Plan,
+    plan: &mut DescentPlan,
     target: u64,
     inc: u64,
 ) -> Result<Option<bool>, Memory>

@@ -4,7 +4,7 @@ ghost use Rattle.std.specs.Prelude.{◌≡◌, IfOk};
 ghost use Rattle.cm_world.specs.Rows.{is_live};
 ghost use Rattle.cm_steps.specs.Answers.{AnswersPurge};
 
-use crate::replies::telling::{Told, told_below};
+use crate::replies::telling::{Reportable, told_below};
 use cm_names::{List, Memory};
 use cm_table::Table;
 use cm_walk::hop::moniker;
@@ -41,7 +41,7 @@ fn is_live<V: View>(view: &V, inc: u64) -> bool
     }
 }
 
-impl Told for Lost {
+impl Reportable for Lost {
     ghost use Rattle.cm_steps.specs.Reporting.{lost_row};
 
     ghost told_of = { lost_row };

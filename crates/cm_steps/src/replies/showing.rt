@@ -3,7 +3,8 @@
 
 ghost use Rattle.std.specs.Prelude.{◌≡◌, IfOk, Some, is_some};
 ghost use Rattle.cm_world.specs.declared.row.Row.{Row};
-ghost use Rattle.cm_world.specs.Rows.{row_of, facts_of};
+ghost use Rattle.cm_world.specs.Rows.{row_of};
+ghost use Rattle.cm_world.specs.RowsInside.{facts_of};
 ghost use Rattle.cm_world.specs.Reports.{show_reply, look_at, tail_reply};
 ghost use Rattle.cm_steps.specs.Answers.{AnswersExit};
 

@@ -7,7 +7,7 @@ ghost use Rattle.cm_world.specs.Reports as reports;
 ghost use Rattle.cm_steps.specs.Reporting as spec;
 
 use crate::copies::push_copy;
-use crate::replies::telling::{Told, told_below};
+use crate::replies::telling::{Reportable, told_below};
 use cm_decl::Usage;
 use cm_names::{CapPath, List, Memory};
 use cm_table::Table;
@@ -27,7 +27,7 @@ pub fn surveyed(alloc: Global, table: &Table, inc: u64) -> Result<Reply, Memory>
     Ok(Reply::Surveyed(rows))
 }
 
-impl Told for SurveyRow {
+impl Reportable for SurveyRow {
     ghost use Rattle.cm_steps.specs.Reporting.{surveyed_row};
 
     ghost told_of = { surveyed_row };

@@ -11,7 +11,7 @@ use cm_walk::rows_below;
 use std::alloc::Global;
 
 /// What is told of one instance.
-pub trait Told: Drop {
+pub trait Reportable: Drop {
     ghost use Rattle.std.specs.Prelude.{◌≡◌, IfOk, List as Seq, Option as Maybe, Some as Just};
     ghost use Rattle.cm_world.specs.declared.row.Row.{Row};
     ghost use Rattle.cm_world.specs.Rows.{row_of};
@@ -27,7 +27,7 @@ pub trait Told: Drop {
 
 /// What is told of the instances at and below the given one, by their incarnations. `Err` where
 /// memory runs out.
-pub fn told_below<T: Told>(alloc: Global, table: &Table, top: u64) -> Result<List<T>, Memory>
+pub fn told_below<T: Reportable>(alloc: Global, table: &Table, top: u64) -> Result<List<T>, Memory>
     ensures { let rows = table.now.rows in
         IfOk result (λ told. told ≡ filter_map (T.told_of rows) (subtree rows top)) }
 {

@@ -9,17 +9,18 @@ use Rattle.cm_decl.specs.Same.{same_child}
 use Rattle.cm_decl.proofs.Sameness.{and_first, and_second, same_child_exact}
 use Rattle.cm_world.specs.declared.row.Row.{Row}
 use Rattle.cm_world.specs.Edits.{drop_first}
-use Rattle.cm_world.specs.Rows.{row_of, has_parent, has_name, is_behind, child_of, child_behind}
+use Rattle.cm_world.specs.Rows.{row_of, has_parent, has_name, child_of}
+use Rattle.cm_world.specs.RowsInside.{is_behind, child_behind}
 use Rattle.cm_world.specs.End.{changed, set_doomed}
-use Rattle.cm_world.specs.Sound.{IsRising, IsOrderly}
+use Rattle.cm_world.specs.Sound.{IncarnationsIncrease, IsOrderly}
 use Rattle.cm_world.proofs.trees.Finding.{some_same, none_some, find-passes}
 use Rattle.cm_world.proofs.trees.Walks.{find-lives, parent_is}
-use Rattle.cm_table.specs.Keys.{Each}
+use Rattle.cm_table.specs.Keys.{EachItem}
 use Rattle.cm_table.specs.Links.{unless}
 use Rattle.cm_table.specs.Reading.{is_there}
 use Rattle.cm_table.proofs.tree.Rows.{some_is, is_some_by, lives_below}
-use Rattle.cm_table.proofs.tree.Leaves.{without, was_there, not_taken, rising_without}
-use Rattle.cm_table.proofs.lists.Halves.{no_some, not_same, lower_differs}
+use Rattle.cm_table.proofs.tree.Leaves.{without, was_there, not_taken, increasing_without}
+use Rattle.cm_table.proofs.lists.BinarySearch.{no_some, not_same, lower_differs}
 
 abbrev pub incs : List Row → List ℕ
 incs rows = map (λ r. r.inc) rows
@@ -103,9 +104,9 @@ without_by true q i x xs own high later =
     dropped_own (q x) i x (filter q xs) own (drop_high q i xs (λ j h. subst (λ n. n < j) at (high j h)))
 without_by false q i x xs own high later = dropped_other (q x) i x (filter q xs) (filter q (without i xs)) own later
 
-pub filter_without : (q : Row → Bool) (i next : ℕ) (rows : List Row) → IsRising next rows → incs (filter q (without i rows)) ≡ drop_first (λ k. k == i) (incs (filter q rows))
-filter_without q i next [] rising = refl
-filter_without q i next (x ∷ xs) rising = without_by (x.inc == i) q i x xs refl rising.0.1 (filter_without q i next xs rising.1)
+pub filter_without : (q : Row → Bool) (i next : ℕ) (rows : List Row) → IncarnationsIncrease next rows → incs (filter q (without i rows)) ≡ drop_first (λ k. k == i) (incs (filter q rows))
+filter_without q i next [] increasing = refl
+filter_without q i next (x ∷ xs) increasing = without_by (x.inc == i) q i x xs refl increasing.0.1 (filter_without q i next xs increasing.1)
 
 -- where it fails a test, those that pass are the same
 fails_by : (t : Bool) (q : Row → Bool) (i : ℕ) (x : Row) (xs : List Row) → (x.inc == i) ≡ t → ((r : Row) → cond t (Some x) (row_of xs i) ≡ Some r → q r ≡ false) → (((r : Row) → row_of xs i ≡ Some r → q r ≡ false) → filter q (without i xs) ≡ filter q xs) → filter q (cond t xs (x ∷ without i xs)) ≡ filter q (x ∷ xs)
@@ -140,12 +141,12 @@ pub record IsNamed (rows : List Row) (p : ℕ) (c : ChildName) (r : Row) : Type 
   pub named : r.name ≡ Some c
   pub alive : r.doomed ≡ false
 
-pub named_row : (rows : List Row) (next p : ℕ) (c : ChildName) (r : Row) → IsRising next rows → find (is_there p c) rows ≡ Some r → IsNamed rows p c r
-named_row rows next p c r rising e =
+pub named_row : (rows : List Row) (next p : ℕ) (c : ChildName) (r : Row) → IncarnationsIncrease next rows → find (is_there p c) rows ≡ Some r → IsNamed rows p c r
+named_row rows next p c r increasing e =
     let passes : IsTrue (is_there p c r) = find-passes (is_there p c) rows r e in
     let both : IsTrue (has_parent p r && has_name c r) = and_first (has_parent p r && has_name c r) (not r.doomed) passes in
     record {
-      lives = find-lives (is_there p c) rows next r rising e;
+      lives = find-lives (is_there p c) rows next r increasing e;
       under = parent_is p r.parent (and_first (has_parent p r) (has_name c r) both);
       named = name_by c r.name (and_second (has_parent p r) (has_name c r) both);
       alive = not-true r.doomed (and_second (has_parent p r && has_name c r) (not r.doomed) passes);
@@ -156,11 +157,11 @@ none_left : (rows : List Row) (next i p : ℕ) (c : ChildName) (r : Row) → IsO
 none_left rows next i p c r o e at =
     no_some (find (is_there p c) (without i rows)) (λ h.
     let q : (s : Row) × (find (is_there p c) (without i rows) ≡ Some s) = some_is (find (is_there p c) (without i rows)) h in
-    let first : IsNamed rows p c r = named_row rows next p c r o.rising e in
-    let second : IsNamed (without i rows) p c q.0 = named_row (without i rows) next p c q.0 (rising_without i next rows o.rising) q.1 in
-    let there : row_of rows q.0.inc ≡ Some q.0 = was_there i next q.0.inc rows q.0 o.rising second.lives in
+    let first : IsNamed rows p c r = named_row rows next p c r o.increasing e in
+    let second : IsNamed (without i rows) p c q.0 = named_row (without i rows) next p c q.0 (increasing_without i next rows o.increasing) q.1 in
+    let there : row_of rows q.0.inc ≡ Some q.0 = was_there i next q.0.inc rows q.0 o.increasing second.lives in
     let same : q.0.inc ≡ r.inc = o.one_name q.0.inc r.inc q.0 r there first.lives second.alive first.alive (second.under ∙ sym first.under) (second.named ∙ sym first.named) in
-    not_taken i next q.0.inc rows q.0 o.rising second.lives (same ∙ at))
+    not_taken i next q.0.inc rows q.0 o.increasing second.lives (same ∙ at))
 
 child_by : (v : Bool) (rows : List Row) (next i p : ℕ) (c : ChildName) (r : Row) → IsOrderly rows next → find (is_there p c) rows ≡ Some r → (r.inc == i) ≡ v → option_map (λ s. s.inc) (find (is_there p c) (without i rows)) ≡ cond v None (Some r.inc)
 child_by true rows next i p c r o e own = ap (option_map (λ s. s.inc)) (none_left rows next i p c r o e ((unsigned_Decides r.inc i).0 own))
@@ -195,7 +196,7 @@ child_doomed rows next i p c o = ap (option_map (λ s. s.inc)) (find_doomed i p 
 -- ---- more rows behind
 
 abbrev pub NoneHas : ℕ → List Row → Type 0
-NoneHas j rows = Each (λ r. has_parent j r ≡ false) rows
+NoneHas j rows = EachItem (λ r. has_parent j r ≡ false) rows
 
 pub filter_none : (j : ℕ) (rows : List Row) → NoneHas j rows → filter (has_parent j) rows ≡ []
 filter_none j [] none = refl
@@ -253,33 +254,33 @@ behind : (x r : Row) (xs : List Row) → ((j : ℕ) → IsSome (row_of xs j) →
 behind x r xs up here =
     ap (λ t. cond t (Some x) (row_of xs r.inc)) (not_same x.inc r.inc (lower_differs x.inc r.inc (up r.inc (is_some_by (row_of xs r.inc) r here)))) ∙ here
 
-pub each_row : (P : Row → Type 0) (next : ℕ) (xs : List Row) → IsRising next xs → ((r : Row) → row_of xs r.inc ≡ Some r → P r) → Each P xs
-each_row P next [] rising all = tt
-each_row P next (x ∷ xs) rising all = (all x (own_row x xs), each_row P next xs rising.1 (λ r here. all r (behind x r xs rising.0.1 here)))
+pub each_row : (P : Row → Type 0) (next : ℕ) (xs : List Row) → IncarnationsIncrease next xs → ((r : Row) → row_of xs r.inc ≡ Some r → P r) → EachItem P xs
+each_row P next [] increasing all = tt
+each_row P next (x ∷ xs) increasing all = (all x (own_row x xs), each_row P next xs increasing.1 (λ r here. all r (behind x r xs increasing.0.1 here)))
 
 pub none_high : (rows : List Row) (next j : ℕ) → IsOrderly rows next → next ≤ j → NoneHas j rows
-none_high rows next j o high = each_row (λ r. has_parent j r ≡ false) next rows o.rising (λ r here. has_by j r r.parent refl (λ up.
+none_high rows next j o high = each_row (λ r. has_parent j r ≡ false) next rows o.increasing (λ r here. has_by j r r.parent refl (λ up.
     let q = (o.parents r.inc j r here up).0 in
-    let low : j < next = lives_below rows next j q.row o.rising q.lives in
+    let low : j < next = lives_below rows next j q.row o.increasing q.lives in
     absurd (omega arith)))
 
 pub no_child : (rows : List Row) (next p : ℕ) → IsOrderly rows next → row_of rows p ≡ None → NoneHas p rows
-no_child rows next p o none = each_row (λ r. has_parent p r ≡ false) next rows o.rising (λ r here. has_by p r r.parent refl (λ up.
+no_child rows next p o none = each_row (λ r. has_parent p r ≡ false) next rows o.increasing (λ r here. has_by p r r.parent refl (λ up.
     let q = (o.parents r.inc p r here up).0 in none_some q.row (sym none ∙ q.lives)))
 
 -- a child that is found lives
-found_below : (rows : List Row) (next n : ℕ) (p : ℕ) (c : ChildName) (o : Option Row) → IsRising next rows → find (is_there p c) rows ≡ o → option_map (λ r. r.inc) o ≡ Some n → n < next
-found_below rows next n p c None rising e is = absurd (none_some n is)
-found_below rows next n p c (Some r) rising e is =
-    subst (λ k. k < next) (some_same r.inc n is) (lives_below rows next r.inc r rising (find-lives (is_there p c) rows next r rising e))
+found_below : (rows : List Row) (next n : ℕ) (p : ℕ) (c : ChildName) (o : Option Row) → IncarnationsIncrease next rows → find (is_there p c) rows ≡ o → option_map (λ r. r.inc) o ≡ Some n → n < next
+found_below rows next n p c None increasing e is = absurd (none_some n is)
+found_below rows next n p c (Some r) increasing e is =
+    subst (λ k. k < next) (some_same r.inc n is) (lives_below rows next r.inc r increasing (find-lives (is_there p c) rows next r increasing e))
 
 pub child_below : (rows : List Row) (next p n : ℕ) (c : ChildName) → IsOrderly rows next → child_of rows p c ≡ Some n → n < next
-child_below rows next p n c o e = found_below rows next n p c (find (is_there p c) rows) o.rising refl e
+child_below rows next p n c o e = found_below rows next n p c (find (is_there p c) rows) o.increasing refl e
 
-filtered : (P : Row → Type 0) (q : Row → Bool) (xs : List Row) → Each P xs → Each (λ n. (r : Row) × (r.inc ≡ n) × (q r ≡ true) × P r) (incs (filter q xs))
+filtered : (P : Row → Type 0) (q : Row → Bool) (xs : List Row) → EachItem P xs → EachItem (λ n. (r : Row) × (r.inc ≡ n) × (q r ≡ true) × P r) (incs (filter q xs))
 filtered P q [] all = tt
 filtered P q (x ∷ xs) all = by (q x) refl (filtered P q xs all.1) where
-  by : (t : Bool) → q x ≡ t → Each (λ n. (r : Row) × (r.inc ≡ n) × (q r ≡ true) × P r) (incs (filter q xs)) → Each (λ n. (r : Row) × (r.inc ≡ n) × (q r ≡ true) × P r) (incs (cond t (x ∷ filter q xs) (filter q xs)))
+  by : (t : Bool) → q x ≡ t → EachItem (λ n. (r : Row) × (r.inc ≡ n) × (q r ≡ true) × P r) (incs (filter q xs)) → EachItem (λ n. (r : Row) × (r.inc ≡ n) × (q r ≡ true) × P r) (incs (cond t (x ∷ filter q xs) (filter q xs)))
   by true e rest = ((x, refl, e, all.0), rest)
   by false e rest = rest
 
@@ -290,18 +291,18 @@ pub record IsKid (rows : List Row) (next p n : ℕ) : Type 0 where
   pub under : row.parent ≡ Some p
   pub below : n < next
 
-pub kids_live : (rows : List Row) (next p : ℕ) → IsRising next rows → Each (IsKid rows next p) (kids rows p)
-kids_live rows next p rising =
-    mapped (kids rows p) (filtered (λ r. row_of rows r.inc ≡ Some r) (has_parent p) rows (each_row (λ r. row_of rows r.inc ≡ Some r) next rows rising (λ r here. here))) where
+pub kids_live : (rows : List Row) (next p : ℕ) → IncarnationsIncrease next rows → EachItem (IsKid rows next p) (kids rows p)
+kids_live rows next p increasing =
+    mapped (kids rows p) (filtered (λ r. row_of rows r.inc ≡ Some r) (has_parent p) rows (each_row (λ r. row_of rows r.inc ≡ Some r) next rows increasing (λ r here. here))) where
       one : (n : ℕ) → (r : Row) × (r.inc ≡ n) × (has_parent p r ≡ true) × (row_of rows r.inc ≡ Some r) → IsKid rows next p n
       one n h = record {
         row = h.0;
         lives = subst (λ k. row_of rows k ≡ Some h.0) h.1 h.3;
         under = parent_is p h.0.parent h.2;
-        below = subst (λ k. k < next) h.1 (lives_below rows next h.0.inc h.0 rising h.3);
+        below = subst (λ k. k < next) h.1 (lives_below rows next h.0.inc h.0 increasing h.3);
       }
 
-      mapped : (l : List ℕ) → Each (λ n. (r : Row) × (r.inc ≡ n) × (has_parent p r ≡ true) × (row_of rows r.inc ≡ Some r)) l → Each (IsKid rows next p) l
+      mapped : (l : List ℕ) → EachItem (λ n. (r : Row) × (r.inc ≡ n) × (has_parent p r ≡ true) × (row_of rows r.inc ≡ Some r)) l → EachItem (IsKid rows next p) l
       mapped [] all = tt
       mapped (n ∷ ns) all = (one n all.0, mapped ns all.1)
 

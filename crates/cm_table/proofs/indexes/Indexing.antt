@@ -11,20 +11,20 @@ use Rattle.cm_world.specs.declared.row.Row.{Row}
 use Rattle.cm_world.specs.Edits.{drop_first}
 use Rattle.cm_world.specs.Rows.{row_of, has_parent, has_name, child_of}
 use Rattle.cm_world.specs.End.{changed, set_doomed, child_row, child_rows}
-use Rattle.cm_world.specs.Sound.{IsRising, IsOrderly}
+use Rattle.cm_world.specs.Sound.{IncarnationsIncrease, IsOrderly}
 use Rattle.cm_world.proofs.trees.Finding.{some_same, none_some, find-passes}
 use Rattle.cm_table.specs.declared.slot.Slot.{Slot}
-use Rattle.cm_table.specs.declared.slot.Index.{Index}
-use Rattle.cm_table.specs.Keys.{Each, EachOf}
+use Rattle.cm_table.specs.declared.slot.ChildIndex.{ChildIndex}
+use Rattle.cm_table.specs.Keys.{EachItem, EachOf}
 use Rattle.cm_table.specs.Slots.{inc_of, slot_of, rows_in, indexed_by, with_row_by, kids_of, named_in, base_of, kids_at, named_at, IsIndexed}
 use Rattle.cm_table.specs.Links.{unless, IsSame, IsLinked, IsUnlinked}
 use Rattle.cm_table.specs.Numbering.{IsBare}
 use Rattle.cm_table.specs.Reading.{is_there}
 use Rattle.cm_table.proofs.tree.Adding.{none_mapped}
 use Rattle.cm_table.proofs.tree.Leaves.{without}
-use Rattle.cm_table.proofs.lists.Halves.{not_same, lower_differs}
+use Rattle.cm_table.proofs.lists.BinarySearch.{not_same, lower_differs}
 use Rattle.cm_table.proofs.lists.Editing.{edited, dropped}
-use Rattle.cm_table.proofs.lists.Each.{each_map, each_append, each_edited, each_dropped, each_zip, each_of_edited}
+use Rattle.cm_table.proofs.lists.EachItem.{each_map, each_append, each_edited, each_dropped, each_zip, each_of_edited}
 use Rattle.cm_table.proofs.slots.Rowed.{slots_rise}
 use Rattle.cm_table.proofs.indexes.Children.{incs, kids, kids_changed, child_changed, filter_without, filter_fails, child_without, child_doomed, IsNamed, named_row, NoneHas, filter_none, find_none, filter_append, incs_append, kids_left, kids_right, child_left, child_right, none_high, has_by}
 
@@ -51,7 +51,7 @@ indexed_changed i f k rows next s h = record {
   names = λ c. h.names c ∙ sym (child_changed i s.row.inc c f k.inc k.parent k.name k.doomed rows);
 }
 
-pub all_changed : (i : ℕ) (f : Row → Row) → SparesRows f → (rows : List Row) (next : ℕ) (ss : List Slot) → Each (IsIndexed rows next) ss → Each (IsIndexed (changed i f rows) next) (edited inc_of i (with_row_by f) ss)
+pub all_changed : (i : ℕ) (f : Row → Row) → SparesRows f → (rows : List Row) (next : ℕ) (ss : List Slot) → EachItem (IsIndexed rows next) ss → EachItem (IsIndexed (changed i f rows) next) (edited inc_of i (with_row_by f) ss)
 all_changed i f k rows next ss all =
     each_edited (IsIndexed (changed i f rows) next) (λ s. s.row.inc == i) (with_row_by f) ss (λ s. rowed (changed i f rows) next f s (k.inc s.row))
     (each_map (IsIndexed rows next) (IsIndexed (changed i f rows) next) ss (indexed_changed i f k rows next) all)
@@ -65,7 +65,7 @@ indexed_doomed i rows next o s t u h = record {
   names = λ c. u.names c ∙ ap (unless i) (h.names c) ∙ sym (child_doomed rows next i s.row.inc c o) ∙ ap (λ (r : Row). child_of (changed i set_doomed rows) r.inc c) (sym u.row);
 }
 
-pub all_doomed : (i : ℕ) (next : ℕ) (ss ts : List Slot) → IsOrderly (rows_in ss) next → EachOf (IsUnlinked i false) ss ts → Each (IsIndexed (rows_in ss) next) ss → Each (IsIndexed (changed i set_doomed (rows_in ss)) next) (edited inc_of i (with_row_by set_doomed) ts)
+pub all_doomed : (i : ℕ) (next : ℕ) (ss ts : List Slot) → IsOrderly (rows_in ss) next → EachOf (IsUnlinked i false) ss ts → EachItem (IsIndexed (rows_in ss) next) ss → EachItem (IsIndexed (changed i set_doomed (rows_in ss)) next) (edited inc_of i (with_row_by set_doomed) ts)
 all_doomed i next ss ts o rel all =
     each_edited (IsIndexed (changed i set_doomed (rows_in ss)) next) (λ s. s.row.inc == i) (with_row_by set_doomed) ts (λ s. rowed (changed i set_doomed (rows_in ss)) next set_doomed s refl)
     (each_zip (IsUnlinked i false) (IsIndexed (rows_in ss) next) (IsIndexed (changed i set_doomed (rows_in ss)) next) ss ts (indexed_doomed i (rows_in ss) next o) rel all)
@@ -73,11 +73,11 @@ all_doomed i next ss ts o rel all =
 indexed_gone : (i : ℕ) (rows : List Row) (next : ℕ) → IsOrderly rows next → (s t : Slot) → IsUnlinked i true s t → IsIndexed rows next s → IsIndexed (without i rows) next t
 indexed_gone i rows next o s t u h = record {
   base = subst (λ n. n ≤ next) (sym u.base) h.base;
-  kids = u.kids ∙ ap (drop_first (λ k. k == i)) h.kids ∙ sym (filter_without (has_parent s.row.inc) i next rows o.rising) ∙ ap (λ (r : Row). kids (without i rows) r.inc) (sym u.row);
+  kids = u.kids ∙ ap (drop_first (λ k. k == i)) h.kids ∙ sym (filter_without (has_parent s.row.inc) i next rows o.increasing) ∙ ap (λ (r : Row). kids (without i rows) r.inc) (sym u.row);
   names = λ c. u.names c ∙ ap (unless i) (h.names c) ∙ sym (child_without rows next i s.row.inc c o) ∙ ap (λ (r : Row). child_of (without i rows) r.inc c) (sym u.row);
 }
 
-pub all_gone : (i : ℕ) (next : ℕ) (ss ts : List Slot) → IsOrderly (rows_in ss) next → EachOf (IsUnlinked i true) ss ts → Each (IsIndexed (rows_in ss) next) ss → Each (IsIndexed (without i (rows_in ss)) next) (dropped inc_of i ts)
+pub all_gone : (i : ℕ) (next : ℕ) (ss ts : List Slot) → IsOrderly (rows_in ss) next → EachOf (IsUnlinked i true) ss ts → EachItem (IsIndexed (rows_in ss) next) ss → EachItem (IsIndexed (without i (rows_in ss)) next) (dropped inc_of i ts)
 all_gone i next ss ts o rel all =
     each_dropped (IsIndexed (without i (rows_in ss)) next) (λ s. s.row.inc == i) ts
     (each_zip (IsUnlinked i true) (IsIndexed (rows_in ss) next) (IsIndexed (without i (rows_in ss)) next) ss ts (indexed_gone i (rows_in ss) next o) rel all)
@@ -91,7 +91,7 @@ indexed_same rows next s t u h = record {
   names = λ c. u.names c ∙ h.names c ∙ ap (λ (r : Row). child_of rows r.inc c) (sym u.row);
 }
 
-pub all_same : (rows : List Row) (next : ℕ) (ss ts : List Slot) → EachOf IsSame ss ts → Each (IsIndexed rows next) ss → Each (IsIndexed rows next) ts
+pub all_same : (rows : List Row) (next : ℕ) (ss ts : List Slot) → EachOf IsSame ss ts → EachItem (IsIndexed rows next) ss → EachItem (IsIndexed rows next) ts
 all_same rows next ss ts rel all = each_zip IsSame (IsIndexed rows next) (IsIndexed rows next) ss ts (indexed_same rows next) rel all
 
 -- ---- one child more
@@ -182,7 +182,7 @@ bare_index rows next s bare none = record {
   zero_least : (n : ℕ) → 0 ≤ n
   zero_least n = omega arith
 
-pub all_linked : (ss ts : List Slot) (next p : ℕ) (name : ChildName) (r : Row) (new : Slot) → new.row ≡ r → IsBare new → r.inc ≡ next → IsLast p name r → IsOrderly (rows_in ss) next → p < next → child_of (rows_in ss) p name ≡ None → EachOf (IsLinked p name next) ss ts → Each (IsIndexed (rows_in ss) next) ss → Each (IsIndexed (rows_in ss ++ r ∷ []) (next + 1)) (ts ++ new ∷ [])
+pub all_linked : (ss ts : List Slot) (next p : ℕ) (name : ChildName) (r : Row) (new : Slot) → new.row ≡ r → IsBare new → r.inc ≡ next → IsLast p name r → IsOrderly (rows_in ss) next → p < next → child_of (rows_in ss) p name ≡ None → EachOf (IsLinked p name next) ss ts → EachItem (IsIndexed (rows_in ss) next) ss → EachItem (IsIndexed (rows_in ss ++ r ∷ []) (next + 1)) (ts ++ new ∷ [])
 all_linked ss ts next p name r new own bare number l o low unused rel all =
     let at : new.row.inc ≡ next = ap (λ (z : Row). z.inc) own ∙ number in
     each_append (IsIndexed (rows_in ss ++ r ∷ []) (next + 1)) ts (new ∷ [])
@@ -202,7 +202,7 @@ new_others p j next [] differ = tt
 new_others p j next (k ∷ ks) differ = (not_same p j (λ e. differ (sym e)), new_others p j (next + 1) ks differ)
 
 -- the children have the numbers from the next one on
-new_high : (p next : ℕ) (ks : List Child) → Each (λ r. (next ≤ r.inc) × (r.inc < next + length ks)) (child_rows p next ks)
+new_high : (p next : ℕ) (ks : List Child) → EachItem (λ r. (next ≤ r.inc) × (r.inc < next + length ks)) (child_rows p next ks)
 new_high p next [] = tt
 new_high p next (k ∷ ks) = (
   (omega arith, omega arith),
@@ -215,13 +215,13 @@ new_high p next (k ∷ ks) = (
   higher : (n l m : ℕ) → m < n + 1 + l → m < n + suc l
   higher n l m h = omega arith
 
-slots_by : (P : ℕ → Type 0) (ss : List Slot) (rows : List Row) → rows_in ss ≡ rows → Each (λ r. P r.inc) rows → Each (λ s. P s.row.inc) ss
-slots_by P ss rows e all = down P ss (subst (Each (λ r. P r.inc)) (sym e) all) where
-  down : (P : ℕ → Type 0) (ss : List Slot) → Each (λ r. P r.inc) (rows_in ss) → Each (λ s. P s.row.inc) ss
+slots_by : (P : ℕ → Type 0) (ss : List Slot) (rows : List Row) → rows_in ss ≡ rows → EachItem (λ r. P r.inc) rows → EachItem (λ s. P s.row.inc) ss
+slots_by P ss rows e all = down P ss (subst (EachItem (λ r. P r.inc)) (sym e) all) where
+  down : (P : ℕ → Type 0) (ss : List Slot) → EachItem (λ r. P r.inc) (rows_in ss) → EachItem (λ s. P s.row.inc) ss
   down P [] all = tt
   down P (s ∷ ss) all = (all.0, down P ss all.1)
 
-both : {A : Type 0} (P Q : A → Type 0) (ss : List A) → Each P ss → Each Q ss → Each (λ s. P s × Q s) ss
+both : {A : Type 0} (P Q : A → Type 0) (ss : List A) → EachItem P ss → EachItem Q ss → EachItem (λ s. P s × Q s) ss
 both P Q [] a b = tt
 both P Q (s ∷ ss) a b = ((a.0, b.0), both P Q ss a.1 b.1)
 
@@ -241,12 +241,12 @@ filter_new p next (k ∷ ks) =
     ∙ ap (λ l. child_row p next k ∷ l) (filter_new p (next + 1) ks)
 
 -- what the new index says
-pub record IsNew (x : Index) (p next : ℕ) (ks : List Child) : Type 0 where
+pub record IsNew (x : ChildIndex) (p next : ℕ) (ks : List Child) : Type 0 where
   pub base : x.base ≡ next
   pub kids : kids_at x ≡ incs (child_rows p next ks)
   pub names : (c : ChildName) → named_at x c ≡ child_of (child_rows p next ks) p c
 
-new_index : (rows : List Row) (p next : ℕ) (ks : List Child) (s : Slot) (x : Index) → s.row.inc ≡ p → NoneHas p rows → IsNew x p next ks → IsIndexed (rows ++ child_rows p next ks) (next + length ks) (indexed_by (Some x) s)
+new_index : (rows : List Row) (p next : ℕ) (ks : List Child) (s : Slot) (x : ChildIndex) → s.row.inc ≡ p → NoneHas p rows → IsNew x p next ks → IsIndexed (rows ++ child_rows p next ks) (next + length ks) (indexed_by (Some x) s)
 new_index rows p next ks s x own none new = record {
   base = subst (λ n. n ≤ next + length ks) (sym new.base) (least next (length ks));
   kids = new.kids ∙ ap incs (sym (filter_new p next ks)) ∙ sym (kids_right p rows (child_rows p next ks) none) ∙ ap (kids (rows ++ child_rows p next ks)) (sym own);
@@ -255,13 +255,13 @@ new_index rows p next ks s x own none new = record {
   least : (n m : ℕ) → n ≤ n + m
   least n m = omega arith
 
-pub all_grown : (rows : List Row) (ss news : List Slot) (next p : ℕ) (ks : List Child) (x : Index) → rows_in ss ≡ rows → IsOrderly rows next → p < next → NoneHas p rows → IsNew x p next ks → rows_in news ≡ child_rows p next ks → Each IsBare news → Each (IsIndexed rows next) ss → Each (IsIndexed (rows ++ child_rows p next ks) (next + length ks)) (edited inc_of p (indexed_by (Some x)) ss ++ news)
+pub all_grown : (rows : List Row) (ss news : List Slot) (next p : ℕ) (ks : List Child) (x : ChildIndex) → rows_in ss ≡ rows → IsOrderly rows next → p < next → NoneHas p rows → IsNew x p next ks → rows_in news ≡ child_rows p next ks → EachItem IsBare news → EachItem (IsIndexed rows next) ss → EachItem (IsIndexed (rows ++ child_rows p next ks) (next + length ks)) (edited inc_of p (indexed_by (Some x)) ss ++ news)
 all_grown rows ss news next p ks x own o low none new numbered bare all =
     let after : List Row = rows ++ child_rows p next ks in
     each_append (IsIndexed after (next + length ks)) (edited inc_of p (indexed_by (Some x)) ss) news
     (each_zip (λ s t. IsIndexed rows next s → IsIndexed after (next + length ks) t) (IsIndexed rows next) (IsIndexed after (next + length ks)) ss (edited inc_of p (indexed_by (Some x)) ss) (λ s t f h. f h)
     (each_of_edited inc_of (λ s t. IsIndexed rows next s → IsIndexed after (next + length ks) t) (IsIndexed rows next) p (indexed_by (Some x)) ss
-    (slots_rise next ss (subst (IsRising next) (sym own) o.rising)) all
+    (slots_rise next ss (subst (IncarnationsIncrease next) (sym own) o.increasing)) all
     (λ s h at _. new_index rows p next ks s x (slot_inc ss p s at) none new)
     (λ s h differ _. kept_index rows p next ks s h differ)) all)
     (each_map (λ s. ((next ≤ s.row.inc) × (s.row.inc < next + length ks)) × IsBare s) (IsIndexed after (next + length ks)) news
@@ -282,15 +282,15 @@ pub unless_other : (i : ℕ) (o : Option ℕ) → (o ≡ Some i → ⊥) → unl
 unless_other i None differ = refl
 unless_other i (Some k) differ = ap (λ b. cond b None (Some k)) (not_same k i (λ e. differ (ap Some e)))
 
-found_lives : (rows : List Row) (next i j : ℕ) (c : ChildName) (o : Option Row) → IsRising next rows → find (is_there j c) rows ≡ o → option_map (λ r. r.inc) o ≡ Some i → (r : Row) × (row_of rows i ≡ Some r) × (r.parent ≡ Some j) × (r.name ≡ Some c)
-found_lives rows next i j c None rising e is = absurd (none_some i is)
-found_lives rows next i j c (Some r) rising e is =
-    let n : IsNamed rows j c r = named_row rows next j c r rising e in
+found_lives : (rows : List Row) (next i j : ℕ) (c : ChildName) (o : Option Row) → IncarnationsIncrease next rows → find (is_there j c) rows ≡ o → option_map (λ r. r.inc) o ≡ Some i → (r : Row) × (row_of rows i ≡ Some r) × (r.parent ≡ Some j) × (r.name ≡ Some c)
+found_lives rows next i j c None increasing e is = absurd (none_some i is)
+found_lives rows next i j c (Some r) increasing e is =
+    let n : IsNamed rows j c r = named_row rows next j c r increasing e in
     (r, subst (λ k. row_of rows k ≡ Some r) (some_same r.inc i is) n.lives, n.under, n.named)
 
 -- what is found by its name is that child of that parent, and has that name
-pub child_is : (rows : List Row) (next i j : ℕ) (c : ChildName) → IsRising next rows → child_of rows j c ≡ Some i → (r : Row) × (row_of rows i ≡ Some r) × (r.parent ≡ Some j) × (r.name ≡ Some c)
-child_is rows next i j c rising e = found_lives rows next i j c (find (is_there j c) rows) rising refl e
+pub child_is : (rows : List Row) (next i j : ℕ) (c : ChildName) → IncarnationsIncrease next rows → child_of rows j c ≡ Some i → (r : Row) × (row_of rows i ≡ Some r) × (r.parent ≡ Some j) × (r.name ≡ Some c)
+child_is rows next i j c increasing e = found_lives rows next i j c (find (is_there j c) rows) increasing refl e
 
 gone_kids : (b : Bool) (i : ℕ) (l : List ℕ) → drop_first (λ k. k == i) l ≡ l → l ≡ cond b (drop_first (λ k. k == i) l) l
 gone_kids true i l e = sym e
@@ -302,11 +302,11 @@ unlinked_other gone rows next i s o h other = record {
   row = refl;
   base = refl;
   kids = gone_kids gone i (kids_of s.index)
-      (ap (drop_first (λ k. k == i)) h.kids ∙ sym (filter_without (has_parent s.row.inc) i next rows o.rising)
+      (ap (drop_first (λ k. k == i)) h.kids ∙ sym (filter_without (has_parent s.row.inc) i next rows o.increasing)
       ∙ ap incs (filter_fails (has_parent s.row.inc) i rows (λ r here. has_by s.row.inc r r.parent refl (other r here))) ∙ sym h.kids);
   names = λ c. sym (unless_other i (named_in s.index c) (λ e.
-      let q = child_is rows next i s.row.inc c o.rising (sym (h.names c) ∙ e) in other q.0 q.1 q.2));
+      let q = child_is rows next i s.row.inc c o.increasing (sym (h.names c) ∙ e) in other q.0 q.1 q.2));
 }
 
-pub each_at : (rows others : List Row) (next : ℕ) (ss ts : List Slot) → others ≡ rows → ts ≡ ss → Each (IsIndexed rows next) ss → Each (IsIndexed others next) ts
-each_at rows others next ss ts e f all = subst (λ l. Each (IsIndexed l next) ts) (sym e) (subst (Each (IsIndexed rows next)) (sym f) all)
+pub each_at : (rows others : List Row) (next : ℕ) (ss ts : List Slot) → others ≡ rows → ts ≡ ss → EachItem (IsIndexed rows next) ss → EachItem (IsIndexed others next) ts
+each_at rows others next ss ts e f all = subst (λ l. EachItem (IsIndexed l next) ts) (sym e) (subst (EachItem (IsIndexed rows next)) (sym f) all)

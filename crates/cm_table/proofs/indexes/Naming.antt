@@ -12,13 +12,13 @@ use Rattle.cm_names.specs.declared.child.ChildName.{ChildName}
 use Rattle.cm_decl.specs.Same.{same_child}
 use Rattle.cm_decl.proofs.Sameness.{same_child_exact}
 use Rattle.cm_world.specs.Edits.{drop_first}
-use Rattle.cm_world.specs.Rows.{is_behind}
-use Rattle.cm_table.specs.declared.slot.Index.{Index}
+use Rattle.cm_world.specs.RowsInside.{is_behind}
+use Rattle.cm_table.specs.declared.slot.ChildIndex.{ChildIndex}
 use Rattle.cm_table.specs.Slots.{kids_at, named_at}
 use Rattle.cm_table.specs.Names.{child_cmp}
 use Rattle.cm_table.specs.Keys.{nth}
 use Rattle.cm_table.specs.Links.{unless}
-use Rattle.cm_table.proofs.lists.Halves.{not_same}
+use Rattle.cm_table.proofs.lists.BinarySearch.{not_same}
 use Rattle.cm_table.proofs.indexes.Indexing.{unless_other}
 
 -- ---- names
@@ -114,7 +114,7 @@ first_behind [] = refl
 first_behind (n ∷ ns) = refl
 
 -- a number that is taken away is told of longer ones too
-pub remove_kids : (x y : Index) → y.base ≡ x.base → (above inc : ℕ) → x.base + above ≡ inc → y.kids.items ≡ drop_first (λ k. k == above) x.kids.items → kids_at y ≡ drop_first (λ k. k == inc) (kids_at x)
+pub remove_kids : (x y : ChildIndex) → y.base ≡ x.base → (above inc : ℕ) → x.base + above ≡ inc → y.kids.items ≡ drop_first (λ k. k == above) x.kids.items → kids_at y ≡ drop_first (λ k. k == inc) (kids_at x)
 remove_kids x y same above inc sum e =
     ap₂ (λ b l. map (λ k. b + k) l) same e ∙ drop_above x.base above x.kids.items ∙ ap (λ n. drop_first (λ k. k == n) (kids_at x)) sum
 
@@ -122,5 +122,5 @@ pub sum_above : (i b : ℕ) → b ≤ i → b + (i - b) ≡ i
 sum_above i b le = omega arith
 
 -- what leads to an incarnation leads as far above the base
-pub leads_above : (x : Index) (i above : ℕ) (c : ChildName) → x.base + above ≡ i → get child_cmp x.names c ≡ Some above → named_at x c ≡ Some i
+pub leads_above : (x : ChildIndex) (i above : ℕ) (c : ChildName) → x.base + above ≡ i → get child_cmp x.names c ≡ Some above → named_at x c ≡ Some i
 leads_above x i above c sum e = ap (option_map (λ k. x.base + k)) e ∙ ap Some sum

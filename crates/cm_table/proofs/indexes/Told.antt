@@ -4,20 +4,21 @@ use Rattle.std.specs.Prelude.{option_map, IfSome, IfNone}
 use Rattle.std.specs.Option.{option_copied}
 use Rattle.cm_names.specs.declared.child.ChildName.{ChildName}
 use Rattle.cm_world.specs.declared.row.Row.{Row}
-use Rattle.cm_world.specs.Rows.{row_of, is_behind, child_of, child_behind}
+use Rattle.cm_world.specs.Rows.{row_of, child_of}
+use Rattle.cm_world.specs.RowsInside.{is_behind, child_behind}
 use Rattle.cm_world.specs.Sound.{IsOrderly}
 use Rattle.cm_world.proofs.trees.Finding.{none_some, row_of-inc}
 use Rattle.cm_table.specs.declared.slot.Slot.{Slot}
-use Rattle.cm_table.specs.Keys.{Each, nth}
+use Rattle.cm_table.specs.Keys.{EachItem, nth}
 use Rattle.cm_table.specs.Slots.{slot_of, kids_of, named_in, IsIndexed}
 use Rattle.cm_table.specs.Links.{Rises}
 use Rattle.cm_table.specs.Leaf.{IsChildOf}
-use Rattle.cm_table.proofs.lists.Each.{each_map, each_find, each_nth}
+use Rattle.cm_table.proofs.lists.EachItem.{each_map, each_find, each_nth}
 use Rattle.cm_table.proofs.indexes.Children.{incs, kids, IsKid, kids_live, find_none, filter_none, child_below, no_child, next_kid}
 use Rattle.cm_table.proofs.slots.Linking.{index_rises}
 
 -- a slot that is found is one of them
-pub if_found : (P : Slot → Type 0) (o : Option (Bor Slot)) (ss : List Slot) (i : ℕ) → option_copied o ≡ slot_of ss i → Each P ss → IfSome o (λ s. P s.now)
+pub if_found : (P : Slot → Type 0) (o : Option (Bor Slot)) (ss : List Slot) (i : ℕ) → option_copied o ≡ slot_of ss i → EachItem P ss → IfSome o (λ s. P s.now)
 if_found P None ss i e all = tt
 if_found P (Some s) ss i e all = each_find P (λ z. z.row.inc == i) ss s.now all (sym e)
 
@@ -35,24 +36,24 @@ module _ (rows : List Row) (next p : ℕ) (s : Slot) (o : IsOrderly rows next) (
   next_told after = ap (find (is_behind after)) kids_told ∙ sym (next_kid rows p after)
 
   pub rises_told : Rises s.index
-  rises_told = index_rises rows next s o.rising h
+  rises_told = index_rises rows next s o.increasing h
 
   pub child_fits : (limit : ℕ) → next < limit → (c : ChildName) (n : ℕ) → named_in s.index c ≡ Some n → n < limit
   child_fits limit below c n e = lower n next limit (child_below rows next p n c o (sym (child_told c) ∙ e)) below where
     lower : (a b d : ℕ) → a < b → b < d → a < d
     lower a b d x y = omega arith
 
-  pub kids_fit : (limit : ℕ) → next < limit → Each (λ k. k < limit) (kids_of s.index)
+  pub kids_fit : (limit : ℕ) → next < limit → EachItem (λ k. k < limit) (kids_of s.index)
   kids_fit limit below =
-      subst (Each (λ k. k < limit)) (sym kids_told)
-      (each_map (IsKid rows next p) (λ k. k < limit) (kids rows p) (λ k kid. lower k next limit kid.below below) (kids_live rows next p o.rising)) where
+      subst (EachItem (λ k. k < limit)) (sym kids_told)
+      (each_map (IsKid rows next p) (λ k. k < limit) (kids rows p) (λ k kid. lower k next limit kid.below below) (kids_live rows next p o.increasing)) where
         lower : (a b d : ℕ) → a < b → b < d → a < d
         lower a b d x y = omega arith
 
   -- the last child is one, and where there is none, there is no child
   pub last_some : (n : ℕ) → nth (kids_of s.index) (length (kids_of s.index) - 1) ≡ Some n → IsChildOf rows p n
   last_some n e =
-      let kid : IsKid rows next p n = each_nth (IsKid rows next p) (kids rows p) (length (kids_of s.index) - 1) n (kids_live rows next p o.rising) (ap (λ l. nth l (length (kids_of s.index) - 1)) (sym kids_told) ∙ e) in
+      let kid : IsKid rows next p n = each_nth (IsKid rows next p) (kids rows p) (length (kids_of s.index) - 1) n (kids_live rows next p o.increasing) (ap (λ l. nth l (length (kids_of s.index) - 1)) (sym kids_told) ∙ e) in
       record { row = kid.row; lives = kid.lives; under = kid.under }
 
   pub last_none : nth (kids_of s.index) (length (kids_of s.index) - 1) ≡ None → child_behind rows p None ≡ None

@@ -1,9 +1,9 @@
--- The first item with a higher key, found by halves.
+-- The first item with a higher key, found by binary search.
 use Rattle.std.proofs.Common.{◌≡◌, ℕ, ◌≤◌, List, [], ◌∷◌, Bool, find, refl, arith, get_or}
 use Rattle.std.specs.Prelude.{nat_lt}
 use Rattle.std.proofs.lemmas.Bool.{lt-ltb, le-ltb}
 use Rattle.cm_table.specs.Keys.{alone, nth, IsPlace}
-use Rattle.cm_table.proofs.lists.Halves.{find-nth}
+use Rattle.cm_table.proofs.lists.BinarySearch.{find-nth}
 
 least : (n : ℕ) → n ≤ n
 least n = omega arith

@@ -1,19 +1,19 @@
--- Items that are changed, or taken away, at the place that was found by halves.
+-- Items that are changed, or taken away, at the place that was found by binary search.
 use Rattle.std.proofs.Common.{◌≡◌, ℕ, zero, suc, ◌<◌, ◌≤◌, List, [], ◌∷◌, ◌++◌, length, Bool, true, false, cond, ◌==◌, true≢false, Option, Some, None, is_some, refl, sym, ap, ◌∙◌, subst, arith, get_or, set, zero-lt-suc, le_of_suc-le-suc}
 use Rattle.std.specs.Prelude.{remove}
 use Rattle.std.specs.List.{flat_map}
 use Rattle.std.specs.Cmp.{unsigned_Decides}
 use Rattle.cm_world.specs.Edits.{edit_first, drop_first}
-use Rattle.cm_table.specs.Keys.{item_of, Rising, Filled, AreFilledBut, IsAt, IsPlace}
+use Rattle.cm_table.specs.Keys.{item_of, Increasing, Filled, AreFilledBut, IsItemAt, IsPlace}
 use Rattle.cm_table.proofs.lists.Edits.{edit_first-at}
 use Rattle.cm_table.proofs.lists.Drops.{drop_first-at}
-use Rattle.cm_table.proofs.lists.Halves.{rising_back, none_at_zero, none_in_front, tail_place, others_before}
+use Rattle.cm_table.proofs.lists.BinarySearch.{increasing_back, none_at_zero, none_in_prefix, tail_place, others_before}
 
 -- what becomes of a list where the item of a key is changed or taken away: it is the same where
 -- there is none, and on two lists it acts on the one that has it
 pub record ActsAt {Y : Type 0} (key : Y → ℕ) (i : ℕ) (act : List Y → List Y) : Type 0 where
   pub none : (ss : List Y) → item_of key ss i ≡ None → act ss ≡ ss
-  pub front : (ss ys : List Y) → item_of key ys i ≡ None → act (ss ++ ys) ≡ act ss ++ ys
+  pub prefix : (ss ys : List Y) → item_of key ys i ≡ None → act (ss ++ ys) ≡ act ss ++ ys
   pub back : (ss ys : List Y) → item_of key ss i ≡ None → act (ss ++ ys) ≡ ss ++ act ys
 
 module _ {Y : Type 0} (key : Y → ℕ) where
@@ -30,13 +30,13 @@ module _ {Y : Type 0} (key : Y → ℕ) where
   edit_none i f [] e = refl
   edit_none i f (s ∷ ss) e = edit_none_by (key s == i) i f s ss (item_of key ss i) (edit_none i f ss) e
 
-  edit_front_by : (t : Bool) (i : ℕ) (f : Y → Y) (s : Y) (ss ys : List Y) → edited i f (ss ++ ys) ≡ edited i f ss ++ ys → cond t (f s ∷ (ss ++ ys)) (s ∷ edited i f (ss ++ ys)) ≡ cond t (f s ∷ ss) (s ∷ edited i f ss) ++ ys
-  edit_front_by true i f s ss ys later = refl
-  edit_front_by false i f s ss ys later = ap (λ l. s ∷ l) later
+  edit_prefix_by : (t : Bool) (i : ℕ) (f : Y → Y) (s : Y) (ss ys : List Y) → edited i f (ss ++ ys) ≡ edited i f ss ++ ys → cond t (f s ∷ (ss ++ ys)) (s ∷ edited i f (ss ++ ys)) ≡ cond t (f s ∷ ss) (s ∷ edited i f ss) ++ ys
+  edit_prefix_by true i f s ss ys later = refl
+  edit_prefix_by false i f s ss ys later = ap (λ l. s ∷ l) later
 
-  edit_front : (i : ℕ) (f : Y → Y) (ss ys : List Y) → item_of key ys i ≡ None → edited i f (ss ++ ys) ≡ edited i f ss ++ ys
-  edit_front i f [] ys e = edit_none i f ys e
-  edit_front i f (s ∷ ss) ys e = edit_front_by (key s == i) i f s ss ys (edit_front i f ss ys e)
+  edit_prefix : (i : ℕ) (f : Y → Y) (ss ys : List Y) → item_of key ys i ≡ None → edited i f (ss ++ ys) ≡ edited i f ss ++ ys
+  edit_prefix i f [] ys e = edit_none i f ys e
+  edit_prefix i f (s ∷ ss) ys e = edit_prefix_by (key s == i) i f s ss ys (edit_prefix i f ss ys e)
 
   edit_back_by : (t : Bool) (i : ℕ) (f : Y → Y) (s : Y) (ss ys : List Y) (o : Option Y) → (o ≡ None → edited i f (ss ++ ys) ≡ ss ++ edited i f ys) → cond t (Some s) o ≡ None → cond t (f s ∷ (ss ++ ys)) (s ∷ edited i f (ss ++ ys)) ≡ s ∷ (ss ++ edited i f ys)
   edit_back_by true i f s ss ys o later e = absurd (true≢false (ap is_some e))
@@ -47,7 +47,7 @@ module _ {Y : Type 0} (key : Y → ℕ) where
   edit_back i f (s ∷ ss) ys e = edit_back_by (key s == i) i f s ss ys (item_of key ss i) (edit_back i f ss ys) e
 
   pub edit_acts : (i : ℕ) (f : Y → Y) → ActsAt key i (edited i f)
-  edit_acts i f = record { none = edit_none i f; front = edit_front i f; back = edit_back i f }
+  edit_acts i f = record { none = edit_none i f; prefix = edit_prefix i f; back = edit_back i f }
 
   -- ---- a removal
 
@@ -62,13 +62,13 @@ module _ {Y : Type 0} (key : Y → ℕ) where
   drop_none i [] e = refl
   drop_none i (s ∷ ss) e = drop_none_by (key s == i) i s ss (item_of key ss i) (drop_none i ss) e
 
-  drop_front_by : (t : Bool) (i : ℕ) (s : Y) (ss ys : List Y) → dropped i (ss ++ ys) ≡ dropped i ss ++ ys → cond t (ss ++ ys) (s ∷ dropped i (ss ++ ys)) ≡ cond t ss (s ∷ dropped i ss) ++ ys
-  drop_front_by true i s ss ys later = refl
-  drop_front_by false i s ss ys later = ap (λ l. s ∷ l) later
+  drop_prefix_by : (t : Bool) (i : ℕ) (s : Y) (ss ys : List Y) → dropped i (ss ++ ys) ≡ dropped i ss ++ ys → cond t (ss ++ ys) (s ∷ dropped i (ss ++ ys)) ≡ cond t ss (s ∷ dropped i ss) ++ ys
+  drop_prefix_by true i s ss ys later = refl
+  drop_prefix_by false i s ss ys later = ap (λ l. s ∷ l) later
 
-  drop_front : (i : ℕ) (ss ys : List Y) → item_of key ys i ≡ None → dropped i (ss ++ ys) ≡ dropped i ss ++ ys
-  drop_front i [] ys e = drop_none i ys e
-  drop_front i (s ∷ ss) ys e = drop_front_by (key s == i) i s ss ys (drop_front i ss ys e)
+  drop_prefix : (i : ℕ) (ss ys : List Y) → item_of key ys i ≡ None → dropped i (ss ++ ys) ≡ dropped i ss ++ ys
+  drop_prefix i [] ys e = drop_none i ys e
+  drop_prefix i (s ∷ ss) ys e = drop_prefix_by (key s == i) i s ss ys (drop_prefix i ss ys e)
 
   drop_back_by : (t : Bool) (i : ℕ) (s : Y) (ss ys : List Y) (o : Option Y) → (o ≡ None → dropped i (ss ++ ys) ≡ ss ++ dropped i ys) → cond t (Some s) o ≡ None → cond t (ss ++ ys) (s ∷ dropped i (ss ++ ys)) ≡ s ∷ (ss ++ dropped i ys)
   drop_back_by true i s ss ys o later e = absurd (true≢false (ap is_some e))
@@ -79,22 +79,22 @@ module _ {Y : Type 0} (key : Y → ℕ) where
   drop_back i (s ∷ ss) ys e = drop_back_by (key s == i) i s ss ys (item_of key ss i) (drop_back i ss ys) e
 
   pub drop_acts : (i : ℕ) → ActsAt key i (dropped i)
-  drop_acts i = record { none = drop_none i; front = drop_front i; back = drop_back i }
+  drop_acts i = record { none = drop_none i; prefix = drop_prefix i; back = drop_back i }
 
   -- ---- in the last part that begins at the key or below
 
   module _ {X : Type 0} (f : X → List Y) where
-    pub act_last : (i : ℕ) (act : List Y → List Y) → ActsAt key i act → (xs : List X) (k : ℕ) (d y : X) → Filled f xs → Rising key (flat_map f xs) → IsPlace key f xs i (suc k) → f y ≡ act (f (get_or xs k d)) → flat_map f (set xs k y) ≡ act (flat_map f xs)
+    pub act_last : (i : ℕ) (act : List Y → List Y) → ActsAt key i act → (xs : List X) (k : ℕ) (d y : X) → Filled f xs → Increasing key (flat_map f xs) → IsPlace key f xs i (suc k) → f y ≡ act (f (get_or xs k d)) → flat_map f (set xs k y) ≡ act (flat_map f xs)
     act_last i act acts [] k d y filled r p e = let b : suc k ≤ 0 = p.bound in absurd (omega arith)
     act_last i act acts (z ∷ zs) zero d y filled r p e =
         ap (λ l. l ++ flat_map f zs) e
-        ∙ sym (acts.front (f z) (flat_map f zs) (none_at_zero key f zs i filled.1 (rising_back key (f z) (flat_map f zs) r) (tail_place key f z zs i 0 p)))
+        ∙ sym (acts.prefix (f z) (flat_map f zs) (none_at_zero key f zs i filled.1 (increasing_back key (f z) (flat_map f zs) r) (tail_place key f z zs i 0 p)))
     act_last i act acts (z ∷ zs) (suc k) d y filled r p e =
-        ap (λ l. f z ++ l) (act_last i act acts zs k d y filled.1 (rising_back key (f z) (flat_map f zs) r) (tail_place key f z zs i (suc k) p) e)
-        ∙ sym (acts.back (f z) (flat_map f zs) (none_in_front key f z zs i k filled r p))
+        ap (λ l. f z ++ l) (act_last i act acts zs k d y filled.1 (increasing_back key (f z) (flat_map f zs) r) (tail_place key f z zs i (suc k) p) e)
+        ∙ sym (acts.back (f z) (flat_map f zs) (none_in_prefix key f z zs i k filled r p))
 
     -- a part that was changed at its place
-    pub act_part : (i : ℕ) (act : List Y → List Y) → ActsAt key i act → (bs : List X) (k : ℕ) (b c : X) → Filled f bs → Rising key (flat_map f bs) → IsPlace key f bs i (suc k) → b ≡ get_or bs k b → f c ≡ act (f b) → flat_map f (set bs k c) ≡ act (flat_map f bs)
+    pub act_part : (i : ℕ) (act : List Y → List Y) → ActsAt key i act → (bs : List X) (k : ℕ) (b c : X) → Filled f bs → Increasing key (flat_map f bs) → IsPlace key f bs i (suc k) → b ≡ get_or bs k b → f c ≡ act (f b) → flat_map f (set bs k c) ≡ act (flat_map f bs)
     act_part i act acts bs k b c filled r p is write = act_last i act acts bs k b c filled r p (write ∙ ap (λ z. act (f z)) is)
 
 -- ---- parts that aren't empty
@@ -138,13 +138,13 @@ module _ {X Y : Type 0} (f : X → List Y) where
 -- ---- what the code writes among items
 
 -- the item of the key is changed at its place
-pub edit_at : {Y : Type 0} (key : Y → ℕ) (ss : List Y) (i k : ℕ) (f : Y → Y) (s y : Y) → Rising key ss → IsAt key ss i k → s ≡ get_or ss k s → y ≡ f s → set ss k y ≡ edited key i f ss
+pub edit_at : {Y : Type 0} (key : Y → ℕ) (ss : List Y) (i k : ℕ) (f : Y → Y) (s y : Y) → Increasing key ss → IsItemAt key ss i k → s ≡ get_or ss k s → y ≡ f s → set ss k y ≡ edited key i f ss
 edit_at key ss i k f s y r at is write =
     ap (set ss k) (write ∙ ap f is)
     ∙ edit_first-at (λ z. key z == i) f ss k s at.bound ((unsigned_Decides (key (get_or ss k s)) i).1 (at.own s)) (λ j less. others_before key ss k s i r at.bound (at.own s) j less)
 
 -- it is taken away
-pub drop_at : {Y : Type 0} (key : Y → ℕ) (ss : List Y) (i k : ℕ) (d : Y) → Rising key ss → IsAt key ss i k → remove ss k ≡ dropped key i ss
+pub drop_at : {Y : Type 0} (key : Y → ℕ) (ss : List Y) (i k : ℕ) (d : Y) → Increasing key ss → IsItemAt key ss i k → remove ss k ≡ dropped key i ss
 drop_at key ss i k d r at =
     drop_first-at (λ z. key z == i) ss k d at.bound ((unsigned_Decides (key (get_or ss k d)) i).1 (at.own d)) (λ j less. others_before key ss k d i r at.bound (at.own d) j less)
 

@@ -9,16 +9,16 @@ use Rattle.cm_decl.proofs.Sameness.{same_node-refl}
 use Rattle.cm_world.specs.declared.row.Row.{Row}
 use Rattle.cm_world.specs.Edits.{drop_first}
 use Rattle.cm_world.specs.Rows.{row_of, has_parent}
-use Rattle.cm_world.specs.Sound.{IsRising}
+use Rattle.cm_world.specs.Sound.{IncarnationsIncrease}
 use Rattle.cm_world.proofs.trees.Finding.{some_same, none_some, find-passes}
 use Rattle.cm_table.specs.declared.slot.Slot.{Slot}
-use Rattle.cm_table.specs.declared.slot.Index.{Index}
-use Rattle.cm_table.specs.Keys.{Each, EachOf, Rising}
+use Rattle.cm_table.specs.declared.slot.ChildIndex.{ChildIndex}
+use Rattle.cm_table.specs.Keys.{EachItem, EachOf, Increasing}
 use Rattle.cm_table.specs.Slots.{inc_of, slot_of, rows_in, indexed_by, kids_of, named_in, base_of, IsIndexed, AreOrderly}
 use Rattle.cm_table.specs.Links.{unless, Rises, IsSame, IsLinked, IsUnlinked}
 use Rattle.cm_table.proofs.tree.Rows.{some_is, is_some_by}
-use Rattle.cm_table.proofs.lists.Each.{each_find, each_same, each_of_edited}
-use Rattle.cm_table.proofs.lists.Halves.{not_same}
+use Rattle.cm_table.proofs.lists.EachItem.{each_find, each_same, each_of_edited}
+use Rattle.cm_table.proofs.lists.BinarySearch.{not_same}
 use Rattle.cm_table.proofs.indexes.Naming.{same_above}
 use Rattle.cm_table.proofs.lists.Editing.{edited}
 use Rattle.cm_table.proofs.slots.Rowed.{row_of-slots, some_rows, rows_indexed, indexed_twice}
@@ -28,19 +28,19 @@ use Rattle.cm_table.proofs.indexes.Indexing.{child_is, unlinked_other}
 Always : Slot → Type 0
 Always s = Unit {0}
 
-always : (ss : List Slot) → Each Always ss
+always : (ss : List Slot) → EachItem Always ss
 unfolding Always
 always [] = tt
 always (s ∷ ss) = (tt, always ss)
 
 -- what became of the slots: index x1 was taken out of that of p, and x2 put there
-pub record IsSwapped (ss mid ts : List Slot) (p : ℕ) (x1 x2 : Option Index) : Type 0 where
-  pub rise : Rising inc_of ss
+pub record IsSwapped (ss mid ts : List Slot) (p : ℕ) (x1 x2 : Option ChildIndex) : Type 0 where
+  pub rise : Increasing inc_of ss
   pub out : mid ≡ edited inc_of p (indexed_by None) ss
   pub was : (s : Slot) → slot_of ss p ≡ Some s → x1 ≡ s.index
   pub back : ts ≡ edited inc_of p (indexed_by x2) mid
 
-swapped : (ss mid ts : List Slot) (p : ℕ) (x1 x2 : Option Index) → IsSwapped ss mid ts p x1 x2 → ts ≡ edited inc_of p (indexed_by x2) ss
+swapped : (ss mid ts : List Slot) (p : ℕ) (x1 x2 : Option ChildIndex) → IsSwapped ss mid ts p x1 x2 → ts ≡ edited inc_of p (indexed_by x2) ss
 swapped ss mid ts p x1 x2 w = w.back ∙ ap (edited inc_of p (indexed_by x2)) w.out ∙ indexed_twice p None x2 ss
 
 found_inc : (ss : List Slot) (p : ℕ) (s : Slot) → slot_of ss p ≡ Some s → (s.row.inc == p) ≡ true
@@ -51,7 +51,7 @@ missed_inc s p differ = not_same s.row.inc p differ
 
 -- ---- a child more
 
-pub linked : (ss mid ts : List Slot) (p : ℕ) (name : ChildName) (i : ℕ) (x1 x2 : Option Index) → IsSwapped ss mid ts p x1 x2 → base_of x2 ≡ base_of x1 → kids_of x2 ≡ kids_of x1 ++ i ∷ [] → ((c : ChildName) → named_in x2 c ≡ cond (same_child name c) (Some i) (named_in x1 c)) → EachOf (IsLinked p name i) ss ts
+pub linked : (ss mid ts : List Slot) (p : ℕ) (name : ChildName) (i : ℕ) (x1 x2 : Option ChildIndex) → IsSwapped ss mid ts p x1 x2 → base_of x2 ≡ base_of x1 → kids_of x2 ≡ kids_of x1 ++ i ∷ [] → ((c : ChildName) → named_in x2 c ≡ cond (same_child name c) (Some i) (named_in x1 c)) → EachOf (IsLinked p name i) ss ts
 unfolding Always
 linked ss mid ts p name i x1 x2 w base kids names =
     subst (EachOf (IsLinked p name i) ss) (sym (swapped ss mid ts p x1 x2 w))
@@ -73,7 +73,7 @@ linked ss mid ts p name i x1 x2 w base kids names =
         names = λ c. sym (ap (λ b. cond (b && same_child name c) (Some i) (named_in s.index c)) (missed_inc s p differ));
       }
 
-pub same_said : (ss mid ts : List Slot) (p : ℕ) (x1 x2 : Option Index) → IsSwapped ss mid ts p x1 x2 → base_of x2 ≡ base_of x1 → kids_of x2 ≡ kids_of x1 → ((c : ChildName) → named_in x2 c ≡ named_in x1 c) → EachOf IsSame ss ts
+pub same_said : (ss mid ts : List Slot) (p : ℕ) (x1 x2 : Option ChildIndex) → IsSwapped ss mid ts p x1 x2 → base_of x2 ≡ base_of x1 → kids_of x2 ≡ kids_of x1 → ((c : ChildName) → named_in x2 c ≡ named_in x1 c) → EachOf IsSame ss ts
 unfolding Always
 same_said ss mid ts p x1 x2 w base kids names =
     subst (EachOf IsSame ss) (sym (swapped ss mid ts p x1 x2 w))
@@ -87,7 +87,7 @@ pub parent_of_row : (o : Option Slot) (u : Option ℕ) → option_and_then (λ s
 parent_of_row None u e r h = absurd (none_some r h)
 parent_of_row (Some s) u e r h = ap (λ (z : Row). z.parent) (sym (some_same s.row r h)) ∙ e
 
-pub unlinked : (gone : Bool) (ss mid ts : List Slot) (p i : ℕ) (x1 x2 : Option Index) → AreOrderly ss → IsSwapped ss mid ts p x1 x2 → option_and_then (λ s. s.row.parent) (slot_of ss i) ≡ Some p → base_of x2 ≡ base_of x1 → kids_of x2 ≡ cond gone (drop_first (λ k. k == i) (kids_of x1)) (kids_of x1) → ((c : ChildName) → named_in x2 c ≡ unless i (named_in x1 c)) → EachOf (IsUnlinked i gone) ss ts
+pub unlinked : (gone : Bool) (ss mid ts : List Slot) (p i : ℕ) (x1 x2 : Option ChildIndex) → AreOrderly ss → IsSwapped ss mid ts p x1 x2 → option_and_then (λ s. s.row.parent) (slot_of ss i) ≡ Some p → base_of x2 ≡ base_of x1 → kids_of x2 ≡ cond gone (drop_first (λ k. k == i) (kids_of x1)) (kids_of x1) → ((c : ChildName) → named_in x2 c ≡ unless i (named_in x1 c)) → EachOf (IsUnlinked i gone) ss ts
 unlinked gone ss mid ts p i x1 x2 a w up base kids names =
     subst (EachOf (IsUnlinked i gone) ss) (sym (swapped ss mid ts p x1 x2 w))
     (each_of_edited inc_of (IsUnlinked i gone) (IsIndexed (rows_in ss) a.next) p (indexed_by x2) ss w.rise a.indexed
@@ -125,11 +125,11 @@ name_of_row None c r h e = absurd (none_some r h)
 name_of_row (Some s) c r h e = ap (λ (z : Row). z.name) (some_same s.row r h) ∙ e
 
 -- only its own name leads to a row
-pub own_name : (ss mid : List Slot) (i p : ℕ) (x1 : Option Index) (name : Option ChildName) → AreOrderly ss → option_and_then (λ s. s.row.parent) (slot_of ss i) ≡ Some p → mid ≡ edited inc_of p (indexed_by None) ss → ((s : Slot) → slot_of ss p ≡ Some s → x1 ≡ s.index) → name ≡ option_and_then (λ s. s.row.name) (slot_of mid i) → (c : ChildName) → named_in x1 c ≡ Some i → option_eq same_child name (Some c) ≡ true
+pub own_name : (ss mid : List Slot) (i p : ℕ) (x1 : Option ChildIndex) (name : Option ChildName) → AreOrderly ss → option_and_then (λ s. s.row.parent) (slot_of ss i) ≡ Some p → mid ≡ edited inc_of p (indexed_by None) ss → ((s : Slot) → slot_of ss p ≡ Some s → x1 ≡ s.index) → name ≡ option_and_then (λ s. s.row.name) (slot_of mid i) → (c : ChildName) → named_in x1 c ≡ Some i → option_eq same_child name (Some c) ≡ true
 own_name ss mid i p x1 name a up out was own c e =
     let parent = parent_lives ss i p a up in
     let h : IsIndexed (rows_in ss) a.next parent.0 = each_find (IsIndexed (rows_in ss) a.next) (λ z. z.row.inc == p) ss parent.0 a.indexed parent.1 in
-    let q = child_is (rows_in ss) a.next i parent.0.row.inc c a.orderly.rising (sym (h.names c) ∙ ap (λ x. named_in x c) (sym (was parent.0 parent.1)) ∙ e) in
+    let q = child_is (rows_in ss) a.next i parent.0.row.inc c a.orderly.increasing (sym (h.names c) ∙ ap (λ x. named_in x c) (sym (was parent.0 parent.1)) ∙ e) in
     let rows : rows_in mid ≡ rows_in ss = ap rows_in out ∙ rows_indexed p None ss in
     let found : option_map (λ s. s.row) (slot_of mid i) ≡ Some q.0 = sym (row_of-slots mid i) ∙ ap (λ l. row_of l i) rows ∙ q.1 in
     ap (λ o. option_eq same_child o (Some c)) (own ∙ name_of_row (slot_of mid i) c q.0 found q.3) ∙ same_node-refl (Child c)
@@ -158,16 +158,16 @@ some_filtered : (q : Row → Bool) (rows : List Row) (j : ℕ) → IsSome (row_o
 some_filtered q [] j h = h
 some_filtered q (x ∷ xs) j h = some_filtered_by (q x) (x.inc == j) x (row_of xs j) (filter q xs) j refl (some_filtered q xs j) h
 
-rising_by : (u : Bool) (x : Row) (l : List Row) → ((j : ℕ) → IsSome (find (λ k. k == j) (incs l)) → x.inc < j) → Rising (λ (k : ℕ). k) (incs l) → Rising (λ (k : ℕ). k) (incs (cond u (x ∷ l) l))
-rising_by true x l up later = (up, later)
-rising_by false x l up later = later
+increasing_by : (u : Bool) (x : Row) (l : List Row) → ((j : ℕ) → IsSome (find (λ k. k == j) (incs l)) → x.inc < j) → Increasing (λ (k : ℕ). k) (incs l) → Increasing (λ (k : ℕ). k) (incs (cond u (x ∷ l) l))
+increasing_by true x l up later = (up, later)
+increasing_by false x l up later = later
 
-pub kids_rise : (q : Row → Bool) (next : ℕ) (rows : List Row) → IsRising next rows → Rising (λ (k : ℕ). k) (incs (filter q rows))
-kids_rise q next [] rising = tt
-kids_rise q next (x ∷ xs) rising =
-    rising_by (q x) x (filter q xs)
-    (λ j h. rising.0.1 j (some_filtered q xs j (sym (ap is_some (find_incs (filter q xs) j) ∙ some_mapped (λ (r : Row). r.inc) (row_of (filter q xs) j)) ∙ h)))
-    (kids_rise q next xs rising.1)
+pub kids_rise : (q : Row → Bool) (next : ℕ) (rows : List Row) → IncarnationsIncrease next rows → Increasing (λ (k : ℕ). k) (incs (filter q rows))
+kids_rise q next [] increasing = tt
+kids_rise q next (x ∷ xs) increasing =
+    increasing_by (q x) x (filter q xs)
+    (λ j h. increasing.0.1 j (some_filtered q xs j (sym (ap is_some (find_incs (filter q xs) j) ∙ some_mapped (λ (r : Row). r.inc) (row_of (filter q xs) j)) ∙ h)))
+    (kids_rise q next xs increasing.1)
 
 above_some : (b : ℕ) (ks : List ℕ) (j : ℕ) → IsSome (find (λ k. k == j) ks) → IsSome (find (λ k. k == b + j) (map (λ k. b + k) ks))
 above_some b [] j h = h
@@ -177,24 +177,24 @@ above_some b (k ∷ ks) j h =
       by true later h = refl
       by false later h = later h
 
-rising_above : (b : ℕ) (ks : List ℕ) → Rising (λ (k : ℕ). k) (map (λ k. b + k) ks) → Rising (λ (k : ℕ). k) ks
-rising_above b [] r = tt
-rising_above b (k ∷ ks) r = (λ j h. less b k j (r.0 (b + j) (above_some b ks j h)), rising_above b ks r.1) where
+increasing_above : (b : ℕ) (ks : List ℕ) → Increasing (λ (k : ℕ). k) (map (λ k. b + k) ks) → Increasing (λ (k : ℕ). k) ks
+increasing_above b [] r = tt
+increasing_above b (k ∷ ks) r = (λ j h. less b k j (r.0 (b + j) (above_some b ks j h)), increasing_above b ks r.1) where
   less : (b k j : ℕ) → b + k < b + j → k < j
   less b k j h = omega arith
 
-rises_by : (x : Option Index) (l : List ℕ) → kids_of x ≡ l → Rising (λ (k : ℕ). k) l → Rises x
+rises_by : (x : Option ChildIndex) (l : List ℕ) → kids_of x ≡ l → Increasing (λ (k : ℕ). k) l → Rises x
 rises_by None l e r = tt
-rises_by (Some x) l e r = rising_above x.base x.kids.items (subst (Rising (λ (k : ℕ). k)) (sym e) r)
+rises_by (Some x) l e r = increasing_above x.base x.kids.items (subst (Increasing (λ (k : ℕ). k)) (sym e) r)
 
-pub index_rises : (rows : List Row) (next : ℕ) (s : Slot) → IsRising next rows → IsIndexed rows next s → Rises s.index
-index_rises rows next s rising h = rises_by s.index (kids rows s.row.inc) h.kids (kids_rise (has_parent s.row.inc) next rows rising)
+pub index_rises : (rows : List Row) (next : ℕ) (s : Slot) → IncarnationsIncrease next rows → IsIndexed rows next s → Rises s.index
+index_rises rows next s increasing h = rises_by s.index (kids rows s.row.inc) h.kids (kids_rise (has_parent s.row.inc) next rows increasing)
 
-pub taken_rises : (ss : List Slot) (i p : ℕ) (x1 : Option Index) → AreOrderly ss → option_and_then (λ s. s.row.parent) (slot_of ss i) ≡ Some p → ((s : Slot) → slot_of ss p ≡ Some s → x1 ≡ s.index) → Rises x1
+pub taken_rises : (ss : List Slot) (i p : ℕ) (x1 : Option ChildIndex) → AreOrderly ss → option_and_then (λ s. s.row.parent) (slot_of ss i) ≡ Some p → ((s : Slot) → slot_of ss p ≡ Some s → x1 ≡ s.index) → Rises x1
 taken_rises ss i p x1 a up was =
     let parent = parent_lives ss i p a up in
     let h : IsIndexed (rows_in ss) a.next parent.0 = each_find (IsIndexed (rows_in ss) a.next) (λ z. z.row.inc == p) ss parent.0 a.indexed parent.1 in
-    subst Rises (sym (was parent.0 parent.1)) (index_rises (rows_in ss) a.next parent.0 a.orderly.rising h)
+    subst Rises (sym (was parent.0 parent.1)) (index_rises (rows_in ss) a.next parent.0 a.orderly.increasing h)
 
 -- ---- two facts under a result
 

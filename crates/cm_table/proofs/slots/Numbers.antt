@@ -5,7 +5,7 @@ use Rattle.cm_decl.specs.declared.rows.Child.{Child}
 use Rattle.cm_world.specs.declared.row.Row.{Row}
 use Rattle.cm_world.specs.End.{child_row, child_rows}
 use Rattle.cm_table.specs.declared.slot.Slot.{Slot}
-use Rattle.cm_table.specs.Keys.{Each}
+use Rattle.cm_table.specs.Keys.{EachItem}
 use Rattle.cm_table.specs.Slots.{rows_in, with_row_by}
 use Rattle.cm_table.specs.Numbering.{placed, numbered, IsBare}
 
@@ -24,7 +24,7 @@ numbered-children p first (k ∷ ks) = ap (λ rs. child_row p first k ∷ rs) (n
 pub rows_of_numbered : (p first : ℕ) (ss : List Slot) (ks : List Child) → rows_in ss ≡ map (child_row 0 0) ks → rows_in (numbered p first ss) ≡ child_rows p first ks
 rows_of_numbered p first ss ks e = rows-numbered p first ss ∙ ap (numbered_rows p first) e ∙ numbered-children p first ks
 
-pub bare_numbered : (p first : ℕ) (ss : List Slot) → Each IsBare ss → Each IsBare (numbered p first ss)
+pub bare_numbered : (p first : ℕ) (ss : List Slot) → EachItem IsBare ss → EachItem IsBare (numbered p first ss)
 bare_numbered p first [] bare = tt
 bare_numbered p first (s ∷ ss) bare = (bare.0, bare_numbered p (first + 1) ss bare.1)
 
@@ -52,9 +52,9 @@ numbered_more parent first xs i d lt =
 -- a loop that numbers each row
 pub numbered_over_more : (parent first : ℕ) (xs ys : List Slot) (i : ℕ) (x : Slot) → i < length xs → ys ≡ numbered parent first (take i xs) ++ drop i xs → x ≡ get_or ys i x → set ys i (with_row_by (placed parent (first + i)) x) ≡ numbered parent first (take (i + 1) xs) ++ drop (i + 1) xs
 numbered_over_more parent first xs ys i x lt h is =
-    let front : List Slot = numbered parent first (take i xs) in
-    let long : length front ≡ i = length-numbered parent first (take i xs) ∙ omega (arith, length-take i xs) in
-    let parts : ys ≡ front ++ get_or xs i x ∷ drop (i + 1) xs = h ∙ ap (λ l. front ++ l) (drop_more xs i x lt) in
-    let read : x ≡ get_or xs i x = is ∙ ap (λ l. get_or l i x) parts ∙ get_or_at front _ _ x i long in
-    ap (λ l. set l i (with_row_by (placed parent (first + i)) x)) parts ∙ set_at front _ _ (with_row_by (placed parent (first + i)) x) i long ∙ sym (append_assoc front (with_row_by (placed parent (first + i)) x ∷ []) _)
-    ∙ ap (λ l. l ++ drop (i + 1) xs) (ap (λ y. front ++ with_row_by (placed parent (first + i)) y ∷ []) read ∙ sym (numbered_more parent first xs i x lt))
+    let prefix : List Slot = numbered parent first (take i xs) in
+    let long : length prefix ≡ i = length-numbered parent first (take i xs) ∙ omega (arith, length-take i xs) in
+    let parts : ys ≡ prefix ++ get_or xs i x ∷ drop (i + 1) xs = h ∙ ap (λ l. prefix ++ l) (drop_more xs i x lt) in
+    let read : x ≡ get_or xs i x = is ∙ ap (λ l. get_or l i x) parts ∙ get_or_at prefix _ _ x i long in
+    ap (λ l. set l i (with_row_by (placed parent (first + i)) x)) parts ∙ set_at prefix _ _ (with_row_by (placed parent (first + i)) x) i long ∙ sym (append_assoc prefix (with_row_by (placed parent (first + i)) x ∷ []) _)
+    ∙ ap (λ l. l ++ drop (i + 1) xs) (ap (λ y. prefix ++ with_row_by (placed parent (first + i)) y ∷ []) read ∙ sym (numbered_more parent first xs i x lt))

@@ -4,10 +4,10 @@ use Rattle.std.specs.Prelude.{option_map}
 use Rattle.cm_world.specs.declared.row.Row.{Row}
 use Rattle.cm_world.specs.Rows.{row_of}
 use Rattle.cm_world.specs.End.{changed}
-use Rattle.cm_world.specs.Sound.{IsRising}
+use Rattle.cm_world.specs.Sound.{IncarnationsIncrease}
 use Rattle.cm_table.specs.declared.slot.Slot.{Slot}
-use Rattle.cm_table.specs.declared.slot.Index.{Index}
-use Rattle.cm_table.specs.Keys.{EachOf, Rising}
+use Rattle.cm_table.specs.declared.slot.ChildIndex.{ChildIndex}
+use Rattle.cm_table.specs.Keys.{EachOf, Increasing}
 use Rattle.cm_table.specs.Slots.{inc_of, slot_of, rows_in, indexed_by, with_row_by}
 use Rattle.cm_table.specs.Links.{IsUnlinked}
 use Rattle.cm_table.proofs.tree.Leaves.{without}
@@ -29,7 +29,7 @@ pub some_rows : (ss : List Slot) (i : ℕ) → is_some (row_of (rows_in ss) i) �
 some_rows ss i = ap is_some (row_of-slots ss i) ∙ some_mapped (slot_of ss i)
 
 -- slots rise where their rows do
-pub slots_rise : (next : ℕ) (ss : List Slot) → IsRising next (rows_in ss) → Rising inc_of ss
+pub slots_rise : (next : ℕ) (ss : List Slot) → IncarnationsIncrease next (rows_in ss) → Increasing inc_of ss
 slots_rise next [] r = tt
 slots_rise next (s ∷ ss) r = (λ j h. r.0.1 j (some_rows ss j ∙ h), slots_rise next ss r.1)
 
@@ -41,12 +41,12 @@ pub rows_length : (ss : List Slot) → length (rows_in ss) ≡ length ss
 rows_length [] = refl
 rows_length (s ∷ ss) = ap suc (rows_length ss)
 
-indexed_row : (t : Bool) (s : Slot) (x : Option Index) (ss es : List Slot) → rows_in es ≡ rows_in ss → rows_in (cond t (indexed_by x s ∷ ss) (s ∷ es)) ≡ s.row ∷ rows_in ss
+indexed_row : (t : Bool) (s : Slot) (x : Option ChildIndex) (ss es : List Slot) → rows_in es ≡ rows_in ss → rows_in (cond t (indexed_by x s ∷ ss) (s ∷ es)) ≡ s.row ∷ rows_in ss
 indexed_row true s x ss es e = refl
 indexed_row false s x ss es e = ap (λ l. s.row ∷ l) e
 
 -- another index changes no row
-pub rows_indexed : (i : ℕ) (x : Option Index) (ss : List Slot) → rows_in (edited inc_of i (indexed_by x) ss) ≡ rows_in ss
+pub rows_indexed : (i : ℕ) (x : Option ChildIndex) (ss : List Slot) → rows_in (edited inc_of i (indexed_by x) ss) ≡ rows_in ss
 rows_indexed i x [] = refl
 rows_indexed i x (s ∷ ss) = indexed_row (s.row.inc == i) s x ss (edited inc_of i (indexed_by x) ss) (rows_indexed i x ss)
 
@@ -78,16 +78,16 @@ rows_same R same (s ∷ ss) (t ∷ ts) rel = ap₂ (λ r l. r ∷ l) (same s t r
 pub unlinked_rows : (gone : Bool) (i : ℕ) (ss mid : List Slot) → EachOf (IsUnlinked i gone) ss mid → rows_in mid ≡ rows_in ss
 unlinked_rows gone i ss mid links = rows_same (IsUnlinked i gone) (λ s t u. u.row) ss mid links
 
-pub unlinked_rise : (gone : Bool) (i next : ℕ) (ss mid : List Slot) → IsRising next (rows_in ss) → EachOf (IsUnlinked i gone) ss mid → Rising inc_of mid
-unlinked_rise gone i next ss mid rising links = slots_rise next mid (subst (IsRising next) (sym (unlinked_rows gone i ss mid links)) rising)
+pub unlinked_rise : (gone : Bool) (i next : ℕ) (ss mid : List Slot) → IncarnationsIncrease next (rows_in ss) → EachOf (IsUnlinked i gone) ss mid → Increasing inc_of mid
+unlinked_rise gone i next ss mid increasing links = slots_rise next mid (subst (IncarnationsIncrease next) (sym (unlinked_rows gone i ss mid links)) increasing)
 
 -- an index that is put in place of another
-twice_by : (t : Bool) (i : ℕ) (x y : Option Index) (s : Slot) (ss : List Slot) → (s.row.inc == i) ≡ t → edited inc_of i (indexed_by y) (edited inc_of i (indexed_by x) ss) ≡ edited inc_of i (indexed_by y) ss → edited inc_of i (indexed_by y) (cond t (indexed_by x s ∷ ss) (s ∷ edited inc_of i (indexed_by x) ss)) ≡ cond t (indexed_by y s ∷ ss) (s ∷ edited inc_of i (indexed_by y) ss)
+twice_by : (t : Bool) (i : ℕ) (x y : Option ChildIndex) (s : Slot) (ss : List Slot) → (s.row.inc == i) ≡ t → edited inc_of i (indexed_by y) (edited inc_of i (indexed_by x) ss) ≡ edited inc_of i (indexed_by y) ss → edited inc_of i (indexed_by y) (cond t (indexed_by x s ∷ ss) (s ∷ edited inc_of i (indexed_by x) ss)) ≡ cond t (indexed_by y s ∷ ss) (s ∷ edited inc_of i (indexed_by y) ss)
 twice_by true i x y s ss own later = ap (λ t. cond t (indexed_by y s ∷ ss) (indexed_by x s ∷ edited inc_of i (indexed_by y) ss)) own
 twice_by false i x y s ss own later =
     ap (λ t. cond t (indexed_by y s ∷ edited inc_of i (indexed_by x) ss) (s ∷ edited inc_of i (indexed_by y) (edited inc_of i (indexed_by x) ss))) own ∙ ap (λ l. s ∷ l) later
 
-pub indexed_twice : (i : ℕ) (x y : Option Index) (ss : List Slot) → edited inc_of i (indexed_by y) (edited inc_of i (indexed_by x) ss) ≡ edited inc_of i (indexed_by y) ss
+pub indexed_twice : (i : ℕ) (x y : Option ChildIndex) (ss : List Slot) → edited inc_of i (indexed_by y) (edited inc_of i (indexed_by x) ss) ≡ edited inc_of i (indexed_by y) ss
 indexed_twice i x y [] = refl
 indexed_twice i x y (s ∷ ss) = twice_by (s.row.inc == i) i x y s ss refl (indexed_twice i x y ss)
 
@@ -96,19 +96,19 @@ some_either : (t : Bool) (a b : Slot) (o p : Option Slot) → is_some o ≡ is_s
 some_either true a b o p e = refl
 some_either false a b o p e = e
 
-some_indexed_by : (t : Bool) (x : Option Index) (s : Slot) (ss es : List Slot) (j : ℕ) → is_some (slot_of es j) ≡ is_some (slot_of ss j) → is_some (slot_of (cond t (indexed_by x s ∷ ss) (s ∷ es)) j) ≡ is_some (slot_of (s ∷ ss) j)
+some_indexed_by : (t : Bool) (x : Option ChildIndex) (s : Slot) (ss es : List Slot) (j : ℕ) → is_some (slot_of es j) ≡ is_some (slot_of ss j) → is_some (slot_of (cond t (indexed_by x s ∷ ss) (s ∷ es)) j) ≡ is_some (slot_of (s ∷ ss) j)
 some_indexed_by true x s ss es j e = some_either (s.row.inc == j) (indexed_by x s) s (slot_of ss j) (slot_of ss j) refl
 some_indexed_by false x s ss es j e = some_either (s.row.inc == j) s s (slot_of es j) (slot_of ss j) e
 
-some_indexed : (i : ℕ) (x : Option Index) (ss : List Slot) (j : ℕ) → is_some (slot_of (edited inc_of i (indexed_by x) ss) j) ≡ is_some (slot_of ss j)
+some_indexed : (i : ℕ) (x : Option ChildIndex) (ss : List Slot) (j : ℕ) → is_some (slot_of (edited inc_of i (indexed_by x) ss) j) ≡ is_some (slot_of ss j)
 some_indexed i x [] j = refl
 some_indexed i x (s ∷ ss) j = some_indexed_by (s.row.inc == i) x s ss (edited inc_of i (indexed_by x) ss) j (some_indexed i x ss j)
 
-rising_by : (t : Bool) (x : Option Index) (s : Slot) (ss es : List Slot) → Rising inc_of (s ∷ ss) → ((j : ℕ) → IsSome (slot_of es j) → s.row.inc < j) → Rising inc_of es → Rising inc_of (cond t (indexed_by x s ∷ ss) (s ∷ es))
-rising_by true x s ss es r up later = (r.0, r.1)
-rising_by false x s ss es r up later = (up, later)
+increasing_by : (t : Bool) (x : Option ChildIndex) (s : Slot) (ss es : List Slot) → Increasing inc_of (s ∷ ss) → ((j : ℕ) → IsSome (slot_of es j) → s.row.inc < j) → Increasing inc_of es → Increasing inc_of (cond t (indexed_by x s ∷ ss) (s ∷ es))
+increasing_by true x s ss es r up later = (r.0, r.1)
+increasing_by false x s ss es r up later = (up, later)
 
-pub rising_indexed : (i : ℕ) (x : Option Index) (ss : List Slot) → Rising inc_of ss → Rising inc_of (edited inc_of i (indexed_by x) ss)
-rising_indexed i x [] r = tt
-rising_indexed i x (s ∷ ss) r =
-    rising_by (s.row.inc == i) x s ss (edited inc_of i (indexed_by x) ss) r (λ j h. r.0 j (sym (some_indexed i x ss j) ∙ h)) (rising_indexed i x ss r.1)
+pub increasing_indexed : (i : ℕ) (x : Option ChildIndex) (ss : List Slot) → Increasing inc_of ss → Increasing inc_of (edited inc_of i (indexed_by x) ss)
+increasing_indexed i x [] r = tt
+increasing_indexed i x (s ∷ ss) r =
+    increasing_by (s.row.inc == i) x s ss (edited inc_of i (indexed_by x) ss) r (λ j h. r.0 j (sym (some_indexed i x ss j) ∙ h)) (increasing_indexed i x ss r.1)

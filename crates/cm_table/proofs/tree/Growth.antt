@@ -10,7 +10,7 @@ use Rattle.cm_world.specs.Rows.{row_of}
 use Rattle.cm_world.specs.End.{child_row, child_rows}
 use Rattle.cm_world.specs.Sound.{IsOrderly, IsParent}
 use Rattle.cm_world.proofs.trees.Finding.{some_same, none_some}
-use Rattle.cm_table.proofs.tree.Rows.{lives_left, lives_pushed, lives_below, rising_push}
+use Rattle.cm_table.proofs.tree.Rows.{lives_left, lives_pushed, lives_below, increasing_push}
 use Rattle.cm_table.proofs.tree.Siblings.{IsFresh, AreApart}
 
 -- ---- one row more
@@ -37,7 +37,7 @@ pushed_parents rows next i p r s o n (inl lives) up =
     (record { row = q.0.row; lives = lives_left rows (r ∷ []) p q.0.row q.0.lives; resolved = q.0.resolved; lower = q.0.lower }, q.1)
 pushed_parents rows next i p r s o n (inr own) up =
     let same : n.parent ≡ p = some_same n.parent p (sym n.under ∙ sym (ap (λ z. z.parent) own.0) ∙ up) in
-    let low : n.parent < next = lives_below rows next n.parent n.row o.rising n.lives in
+    let low : n.parent < next = lives_below rows next n.parent n.row o.increasing n.lives in
     let is : i ≡ next = sym own.1 ∙ n.number in
     let parent : IsParent (rows ++ r ∷ []) n.parent i = record { row = n.row; lives = lives_left rows (r ∷ []) n.parent n.row n.lives; resolved = n.resolved; lower = subst (λ m. n.parent < m) (sym is) low } in
     (subst (λ z. IsParent (rows ++ r ∷ []) z i) same parent, subst (λ (z : Row). IsSome z.name) (sym own.0) n.named)
@@ -55,7 +55,7 @@ pushed_valid rows next i r s d o n (inr own) e = absurd (none_some d (sym n.unde
 -- rows stay orderly with such a row behind them
 pub orderly_push : (rows : List Row) (next : ℕ) (r : Row) → IsOrderly rows next → Joins rows next r → IsOrderly (rows ++ r ∷ []) (next + 1)
 orderly_push rows next r o n = record {
-  rising = rising_push rows next r n.number o.rising;
+  increasing = increasing_push rows next r n.number o.increasing;
   root = λ i s lives. pushed_root rows next i r s o n (lives_pushed rows r s i lives);
   parents = λ i p s lives. pushed_parents rows next i p r s o n (lives_pushed rows r s i lives);
   one_name = λ i j s t here there. pushed_names rows next i j r s t o n (lives_pushed rows r s i here) (lives_pushed rows r t j there);

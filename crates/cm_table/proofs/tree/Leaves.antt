@@ -4,15 +4,16 @@ use Rattle.std.specs.Option.{option_eq}
 use Rattle.std.specs.Cmp.{unsigned_Decides}
 use Rattle.cm_world.specs.declared.row.Row.{Row}
 use Rattle.cm_world.specs.Edits.{drop_first}
-use Rattle.cm_world.specs.Rows.{row_of, child_behind, at_or_above, some_above, is_below}
+use Rattle.cm_world.specs.Rows.{row_of, at_or_above, some_above, is_below}
+use Rattle.cm_world.specs.RowsInside.{child_behind}
 use Rattle.cm_world.specs.After.{others_than}
-use Rattle.cm_world.specs.Sound.{IsRising, IsOrderly, IsParent}
+use Rattle.cm_world.specs.Sound.{IncarnationsIncrease, IsOrderly, IsParent}
 use Rattle.cm_world.proofs.trees.Finding.{none_some, row_of-inc}
 use Rattle.cm_world.proofs.trees.Climbing.{fewer, some_above-step, above_root}
 use Rattle.cm_table.specs.Reading.{follows}
 use Rattle.cm_table.proofs.tree.Rows.{some_is, is_some_by, left_by}
 use Rattle.cm_table.proofs.tree.Adding.{none_mapped, missed}
-use Rattle.cm_table.proofs.lists.Halves.{not_same, lower_differs}
+use Rattle.cm_table.proofs.lists.BinarySearch.{not_same, lower_differs}
 
 -- the rows without that of an incarnation
 abbrev pub without : ℕ → List Row → List Row
@@ -20,30 +21,30 @@ without i rows = drop_first (λ r. r.inc == i) rows
 
 -- ---- which rows are left
 
-left_at : (t : Bool) (i next j : ℕ) (x s : Row) (xs : List Row) → IsRising next (x ∷ xs) → (row_of (without i xs) j ≡ Some s → row_of xs j ≡ Some s) → row_of (cond t xs (x ∷ without i xs)) j ≡ Some s → row_of (x ∷ xs) j ≡ Some s
-left_at true i next j x s xs rising later e =
-    let miss : (x.inc == j) ≡ false = not_same x.inc j (lower_differs x.inc j (rising.0.1 j (is_some_by (row_of xs j) s e))) in
+left_at : (t : Bool) (i next j : ℕ) (x s : Row) (xs : List Row) → IncarnationsIncrease next (x ∷ xs) → (row_of (without i xs) j ≡ Some s → row_of xs j ≡ Some s) → row_of (cond t xs (x ∷ without i xs)) j ≡ Some s → row_of (x ∷ xs) j ≡ Some s
+left_at true i next j x s xs increasing later e =
+    let miss : (x.inc == j) ≡ false = not_same x.inc j (lower_differs x.inc j (increasing.0.1 j (is_some_by (row_of xs j) s e))) in
     rw miss e
-left_at false i next j x s xs rising later e = left_by (x.inc == j) x s (row_of (without i xs) j) (row_of xs j) later e
+left_at false i next j x s xs increasing later e = left_by (x.inc == j) x s (row_of (without i xs) j) (row_of xs j) later e
 
 -- what is left was there
-pub was_there : (i next j : ℕ) (rows : List Row) (s : Row) → IsRising next rows → row_of (without i rows) j ≡ Some s → row_of rows j ≡ Some s
-was_there i next j [] s rising e = absurd (none_some s e)
-was_there i next j (x ∷ xs) s rising e = left_at (x.inc == i) i next j x s xs rising (was_there i next j xs s rising.1) e
+pub was_there : (i next j : ℕ) (rows : List Row) (s : Row) → IncarnationsIncrease next rows → row_of (without i rows) j ≡ Some s → row_of rows j ≡ Some s
+was_there i next j [] s increasing e = absurd (none_some s e)
+was_there i next j (x ∷ xs) s increasing e = left_at (x.inc == i) i next j x s xs increasing (was_there i next j xs s increasing.1) e
 
 not_by : (u : Bool) (i j : ℕ) (x s : Row) (o : Option Row) → (x.inc == j) ≡ u → (x.inc == i) ≡ false → (o ≡ Some s → j ≡ i → ⊥) → cond u (Some x) o ≡ Some s → j ≡ i → ⊥
 not_by true i j x s o same other later e is = true≢false (sym (ap (λ n. x.inc == n) (sym is) ∙ same) ∙ other)
 not_by false i j x s o same other later e is = later e is
 
-not_at : (t : Bool) (i next j : ℕ) (x s : Row) (xs : List Row) → (x.inc == i) ≡ t → IsRising next (x ∷ xs) → (row_of (without i xs) j ≡ Some s → j ≡ i → ⊥) → row_of (cond t xs (x ∷ without i xs)) j ≡ Some s → j ≡ i → ⊥
-not_at true i next j x s xs own rising later e is =
-    lower_differs x.inc j (rising.0.1 j (is_some_by (row_of xs j) s e)) ((unsigned_Decides x.inc i).0 own ∙ sym is)
-not_at false i next j x s xs own rising later e is = not_by (x.inc == j) i j x s (row_of (without i xs) j) refl own later e is
+not_at : (t : Bool) (i next j : ℕ) (x s : Row) (xs : List Row) → (x.inc == i) ≡ t → IncarnationsIncrease next (x ∷ xs) → (row_of (without i xs) j ≡ Some s → j ≡ i → ⊥) → row_of (cond t xs (x ∷ without i xs)) j ≡ Some s → j ≡ i → ⊥
+not_at true i next j x s xs own increasing later e is =
+    lower_differs x.inc j (increasing.0.1 j (is_some_by (row_of xs j) s e)) ((unsigned_Decides x.inc i).0 own ∙ sym is)
+not_at false i next j x s xs own increasing later e is = not_by (x.inc == j) i j x s (row_of (without i xs) j) refl own later e is
 
 -- and isn't the one that was taken away
-pub not_taken : (i next j : ℕ) (rows : List Row) (s : Row) → IsRising next rows → row_of (without i rows) j ≡ Some s → j ≡ i → ⊥
-not_taken i next j [] s rising e is = absurd (none_some s e)
-not_taken i next j (x ∷ xs) s rising e is = not_at (x.inc == i) i next j x s xs refl rising (not_taken i next j xs s rising.1) e is
+pub not_taken : (i next j : ℕ) (rows : List Row) (s : Row) → IncarnationsIncrease next rows → row_of (without i rows) j ≡ Some s → j ≡ i → ⊥
+not_taken i next j [] s increasing e is = absurd (none_some s e)
+not_taken i next j (x ∷ xs) s increasing e is = not_at (x.inc == i) i next j x s xs refl increasing (not_taken i next j xs s increasing.1) e is
 
 past_by : (u : Bool) (i j : ℕ) (x s : Row) (o : Option Row) → (x.inc == j) ≡ u → (x.inc == i) ≡ true → (j ≡ i → ⊥) → cond u (Some x) o ≡ Some s → o ≡ Some s
 past_by true i j x s o same own differ e = absurd (differ (sym ((unsigned_Decides x.inc j).0 same) ∙ (unsigned_Decides x.inc i).0 own))
@@ -58,20 +59,20 @@ pub stays : (i j : ℕ) (rows : List Row) (s : Row) → (j ≡ i → ⊥) → ro
 stays i j [] s differ e = absurd (none_some s e)
 stays i j (x ∷ xs) s differ e = stays_at (x.inc == i) i j x s xs refl differ (stays i j xs s differ) e
 
-rising_at : (t : Bool) (i next : ℕ) (x : Row) (xs : List Row) → IsRising next (x ∷ xs) → IsRising next (without i xs) → IsRising next (cond t xs (x ∷ without i xs))
-rising_at true i next x xs rising later = rising.1
-rising_at false i next x xs rising later = (
+increasing_at : (t : Bool) (i next : ℕ) (x : Row) (xs : List Row) → IncarnationsIncrease next (x ∷ xs) → IncarnationsIncrease next (without i xs) → IncarnationsIncrease next (cond t xs (x ∷ without i xs))
+increasing_at true i next x xs increasing later = increasing.1
+increasing_at false i next x xs increasing later = (
   (
-    rising.0.0,
+    increasing.0.0,
     λ s h. let q : (y : Row) × (row_of (without i xs) s ≡ Some y) = some_is (row_of (without i xs) s) h in
-        rising.0.1 s (is_some_by (row_of xs s) q.0 (was_there i next s xs q.0 rising.1 q.1)),
+        increasing.0.1 s (is_some_by (row_of xs s) q.0 (was_there i next s xs q.0 increasing.1 q.1)),
   ),
   later,
 )
 
-pub rising_without : (i next : ℕ) (rows : List Row) → IsRising next rows → IsRising next (without i rows)
-rising_without i next [] rising = tt
-rising_without i next (x ∷ xs) rising = rising_at (x.inc == i) i next x xs rising (rising_without i next xs rising.1)
+pub increasing_without : (i next : ℕ) (rows : List Row) → IncarnationsIncrease next rows → IncarnationsIncrease next (without i rows)
+increasing_without i next [] increasing = tt
+increasing_without i next (x ∷ xs) increasing = increasing_at (x.inc == i) i next x xs increasing (increasing_without i next xs increasing.1)
 
 -- ---- a row without children
 
@@ -91,11 +92,11 @@ parents_without rows next i j p s o childless here up =
 -- rows stay orderly without it
 pub orderly_without : (rows : List Row) (next i : ℕ) → IsOrderly rows next → child_behind rows i None ≡ None → IsOrderly (without i rows) next
 orderly_without rows next i o childless = record {
-  rising = rising_without i next rows o.rising;
-  root = λ j s here. o.root j s (was_there i next j rows s o.rising here);
-  parents = λ j p s here. parents_without rows next i j p s o childless (was_there i next j rows s o.rising here);
-  one_name = λ j k s t here there. o.one_name j k s t (was_there i next j rows s o.rising here) (was_there i next k rows t o.rising there);
-  valid = λ j s d here. o.valid j s d (was_there i next j rows s o.rising here);
+  increasing = increasing_without i next rows o.increasing;
+  root = λ j s here. o.root j s (was_there i next j rows s o.increasing here);
+  parents = λ j p s here. parents_without rows next i j p s o childless (was_there i next j rows s o.increasing here);
+  one_name = λ j k s t here there. o.one_name j k s t (was_there i next j rows s o.increasing here) (was_there i next k rows t o.increasing there);
+  valid = λ j s d here. o.valid j s d (was_there i next j rows s o.increasing here);
 }
 
 -- ---- what is read above the other rows
@@ -112,7 +113,7 @@ above_below (suc n) passes rows next i j s o childless low here =
     ∙ ap (λ b. passes s || b) (above_by passes rows next i (length (without i rows)) (length rows) s s.parent refl
     (λ p up. let q : IsParent (without i rows) p j = (rest.parents j p s here up).0 in
     above_below n passes rows next i p q.row o childless (fewer p j n q.lower low) q.lives))
-    ∙ sym (some_above-step passes rows next j s o (was_there i next j rows s o.rising here))
+    ∙ sym (some_above-step passes rows next j s o (was_there i next j rows s o.increasing here))
 
 -- it is the same as before
 pub above_same : (passes : Row → Bool) (rows : List Row) (next i j : ℕ) (s : Row) → IsOrderly rows next → child_behind rows i None ≡ None → row_of (without i rows) j ≡ Some s → some_above passes (without i rows) j ≡ some_above passes rows j
@@ -123,18 +124,18 @@ above_same passes rows next i j s o childless here = above_below (j + 1) passes 
 filter_by : (b c : Bool) (x : Row) (ys zs : List Row) → b ≡ c → ys ≡ zs → cond b (x ∷ ys) ys ≡ cond c (x ∷ zs) zs
 filter_by b c x ys zs same rest = ap (λ t. cond t (x ∷ ys) ys) same ∙ ap (λ l. cond c (x ∷ l) l) rest
 
-behind : (next : ℕ) (x r : Row) (xs : List Row) → IsRising next (x ∷ xs) → row_of xs r.inc ≡ Some r → row_of (x ∷ xs) r.inc ≡ Some r
-behind next x r xs rising here =
-    let miss : (x.inc == r.inc) ≡ false = not_same x.inc r.inc (lower_differs x.inc r.inc (rising.0.1 r.inc (is_some_by (row_of xs r.inc) r here))) in
+behind : (next : ℕ) (x r : Row) (xs : List Row) → IncarnationsIncrease next (x ∷ xs) → row_of xs r.inc ≡ Some r → row_of (x ∷ xs) r.inc ≡ Some r
+behind next x r xs increasing here =
+    let miss : (x.inc == r.inc) ≡ false = not_same x.inc r.inc (lower_differs x.inc r.inc (increasing.0.1 r.inc (is_some_by (row_of xs r.inc) r here))) in
     rw miss here
 
 -- two tests that agree on rows that live leave the same rows
-filter_same : (p q : Row → Bool) (next : ℕ) (xs : List Row) → IsRising next xs → ((r : Row) → row_of xs r.inc ≡ Some r → p r ≡ q r) → filter p xs ≡ filter q xs
-filter_same p q next [] rising same = refl
-filter_same p q next (x ∷ xs) rising same =
+filter_same : (p q : Row → Bool) (next : ℕ) (xs : List Row) → IncarnationsIncrease next xs → ((r : Row) → row_of xs r.inc ≡ Some r → p r ≡ q r) → filter p xs ≡ filter q xs
+filter_same p q next [] increasing same = refl
+filter_same p q next (x ∷ xs) increasing same =
     let own : row_of (x ∷ xs) x.inc ≡ Some x = rw ((unsigned_Decides x.inc x.inc).1 refl) refl in
     filter_by (p x) (q x) x (filter p xs) (filter q xs) (same x own)
-    (filter_same p q next xs rising.1 (λ r here. same r (behind next x r xs rising here)))
+    (filter_same p q next xs increasing.1 (λ r here. same r (behind next x r xs increasing here)))
 
 dropped_at : (t : Bool) (q : Row → Bool) (i : ℕ) (x : Row) (xs : List Row) → (x.inc == i) ≡ t → (x.inc ≡ i → q x ≡ false) → filter q (without i xs) ≡ filter q xs → filter q (cond t xs (x ∷ without i xs)) ≡ filter q (x ∷ xs)
 dropped_at true q i x xs own fails later = sym (rw (fails ((unsigned_Decides x.inc i).0 own)) refl)
@@ -148,7 +149,7 @@ filter_dropped q i (x ∷ xs) fails = dropped_at (x.inc == i) q i x xs refl (fai
 -- where a row without children at or below one is taken away, the rows that aren't at or below that one are the same
 pub others_without : (rows : List Row) (next top i : ℕ) → IsOrderly rows next → child_behind rows i None ≡ None → IsTrue (is_below rows top i) → others_than (without i rows) top ≡ others_than rows top
 others_without rows next top i o childless below =
-    filter_same (λ r. not (is_below (without i rows) top r.inc)) (λ r. not (is_below rows top r.inc)) next (without i rows) (rising_without i next rows o.rising)
+    filter_same (λ r. not (is_below (without i rows) top r.inc)) (λ r. not (is_below rows top r.inc)) next (without i rows) (increasing_without i next rows o.increasing)
     (λ r here. ap not (above_same (λ s. s.inc == top) rows next i r.inc r o childless here))
     ∙ filter_dropped (λ r. not (is_below rows top r.inc)) i rows (λ r own. ap (λ n. not (is_below rows top n)) own ∙ ap not below)
 

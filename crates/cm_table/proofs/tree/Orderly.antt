@@ -6,7 +6,7 @@ use Rattle.cm_world.specs.declared.row.Row.{Row}
 use Rattle.cm_world.specs.Rows.{row_of}
 use Rattle.cm_world.specs.End.{changed}
 use Rattle.cm_world.specs.Sound.{IsOrderly, IsParent}
-use Rattle.cm_table.proofs.tree.Rows.{Was, was_before, Becomes, becomes_after, rising_changed}
+use Rattle.cm_table.proofs.tree.Rows.{Was, was_before, Becomes, becomes_after, increasing_changed}
 
 -- a change that keeps a row's place, and brings no invalid declaration
 pub record IsKeeping (f : Row → Row) : Type 0 where
@@ -63,7 +63,7 @@ changed_names f k rows next i j r s o w v dr ds up same =
 -- rows stay orderly where such a change is made at one of them
 pub orderly_changed : (f : Row → Row) → IsKeeping f → (t next : ℕ) (rows : List Row) → IsOrderly rows next → IsOrderly (changed t f rows) next
 orderly_changed f k t next rows o = record {
-  rising = rising_changed t next f k.inc rows o.rising;
+  increasing = increasing_changed t next f k.inc rows o.increasing;
   root = λ i s lives. changed_root f k rows next i s o (was_before t f k.inc rows i s lives);
   parents = λ i p s lives. changed_parents f k rows next t i p s o (was_before t f k.inc rows i s lives);
   one_name = λ i j r s here there. changed_names f k rows next i j r s o (was_before t f k.inc rows i r here) (was_before t f k.inc rows j s there);

@@ -10,7 +10,7 @@ use Rattle.cm_table.specs.declared.slot.Slot.{Slot}
 use Rattle.cm_table.specs.Leaf.{IsWithin, IsLeaf, IsChildOf}
 use Rattle.cm_table.proofs.tree.Rows.{some_is, is_some_by, lives_below}
 use Rattle.cm_table.proofs.tree.Leaves.{without, stays, not_taken, above_same, below_itself}
-use Rattle.cm_table.proofs.lists.Halves.{no_some, not_same}
+use Rattle.cm_table.proofs.lists.BinarySearch.{no_some, not_same}
 
 -- what is left to remove, over rows
 abbrev pub Goes : List Row → ℕ → Option ℕ → Type 0
@@ -38,13 +38,13 @@ falls n i k up low = omega arith
 
 pub child_nearer : (rows : List Row) (next i k : ℕ) → IsOrderly rows next → IsChildOf rows i k → next - k < next - i
 child_nearer rows next i k o child =
-    falls next i k (o.parents k i child.row child.lives child.under).0.lower (lives_below rows next k child.row o.rising child.lives)
+    falls next i k (o.parents k i child.row child.lives child.under).0.lower (lives_below rows next k child.row o.increasing child.lives)
 
 -- the row that was removed is gone
 pub gone : (rows : List Row) (next i : ℕ) → IsOrderly rows next → row_of (without i rows) i ≡ None
 gone rows next i o = no_some (row_of (without i rows) i) (λ h.
     let q : (s : Row) × (row_of (without i rows) i ≡ Some s) = some_is (row_of (without i rows) i) h in
-    not_taken i next i rows q.0 o.rising q.1 refl)
+    not_taken i next i rows q.0 o.increasing q.1 refl)
 
 left_by : (a b : Bool) → a ≡ false → (a || b) ≡ true → b ≡ true
 left_by true b e h = absurd (true≢false e)

@@ -7,11 +7,11 @@ use Rattle.cm_world.specs.declared.action.Outcome.TheVariants as outcome
 use Rattle.cm_world.specs.declared.action.Finish.TheVariants as finish
 use Rattle.cm_world.specs.Rows.{row_of, has_parent, is_live, decl_of}
 use Rattle.cm_world.specs.End.{changed, child_rows, rows_by}
-use Rattle.cm_world.specs.Sound.{IsRising, IsOrderly}
+use Rattle.cm_world.specs.Sound.{IncarnationsIncrease, IsOrderly}
 use Rattle.cm_table.specs.declared.slot.Slot.{Slot}
-use Rattle.cm_table.specs.declared.slot.Index.{Index}
+use Rattle.cm_table.specs.declared.slot.ChildIndex.{ChildIndex}
 use Rattle.cm_table.specs.declared.change.Change.TheVariants.{Resolve}
-use Rattle.cm_table.specs.Keys.{Each, Rising}
+use Rattle.cm_table.specs.Keys.{EachItem, Increasing}
 use Rattle.cm_table.specs.Slots.{inc_of, rows_in, indexed_by, with_row_by, IsIndexed}
 use Rattle.cm_table.specs.Numbering.{IsBare}
 use Rattle.cm_table.specs.Change.{change_row}
@@ -26,7 +26,7 @@ use Rattle.cm_table.proofs.indexes.Children.{NoneHas, each_row, has_by}
 use Rattle.cm_table.proofs.indexes.Indexing.{IsNew, all_changed, all_grown, each_at}
 
 -- what became of the slots
-pub record IsTaken (ss mid put ts news : List Slot) (i : ℕ) (a : List ℕ) (d : Decl) (x : Index) : Type 0 where
+pub record IsTaken (ss mid put ts news : List Slot) (i : ℕ) (a : List ℕ) (d : Decl) (x : ChildIndex) : Type 0 where
   pub changed : mid ≡ edited inc_of i (with_row_by (change_row (Resolve a d))) ss
   pub indexed : put ≡ edited inc_of i (indexed_by (Some x)) mid
   pub pushed : ts ≡ put ++ news
@@ -37,14 +37,14 @@ taken_rows i next a d rows = rows_by i next (finish.Resolved a d) outcome.Resolv
 mid_rows : (ss mid : List Slot) (i : ℕ) (a : List ℕ) (d : Decl) → mid ≡ edited inc_of i (with_row_by (change_row (Resolve a d))) ss → rows_in mid ≡ changed i (change_row (Resolve a d)) (rows_in ss)
 mid_rows ss mid i a d e = ap rows_in e ∙ rows_changed i (change_row (Resolve a d)) ss
 
-pub rows_taken : (ss mid put ts news : List Slot) (i next : ℕ) (a : List ℕ) (d : Decl) (x : Index) → IsTaken ss mid put ts news i a d x → rows_in news ≡ child_rows i next d.children → rows_in ts ≡ taken_rows i next a d (rows_in ss)
+pub rows_taken : (ss mid put ts news : List Slot) (i next : ℕ) (a : List ℕ) (d : Decl) (x : ChildIndex) → IsTaken ss mid put ts news i a d x → rows_in news ≡ child_rows i next d.children → rows_in ts ≡ taken_rows i next a d (rows_in ss)
 rows_taken ss mid put ts news i next a d x t numbered =
     ap rows_in t.pushed ∙ rows_append put news ∙ ap (λ l. rows_in put ++ l) numbered
     ∙ ap (λ l. l ++ child_rows i next d.children) (ap rows_in t.indexed ∙ rows_indexed i (Some x) mid ∙ mid_rows ss mid i a d t.changed)
 
-pub mid_rises : (ss mid : List Slot) (i next : ℕ) (a : List ℕ) (d : Decl) → IsOrderly (rows_in ss) next → IsValid d → mid ≡ edited inc_of i (with_row_by (change_row (Resolve a d))) ss → Rising inc_of mid
+pub mid_rises : (ss mid : List Slot) (i next : ℕ) (a : List ℕ) (d : Decl) → IsOrderly (rows_in ss) next → IsValid d → mid ≡ edited inc_of i (with_row_by (change_row (Resolve a d))) ss → Increasing inc_of mid
 mid_rises ss mid i next a d o valid e =
-    slots_rise next mid (subst (IsRising next) (sym (mid_rows ss mid i a d e)) (orderly_changed (change_row (Resolve a d)) (keeping (Resolve a d) valid) i next (rows_in ss) o).rising)
+    slots_rise next mid (subst (IncarnationsIncrease next) (sym (mid_rows ss mid i a d e)) (orderly_changed (change_row (Resolve a d)) (keeping (Resolve a d) valid) i next (rows_in ss) o).increasing)
 
 no_children : (rows : List Row) (i next : ℕ) (a : List ℕ) (d : Decl) → IsOrderly rows next → IsValid d → IsTrue (is_live rows i) → decl_of rows i ≡ None → NoneHas i (changed i (change_row (Resolve a d)) rows)
 no_children rows i next a d o valid lives unresolved =
@@ -52,16 +52,16 @@ no_children rows i next a d o valid lives unresolved =
     let k : IsKeeping f = keeping (Resolve a d) valid in
     let row : (q : Row) × (row_of rows i ≡ Some q) = some_is (row_of rows i) lives in
     let none : row.0.decl ≡ None = unresolved_row (row_of rows i) row.0 row.1 unresolved in
-    each_row (λ r. has_parent i r ≡ false) next (changed i f rows) (orderly_changed f k i next rows o).rising (λ r here. has_by i r r.parent refl (λ up.
+    each_row (λ r. has_parent i r ≡ false) next (changed i f rows) (orderly_changed f k i next rows o).increasing (λ r here. has_by i r r.parent refl (λ up.
     let w : Was f (row_of rows r.inc) r = was_before i f k.inc rows r.inc r here in
     childless rows next i row.0 o row.1 none r.inc w.row w.was (sym (kept_parent f k r w.row w.is) ∙ up)))
 
-pub all_taken : (ss mid put ts news : List Slot) (i next : ℕ) (a : List ℕ) (d : Decl) (x : Index) → IsTaken ss mid put ts news i a d x → IsOrderly (rows_in ss) next → IsTrue (is_live (rows_in ss) i) → decl_of (rows_in ss) i ≡ None → IsValid d → IsNew x i next d.children → rows_in news ≡ child_rows i next d.children → Each IsBare news → Each (IsIndexed (rows_in ss) next) ss → Each (IsIndexed (rows_in ts) (next + length d.children)) ts
+pub all_taken : (ss mid put ts news : List Slot) (i next : ℕ) (a : List ℕ) (d : Decl) (x : ChildIndex) → IsTaken ss mid put ts news i a d x → IsOrderly (rows_in ss) next → IsTrue (is_live (rows_in ss) i) → decl_of (rows_in ss) i ≡ None → IsValid d → IsNew x i next d.children → rows_in news ≡ child_rows i next d.children → EachItem IsBare news → EachItem (IsIndexed (rows_in ss) next) ss → EachItem (IsIndexed (rows_in ts) (next + length d.children)) ts
 all_taken ss mid put ts news i next a d x t o lives unresolved valid new numbered bare all =
     let f : Row → Row = change_row (Resolve a d) in
     let row : (q : Row) × (row_of (rows_in ss) i ≡ Some q) = some_is (row_of (rows_in ss) i) lives in
-    let low : i < next = lives_below (rows_in ss) next i row.0 o.rising row.1 in
-    let moved : Each (IsIndexed (changed i f (rows_in ss)) next) mid = subst (Each (IsIndexed (changed i f (rows_in ss)) next)) (sym t.changed) (all_changed i f (spares (Resolve a d) tt) (rows_in ss) next ss all) in
+    let low : i < next = lives_below (rows_in ss) next i row.0 o.increasing row.1 in
+    let moved : EachItem (IsIndexed (changed i f (rows_in ss)) next) mid = subst (EachItem (IsIndexed (changed i f (rows_in ss)) next)) (sym t.changed) (all_changed i f (spares (Resolve a d) tt) (rows_in ss) next ss all) in
     each_at (taken_rows i next a d (rows_in ss)) (rows_in ts) (next + length d.children) (edited inc_of i (indexed_by (Some x)) mid ++ news) ts
     (rows_taken ss mid put ts news i next a d x t numbered) (t.pushed ∙ ap (λ l. l ++ news) t.indexed)
     (all_grown (changed i f (rows_in ss)) mid news next i d.children x (mid_rows ss mid i a d t.changed)

@@ -4,7 +4,7 @@ use Rattle.std.specs.Cmp.{unsigned_Decides}
 use Rattle.cm_world.specs.declared.row.Row.{Row}
 use Rattle.cm_world.specs.Rows.{row_of}
 use Rattle.cm_world.specs.End.{changed}
-use Rattle.cm_world.specs.Sound.{IsRising}
+use Rattle.cm_world.specs.Sound.{IncarnationsIncrease}
 use Rattle.cm_world.proofs.trees.Finding.{some_same, none_some}
 pub use Rattle.cm_world.proofs.trees.Walks.{below_next as lives_below}
 
@@ -98,37 +98,37 @@ pub row_of-changed : (i : ℕ) (f : Row → Row) → ((r : Row) → (f r).inc �
 row_of-changed i f keeps [] r e = absurd (none_some r e)
 row_of-changed i f keeps (x ∷ xs) r e = changed_by (x.inc == i) i f x r xs keeps refl (row_of-changed i f keeps xs r) e
 
--- ---- rising incarnations
+-- ---- increasing incarnations
 
 later_low : (next i s : ℕ) (rs : List Row) (r : Row) (o : Option Row) → r.inc ≡ next → i < next → (IsSome o → i < s) → (q : Row) → (o ≡ Some q) ⊎ ((q ≡ r) × (r.inc ≡ s)) → i < s
 later_low next i s rs r o number low later q (inl e) = later (is_some_by o q e)
 later_low next i s rs r o number low later q (inr own) = omega (arith, own.1)
 
-pub rising_push : (rows : List Row) (next : ℕ) (r : Row) → r.inc ≡ next → IsRising next rows → IsRising (next + 1) (rows ++ r ∷ [])
-rising_push [] next r number rising = ((omega arith, λ s h. absurd (true≢false (sym h))), tt)
-rising_push (x ∷ xs) next r number rising =
-    let low : x.inc < next = rising.0.0 in (
+pub increasing_push : (rows : List Row) (next : ℕ) (r : Row) → r.inc ≡ next → IncarnationsIncrease next rows → IncarnationsIncrease (next + 1) (rows ++ r ∷ [])
+increasing_push [] next r number increasing = ((omega arith, λ s h. absurd (true≢false (sym h))), tt)
+increasing_push (x ∷ xs) next r number increasing =
+    let low : x.inc < next = increasing.0.0 in (
       (
         omega arith,
         λ s h. let q : (y : Row) × (row_of (xs ++ r ∷ []) s ≡ Some y) = some_is (row_of (xs ++ r ∷ []) s) h in
-            later_low next x.inc s xs r (row_of xs s) number low (rising.0.1 s) q.0 (lives_pushed xs r q.0 s q.1),
+            later_low next x.inc s xs r (row_of xs s) number low (increasing.0.1 s) q.0 (lives_pushed xs r q.0 s q.1),
       ),
-      rising_push xs next r number rising.1,
+      increasing_push xs next r number increasing.1,
     )
 
-rising_at : (t : Bool) (i next : ℕ) (f : Row → Row) → ((r : Row) → (f r).inc ≡ r.inc) → (x : Row) (xs : List Row) → IsRising next (x ∷ xs) → IsRising next (changed i f xs) → IsRising next (cond t (f x ∷ xs) (x ∷ changed i f xs))
-rising_at true i next f keeps x xs rising later =
-    ((subst (λ n. n < next) (sym (keeps x)) rising.0.0, λ s h. subst (λ n. n < s) (sym (keeps x)) (rising.0.1 s h)), rising.1)
-rising_at false i next f keeps x xs rising later = (
+increasing_at : (t : Bool) (i next : ℕ) (f : Row → Row) → ((r : Row) → (f r).inc ≡ r.inc) → (x : Row) (xs : List Row) → IncarnationsIncrease next (x ∷ xs) → IncarnationsIncrease next (changed i f xs) → IncarnationsIncrease next (cond t (f x ∷ xs) (x ∷ changed i f xs))
+increasing_at true i next f keeps x xs increasing later =
+    ((subst (λ n. n < next) (sym (keeps x)) increasing.0.0, λ s h. subst (λ n. n < s) (sym (keeps x)) (increasing.0.1 s h)), increasing.1)
+increasing_at false i next f keeps x xs increasing later = (
   (
-    rising.0.0,
+    increasing.0.0,
     λ s h. let q : (y : Row) × (row_of (changed i f xs) s ≡ Some y) = some_is (row_of (changed i f xs) s) h in
         let w : Was f (row_of xs s) q.0 = was_before i f keeps xs s q.0 q.1 in
-        rising.0.1 s (is_some_by (row_of xs s) w.row w.was),
+        increasing.0.1 s (is_some_by (row_of xs s) w.row w.was),
   ),
   later,
 )
 
-pub rising_changed : (i next : ℕ) (f : Row → Row) → ((r : Row) → (f r).inc ≡ r.inc) → (xs : List Row) → IsRising next xs → IsRising next (changed i f xs)
-rising_changed i next f keeps [] rising = tt
-rising_changed i next f keeps (x ∷ xs) rising = rising_at (x.inc == i) i next f keeps x xs rising (rising_changed i next f keeps xs rising.1)
+pub increasing_changed : (i next : ℕ) (f : Row → Row) → ((r : Row) → (f r).inc ≡ r.inc) → (xs : List Row) → IncarnationsIncrease next xs → IncarnationsIncrease next (changed i f xs)
+increasing_changed i next f keeps [] increasing = tt
+increasing_changed i next f keeps (x ∷ xs) increasing = increasing_at (x.inc == i) i next f keeps x xs increasing (increasing_changed i next f keeps xs increasing.1)

@@ -52,31 +52,31 @@ clash_by : List Child → Option Child → Bool
 clash_by earlier o = is_some (option_and_then (λ row. first_row Children (λ e. same_child_name e row) earlier) o)
 
 -- the second of two children of one name clashes with the first
-clash_at : (front mid : List Child) (k x : Child) (xs : List Child) → k.name ≡ x.name → is_some (first_before Children same_child_name ((front ++ k ∷ mid) ++ x ∷ xs) (length (front ++ k ∷ mid))) ≡ true
+clash_at : (prefix mid : List Child) (k x : Child) (xs : List Child) → k.name ≡ x.name → is_some (first_before Children same_child_name ((prefix ++ k ∷ mid) ++ x ∷ xs) (length (prefix ++ k ∷ mid))) ≡ true
 unfolding clash_by
-clash_at front mid k x xs same =
-    let before : List Child = front ++ k ∷ mid in
+clash_at prefix mid k x xs same =
+    let before : List Child = prefix ++ k ∷ mid in
     let all : List Child = before ++ x ∷ xs in
     let within : length before < length all = omega (arith, length-append before (x ∷ xs)) in
     let here : slice_get all (length before) ≡ Some x = slice_get-get_or all (length before) x within ∙ ap Some (get_or_at before x xs x (length before) refl) in
     let seam : take (length before) all ≡ before = take-append_seam before (x ∷ xs) in
     let named : bytes_eq k.name x.name ≡ true = (bytes_decides k.name x.name).1 same in
     subst (λ o. clash_by (take (length before) all) o ≡ true) (sym here)
-    (subst (λ ys. clash_by ys (Some x) ≡ true) (sym seam) (some_mapped _ (position (λ e. same_child_name e x) before) (found (λ e. same_child_name e x) front k mid named)))
+    (subst (λ ys. clash_by ys (Some x) ≡ true) (sym seam) (some_mapped _ (position (λ e. same_child_name e x) before) (found (λ e. same_child_name e x) prefix k mid named)))
 
-fresh_behind : (front mid : List Child) (k : Child) (ks : List Child) → IsClashFree ((front ++ k ∷ mid) ++ ks) → IsFresh k.name ks
-fresh_behind front mid k [] free = tt
-fresh_behind front mid k (x ∷ xs) free =
-    let moved : (front ++ k ∷ mid) ++ x ∷ xs ≡ (front ++ k ∷ (mid ++ x ∷ [])) ++ xs = simp append_assoc in (
-      (λ e. free (length (front ++ k ∷ mid)) (clash_at front mid k x xs e)),
-      fresh_behind front (mid ++ x ∷ []) k xs (subst IsClashFree moved free),
+fresh_behind : (prefix mid : List Child) (k : Child) (ks : List Child) → IsClashFree ((prefix ++ k ∷ mid) ++ ks) → IsFresh k.name ks
+fresh_behind prefix mid k [] free = tt
+fresh_behind prefix mid k (x ∷ xs) free =
+    let moved : (prefix ++ k ∷ mid) ++ x ∷ xs ≡ (prefix ++ k ∷ (mid ++ x ∷ [])) ++ xs = simp append_assoc in (
+      (λ e. free (length (prefix ++ k ∷ mid)) (clash_at prefix mid k x xs e)),
+      fresh_behind prefix (mid ++ x ∷ []) k xs (subst IsClashFree moved free),
     )
 
-apart_behind : (front ks : List Child) → IsClashFree (front ++ ks) → AreApart ks
-apart_behind front [] free = tt
-apart_behind front (k ∷ ks) free =
-    let moved : front ++ k ∷ ks ≡ (front ++ k ∷ []) ++ ks = simp append_assoc in
-    (fresh_behind front [] k ks (subst IsClashFree moved free), apart_behind (front ++ k ∷ []) ks (subst IsClashFree moved free))
+apart_behind : (prefix ks : List Child) → IsClashFree (prefix ++ ks) → AreApart ks
+apart_behind prefix [] free = tt
+apart_behind prefix (k ∷ ks) free =
+    let moved : prefix ++ k ∷ ks ≡ (prefix ++ k ∷ []) ++ ks = simp append_assoc in
+    (fresh_behind prefix [] k ks (subst IsClashFree moved free), apart_behind (prefix ++ k ∷ []) ks (subst IsClashFree moved free))
 
 pub valid_apart : (d : Decl) → IsValid d → AreApart d.children
 valid_apart d valid =

@@ -5,7 +5,7 @@ use Rattle.std.specs.Str.{IsUtf8, IsCharBoundary}
 use Rattle.std.proofs.lemmas.Str.{IsCharBoundary-from_rest}
 use Rattle.std.proofs.lemmas.List.{length-append, drop-drop, length-drop, drop_all}
 use Rattle.cm_text.specs.Token.{Token, Piece, token, space, line_comment, block_comment, piece_bytes, piece_token}
-use Rattle.cm_text.specs.Split.{is_token, is_piece, IsFaultOf}
+use Rattle.cm_text.specs.Split.{is_token, is_piece, IsTextFault}
 use Rattle.cm_text.specs.Pieces.{First, stray, unclosed, piece, first_piece, piece_then, with_piece, pieces, tokens_result, tokens_from, tokens}
 use Rattle.cm_text.specs.Json.{json_of, json_result, json_of_tokens}
 use Rattle.cm_text.specs.Facts.{IsJsonOf}
@@ -173,9 +173,9 @@ json_by_tokens text json (Err f) e h = absurd (grind (arith, rules))
 pub is_json : (text json : List ℕ) → json_of text ≡ made json → IsJsonOf text json
 is_json text json h = json_by_tokens text json (tokens text) refl h
 
-fault_by_tokens : (text : List ℕ) (e : TextFault) (r : Result (List Token) TextFault) → tokens text ≡ r → json_result r ≡ unmade e → IsFaultOf text e
+fault_by_tokens : (text : List ℕ) (e : TextFault) (r : Result (List Token) TextFault) → tokens text ≡ r → json_result r ≡ unmade e → IsTextFault text e
 fault_by_tokens text e (Ok ts) g h = absurd (grind (arith, rules))
-fault_by_tokens text e (Err f) g h = let same : f ≡ e = ap (λ r. elim r as (λ _. TextFault) [ Ok x ↦ e | Err x ↦ x ]) h in subst (IsFaultOf text) same (computed_fault text f g)
+fault_by_tokens text e (Err f) g h = let same : f ≡ e = ap (λ r. elim r as (λ _. TextFault) [ Ok x ↦ e | Err x ↦ x ]) h in subst (IsTextFault text) same (computed_fault text f g)
 
-pub is_fault : (text : List ℕ) (e : TextFault) → json_of text ≡ unmade e → IsFaultOf text e
+pub is_fault : (text : List ℕ) (e : TextFault) → json_of text ≡ unmade e → IsTextFault text e
 is_fault text e h = fault_by_tokens text e (tokens text) refl h

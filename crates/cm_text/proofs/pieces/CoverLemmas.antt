@@ -1,8 +1,9 @@
 -- Each text has tokens or a fault, and what is computed is what stands there.
 use Rattle.std.proofs.Common.{◌≡◌, ℕ, zero, suc, ◌+◌, ◌<◌, ◌≤◌, List, [], ◌∷◌, ◌++◌, length, true, Result, Ok, Err, refl, sym, ap, ◌∙◌, arith, rules, inl, inr, ◌⊎◌, subst}
 use Rattle.std.proofs.lemmas.List.{append_assoc, length-append}
-use Rattle.cm_text.specs.Token.{Token, mark, quoted, word, Piece, token, space, line_comment, block_comment, piece_bytes, bytes_of, tokens_of}
-use Rattle.cm_text.specs.Split.{is_piece, may_follow, Begins, AreTokensOf, IsFaultOf}
+use Rattle.cm_text.specs.Token.{Token, mark, quoted, word, Piece, token, space, line_comment, block_comment, piece_bytes, tokens_of}
+use Rattle.cm_text.specs.TokenInside.{bytes_of}
+use Rattle.cm_text.specs.Split.{is_piece, may_follow, SplitsInto, AreTokensOf, IsTextFault}
 use Rattle.cm_text.specs.Pieces.{First, stray, unclosed, piece, first_piece, tokens}
 use Rattle.cm_text.specs.Facts.{TextsAreCovered, FaultsAreUnique, TokensExcludeFaults}
 use Rattle.cm_text.specs.declared.fault.TextFault.{TextFault}
@@ -22,19 +23,19 @@ piece_is_long (line_comment bs) h = omega arith
 piece_is_long (block_comment bs) h = omega arith
 
 -- what a text's rest begins with, the text begins with behind its first piece
-begins_more : (p : Piece) (text rest : List ℕ) (ps : List Piece) (s : Stands p text) → Begins s.rest ps rest → Begins text (p ∷ ps) rest
+begins_more : (p : Piece) (text rest : List ℕ) (ps : List Piece) (s : Stands p text) → SplitsInto s.rest ps rest → SplitsInto text (p ∷ ps) rest
 begins_more p text rest ps s b = record {
   bytes = append_assoc (piece_bytes p) (bytes_of ps) rest ∙ ap (λ xs. piece_bytes p ++ xs) b.bytes ∙ sym s.bytes;
   pieces = rw s.piece (rw (ap (may_follow p) b.bytes ∙ s.follows) b.pieces);
 }
 
 abbrev pub Covered : List ℕ → Type 0
-Covered text = ((ts : List Token) × AreTokensOf text ts) ⊎ ((e : TextFault) × IsFaultOf text e)
+Covered text = ((ts : List Token) × AreTokensOf text ts) ⊎ ((e : TextFault) × IsTextFault text e)
 
 longer : (p : Piece) (ps : List Piece) (at : ℕ) → at ≡ length (bytes_of ps) → length (piece_bytes p) + at ≡ length (bytes_of (p ∷ ps))
 longer p ps at h = ap (λ n. length (piece_bytes p) + n) h ∙ sym (length-append (piece_bytes p) (bytes_of ps))
 
-fault_more : (p : Piece) (text : List ℕ) (s : Stands p text) (e : TextFault) → IsFaultOf s.rest e → (f : TextFault) × IsFaultOf text f
+fault_more : (p : Piece) (text : List ℕ) (s : Stands p text) (e : TextFault) → IsTextFault s.rest e → (f : TextFault) × IsTextFault text f
 fault_more p text s (BadToken at) h = (BadToken (length (piece_bytes p) + at), (p ∷ h.0, h.1, begins_more p text h.1 h.0 s h.2, longer p h.0 at h.3, h.4))
 fault_more p text s (Unclosed at) h = (Unclosed (length (piece_bytes p) + at), (p ∷ h.0, h.1, begins_more p text h.1 h.0 s h.2, longer p h.0 at h.3, h.4))
 fault_more p text s OutOfMemory h = absurd h
@@ -78,13 +79,13 @@ tokens_by_cover text ts (inr f) h = absurd (let e = sym (faults_are_computed tex
 pub computed_tokens : (text : List ℕ) (ts : List Token) → tokens text ≡ ok ts → AreTokensOf text ts
 computed_tokens text ts h = tokens_by_cover text ts (are_covered text) h
 
-fault_by_cover : (text : List ℕ) (e : TextFault) → Covered text → tokens text ≡ err e → IsFaultOf text e
+fault_by_cover : (text : List ℕ) (e : TextFault) → Covered text → tokens text ≡ err e → IsTextFault text e
 fault_by_cover text e (inl t) h = absurd (let g = sym (are_computed text t.0 t.1) ∙ h in grind (arith, rules))
 fault_by_cover text e (inr f) h =
     let same : f.0 ≡ e = ap (λ r. elim r as (λ _. TextFault) [ Ok us ↦ e | Err g ↦ g ]) (sym (faults_are_computed text f.0 f.1) ∙ h) in
-    subst (λ g. IsFaultOf text g) same f.1
+    subst (λ g. IsTextFault text g) same f.1
 
-pub computed_fault : (text : List ℕ) (e : TextFault) → tokens text ≡ err e → IsFaultOf text e
+pub computed_fault : (text : List ℕ) (e : TextFault) → tokens text ≡ err e → IsTextFault text e
 computed_fault text e h = fault_by_cover text e (are_covered text) h
 
 -- ---- one fault at most

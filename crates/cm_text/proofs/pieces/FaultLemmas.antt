@@ -3,8 +3,9 @@ use Rattle.std.proofs.Common.{◌≡◌, ℕ, ◌+◌, List, [], ◌∷◌, ◌+
 use Rattle.std.proofs.lemmas.Option.{none-some}
 use Rattle.std.specs.List.{list_all, flat_map}
 use Rattle.cm_text.specs.Bytes.{is_mark, is_space, is_quote, is_word_byte, begins_with}
-use Rattle.cm_text.specs.Token.{Char, plain, taken, Piece, char_bytes, bytes_of}
-use Rattle.cm_text.specs.Split.{is_char, has_end, Begins, NeverCloses, NeverEnds, BeginsNothing, begins_nothing}
+use Rattle.cm_text.specs.Token.{Char, plain, taken, Piece, char_bytes}
+use Rattle.cm_text.specs.TokenInside.{bytes_of}
+use Rattle.cm_text.specs.Split.{is_char, has_end, SplitsInto, NeverCloses, NeverEnds, BeginsNothing, begins_nothing}
 use Rattle.cm_text.specs.Pieces.{chars, comment, stray, unclosed, string_piece, block_piece, comment_piece, piece_then, first_piece, with_piece, pieces, tokens, tokens_result}
 use Rattle.cm_text.specs.Facts.{FaultsAreComputed}
 use Rattle.cm_text.specs.declared.fault.TextFault.{TextFault}
@@ -138,7 +139,7 @@ at_unclosed [] at h = absurd h
 at_unclosed (b ∷ bs) at (inl h) = then_unclosed b bs at (at_string b bs h.0 h.1)
 at_unclosed (b ∷ bs) at (inr h) = ap (pieces 0 at) h.1 ∙ then_unclosed 47 (42 ∷ h.0) at (at_comment h.0 (not_true (has_end h.0) h.2))
 
-found_fault : (text rest : List ℕ) (ps : List Piece) (e : TextFault) → Begins text ps rest → pieces 0 (length (bytes_of ps)) rest ≡ Err e → tokens text ≡ Err e
+found_fault : (text rest : List ℕ) (ps : List Piece) (e : TextFault) → SplitsInto text ps rest → pieces 0 (length (bytes_of ps)) rest ≡ Err e → tokens text ≡ Err e
 found_fault text rest ps e h f =
     ap tokens_result (ap (pieces 0 0) (sym h.bytes) ∙ first_ones ps rest 0 h.pieces ∙ ap (with_pieces ps) (ap (λ n. pieces 0 n rest) (omega arith) ∙ f) ∙ with_fault ps e)
 

@@ -3,7 +3,8 @@ use Rattle.std.proofs.Common.{◌≡◌, ℕ, ◌+◌, ◌-◌, List, [], ◌∷
 use Rattle.std.specs.List.{list_all, flat_map}
 use Rattle.std.proofs.lemmas.List.{append_assoc, length-append}
 use Rattle.cm_text.specs.Bytes.{is_quote, is_word_byte, is_in_line, begins_with, closes_comment}
-use Rattle.cm_text.specs.Token.{Char, plain, taken, Token, mark, quoted, word, Piece, token, space, line_comment, block_comment, char_bytes, piece_bytes, bytes_of}
+use Rattle.cm_text.specs.Token.{Char, plain, taken, Token, mark, quoted, word, Piece, token, space, line_comment, block_comment, char_bytes, piece_bytes}
+use Rattle.cm_text.specs.TokenInside.{bytes_of}
 use Rattle.cm_text.specs.Split.{is_char, has_end, is_piece, may_follow, are_pieces}
 use Rattle.cm_text.specs.Pieces.{chars, comment, piece, first_piece, with_piece, pieces, tokens_result}
 use Rattle.cm_text.specs.Facts.{TokensAreUnique, TokensAreComputed}
@@ -96,7 +97,7 @@ first_one (block_comment bs) rest at h f =
     let found : comment ((bs ++ 42 ∷ 47 ∷ []) ++ rest) ≡ Some bs = ap comment (append_assoc bs (42 ∷ 47 ∷ []) rest) ∙ comment_of bs rest (not_true (has_end (bs ++ 42 ∷ [])) h) in
     one_piece 47 (42 ∷ (bs ++ 42 ∷ 47 ∷ [])) rest (block_comment bs) at refl (rw found refl)
 
--- the pieces in front of a rest are computed first
+-- the pieces before a rest are computed first
 abbrev pub with_pieces : List Piece → Result (List Piece) TextFault → Result (List Piece) TextFault
 with_pieces [] r = r
 with_pieces (p ∷ ps) r = with_piece p (with_pieces ps r)

@@ -7,7 +7,8 @@ use Rattle.std.proofs.Common.{Less, Equal, Greater}
 use Rattle.std.proofs.lemmas.Bool.{ltb-true, le-ltb, ltb-false}
 use Rattle.std.proofs.lemmas.Bool.{and_from, or_right}
 use Rattle.cm_world.specs.declared.row.Row.{Row}
-use Rattle.cm_world.specs.Rows.{row_of, has_parent, is_behind}
+use Rattle.cm_world.specs.Rows.{row_of, has_parent}
+use Rattle.cm_world.specs.RowsInside.{is_behind}
 use Rattle.cm_world.specs.Sound.{IsOrderly}
 use Rattle.cm_world.proofs.trees.Finding.{none_some, row_of-inc}
 use Rattle.cm_walk.specs.Ahead.{is_child}
@@ -69,7 +70,7 @@ same_behind rows next p j q after false true orderly n apart child behind above 
     sym behind ∙ behind_more after j q n.later (ltb-true j q above)
 same_behind rows next p j q after true false orderly n apart child behind above =
     let kid : (s : Row) × (row_of rows q ≡ Some s) × ((has_parent p s && is_behind after s.inc) ≡ true) = child_found rows p q after child behind in
-    let least : n.row.inc ≤ q = find_least (λ r. has_parent p r && is_behind after r.inc) rows next q n.row kid.0 orderly.rising n.found kid.1 kid.2 in
+    let least : n.row.inc ≤ q = find_least (λ r. has_parent p r && is_behind after r.inc) rows next q n.row kid.0 orderly.increasing n.found kid.1 kid.2 in
     let own : n.row.inc ≡ j = n.inc in
     let low : q ≤ j = ltb-false j q above in
     absurd (apart (omega arith))

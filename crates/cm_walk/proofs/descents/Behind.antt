@@ -5,8 +5,9 @@ use Rattle.std.specs.Cmp.{unsigned_Decides}
 use Rattle.std.proofs.lemmas.Bool.{lt-ltb, le-ltb, ltb-true}
 use Rattle.cm_decl.proofs.Sameness.{and_first, and_second}
 use Rattle.cm_world.specs.declared.row.Row.{Row}
-use Rattle.cm_world.specs.Rows.{row_of, is_behind}
-use Rattle.cm_world.specs.Sound.{IsRising, IsOrderly}
+use Rattle.cm_world.specs.Rows.{row_of}
+use Rattle.cm_world.specs.RowsInside.{is_behind}
+use Rattle.cm_world.specs.Sound.{IncarnationsIncrease, IsOrderly}
 use Rattle.cm_world.proofs.trees.Finding.{none_some, some_same, find-passes}
 use Rattle.cm_world.proofs.trees.Walks.{find-lives}
 
@@ -42,31 +43,31 @@ skipped : {B : Type 0} (b : Bool) (g : Row → Option B) (x : Row) (ys : List Ro
 skipped true g x ys none = ap (λ o. cons_option o (filter_map g ys)) none
 skipped false g x ys none = refl
 
-not_yet : {B : Type 0} (b : Bool) (q : Row → Bool) (g : Row → Option B) (after : Option ℕ) (x : Row) (xs : List Row) (next : ℕ) (r : Row) → IsRising next (x ∷ xs) → filter_map g (cond b (x ∷ behind after xs) (behind after xs)) ≡ filter_map g (behind after xs) → (find q xs ≡ Some r → filter_map g (behind after xs) ≡ option_to_list (g r) ++ filter_map g (behind (Some r.inc) xs)) → find q xs ≡ Some r → filter_map g (cond b (x ∷ behind after xs) (behind after xs)) ≡ option_to_list (g r) ++ filter_map g (behind (Some r.inc) (x ∷ xs))
-not_yet b q g after x xs next r rising skip later e =
-    let lives : row_of xs r.inc ≡ Some r = find-lives q xs next r rising.1 e in
-    let low : x.inc < r.inc = rising.0.1 r.inc (ap is_some lives) in
+not_yet : {B : Type 0} (b : Bool) (q : Row → Bool) (g : Row → Option B) (after : Option ℕ) (x : Row) (xs : List Row) (next : ℕ) (r : Row) → IncarnationsIncrease next (x ∷ xs) → filter_map g (cond b (x ∷ behind after xs) (behind after xs)) ≡ filter_map g (behind after xs) → (find q xs ≡ Some r → filter_map g (behind after xs) ≡ option_to_list (g r) ++ filter_map g (behind (Some r.inc) xs)) → find q xs ≡ Some r → filter_map g (cond b (x ∷ behind after xs) (behind after xs)) ≡ option_to_list (g r) ++ filter_map g (behind (Some r.inc) (x ∷ xs))
+not_yet b q g after x xs next r increasing skip later e =
+    let lives : row_of xs r.inc ≡ Some r = find-lives q xs next r increasing.1 e in
+    let low : x.inc < r.inc = increasing.0.1 r.inc (ap is_some lives) in
     skip ∙ later e ∙ sym (ap (λ t. option_to_list (g r) ++ filter_map g (cond t (x ∷ behind (Some r.inc) xs) (behind (Some r.inc) xs))) (le-ltb r.inc x.inc (omega arith)))
 
-here_is : {B : Type 0} (g : Row → Option B) (after : Option ℕ) (x : Row) (xs : List Row) (next : ℕ) → IsRising next (x ∷ xs) → is_behind after x.inc ≡ true → filter_map g (x ∷ behind after xs) ≡ option_to_list (g x) ++ filter_map g (behind (Some x.inc) (x ∷ xs))
-here_is g after x xs next rising at =
+here_is : {B : Type 0} (g : Row → Option B) (after : Option ℕ) (x : Row) (xs : List Row) (next : ℕ) → IncarnationsIncrease next (x ∷ xs) → is_behind after x.inc ≡ true → filter_map g (x ∷ behind after xs) ≡ option_to_list (g x) ++ filter_map g (behind (Some x.inc) (x ∷ xs))
+here_is g after x xs next increasing at =
     one_first (g x) (filter_map g (behind after xs))
-    ∙ ap (λ l. option_to_list (g x) ++ filter_map g l) (all_behind after xs (λ s h. behind_more after x.inc s at (rising.0.1 s h)))
+    ∙ ap (λ l. option_to_list (g x) ++ filter_map g l) (all_behind after xs (λ s h. behind_more after x.inc s at (increasing.0.1 s h)))
     ∙ sym (ap (λ l. option_to_list (g x) ++ filter_map g l) (
     ap (λ t. cond t (x ∷ behind (Some x.inc) xs) (behind (Some x.inc) xs)) (le-ltb x.inc x.inc (omega arith))
-    ∙ all_behind (Some x.inc) xs (λ s h. lt-ltb x.inc s (rising.0.1 s h))))
+    ∙ all_behind (Some x.inc) xs (λ s h. lt-ltb x.inc s (increasing.0.1 s h))))
 
-split_at : {B : Type 0} (a b : Bool) (p q : Row → Bool) (g : Row → Option B) (after : Option ℕ) (x : Row) (xs : List Row) (next : ℕ) (r : Row) → p x ≡ a → is_behind after x.inc ≡ b → IsRising next (x ∷ xs) → ((y : Row) → p y ≡ false → g y ≡ None) → (find q xs ≡ Some r → filter_map g (behind after xs) ≡ option_to_list (g r) ++ filter_map g (behind (Some r.inc) xs)) → cond (a && b) (Some x) (find q xs) ≡ Some r → filter_map g (cond b (x ∷ behind after xs) (behind after xs)) ≡ option_to_list (g r) ++ filter_map g (behind (Some r.inc) (x ∷ xs))
-split_at true true p q g after x xs next r pass at rising none later e =
-    subst (λ y. filter_map g (x ∷ behind after xs) ≡ option_to_list (g y) ++ filter_map g (behind (Some y.inc) (x ∷ xs))) (some_same x r e) (here_is g after x xs next rising at)
-split_at true false p q g after x xs next r pass at rising none later e = not_yet false q g after x xs next r rising refl later e
-split_at false b p q g after x xs next r pass at rising none later e = not_yet b q g after x xs next r rising (skipped b g x (behind after xs) (none x pass)) later e
+split_at : {B : Type 0} (a b : Bool) (p q : Row → Bool) (g : Row → Option B) (after : Option ℕ) (x : Row) (xs : List Row) (next : ℕ) (r : Row) → p x ≡ a → is_behind after x.inc ≡ b → IncarnationsIncrease next (x ∷ xs) → ((y : Row) → p y ≡ false → g y ≡ None) → (find q xs ≡ Some r → filter_map g (behind after xs) ≡ option_to_list (g r) ++ filter_map g (behind (Some r.inc) xs)) → cond (a && b) (Some x) (find q xs) ≡ Some r → filter_map g (cond b (x ∷ behind after xs) (behind after xs)) ≡ option_to_list (g r) ++ filter_map g (behind (Some r.inc) (x ∷ xs))
+split_at true true p q g after x xs next r pass at increasing none later e =
+    subst (λ y. filter_map g (x ∷ behind after xs) ≡ option_to_list (g y) ++ filter_map g (behind (Some y.inc) (x ∷ xs))) (some_same x r e) (here_is g after x xs next increasing at)
+split_at true false p q g after x xs next r pass at increasing none later e = not_yet false q g after x xs next r increasing refl later e
+split_at false b p q g after x xs next r pass at increasing none later e = not_yet b q g after x xs next r increasing (skipped b g x (behind after xs) (none x pass)) later e
 
 -- what is taken of the rows behind one: of the next that passes, and of the rows behind that
-next_splits : {B : Type 0} (p : Row → Bool) (g : Row → Option B) (after : Option ℕ) (rows : List Row) (next : ℕ) (r : Row) → IsRising next rows → ((y : Row) → p y ≡ false → g y ≡ None) → find (λ y. p y && is_behind after y.inc) rows ≡ Some r → filter_map g (behind after rows) ≡ option_to_list (g r) ++ filter_map g (behind (Some r.inc) rows)
-next_splits p g after [] next r rising none e = absurd (none_some r e)
-next_splits p g after (x ∷ xs) next r rising none e =
-    split_at (p x) (is_behind after x.inc) p (λ y. p y && is_behind after y.inc) g after x xs next r refl refl rising none (next_splits p g after xs next r rising.1 none) e
+next_splits : {B : Type 0} (p : Row → Bool) (g : Row → Option B) (after : Option ℕ) (rows : List Row) (next : ℕ) (r : Row) → IncarnationsIncrease next rows → ((y : Row) → p y ≡ false → g y ≡ None) → find (λ y. p y && is_behind after y.inc) rows ≡ Some r → filter_map g (behind after rows) ≡ option_to_list (g r) ++ filter_map g (behind (Some r.inc) rows)
+next_splits p g after [] next r increasing none e = absurd (none_some r e)
+next_splits p g after (x ∷ xs) next r increasing none e =
+    split_at (p x) (is_behind after x.inc) p (λ y. p y && is_behind after y.inc) g after x xs next r refl refl increasing none (next_splits p g after xs next r increasing.1 none) e
 
 none_at : {B : Type 0} (a b : Bool) (p : Row → Bool) (g : Row → Option B) (x : Row) (ys : List Row) (o : Option Row) → p x ≡ a → ((y : Row) → p y ≡ false → g y ≡ None) → (o ≡ None → filter_map g ys ≡ []) → cond (a && b) (Some x) o ≡ None → filter_map g (cond b (x ∷ ys) ys) ≡ []
 none_at true true p g x ys o pass none later e = absurd (none_some x (sym e))
@@ -94,19 +95,19 @@ pub record IsNext (p : Row → Bool) (after : Option ℕ) (rows : List Row) (j :
   pub passes : p row ≡ true
   pub later : is_behind after j ≡ true
 
-row_by : (p : Row → Bool) (after : Option ℕ) (rows : List Row) (next j : ℕ) (o : Option Row) → IsRising next rows → find (λ r. p r && is_behind after r.inc) rows ≡ o → option_map (λ r. r.inc) o ≡ Some j → IsNext p after rows j
-row_by p after rows next j None rising f e = absurd (none_some j e)
-row_by p after rows next j (Some r) rising f e = record {
+row_by : (p : Row → Bool) (after : Option ℕ) (rows : List Row) (next j : ℕ) (o : Option Row) → IncarnationsIncrease next rows → find (λ r. p r && is_behind after r.inc) rows ≡ o → option_map (λ r. r.inc) o ≡ Some j → IsNext p after rows j
+row_by p after rows next j None increasing f e = absurd (none_some j e)
+row_by p after rows next j (Some r) increasing f e = record {
   row = r;
   found = f;
-  lives = subst (λ i. row_of rows i ≡ Some r) (some_same r.inc j e) (find-lives (λ s. p s && is_behind after s.inc) rows next r rising f);
+  lives = subst (λ i. row_of rows i ≡ Some r) (some_same r.inc j e) (find-lives (λ s. p s && is_behind after s.inc) rows next r increasing f);
   inc = some_same r.inc j e;
   passes = and_first (p r) (is_behind after r.inc) (find-passes (λ s. p s && is_behind after s.inc) rows r f);
   later = subst (λ i. is_behind after i ≡ true) (some_same r.inc j e) (and_second (p r) (is_behind after r.inc) (find-passes (λ s. p s && is_behind after s.inc) rows r f));
 }
 
 pub is_next : (p : Row → Bool) (after : Option ℕ) (rows : List Row) (next j : ℕ) → IsOrderly rows next → next_of p after rows ≡ Some j → IsNext p after rows j
-is_next p after rows next j orderly e = row_by p after rows next j (find (λ r. p r && is_behind after r.inc) rows) orderly.rising refl e
+is_next p after rows next j orderly e = row_by p after rows next j (find (λ r. p r && is_behind after r.inc) rows) orderly.increasing refl e
 
 -- what is seen so far and what is taken of the rows behind are what is taken of all
 pub taken_more : {B : Type 0} (p : Row → Bool) (g : Row → Option B) (rows : List Row) (next j : ℕ) (after : Option ℕ) (seen more : List B) (found : Option B) → IsOrderly rows next → ((y : Row) → p y ≡ false → g y ≡ None) → next_of p after rows ≡ Some j → ((r : Row) → row_of rows j ≡ Some r → p r ≡ true → found ≡ g r) → more ≡ seen ++ option_to_list found → seen ++ filter_map g (behind after rows) ≡ filter_map g rows → more ++ filter_map g (behind (Some j) rows) ≡ filter_map g rows
@@ -115,7 +116,7 @@ taken_more p g rows next j after seen more found orderly none e is pushed so_far
     ap (λ l. l ++ filter_map g (behind (Some j) rows)) (pushed ∙ ap (λ o. seen ++ option_to_list o) (is n.row n.lives n.passes))
     ∙ append_assoc seen (option_to_list (g n.row)) (filter_map g (behind (Some j) rows))
     ∙ ap (λ i. seen ++ (option_to_list (g n.row) ++ filter_map g (behind (Some i) rows))) (sym n.inc)
-    ∙ ap (λ l. seen ++ l) (sym (next_splits p g after rows next n.row orderly.rising none n.found))
+    ∙ ap (λ l. seen ++ l) (sym (next_splits p g after rows next n.row orderly.increasing none n.found))
     ∙ so_far
 
 -- at first nothing is seen
@@ -158,7 +159,7 @@ left_falls p rows next j after orderly e =
     let n : IsNext p after rows j = is_next p after rows next j orderly e in
     let one : if_passes p n.row ≡ Some n.row = ap (λ b. cond b (Some n.row) None) n.passes in
     let split : filter_map (if_passes p) (behind after rows) ≡ n.row ∷ filter_map (if_passes p) (behind (Some j) rows) =
-    next_splits p (if_passes p) after rows next n.row orderly.rising (λ y none. ap (λ b. cond b (Some y) None) none) n.found
+    next_splits p (if_passes p) after rows next n.row orderly.increasing (λ y none. ap (λ b. cond b (Some y) None) none) n.found
     ∙ ap (λ o. option_to_list o ++ filter_map (if_passes p) (behind (Some n.row.inc) rows)) one
     ∙ ap (λ i. n.row ∷ filter_map (if_passes p) (behind (Some i) rows)) n.inc in
     let more : length (filter_map (if_passes p) (behind after rows)) ≡ suc (length (filter_map (if_passes p) (behind (Some j) rows))) = ap length split in

@@ -1,4 +1,4 @@
--- From a row to all below it, by rising incarnations: those that are found so far, and a set of those ahead.
+-- From a row to all below it, by increasing incarnations: those that are found so far, and a set of those ahead.
 use Rattle.std.proofs.Common.{◌≡◌, ℕ, ◌+◌, ◌-◌, ◌<◌, ◌≤◌, List, [], ◌∷◌, ◌++◌, Bool, true, false, cond, ◌&&◌, ◌||◌, ◌==◌, nat_eq, nat_lt, true≢false, Option, Some, None, is_some, IsTrue, find, map, length, option_map, refl, sym, ◌∙◌, ap, subst, inl, inr, ◌⊎◌, arith, length-append}
 use Rattle.std.specs.BTreeSet.{BTreeSet}
 use Rattle.std.specs.Cmp.{unsigned_Decides}
@@ -10,7 +10,8 @@ use Rattle.std.proofs.lemmas.Map.Keys.{le_from_not_gt}
 use Rattle.std.proofs.lemmas.Bool.{or_left, or_right, and_from}
 use Rattle.cm_decl.proofs.Sameness.{and_first, and_second, or_split}
 use Rattle.cm_world.specs.declared.row.Row.{Row}
-use Rattle.cm_world.specs.Rows.{row_of, is_live, has_parent, is_below, is_behind, subtree}
+use Rattle.cm_world.specs.Rows.{row_of, is_live, has_parent, is_below, subtree}
+use Rattle.cm_world.specs.RowsInside.{is_behind}
 use Rattle.cm_world.specs.Sound.{IsOrderly, IsParent}
 use Rattle.cm_world.proofs.trees.Finding.{row_of-inc, find-passes}
 use Rattle.cm_walk.specs.Ahead.{is_in_set, is_child}
@@ -83,7 +84,7 @@ first_there rows next top after ahead r orderly frontier found =
       | inr u ↦
           let parent : IsParent rows u.up r.inc = (orderly.parents r.inc u.up u.row u.lives u.parent).0 in
           let lower : u.up < r.inc = parent.lower in
-          let least : r.inc ≤ u.up = find_least test rows next u.up r parent.row orderly.rising found parent.lives (tested rows top u.up after parent.row parent.lives u.above) in
+          let least : r.inc ≤ u.up = find_least test rows next u.up r parent.row orderly.increasing found parent.lives (tested rows top u.up after parent.row parent.lives u.above) in
           absurd (omega arith)
     ]
 
@@ -95,7 +96,7 @@ next_popped rows next top j after ahead orderly frontier member first =
     let lives : (s : Row) × (row_of rows j ≡ Some s) = below_lives rows top j it.below in
     let passes : IsTrue (test lives.0) = tested rows top j after lives.0 lives.1 it in
     let found : (r : Row) × (find test rows ≡ Some r) = find_some test rows j lives.0 lives.1 passes in
-    let low : found.0.inc ≤ j = find_least test rows next j found.0 lives.0 orderly.rising found.1 lives.1 passes in
+    let low : found.0.inc ≤ j = find_least test rows next j found.0 lives.0 orderly.increasing found.1 lives.1 passes in
     let high : j ≤ found.0.inc = le_from_not_gt j found.0.inc (first found.0.inc (first_there rows next top after ahead found.0 orderly frontier found.1)) in
     let same : found.0.inc ≡ j = omega arith in
     ap (option_map (λ r. r.inc)) found.1 ∙ ap Some same
@@ -168,7 +169,7 @@ ahead_more rows next top j after ahead rest more orderly frontier member first p
   least i u =
       let n : IsNext (is_in rows top) after rows j = is_next (is_in rows top) after rows next j orderly (next_popped rows next top j after ahead orderly frontier member first) in
       let parent : IsParent rows u.up i = (orderly.parents i u.up u.row u.lives u.parent).0 in
-      let low : n.row.inc ≤ u.up = find_least (λ s. is_in rows top s && is_behind after s.inc) rows next u.up n.row parent.row orderly.rising n.found parent.lives (tested rows top u.up after parent.row parent.lives u.above) in
+      let low : n.row.inc ≤ u.up = find_least (λ s. is_in rows top s && is_behind after s.inc) rows next u.up n.row parent.row orderly.increasing n.found parent.lives (tested rows top u.up after parent.row parent.lives u.above) in
       let own : n.row.inc ≡ j = n.inc in
       omega arith
 

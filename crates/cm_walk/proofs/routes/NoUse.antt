@@ -15,7 +15,7 @@ use Rattle.cm_world.specs.declared.route.Start.TheVariants.{UseAt, ExposeAt, Off
 use Rattle.cm_world.specs.declared.route.Walked.{Walked}
 use Rattle.cm_world.specs.declared.route.Walked.TheVariants.{Failed, NoSuchUse}
 use Rattle.cm_world.specs.Stations.{Station, use_station, offer_station, expose_station}
-use Rattle.cm_world.specs.Next.{Next, To, Ends, Needs, FromVoid, NoChild, Misses, next_of}
+use Rattle.cm_world.specs.NextStation.{NextStation, To, Ends, Needs, FromVoid, NoChild, Misses, next_of}
 use Rattle.cm_world.specs.Route.{Named, First, NoUse, NoneExposed, IsDecided, IsWalkedFrom, trial_by, said_by, weak_availability, weak_rights, unless_fitting, unless_within, is_offer_or_expose, standing, asked_rights}
 use Rattle.cm_world.proofs.trees.Finding.{none_some}
 use Rattle.cm_walk.specs.Laws.{SaysNoUse}
@@ -48,23 +48,23 @@ within_other hop (Some asked) None = refl
 within_other hop None b = refl
 
 -- nothing that is decided at a station says so
-weak_other : (front : List Station) (s : Station) (o : Option Walked) → says o ≡ false → says (or_else (weak_availability front s) (or_else (weak_rights front s) o)) ≡ false
-weak_other front s o x =
-    or_other (weak_availability front s) (or_else (weak_rights front s) o) (if_other (is_offer_or_expose s.hop.step) _ (fitting_other s.hop (standing front) (standing (front ++ s ∷ []))))
-    (or_other (weak_rights front s) o (within_other s.hop (asked_rights (front ++ s ∷ [])) s.hop.rights) x)
+weak_other : (prefix : List Station) (s : Station) (o : Option Walked) → says o ≡ false → says (or_else (weak_availability prefix s) (or_else (weak_rights prefix s) o)) ≡ false
+weak_other prefix s o x =
+    or_other (weak_availability prefix s) (or_else (weak_rights prefix s) o) (if_other (is_offer_or_expose s.hop.step) _ (fitting_other s.hop (standing prefix) (standing (prefix ++ s ∷ []))))
+    (or_other (weak_rights prefix s) o (within_other s.hop (asked_rights (prefix ++ s ∷ [])) s.hop.rights) x)
 
-trial_other : (front : List Station) (s : Station) (n : Next) → says (trial_by front s n) ≡ false
-trial_other front s NoChild = refl
-trial_other front s (To t) = weak_other front s (said_by front s (To t)) refl
-trial_other front s Ends = weak_other front s (said_by front s Ends) refl
-trial_other front s (Needs j) = weak_other front s (said_by front s (Needs j)) refl
-trial_other front s FromVoid = weak_other front s (said_by front s FromVoid) refl
-trial_other front s (Misses hop why) = weak_other front s (said_by front s (Misses hop why)) refl
+trial_other : (prefix : List Station) (s : Station) (n : NextStation) → says (trial_by prefix s n) ≡ false
+trial_other prefix s NoChild = refl
+trial_other prefix s (To t) = weak_other prefix s (said_by prefix s (To t)) refl
+trial_other prefix s Ends = weak_other prefix s (said_by prefix s Ends) refl
+trial_other prefix s (Needs j) = weak_other prefix s (said_by prefix s (Needs j)) refl
+trial_other prefix s FromVoid = weak_other prefix s (said_by prefix s FromVoid) refl
+trial_other prefix s (Misses hop why) = weak_other prefix s (said_by prefix s (Misses hop why)) refl
 
-never_decided : (rows : List Row) (builtins : List Builtin) (front : List Station) (s : Station) (rest : List Station) → IsDecided rows builtins front s rest NoSuchUse → ⊥
-never_decided rows builtins front s [] decided =
-    true≢false (sym (ap says decided) ∙ trial_other front s (next_of rows builtins s))
-never_decided rows builtins front s (t ∷ ts) decided = never_decided rows builtins (front ++ s ∷ []) t ts decided.1
+never_decided : (rows : List Row) (builtins : List Builtin) (prefix : List Station) (s : Station) (rest : List Station) → IsDecided rows builtins prefix s rest NoSuchUse → ⊥
+never_decided rows builtins prefix s [] decided =
+    true≢false (sym (ap says decided) ∙ trial_other prefix s (next_of rows builtins s))
+never_decided rows builtins prefix s (t ∷ ts) decided = never_decided rows builtins (prefix ++ s ∷ []) t ts decided.1
 
 use_by : (rows : List Row) (builtins : List Builtin) (i : ℕ) (v : Walked) (o : Option Usage) → IsWalkedFrom rows builtins (elim o as (λ _. Named) [ None ↦ NoUse | Some u ↦ First (use_station rows i u) ]) v → (v ≡ NoSuchUse) ↔ (o ≡ None)
 use_by rows builtins i v None walked = (λ e. refl, λ e. walked)

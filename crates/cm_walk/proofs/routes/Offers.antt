@@ -10,7 +10,7 @@ use Rattle.cm_decl.specs.declared.decl.Decl.{Decl}
 use Rattle.cm_decl.specs.declared.kind.Kind.{Kind}
 use Rattle.cm_world.specs.declared.row.Row.{Row}
 use Rattle.cm_world.specs.Rows.{row_of, decl_of}
-use Rattle.cm_world.specs.Next.{is_offer_to, offer_of}
+use Rattle.cm_world.specs.NextStation.{is_offer_to, offer_of}
 use Rattle.cm_world.specs.Offering.{offer_index, index_for, told_index, offer_for, offer_at}
 use Rattle.cm_world.proofs.trees.Finding.{some_same, none_some}
 

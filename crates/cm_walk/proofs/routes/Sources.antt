@@ -9,9 +9,10 @@ use Rattle.cm_world.specs.declared.frame.Builtin.{Builtin}
 use Rattle.cm_world.specs.declared.route.Hop.{Hop}
 use Rattle.cm_world.specs.declared.route.StepKind.TheVariants.{OfferHop}
 use Rattle.cm_world.specs.declared.route.Why.TheVariants.{NoOffer}
-use Rattle.cm_world.specs.Rows.{row_of, decl_of, facts_of}
+use Rattle.cm_world.specs.Rows.{row_of, decl_of}
+use Rattle.cm_world.specs.RowsInside.{facts_of}
 use Rattle.cm_world.specs.Stations.{Station, offer_station, bare_hop}
-use Rattle.cm_world.specs.Next.{To, Misses, by_builtin, builtin_of, next_above, from_above, offered, offered_by, by_offer}
+use Rattle.cm_world.specs.NextStation.{To, Misses, by_builtin, builtin_of, next_above, from_above, offered, offered_by, by_offer}
 use Rattle.cm_world.proofs.trees.Finding.{some_same, none_some, row_of-inc}
 
 -- an offer of a parent with this declaration

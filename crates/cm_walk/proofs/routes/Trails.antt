@@ -48,12 +48,12 @@ last-more : {Y : Type 0} (xs : List Y) (o : Option Y) → slice_get (reverse (xs
 last-more xs None = ap (λ ys. slice_get (reverse ys) 0) (append-nil xs)
 last-more xs (Some y) = ap (λ ys. slice_get ys 0) (reverse-append xs (y ∷ []))
 
-pub standing-more : (front : List Station) (s : Station) → standing (front ++ s ∷ []) ≡ standing_by (standing front) s.hop.availability
-standing-more front s =
-    ap (λ ys. slice_get (reverse ys) 0) (filter_map-append (λ t. option_and_then stated_itself t.hop.availability) front (s ∷ []))
-    ∙ last-more (filter_map (λ t. option_and_then stated_itself t.hop.availability) front) (option_and_then stated_itself s.hop.availability)
+pub standing-more : (prefix : List Station) (s : Station) → standing (prefix ++ s ∷ []) ≡ standing_by (standing prefix) s.hop.availability
+standing-more prefix s =
+    ap (λ ys. slice_get (reverse ys) 0) (filter_map-append (λ t. option_and_then stated_itself t.hop.availability) prefix (s ∷ []))
+    ∙ last-more (filter_map (λ t. option_and_then stated_itself t.hop.availability) prefix) (option_and_then stated_itself s.hop.availability)
 
-begins-more : (front : List Station) (s t : Station) → begins_with_use ((front ++ s ∷ []) ++ t ∷ []) ≡ begins_with_use (front ++ s ∷ [])
+begins-more : (prefix : List Station) (s t : Station) → begins_with_use ((prefix ++ s ∷ []) ++ t ∷ []) ≡ begins_with_use (prefix ++ s ∷ [])
 begins-more [] s t = refl
 begins-more (x ∷ xs) s t = refl
 
@@ -70,58 +70,58 @@ asked_of : (xs : List Station) (x t : Station) → asked_rights ((x ∷ xs) ++ t
 asked_of xs x t =
     asked_by (is_use x.hop.step) x.hop.rights (first_rights (x ∷ xs)) (first_rights ((x ∷ xs) ++ t ∷ [])) t.hop.rights (first-more (x ∷ xs) t)
 
-asked-more : (front : List Station) (s t : Station) → asked_rights ((front ++ s ∷ []) ++ t ∷ []) ≡ (if begins_with_use (front ++ s ∷ []) then asked_rights (front ++ s ∷ []) else or_else (asked_rights (front ++ s ∷ [])) t.hop.rights)
+asked-more : (prefix : List Station) (s t : Station) → asked_rights ((prefix ++ s ∷ []) ++ t ∷ []) ≡ (if begins_with_use (prefix ++ s ∷ []) then asked_rights (prefix ++ s ∷ []) else or_else (asked_rights (prefix ++ s ∷ [])) t.hop.rights)
 asked-more [] s t = asked_of [] s t
 asked-more (x ∷ xs) s t = asked_of (xs ++ s ∷ []) x t
 
 -- the trail with one station more at its end
-pub IsBehind-more : (front : List Station) (s u : Station) (next : Hop) (t made : Trail) → IsBehind front s t → u.hop ≡ next → made.hops ≡ t.hops ++ s.hop ∷ [] → made.subdirs ≡ t.subdirs ++ option_to_list s.subdir → made.availability ≡ standing_by t.availability s.hop.availability → made.from_use ≡ t.from_use → made.asked ≡ (if t.from_use then t.asked else or_else t.asked next.rights) → IsBehind (front ++ s ∷ []) u made
-IsBehind-more front s u next t made behind same hops subdirs availability from_use asked = record {
-  hops = hops ∙ ap (λ xs. xs ++ s.hop ∷ []) behind.hops ∙ sym (map-append (λ x. x.hop) front (s ∷ []));
+pub IsBehind-more : (prefix : List Station) (s u : Station) (next : Hop) (t made : Trail) → IsBehind prefix s t → u.hop ≡ next → made.hops ≡ t.hops ++ s.hop ∷ [] → made.subdirs ≡ t.subdirs ++ option_to_list s.subdir → made.availability ≡ standing_by t.availability s.hop.availability → made.from_use ≡ t.from_use → made.asked ≡ (if t.from_use then t.asked else or_else t.asked next.rights) → IsBehind (prefix ++ s ∷ []) u made
+IsBehind-more prefix s u next t made behind same hops subdirs availability from_use asked = record {
+  hops = hops ∙ ap (λ xs. xs ++ s.hop ∷ []) behind.hops ∙ sym (map-append (λ x. x.hop) prefix (s ∷ []));
   subdirs =
       subdirs
       ∙ ap (λ xs. xs ++ option_to_list s.subdir) behind.subdirs
-      ∙ sym (filter_map-append (λ x. x.subdir) front (s ∷ []) ∙ ap (λ ys. filter_map (λ x. x.subdir) front ++ ys) (one_option s.subdir));
-  availability = availability ∙ ap (λ a. standing_by a s.hop.availability) behind.availability ∙ sym (standing-more front s);
-  from_use = from_use ∙ behind.from_use ∙ sym (begins-more front s u);
+      ∙ sym (filter_map-append (λ x. x.subdir) prefix (s ∷ []) ∙ ap (λ ys. filter_map (λ x. x.subdir) prefix ++ ys) (one_option s.subdir));
+  availability = availability ∙ ap (λ a. standing_by a s.hop.availability) behind.availability ∙ sym (standing-more prefix s);
+  from_use = from_use ∙ behind.from_use ∙ sym (begins-more prefix s u);
   asked =
       asked
       ∙ ap (λ h. if t.from_use then t.asked else or_else t.asked h.rights) (sym same)
       ∙ ap (λ at_use. if at_use then t.asked else or_else t.asked u.hop.rights) behind.from_use
-      ∙ ap (λ a. if begins_with_use (front ++ s ∷ []) then a else or_else a u.hop.rights) behind.asked
-      ∙ sym (asked-more front s u);
+      ∙ ap (λ a. if begins_with_use (prefix ++ s ∷ []) then a else or_else a u.hop.rights) behind.asked
+      ∙ sym (asked-more prefix s u);
 }
 
 -- ---- what is judged
 
 -- the availability that stands at the last hop behind
-pub unsure_is : (front : List Station) (s : Station) (hop : Hop) (t : Trail) → s.hop ≡ hop → IsBehind front s t → (if is_offer_or_expose hop.step then unless_fitting hop t.availability (standing_by t.availability hop.availability) else None) ≡ weak_availability front s
-unsure_is front s hop t same behind =
+pub unsure_is : (prefix : List Station) (s : Station) (hop : Hop) (t : Trail) → s.hop ≡ hop → IsBehind prefix s t → (if is_offer_or_expose hop.step then unless_fitting hop t.availability (standing_by t.availability hop.availability) else None) ≡ weak_availability prefix s
+unsure_is prefix s hop t same behind =
     ap (λ h. if is_offer_or_expose h.step then unless_fitting h t.availability (standing_by t.availability h.availability) else None) (sym same)
     ∙ ap (λ a. if is_offer_or_expose s.hop.step then unless_fitting s.hop a (standing_by a s.hop.availability) else None) behind.availability
-    ∙ ap (λ a. if is_offer_or_expose s.hop.step then unless_fitting s.hop (standing front) a else None) (sym (standing-more front s))
+    ∙ ap (λ a. if is_offer_or_expose s.hop.step then unless_fitting s.hop (standing prefix) a else None) (sym (standing-more prefix s))
 
 -- the rights that are asked
-pub narrow_is : (front : List Station) (s : Station) (hop : Hop) (t : Trail) → s.hop ≡ hop → IsBehind front s t → unless_within hop t.asked hop.rights ≡ weak_rights front s
-narrow_is front s hop t same behind =
+pub narrow_is : (prefix : List Station) (s : Station) (hop : Hop) (t : Trail) → s.hop ≡ hop → IsBehind prefix s t → unless_within hop t.asked hop.rights ≡ weak_rights prefix s
+narrow_is prefix s hop t same behind =
     ap (λ h. unless_within h t.asked h.rights) (sym same) ∙ ap (λ a. unless_within s.hop a s.hop.rights) behind.asked
 
 abbrev route_with : List Hop → List ℕ → Option RightSet → Provider → Route
 route_with hops path rights provider = record { hops = hops; path = path; rights = rights; provider = provider }
 
 -- the route that ends at a station
-pub route_is : (front : List Station) (s : Station) (hop : Hop) (path : List ℕ) (t : Trail) (r : Route) → IsBehind front s t → s.hop ≡ hop → s.path ≡ path → r.hops ≡ t.hops ++ hop ∷ [] → r.path ≡ path_at hop.step path (reverse t.subdirs) → r.rights ≡ t.asked → r.provider ≡ provider_of hop → r ≡ route_of front s
-route_is front s hop path t r behind same there hops whole rights provider =
-    let hops_are : r.hops ≡ map (λ x. x.hop) (front ++ s ∷ []) =
-    hops ∙ ap (λ h. t.hops ++ h ∷ []) (sym same) ∙ ap (λ xs. xs ++ s.hop ∷ []) behind.hops ∙ sym (map-append (λ x. x.hop) front (s ∷ [])) in
-    let path_is : r.path ≡ path_of front s =
+pub route_is : (prefix : List Station) (s : Station) (hop : Hop) (path : List ℕ) (t : Trail) (r : Route) → IsBehind prefix s t → s.hop ≡ hop → s.path ≡ path → r.hops ≡ t.hops ++ hop ∷ [] → r.path ≡ path_at hop.step path (reverse t.subdirs) → r.rights ≡ t.asked → r.provider ≡ provider_of hop → r ≡ route_of prefix s
+route_is prefix s hop path t r behind same there hops whole rights provider =
+    let hops_are : r.hops ≡ map (λ x. x.hop) (prefix ++ s ∷ []) =
+    hops ∙ ap (λ h. t.hops ++ h ∷ []) (sym same) ∙ ap (λ xs. xs ++ s.hop ∷ []) behind.hops ∙ sym (map-append (λ x. x.hop) prefix (s ∷ [])) in
+    let path_is : r.path ≡ path_of prefix s =
     whole
     ∙ ap (λ h. path_at h.step path (reverse t.subdirs)) (sym same)
     ∙ ap (λ p. path_at s.hop.step p (reverse t.subdirs)) (sym there)
-    ∙ ap (λ ds. path_at s.hop.step s.path ds) (ap reverse behind.subdirs ∙ sym (filter_map-reverse (λ x. x.subdir) front)) in
-    let rights_are : r.rights ≡ asked_rights (front ++ s ∷ []) = rights ∙ behind.asked in
+    ∙ ap (λ ds. path_at s.hop.step s.path ds) (ap reverse behind.subdirs ∙ sym (filter_map-reverse (λ x. x.subdir) prefix)) in
+    let rights_are : r.rights ≡ asked_rights (prefix ++ s ∷ []) = rights ∙ behind.asked in
     let provider_is : r.provider ≡ provider_of s.hop = provider ∙ ap provider_of (sym same) in
     ap (λ x. route_with x r.path r.rights r.provider) hops_are
-    ∙ ap (λ x. route_with (map (λ x. x.hop) (front ++ s ∷ [])) x r.rights r.provider) path_is
-    ∙ ap (λ x. route_with (map (λ x. x.hop) (front ++ s ∷ [])) (path_of front s) x r.provider) rights_are
-    ∙ ap (λ x. route_with (map (λ x. x.hop) (front ++ s ∷ [])) (path_of front s) (asked_rights (front ++ s ∷ [])) x) provider_is
+    ∙ ap (λ x. route_with (map (λ x. x.hop) (prefix ++ s ∷ [])) x r.rights r.provider) path_is
+    ∙ ap (λ x. route_with (map (λ x. x.hop) (prefix ++ s ∷ [])) (path_of prefix s) x r.provider) rights_are
+    ∙ ap (λ x. route_with (map (λ x. x.hop) (prefix ++ s ∷ [])) (path_of prefix s) (asked_rights (prefix ++ s ∷ [])) x) provider_is

@@ -39,30 +39,30 @@ two_more a b m s k one two far = omega arith
 
 -- ---- what a find replies
 
-missing : (front : List ChildName) (c : ChildName) (cs : List ChildName) (k : ℕ) → length front ≡ k → (n : ℕ) × (told_index n ≡ told_index k) × (n < length (front ++ c ∷ cs)) × (NotFound (record { parts = front }) ≡ NotFound (record { parts = take n (front ++ c ∷ cs) }))
-missing front c cs k len = (
+missing : (prefix : List ChildName) (c : ChildName) (cs : List ChildName) (k : ℕ) → length prefix ≡ k → (n : ℕ) × (told_index n ≡ told_index k) × (n < length (prefix ++ c ∷ cs)) × (NotFound (record { parts = prefix }) ≡ NotFound (record { parts = take n (prefix ++ c ∷ cs) }))
+missing prefix c cs k len = (
   k,
   refl,
-  inside k (length front) (length cs) (length (front ++ c ∷ cs)) len (length-append front (c ∷ cs)),
-  ap (λ l. NotFound (record { parts = l })) (sym (take_at front (c ∷ cs) k len)),
+  inside k (length prefix) (length cs) (length (prefix ++ c ∷ cs)) len (length-append prefix (c ∷ cs)),
+  ap (λ l. NotFound (record { parts = l })) (sym (take_at prefix (c ∷ cs) k len)),
 ) where
   inside : (n f l all : ℕ) → f ≡ n → all ≡ f + suc l → n < all
   inside n f l all a b = omega arith
 
-replies_by : (rows : List Row) (i k : ℕ) (front : List ChildName) (c : ChildName) (cs : List ChildName) → length front ≡ k → ((j : ℕ) → IsFindReply rows (front ++ c ∷ cs) (located_from rows j (k + 1) cs) (found_from rows j (front ++ c ∷ []) cs)) → (b : Bool) (o : Option ℕ) → IsFindReply rows (front ++ c ∷ cs) (if b then elim o as (λ _. Located) [ None ↦ Missing (told_index k) | Some j ↦ located_from rows j (k + 1) cs ] else Unresolved i) (if b then elim o as (λ _. Reply) [ None ↦ NotFound (record { parts = front }) | Some j ↦ found_from rows j (front ++ c ∷ []) cs ] else if is_closed rows i then Shut i else Need i)
-replies_by rows i k front c cs len later false o = refl
-replies_by rows i k front c cs len later true None = missing front c cs k len
-replies_by rows i k front c cs len later true (Some j) = later j
+replies_by : (rows : List Row) (i k : ℕ) (prefix : List ChildName) (c : ChildName) (cs : List ChildName) → length prefix ≡ k → ((j : ℕ) → IsFindReply rows (prefix ++ c ∷ cs) (located_from rows j (k + 1) cs) (found_from rows j (prefix ++ c ∷ []) cs)) → (b : Bool) (o : Option ℕ) → IsFindReply rows (prefix ++ c ∷ cs) (if b then elim o as (λ _. Located) [ None ↦ Missing (told_index k) | Some j ↦ located_from rows j (k + 1) cs ] else Unresolved i) (if b then elim o as (λ _. Reply) [ None ↦ NotFound (record { parts = prefix }) | Some j ↦ found_from rows j (prefix ++ c ∷ []) cs ] else if is_closed rows i then Shut i else Need i)
+replies_by rows i k prefix c cs len later false o = refl
+replies_by rows i k prefix c cs len later true None = missing prefix c cs k len
+replies_by rows i k prefix c cs len later true (Some j) = later j
 
-one_longer : (front : List ChildName) (c : ChildName) (k : ℕ) → length front ≡ k → length (front ++ c ∷ []) ≡ k + 1
-one_longer front c k len = length-append front (c ∷ []) ∙ ap (λ n. n + 1) len
+one_longer : (prefix : List ChildName) (c : ChildName) (k : ℕ) → length prefix ≡ k → length (prefix ++ c ∷ []) ≡ k + 1
+one_longer prefix c k len = length-append prefix (c ∷ []) ∙ ap (λ n. n + 1) len
 
-replies_from : (rows : List Row) (i k : ℕ) (front cs : List ChildName) → length front ≡ k → IsFindReply rows (front ++ cs) (located_from rows i k cs) (found_from rows i front cs)
-replies_from rows i k front [] len = refl
-replies_from rows i k front (c ∷ cs) len =
-    replies_by rows i k front c cs len
-    (λ j. subst (λ l. IsFindReply rows l (located_from rows j (k + 1) cs) (found_from rows j (front ++ c ∷ []) cs))
-    (append_assoc front (c ∷ []) cs) (replies_from rows j (k + 1) (front ++ c ∷ []) cs (one_longer front c k len)))
+replies_from : (rows : List Row) (i k : ℕ) (prefix cs : List ChildName) → length prefix ≡ k → IsFindReply rows (prefix ++ cs) (located_from rows i k cs) (found_from rows i prefix cs)
+replies_from rows i k prefix [] len = refl
+replies_from rows i k prefix (c ∷ cs) len =
+    replies_by rows i k prefix c cs len
+    (λ j. subst (λ l. IsFindReply rows l (located_from rows j (k + 1) cs) (found_from rows j (prefix ++ c ∷ []) cs))
+    (append_assoc prefix (c ∷ []) cs) (replies_from rows j (k + 1) (prefix ++ c ∷ []) cs (one_longer prefix c k len)))
     (is_resolved rows i) (child_of rows i c)
 
 -- a find replies as its moniker leads

@@ -19,19 +19,20 @@ use Rattle.cm_world.specs.declared.frame.Builtin.{Builtin}
 use Rattle.cm_world.specs.declared.route.Hop.{Hop}
 use Rattle.cm_world.specs.declared.route.Start.{Start}
 use Rattle.cm_world.specs.declared.route.Start.TheVariants.{UseAt, ExposeAt, OfferAt}
-use Rattle.cm_world.specs.Rows.{row_of, child_of, names_to, moniker_of, facts_of}
+use Rattle.cm_world.specs.Rows.{row_of, child_of, names_to, moniker_of}
+use Rattle.cm_world.specs.RowsInside.{facts_of}
 use Rattle.cm_world.specs.Stations.{Station, use_station, offer_station, expose_station}
-use Rattle.cm_world.specs.Next.{Next, To, next_of, next_by, next_from, from_above, next_above, offered_by, by_offer, by_builtin, from_child, exposed_by, by_expose, by_capability}
+use Rattle.cm_world.specs.NextStation.{NextStation, To, next_of, next_by, next_from, from_above, next_above, offered_by, by_offer, by_builtin, from_child, exposed_by, by_expose, by_capability}
 use Rattle.cm_world.specs.Route.{Named, First, NoUse, NoneExposed, named_by}
 use Rattle.cm_world.specs.Sound.{IsOrderly}
 use Rattle.cm_world.proofs.trees.Finding.{some_same}
-use Rattle.cm_walk.specs.Walking.{IsPlaced}
+use Rattle.cm_walk.specs.Walking.{IsHopPlaced}
 use Rattle.cm_walk.proofs.ways.Monikers.{moniker_with, names-up}
 
 -- ---- the station behind another
 
-abbrev PlacedNext : List Row → Next → Type 0
-PlacedNext rows (To t) = IsPlaced rows t.hop
+abbrev PlacedNext : List Row → NextStation → Type 0
+PlacedNext rows (To t) = IsHopPlaced rows t.hop
 PlacedNext rows _ = Unit {0}
 
 builtin_placed : (rows : List Row) (i : ℕ) (kind : Kind) (name : List ℕ) (o : Option Builtin) → PlacedNext rows (by_builtin rows i kind name o)
@@ -82,13 +83,13 @@ station_placed rows builtins s None = tt
 station_placed rows builtins s (Some from) = source_placed rows builtins s.hop.inc s.hop.kind s.source_name from
 
 -- the station behind another tells where its instance stands
-pub next_placed : (rows : List Row) (builtins : List Builtin) (s t : Station) → next_of rows builtins s ≡ To t → IsPlaced rows t.hop
+pub next_placed : (rows : List Row) (builtins : List Builtin) (s t : Station) → next_of rows builtins s ≡ To t → IsHopPlaced rows t.hop
 next_placed rows builtins s t e = subst (PlacedNext rows) e (station_placed rows builtins s s.source)
 
 -- ---- the first station
 
 abbrev PlacedFirst : List Row → Named → Type 0
-PlacedFirst rows (First s) = IsPlaced rows s.hop
+PlacedFirst rows (First s) = IsHopPlaced rows s.hop
 PlacedFirst rows _ = Unit {0}
 
 used_placed : (rows : List Row) (i : ℕ) (o : Option Usage) → PlacedFirst rows (elim o as (λ _. Named) [ None ↦ NoUse | Some u ↦ First (use_station rows i u) ])
@@ -109,7 +110,7 @@ start_placed rows (ExposeAt i name) = exposing_placed rows i _ _
 start_placed rows (OfferAt i k) = offering_placed rows i _
 
 -- so does the station that a start names
-pub first_placed : (rows : List Row) (start : Start) (s : Station) → named_by rows start ≡ First s → IsPlaced rows s.hop
+pub first_placed : (rows : List Row) (start : Start) (s : Station) → named_by rows start ≡ First s → IsHopPlaced rows s.hop
 first_placed rows start s e = subst (PlacedFirst rows) e (start_placed rows start)
 
 -- ---- the parent
@@ -131,8 +132,8 @@ before_last above (Some c) some =
     ap (λ n. take n (above ++ c ∷ [])) one_less ∙ take-append_seam above (c ∷ [])
 
 -- the names down to the parent are those down to the instance, but the last
-pub names_above : (rows : List Row) (next i p : ℕ) (m : Moniker) (front : List ChildName) → IsOrderly rows next → m ≡ moniker_of rows i → option_and_then (λ r. r.parent) (row_of rows i) ≡ Some p → front ≡ take (length m.parts - 1) m.parts → moniker_with front ≡ moniker_of rows p
-names_above rows next i p m front orderly placed up cut =
+pub names_above : (rows : List Row) (next i p : ℕ) (m : Moniker) (prefix : List ChildName) → IsOrderly rows next → m ≡ moniker_of rows i → option_and_then (λ r. r.parent) (row_of rows i) ≡ Some p → prefix ≡ take (length m.parts - 1) m.parts → moniker_with prefix ≡ moniker_of rows p
+names_above rows next i p m prefix orderly placed up cut =
     let above : List ChildName = names_to (length rows) rows (Some p) in
     let name : Option ChildName = option_and_then (λ r. r.name) (row_of rows i) in
     let all : m.parts ≡ above ++ option_to_list name =

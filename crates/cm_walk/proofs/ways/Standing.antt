@@ -5,7 +5,7 @@ use Rattle.std.proofs.lemmas.Bool.{or_left, or_right}
 use Rattle.cm_decl.proofs.Sameness.{or_split}
 use Rattle.cm_world.specs.declared.row.Row.{Row}
 use Rattle.cm_world.specs.Rows.{row_of, at_or_above, is_below}
-use Rattle.cm_world.specs.Sound.{IsRising, IsOrderly}
+use Rattle.cm_world.specs.Sound.{IncarnationsIncrease, IsOrderly}
 use Rattle.cm_world.proofs.trees.Climbing.{some_above-step, above_root}
 use Rattle.cm_world.proofs.trees.Finding.{row_of-inc, none_some, some_same}
 use Rattle.cm_walk.proofs.ways.Up.{nothing_above}
@@ -46,24 +46,24 @@ below_cases rows next top i r orderly lives below =
 
 -- ---- the first row that passes
 
-least_by : (a b : Bool) (q : Row → Bool) (x : Row) (xs : List Row) (next i : ℕ) (r s : Row) → q x ≡ a → (x.inc == i) ≡ b → IsRising next (x ∷ xs) → (find q xs ≡ Some r → row_of xs i ≡ Some s → r.inc ≤ i) → cond a (Some x) (find q xs) ≡ Some r → cond b (Some x) (row_of xs i) ≡ Some s → IsTrue (q s) → r.inc ≤ i
-least_by true true q x xs next i r s here at rising later found lives passes =
+least_by : (a b : Bool) (q : Row → Bool) (x : Row) (xs : List Row) (next i : ℕ) (r s : Row) → q x ≡ a → (x.inc == i) ≡ b → IncarnationsIncrease next (x ∷ xs) → (find q xs ≡ Some r → row_of xs i ≡ Some s → r.inc ≤ i) → cond a (Some x) (find q xs) ≡ Some r → cond b (Some x) (row_of xs i) ≡ Some s → IsTrue (q s) → r.inc ≤ i
+least_by true true q x xs next i r s here at increasing later found lives passes =
     let own : x.inc ≡ i = (unsigned_Decides x.inc i).0 at in
     let same : x.inc ≡ r.inc = ap (λ z. z.inc) (some_same x r found) in
     omega arith
-least_by true false q x xs next i r s here at rising later found lives passes =
-    let low : x.inc < i = rising.0.1 i (ap is_some lives) in
+least_by true false q x xs next i r s here at increasing later found lives passes =
+    let low : x.inc < i = increasing.0.1 i (ap is_some lives) in
     let same : x.inc ≡ r.inc = ap (λ z. z.inc) (some_same x r found) in
     omega arith
-least_by false true q x xs next i r s here at rising later found lives passes =
+least_by false true q x xs next i r s here at increasing later found lives passes =
     absurd (true≢false (sym passes ∙ sym (ap q (some_same x s lives)) ∙ here))
-least_by false false q x xs next i r s here at rising later found lives passes = later found lives
+least_by false false q x xs next i r s here at increasing later found lives passes = later found lives
 
 -- the row that is found first has no higher incarnation than any row that passes
-pub find_least : (q : Row → Bool) (rows : List Row) (next i : ℕ) (r s : Row) → IsRising next rows → find q rows ≡ Some r → row_of rows i ≡ Some s → IsTrue (q s) → r.inc ≤ i
-find_least q [] next i r s rising found lives passes = absurd (none_some r found)
-find_least q (x ∷ xs) next i r s rising found lives passes =
-    least_by (q x) (x.inc == i) q x xs next i r s refl refl rising (λ f l. find_least q xs next i r s rising.1 f l passes) found lives passes
+pub find_least : (q : Row → Bool) (rows : List Row) (next i : ℕ) (r s : Row) → IncarnationsIncrease next rows → find q rows ≡ Some r → row_of rows i ≡ Some s → IsTrue (q s) → r.inc ≤ i
+find_least q [] next i r s increasing found lives passes = absurd (none_some r found)
+find_least q (x ∷ xs) next i r s increasing found lives passes =
+    least_by (q x) (x.inc == i) q x xs next i r s refl refl increasing (λ f l. find_least q xs next i r s increasing.1 f l passes) found lives passes
 
 found_by : (a b : Bool) (q : Row → Bool) (x : Row) (o t : Option Row) (s : Row) → q x ≡ a → (t ≡ Some s → (r : Row) × (o ≡ Some r)) → cond b (Some x) t ≡ Some s → IsTrue (q s) → (r : Row) × (cond a (Some x) o ≡ Some r)
 found_by true b q x o t s here later lives passes = (x, refl)

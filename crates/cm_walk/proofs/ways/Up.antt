@@ -3,7 +3,8 @@ use Rattle.std.proofs.Common.{◌≡◌, ℕ, zero, suc, ◌||◌, ◌==◌, Lis
 use Rattle.std.specs.Option.{option_map_or}
 use Rattle.cm_world.specs.declared.row.Row.{Row}
 use Rattle.cm_world.specs.declared.view.Facts.{Facts}
-use Rattle.cm_world.specs.Rows.{row_of, facts_of, at_or_above, some_above, is_gone, is_closed}
+use Rattle.cm_world.specs.Rows.{row_of, at_or_above, some_above, is_gone, is_closed}
+use Rattle.cm_world.specs.RowsInside.{facts_of}
 use Rattle.cm_world.specs.Sound.{IsOrderly}
 use Rattle.cm_world.proofs.trees.Climbing.{some_above-step, above_root}
 use Rattle.cm_world.proofs.trees.Finding.{none_some, some_same, row_of-inc}

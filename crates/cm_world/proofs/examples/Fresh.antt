@@ -7,7 +7,7 @@ use Rattle.cm_world.specs.Rows.{decl_of}
 use Rattle.cm_world.specs.World.{start, root_row}
 use Rattle.cm_world.specs.Level.{LevelStrong, is_from_row, level_sources}
 use Rattle.cm_world.specs.Sound.{Lives}
-use Rattle.cm_world.specs.Laws.{StartsSound}
+use Rattle.cm_world.specs.LawsInside.{StartsSound}
 use Rattle.cm_world.proofs.trees.Finding.{none_some, row_of-inc}
 use Rattle.cm_world.proofs.trees.Levels.{edge_source}
 
@@ -33,7 +33,7 @@ no_edge url p x y h =
 pub starts_sound : StartsSound
 starts_sound f = record {
   orderly = record {
-    rising = ((omega arith, λ s none. absurd (true≢false (sym none))), tt);
+    increasing = ((omega arith, λ s none. absurd (true≢false (sym none))), tt);
     root = λ i r lives top. let one : root_row f.root ≡ r = root_only f.root i r lives in (sym (row_of-inc (start f).rows i r lives) ∙ sym (ap (λ z. z.inc) one), sym (ap (λ z. z.name) one));
     parents = λ i p r lives below. absurd (none_some p (ap (λ z. z.parent) (root_only f.root i r lives) ∙ below));
     one_name = λ i j r s here there _ _ _ _. sym (row_of-inc (start f).rows i r here) ∙ sym (ap (λ z. z.inc) (root_only f.root i r here)) ∙ ap (λ z. z.inc) (root_only f.root j s there) ∙ row_of-inc (start f).rows j s there;

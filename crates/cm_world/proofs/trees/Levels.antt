@@ -6,11 +6,12 @@ use Rattle.std.specs.Cmp.{unsigned_Decides}
 use Rattle.std.proofs.lemmas.Bool.{or_parts}
 use Rattle.cm_decl.specs.declared.decl.Decl.{Decl}
 use Rattle.cm_decl.specs.Graph.{own_sources}
-use Rattle.cm_decl.specs.Reach.{Way}
+use Rattle.cm_decl.specs.Reach.{DependencyPath}
 use Rattle.cm_decl.proofs.Sameness.{and_first, and_second, or_split}
 use Rattle.cm_world.specs.declared.row.Row.{Row}
 use Rattle.cm_world.specs.Rows.{row_of, decl_of, has_parent, is_live}
-use Rattle.cm_world.specs.Level.{is_child_row, is_level_node, level_edge, level_sources, is_from_row, LevelStrong, LevelOn}
+use Rattle.cm_world.specs.Level.{is_child_row, is_level_node, level_edge, level_sources, is_from_row, LevelStrong}
+use Rattle.cm_world.specs.LevelInside.{LevelOn}
 use Rattle.cm_world.specs.Stopping.{IsFree}
 use Rattle.cm_world.proofs.trees.Finding.{row_of-inc, find-all}
 
@@ -101,6 +102,6 @@ unneeded_free rows p x other none z (between, way) = absurd (deep z between way)
       not_both (level_edge rows p y x) strong (subst (λ i. IsTrue (not (level_edge rows p i x))) own (find-all (λ s. s.inc == y) (λ r. not (level_edge rows p r.inc x)) rows found.0 none found.1))
   direct y (inr implied) = other implied.own
 
-  deep : (y : ℕ) (ys : List ℕ) → Way (LevelOn rows p) y ys x → ⊥
+  deep : (y : ℕ) (ys : List ℕ) → DependencyPath (LevelOn rows p) y ys x → ⊥
   deep y [] on = direct y on
   deep y (u ∷ us) way = deep u us way.1

@@ -17,7 +17,7 @@ use Rattle.cm_world.specs.declared.reply.Reply.TheVariants.{Cycle, Full, Created
 use Rattle.cm_world.specs.Rows.{decl_of}
 use Rattle.cm_world.specs.Create.{Creates, CreatesUnder, CreatesUnless, dynamic_with, dynamic_name, refused_create}
 use Rattle.cm_world.specs.Openings.{WalksUnless, unready, unopened, routed, opened}
-use Rattle.cm_world.specs.Laws.{RepliesOnce}
+use Rattle.cm_world.specs.LawsInside.{RepliesOnce}
 use Rattle.cm_world.proofs.trees.Chains.{walked_once}
 use Rattle.cm_world.proofs.trees.Finding.{some_same}
 

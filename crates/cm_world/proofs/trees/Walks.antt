@@ -26,9 +26,9 @@ use Rattle.cm_world.specs.declared.route.Walked.TheVariants.{Failed, NoSuchUse}
 use Rattle.cm_world.specs.declared.route.Why.TheVariants as why
 use Rattle.cm_world.specs.Rows.{row_of, decl_of, child_of, has_parent, has_name}
 use Rattle.cm_world.specs.Stations.{Station, use_station, offer_station, expose_station, capability_station, builtin_station, framework_station}
-use Rattle.cm_world.specs.Next.{Next, To, Ends, Needs, FromVoid, NoChild, Misses, next_of, next_by, next_from, from_above, next_above, by_builtin, offered_by, by_offer, from_child, exposed_by, by_expose, give_of, by_capability}
+use Rattle.cm_world.specs.NextStation.{NextStation, To, Ends, Needs, FromVoid, NoChild, Misses, next_of, next_by, next_from, from_above, next_above, by_builtin, offered_by, by_offer, from_child, exposed_by, by_expose, give_of, by_capability}
 use Rattle.cm_world.specs.Route.{Named, First, NoUse, NoneExposed, named_by, IsChain, IsDecided, IsWalkedFrom, trial, trial_by, weak_availability, weak_rights}
-use Rattle.cm_world.specs.Sound.{IsRising, IsOrderly}
+use Rattle.cm_world.specs.Sound.{IncarnationsIncrease, IsOrderly}
 use Rattle.cm_world.specs.Ending.{is_expose, left_at, left_from, steps_left, is_from_parent, KeepsDown, BeginsDown, StepsFall, WalksEnd}
 use Rattle.cm_world.proofs.trees.Finding.{some_same, none_some, find-passes, find-all}
 use Rattle.cm_world.proofs.trees.Chains.{same_station}
@@ -41,28 +41,28 @@ below_by true next i s r o same low later e = subst (λ n. n < next) ((unsigned_
 below_by false next i s r o same low later e = later e
 
 -- a row that lives is below the next incarnation
-pub below_next : (rows : List Row) (next i : ℕ) (r : Row) → IsRising next rows → row_of rows i ≡ Some r → i < next
-below_next [] next i r rising e = absurd (none_some r e)
-below_next (s ∷ ss) next i r rising e = below_by (s.inc == i) next i s r (row_of ss i) refl rising.0.0 (below_next ss next i r rising.1) e
+pub below_next : (rows : List Row) (next i : ℕ) (r : Row) → IncarnationsIncrease next rows → row_of rows i ≡ Some r → i < next
+below_next [] next i r increasing e = absurd (none_some r e)
+below_next (s ∷ ss) next i r increasing e = below_by (s.inc == i) next i s r (row_of ss i) refl increasing.0.0 (below_next ss next i r increasing.1) e
 
 apart : (t : Bool) (n m : ℕ) → (n == m) ≡ t → n < m → t ≡ false
 apart true n m same low =
     let e : n ≡ m = (unsigned_Decides n m).0 same in absurd (omega arith)
 apart false n m same low = refl
 
-lives_by : (t : Bool) (q : Row → Bool) (next : ℕ) (s r : Row) (ss : List Row) → IsRising next (s ∷ ss) → (find q ss ≡ Some r → row_of ss r.inc ≡ Some r) → cond t (Some s) (find q ss) ≡ Some r → row_of (s ∷ ss) r.inc ≡ Some r
-lives_by true q next s r ss rising later e =
+lives_by : (t : Bool) (q : Row → Bool) (next : ℕ) (s r : Row) (ss : List Row) → IncarnationsIncrease next (s ∷ ss) → (find q ss ≡ Some r → row_of ss r.inc ≡ Some r) → cond t (Some s) (find q ss) ≡ Some r → row_of (s ∷ ss) r.inc ≡ Some r
+lives_by true q next s r ss increasing later e =
     let same : s ≡ r = some_same s r e in
     subst (λ z. row_of (s ∷ ss) z.inc ≡ Some z) same (rw ((unsigned_Decides s.inc s.inc).1 refl) refl)
-lives_by false q next s r ss rising later e =
+lives_by false q next s r ss increasing later e =
     let lives : row_of ss r.inc ≡ Some r = later e in
-    let low : s.inc < r.inc = rising.0.1 r.inc (rw lives refl) in
+    let low : s.inc < r.inc = increasing.0.1 r.inc (rw lives refl) in
     rw (apart (s.inc == r.inc) s.inc r.inc refl low) lives
 
 -- a row that is found by any test is the row of its incarnation
-pub find-lives : (q : Row → Bool) (rows : List Row) (next : ℕ) (r : Row) → IsRising next rows → find q rows ≡ Some r → row_of rows r.inc ≡ Some r
-find-lives q [] next r rising e = absurd (none_some r e)
-find-lives q (s ∷ ss) next r rising e = lives_by (q s) q next s r ss rising (find-lives q ss next r rising.1) e
+pub find-lives : (q : Row → Bool) (rows : List Row) (next : ℕ) (r : Row) → IncarnationsIncrease next rows → find q rows ≡ Some r → row_of rows r.inc ≡ Some r
+find-lives q [] next r increasing e = absurd (none_some r e)
+find-lives q (s ∷ ss) next r increasing e = lives_by (q s) q next s r ss increasing (find-lives q ss next r increasing.1) e
 
 found_child : (rows : List Row) (p j : ℕ) (c : ChildName) (o : Option Row) → find (λ r. has_parent p r && has_name c r && not r.doomed) rows ≡ o → option_map (λ r. r.inc) o ≡ Some j → (r : Row) × (find (λ s. has_parent p s && has_name c s && not s.doomed) rows ≡ Some r) × (r.inc ≡ j)
 found_child rows p j c None f e = absurd (none_some j e)
@@ -73,12 +73,12 @@ parent_is p None h = absurd (true≢false (sym h))
 parent_is p (Some q) h = ap Some ((unsigned_Decides q p).0 h)
 
 -- a child that is found lives, and has the row as its parent
-pub child_lives : (rows : List Row) (next p j : ℕ) (c : ChildName) → IsRising next rows → child_of rows p c ≡ Some j → (r : Row) × (row_of rows j ≡ Some r) × (r.parent ≡ Some p)
-child_lives rows next p j c rising e =
+pub child_lives : (rows : List Row) (next p j : ℕ) (c : ChildName) → IncarnationsIncrease next rows → child_of rows p c ≡ Some j → (r : Row) × (row_of rows j ≡ Some r) × (r.parent ≡ Some p)
+child_lives rows next p j c increasing e =
     let test : Row → Bool = λ r. has_parent p r && has_name c r && not r.doomed in
     let found : (r : Row) × (find test rows ≡ Some r) × (r.inc ≡ j) = found_child rows p j c (find test rows) refl e in
     let passes : IsTrue (test found.0) = find-passes test rows found.0 found.1 in
-    let lives : row_of rows found.0.inc ≡ Some found.0 = find-lives test rows next found.0 rising found.1 in (
+    let lives : row_of rows found.0.inc ≡ Some found.0 = find-lives test rows next found.0 increasing found.1 in (
       found.0,
       subst (λ i. row_of rows i ≡ Some found.0) found.2 lives,
       parent_is p found.0.parent (and_first (has_parent p found.0) (has_name c found.0) (and_first (has_parent p found.0 && has_name c found.0) (not found.0.doomed) passes)),
@@ -109,11 +109,11 @@ valid_down d q g valid e =
 
 -- ---- from station to station
 
-is_to : Next → Bool
+is_to : NextStation → Bool
 is_to (To t) = true
 is_to _ = false
 
-not_to : (n : Next) (t : Station) → is_to n ≡ false → n ≡ To t → ⊥
+not_to : (n : NextStation) (t : Station) → is_to n ≡ false → n ≡ To t → ⊥
 unfolding is_to
 not_to n t other e = true≢false (sym (ap is_to e) ∙ other)
 
@@ -170,9 +170,9 @@ child_nearer : (rows : List Row) (next i : ℕ) (c : ChildName) (down : Bool) (k
 unfolding is_to
 child_nearer rows next i c down kind name None t orderly f e = absurd (not_to _ t refl e)
 child_nearer rows next i c down kind name (Some j) t orderly f e =
-    let child : (r : Row) × (row_of rows j ≡ Some r) × (r.parent ≡ Some i) = child_lives rows next i j c orderly.rising f in
+    let child : (r : Row) × (row_of rows j ≡ Some r) × (r.parent ≡ Some i) = child_lives rows next i j c orderly.increasing f in
     let up : i < j = (orderly.parents j i child.0 child.1 child.2).0.lower in
-    exposed_nearer rows next (left_at next i down) j kind name _ t orderly (fewer_down next i j down up (below_next rows next j child.0 orderly.rising child.1)) refl e
+    exposed_nearer rows next (left_at next i down) j kind name _ t orderly (fewer_down next i j down up (below_next rows next j child.0 orderly.increasing child.1)) refl e
 
 own_nearer : (rows : List Row) (next n i : ℕ) (o : Option Capability) (t : Station) → 0 < n → by_capability rows i o ≡ To t → IsNearer next n t
 unfolding IsNearer is_to
@@ -241,32 +241,32 @@ begins_down rows next (ExposeAt i name) s orderly e = exposed_down rows i _ s _ 
 
 -- ---- the whole walk
 
--- a verdict on the stations from one on, behind a front
-pub record HasEnd (rows : List Row) (builtins : List Builtin) (front : List Station) (s : Station) : Type 0 where
+-- a verdict on the stations from one on, behind a prefix
+pub record HasEnd (rows : List Row) (builtins : List Builtin) (prefix : List Station) (s : Station) : Type 0 where
   pub verdict : Walked
   pub rest : List Station
   pub chain : IsChain rows builtins s rest
-  pub decided : IsDecided rows builtins front s rest verdict
+  pub decided : IsDecided rows builtins prefix s rest verdict
 
 or_other : (o p : Option Walked) → or_else o p ≡ None → p ≡ None
 or_other None p e = e
 or_other (Some v) p e = absurd (none_some v (sym e))
 
-unsaid : (front : List Station) (s : Station) (said : Option Walked) (v : Walked) → said ≡ Some v → or_else (weak_availability front s) (or_else (weak_rights front s) said) ≡ None → ⊥
-unsaid front s said v is e =
-    none_some v (sym (or_other (weak_rights front s) said (or_other (weak_availability front s) (or_else (weak_rights front s) said) e)) ∙ is)
+unsaid : (prefix : List Station) (s : Station) (said : Option Walked) (v : Walked) → said ≡ Some v → or_else (weak_availability prefix s) (or_else (weak_rights prefix s) said) ≡ None → ⊥
+unsaid prefix s said v is e =
+    none_some v (sym (or_other (weak_rights prefix s) said (or_other (weak_availability prefix s) (or_else (weak_rights prefix s) said) e)) ∙ is)
 
 -- where nothing is decided, a station comes next
-undecided : (front : List Station) (s : Station) (n : Next) → trial_by front s n ≡ None → is_to n ≡ true
+undecided : (prefix : List Station) (s : Station) (n : NextStation) → trial_by prefix s n ≡ None → is_to n ≡ true
 unfolding is_to
-undecided front s (To t) e = refl
-undecided front s Ends e = absurd (unsaid front s _ _ refl e)
-undecided front s (Needs j) e = absurd (unsaid front s _ _ refl e)
-undecided front s FromVoid e = absurd (unsaid front s _ _ refl e)
-undecided front s NoChild e = absurd (none_some _ (sym e))
-undecided front s (Misses hop reason) e = absurd (unsaid front s _ _ refl e)
+undecided prefix s (To t) e = refl
+undecided prefix s Ends e = absurd (unsaid prefix s _ _ refl e)
+undecided prefix s (Needs j) e = absurd (unsaid prefix s _ _ refl e)
+undecided prefix s FromVoid e = absurd (unsaid prefix s _ _ refl e)
+undecided prefix s NoChild e = absurd (none_some _ (sym e))
+undecided prefix s (Misses hop reason) e = absurd (unsaid prefix s _ _ refl e)
 
-next_at : (n : Next) → is_to n ≡ true → (t : Station) × (n ≡ To t)
+next_at : (n : NextStation) → is_to n ≡ true → (t : Station) × (n ≡ To t)
 unfolding is_to
 next_at (To t) h = (t, refl)
 next_at Ends h = absurd (true≢false (sym h))
@@ -275,20 +275,20 @@ next_at FromVoid h = absurd (true≢false (sym h))
 next_at NoChild h = absurd (true≢false (sym h))
 next_at (Misses hop reason) h = absurd (true≢false (sym h))
 
-walk_at : (rows : List Row) (builtins : List Builtin) (front : List Station) (s : Station) (o : Option Walked) → trial rows builtins front s ≡ o → ((t : Station) → next_of rows builtins s ≡ To t → HasEnd rows builtins (front ++ s ∷ []) t) → HasEnd rows builtins front s
-walk_at rows builtins front s (Some v) e more = record { verdict = v; rest = []; chain = tt; decided = e }
-walk_at rows builtins front s None e more =
-    let next : (t : Station) × (next_of rows builtins s ≡ To t) = next_at (next_of rows builtins s) (undecided front s (next_of rows builtins s) e) in
-    let end : HasEnd rows builtins (front ++ s ∷ []) next.0 = more next.0 next.1 in
+walk_at : (rows : List Row) (builtins : List Builtin) (prefix : List Station) (s : Station) (o : Option Walked) → trial rows builtins prefix s ≡ o → ((t : Station) → next_of rows builtins s ≡ To t → HasEnd rows builtins (prefix ++ s ∷ []) t) → HasEnd rows builtins prefix s
+walk_at rows builtins prefix s (Some v) e more = record { verdict = v; rest = []; chain = tt; decided = e }
+walk_at rows builtins prefix s None e more =
+    let next : (t : Station) × (next_of rows builtins s ≡ To t) = next_at (next_of rows builtins s) (undecided prefix s (next_of rows builtins s) e) in
+    let end : HasEnd rows builtins (prefix ++ s ∷ []) next.0 = more next.0 next.1 in
     record { verdict = end.verdict; rest = next.0 ∷ end.rest; chain = (next.1, end.chain); decided = (e, end.decided) }
 
 -- from a station with fewer than n steps left
-pub walks_from : (n : ℕ) (rows : List Row) (next : ℕ) (builtins : List Builtin) (front : List Station) (s : Station) → IsOrderly rows next → KeepsDown s → steps_left next s < n → HasEnd rows builtins front s
-walks_from zero rows next builtins front s orderly keeps low = absurd (omega arith)
-walks_from (suc n) rows next builtins front s orderly keeps low =
-    walk_at rows builtins front s (trial rows builtins front s) refl
+pub walks_from : (n : ℕ) (rows : List Row) (next : ℕ) (builtins : List Builtin) (prefix : List Station) (s : Station) → IsOrderly rows next → KeepsDown s → steps_left next s < n → HasEnd rows builtins prefix s
+walks_from zero rows next builtins prefix s orderly keeps low = absurd (omega arith)
+walks_from (suc n) rows next builtins prefix s orderly keeps low =
+    walk_at rows builtins prefix s (trial rows builtins prefix s) refl
     (λ t f. let fall : (steps_left next t < steps_left next s) × KeepsDown t = steps_fall rows next builtins s t orderly keeps f in
-    walks_from n rows next builtins (front ++ s ∷ []) t orderly fall.1 (fewer (steps_left next t) (steps_left next s) n fall.0 low))
+    walks_from n rows next builtins (prefix ++ s ∷ []) t orderly fall.1 (fewer (steps_left next t) (steps_left next s) n fall.0 low))
 
 end_by : (rows : List Row) (next : ℕ) (builtins : List Builtin) (begin : Start) (n : Named) → IsOrderly rows next → named_by rows begin ≡ n → (v : Walked) × IsWalkedFrom rows builtins n v
 end_by rows next builtins begin (First s) orderly f =

@@ -1,11 +1,11 @@
 use Rattle.std.proofs.Common.{codes}
-use Rattle.cm_command.proofs.counts.KindLemmas.{fault_of_rest, fault_no_front}
+use Rattle.cm_command.proofs.counts.KindLemmas.{fault_of_rest, fault_no_prefix}
 use Rattle.cm_command.proofs.counts.AdditionCounts.{subdir_behind}
 use Rattle.cm_command.proofs.addition.read_subdir_word.Goals as goal
 
 pub returns-in_default : goal.returns-in_default
 returns-in_default c =
-    fault_no_front (codes "subdir=") c.args.word.now c.text_fronts.result subdir_behind c.in_default.ensures c.text_fronts.ensures
+    fault_no_prefix (codes "subdir=") c.args.word.now c.text_prefixes.result subdir_behind c.in_default.ensures c.text_prefixes.ensures
 
 pub returns-in-Err : goal.returns-in-Err
 returns-in-Err c =

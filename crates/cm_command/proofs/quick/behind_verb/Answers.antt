@@ -1,4 +1,4 @@
-use Rattle.cm_command.specs.declared.place.Place.TheVariants as place
+use Rattle.cm_command.specs.declared.place.LineState.TheVariants as place
 use Rattle.cm_command.proofs.bytes.Cuts.{piece_and_rest, piece_alone}
 use Rattle.cm_command.proofs.line.QuickWords.{by_last, by_more}
 use Rattle.cm_command.proofs.quick.behind_verb.Goals as goal

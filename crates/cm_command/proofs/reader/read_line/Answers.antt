@@ -18,13 +18,13 @@ pub returns-in_default : goal.returns-in_default
 returns-in_default c =
     ended c.words.invariant c.cut.result.0.now c.in-Ok.next c.last.result c.cut.ensures.clean (piece_alone 32 c.cut.result.1 c.words.rest.now c.cut.result.0.now c.in_default.is c.cut.ensures.whole) c.in-Ok.ensures c.last.ensures
 
-pub overflow_add-front : goal.overflow_add-front
-overflow_add-front c =
+pub overflow_add-prefix : goal.overflow_add-prefix
+overflow_add-prefix c =
     let fits = room c.words.invariant c.cut.result.0.now c.in-Some.more.now (piece_and_rest 32 c.cut.result.1 c.in-Some.more c.words.rest.now c.cut.result.0.now c.in-Some.is c.cut.ensures.whole) c.requires in
     omega (arith, fits)
 
-pub overflow_add-front-in-words : goal.overflow_add-front-in-words
-overflow_add-front-in-words c =
+pub overflow_add-prefix-in-words : goal.overflow_add-prefix-in-words
+overflow_add-prefix-in-words c =
     let fits = room c.words.invariant c.cut.result.0.now c.in-Some.more.now (piece_and_rest 32 c.cut.result.1 c.in-Some.more c.words.rest.now c.cut.result.0.now c.in-Some.is c.cut.ensures.whole) c.requires in
     omega (arith, fits)
 

@@ -1,6 +1,6 @@
 use Rattle.std.proofs.Common.{◌≡◌, take, map}
 use Rattle.std.specs.List.{Contains}
-use Rattle.cm_command.specs.Words.{right_words}
+use Rattle.cm_command.specs.WordsInside.{right_words}
 use Rattle.cm_command.proofs.rights.right_word.Given as goal
 
 -- the piece is none of the words so far

@@ -4,4 +4,4 @@ use Rattle.cm_command.proofs.step.take_group.Goals as goal
 
 pub returns-else-is_same : goal.returns-else-is_same
 returns-else-is_same c =
-    group_fault c.args.creation c.args.word.now c.text_fronts.result (search rules) c.text_fronts.ensures
+    group_fault c.args.creation c.args.word.now c.text_prefixes.result (search rules) c.text_prefixes.ensures

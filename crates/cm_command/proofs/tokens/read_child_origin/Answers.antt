@@ -1,11 +1,11 @@
 use Rattle.std.proofs.Common.{codes}
-use Rattle.cm_command.proofs.counts.KindLemmas.{fault_of_rest, fault_no_front}
+use Rattle.cm_command.proofs.counts.KindLemmas.{fault_of_rest, fault_no_prefix}
 use Rattle.cm_command.proofs.counts.ChildCounts.{origin_behind}
 use Rattle.cm_command.proofs.tokens.read_child_origin.Goals as goal
 
 pub returns-in_default : goal.returns-in_default
 returns-in_default c =
-    fault_no_front (codes "#") c.args.word.now c.text_fronts.result origin_behind c.in_default.ensures c.text_fronts.ensures
+    fault_no_prefix (codes "#") c.args.word.now c.text_prefixes.result origin_behind c.in_default.ensures c.text_prefixes.ensures
 
 pub returns-in-Err : goal.returns-in-Err
 returns-in-Err c =

@@ -6,8 +6,8 @@ use Rattle.cm_command.proofs.counts.PathCounts.{subdir_utf8}
 use Rattle.cm_command.proofs.tokens.read_subdir.Goals as goal
 
 pub returns-in_default : goal.returns-in_default
-returns-in_default c = (λ h. c.in_default.ensures (subdir_utf8 c.args.word.now h), c.subdir_fronts.ensures)
+returns-in_default c = (λ h. c.in_default.ensures (subdir_utf8 c.args.word.now h), c.subdir_prefixes.ensures)
 
 pub returns-in_default-fault : goal.returns-in_default-fault
 returns-in_default-fault c =
-    (λ h. none-some c.in-Err.fault (sym (subdir_faultless c.args.word.now h) ∙ ap subdir_fault (sym c.in-Some.ensures) ∙ c.in-Err.ensures.fault c.in_default-fault.not-Memory), c.subdir_fronts-in_default-fault.ensures)
+    (λ h. none-some c.in-Err.fault (sym (subdir_faultless c.args.word.now h) ∙ ap subdir_fault (sym c.in-Some.ensures) ∙ c.in-Err.ensures.fault c.in_default-fault.not-Memory), c.subdir_prefixes-in_default-fault.ensures)

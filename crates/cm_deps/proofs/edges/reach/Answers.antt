@@ -1,7 +1,7 @@
 use Rattle.std.proofs.Common.{◌≡◌, ◌<◌, [], length, false, true≢false, sym, ◌∙◌, ap, subst, get_or, arith}
 use Rattle.std.specs.Prelude.{replicate}
 use Rattle.std.proofs.lemmas.List.{get_or_default, length-replicate}
-use Rattle.cm_deps.specs.Edges.{row, IsSeen, IsAdded}
+use Rattle.cm_deps.specs.Edges.{row, IsVisited, IsAdded}
 use Rattle.cm_deps.proofs.listed.Listing.{holds_at}
 use Rattle.cm_deps.proofs.loops.Searching.{seen_none, searching_none, searching_more, searched, inside_more}
 use Rattle.cm_deps.proofs.edges.reach.Goals as goal
@@ -11,8 +11,8 @@ add_after-requires-clause-size c = ap length c.in_ok-seen.ensures ∙ length-rep
 
 pub add_after-requires-clause-seen : goal.add_after-requires-clause-seen
 add_after-requires-clause-seen c =
-    subst (λ s. IsSeen s c.new-found.result.items) (sym c.in_ok-seen.ensures)
-    (subst (λ f. IsSeen (replicate (length c.args.after.now) false) f) (sym c.new-found.ensures.items) (seen_none (length c.args.after.now)))
+    subst (λ s. IsVisited s c.new-found.result.items) (sym c.in_ok-seen.ensures)
+    (subst (λ f. IsVisited (replicate (length c.args.after.now) false) f) (sym c.new-found.ensures.items) (seen_none (length c.args.after.now)))
 
 pub loop-head-init : goal.loop-head-init
 loop-head-init c =

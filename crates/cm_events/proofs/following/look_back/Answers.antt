@@ -1,5 +1,5 @@
 use Rattle.std.proofs.Common.{◌+◌, ◌-◌, arith}
-use Rattle.cm_events.proofs.Seeking.{all_on, all_front, all_found}
+use Rattle.cm_events.proofs.Seeking.{all_on, all_prefix, all_found}
 use Rattle.cm_events.proofs.following.look_back.Goals.{then-loop-back-test+else-not-is_empty, else-loop-back-test}
 use Rattle.cm_events.proofs.following.look_back.Goals as goal
 
@@ -19,6 +19,6 @@ returns c = elim c.loop-back-test.branch [
   | then-loop-back-test+else-not-is_empty w ↦
       all_found c.args.entries.now c.args.start c.loop-back.back c.loop-back.left c.args.wanted c.loop-back.works (w.is_empty.ensures.0 w.if-not-is_empty.false) c.loop-back.invariant.stand
   | else-loop-back-test w ↦
-      let front = w.loop-back-test.false in
-      all_front c.args.entries.now c.args.start c.loop-back.back c.loop-back.left c.args.wanted c.loop-back.works (omega arith) c.loop-back.invariant.stand
+      let prefix = w.loop-back-test.false in
+      all_prefix c.args.entries.now c.args.start c.loop-back.back c.loop-back.left c.args.wanted c.loop-back.works (omega arith) c.loop-back.invariant.stand
 ]

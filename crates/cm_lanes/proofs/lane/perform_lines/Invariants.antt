@@ -6,5 +6,5 @@ use Rattle.cm_lanes.proofs.lane.perform_lines.Given as goal
 abbrev pub invariant-loop-line : goal.invariant-loop-line
 invariant-loop-line g l = record {
   caller : l.caller ≡ l.fn.pass.caller;
-  performing : Performing l.manager.shelf (take l.line-index l.lines) l.fn.pass l.pass (gates_view g.G.Gates.log g.G.Gates.faults l.fn.gates) (gates_view g.G.Gates.log g.G.Gates.faults l.gates) l.fn.said.items l.said.items l.lost;
+  performing : Performing l.manager.manifests (take l.line-index l.lines) l.fn.pass l.pass (gates_view g.G.Gates.log g.G.Gates.faults l.fn.gates) (gates_view g.G.Gates.log g.G.Gates.faults l.gates) l.fn.said.items l.said.items l.lost;
 }

@@ -1,5 +1,6 @@
 use Rattle.std.proofs.Common.{◌∙◌, List, sym, ap, map, Some, inl, flat_map}
-use Rattle.cm_lanes.specs.Script.{Answered, said_of}
+use Rattle.cm_lanes.specs.Script.{AnsweredLine}
+use Rattle.cm_lanes.specs.ScriptInside.{said_of}
 use Rattle.cm_lanes.specs.Lanes.{RanOrNot}
 use Rattle.cm_lanes.proofs.ends.Ending.{are_lanes, told_each, ran_by, said_either, some_lane, back_sixteen, back_ended, back_gates}
 use Rattle.cm_lanes.proofs.lanes.run_lanes.Goals as goal
@@ -22,13 +23,13 @@ returns g c =
     let are = are_lanes c.args.manager.now.turn c.make_lanes-lanes.result.items c.args.passes c.requires.passes c.make_lanes-lanes.ensures.passes in
     let ran = c.run_all-lanes.ensures.ran in
     let parts = c.take_apart-parts.ensures in
-    let said = said_either c.take_apart-parts.result.lost c.hand_back.result.said (flat_map (λ (p : List Answered). map said_of p) ran.answered) c.hand_back.ensures.lost
+    let said = said_either c.take_apart-parts.result.lost c.hand_back.result.said (flat_map (λ (p : List AnsweredLine). map said_of p) ran.answered) c.hand_back.ensures.lost
     (λ kept. c.hand_back.ensures.said (record {
       answered = ran.answered;
       lines_are = ran.lines;
       each = told_each g.G.Gates.log g.G.Gates.faults _ _ _ _ ran c.take_apart-parts.result are.count c.make_lanes-lanes.ensures.new parts kept;
     })) in
-    let all : RanOrNot g.G.Gates.log g.G.Gates.faults c.args.manager.now.shelf c.args.phases.now c.args.passes c.args.gates c.hand_back.result = inl (ran_by g.G.Gates.log g.G.Gates.faults c.args.manager.now.shelf c.args.phases.now c.make_lanes-lanes.result.items c.run_all-lanes.result.items ran c.args.passes c.args.gates c.hand_back.result are.count c.make_lanes-lanes.ensures.passes c.make_lanes-lanes.ensures.gates
+    let all : RanOrNot g.G.Gates.log g.G.Gates.faults c.args.manager.now.manifests c.args.phases.now c.args.passes c.args.gates c.hand_back.result = inl (ran_by g.G.Gates.log g.G.Gates.faults c.args.manager.now.manifests c.args.phases.now c.make_lanes-lanes.result.items c.run_all-lanes.result.items ran c.args.passes c.args.gates c.hand_back.result are.count c.make_lanes-lanes.ensures.passes c.make_lanes-lanes.ensures.gates
     (sym parts.passes ∙ ap (map Some) (sym c.hand_back.ensures.passes)) (sym parts.gates ∙ sym c.hand_back.ensures.gates) said (some_lane c.make_lanes-lanes.result.items are.count)) in
     record {
       ran = all;

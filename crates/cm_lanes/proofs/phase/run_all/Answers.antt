@@ -9,5 +9,5 @@ perform_phases-requires-clause-lanes g c κs within = subst (λ (l : List (Lane 
 
 pub returns : goal.returns
 returns g c =
-    let ran = subst (λ (l : List (Lane g.row.G.Denot)). LanesRan g.G.Gates.log g.G.Gates.faults c.args.manager.now.shelf c.args.phases.now l c.perform_phases.new.lanes) c.as_mut_slice.ensures.value c.perform_phases.ensures.ran in
-    record { ran = subst (λ (l : List (Lane g.row.G.Denot)). LanesRan g.G.Gates.log g.G.Gates.faults c.args.manager.now.shelf c.args.phases.now c.args.lanes.items l) (sym (whole_slice c.args.lanes.items c.perform_phases.new.lanes c.args.lanes.len c.args.lanes.ok.0 ran.long)) ran }
+    let ran = subst (λ (l : List (Lane g.row.G.Denot)). LanesRan g.G.Gates.log g.G.Gates.faults c.args.manager.now.manifests c.args.phases.now l c.perform_phases.new.lanes) c.as_mut_slice.ensures.value c.perform_phases.ensures.ran in
+    record { ran = subst (λ (l : List (Lane g.row.G.Denot)). LanesRan g.G.Gates.log g.G.Gates.faults c.args.manager.now.manifests c.args.phases.now c.args.lanes.items l) (sym (whole_slice c.args.lanes.items c.perform_phases.new.lanes c.args.lanes.len c.args.lanes.ok.0 ran.long)) ran }

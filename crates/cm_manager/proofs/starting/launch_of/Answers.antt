@@ -1,6 +1,6 @@
 use Rattle.std.proofs.Common.{◌≡◌}
 use Rattle.cm_world.specs.declared.action.ActKind.TheVariants as kind
-use Rattle.cm_manager.specs.Runs.{Acts}
+use Rattle.cm_manager.specs.Runs.{RunsAction}
 use Rattle.cm_manager.proofs.starts.Launches.{children_start, ended_acts, joined_acts, not_started, unfollowed}
 use Rattle.cm_manager.proofs.starting.launch_of.Goals as goal
 
@@ -21,8 +21,8 @@ returns-in-Ok-Joined c = λ f d i a b by.
 pub returns-in-Ok-Quiet : goal.returns-in-Ok-Quiet
 returns-in-Ok-Quiet c = λ f d i a b by.
     let it = rw (c.in-Ok-Quiet.is, c.in-Ok-Quiet.field-0-is) at by in
-    Acts.quiet it.0 it.1
+    RunsAction.quiet it.0 it.1
 
 pub returns-in-Err : goal.returns-in-Err
 returns-in-Err c = λ f d i a b by.
-    Acts.cut {k = kind.Start} {i = i} (rw c.in-Err.is at by)
+    RunsAction.cut {k = kind.Start} {i = i} (rw c.in-Err.is at by)

@@ -1,25 +1,25 @@
 use Rattle.std.proofs.Common.{◌≡◌, ◌+◌, ◌<◌, false, true≢false, sym, arith, rules}
-use Rattle.cm_names.specs.MonikerPlaces.{may_end}
-use Rattle.cm_names.proofs.fronts.Fronts.{not_whole}
-use Rattle.cm_names.proofs.fronts.MonikerFronts.{stuck, full, further, unended, not_ended, ended}
+use Rattle.cm_names.specs.MonikerStates.{may_end}
+use Rattle.cm_names.proofs.prefixes.Prefixes.{not_whole}
+use Rattle.cm_names.proofs.prefixes.MonikerPrefixes.{stuck, full, further, unended, not_ended, ended}
 use Rattle.cm_names.proofs.grammar.bad_place.Goals as goal
 use Rattle.cm_names.proofs.grammar.bad_place.Goals.{else-i-eq-MAX_PATH_BYTES-via-then-i-eq-MAX_PATH_BYTES+else-not-may_end, else-i-eq-MAX_PATH_BYTES-via-else-i-eq-MAX_PATH_BYTES}
 
-pub returns-then-not-may_end-clause-front : goal.returns-then-not-may_end-clause-front
-returns-then-not-may_end-clause-front c =
+pub returns-then-not-may_end-clause-prefix : goal.returns-then-not-may_end-clause-prefix
+returns-then-not-may_end-clause-prefix c =
     full c.args.bytes.now c.loop-i.i c.loop-i.place c.in-Some.next (omega arith) c.requires c.loop-i.invariant (sym c.in-Some.ensures) (search rules) (omega arith)
 
 pub returns-then-not-may_end-clause-not_whole : goal.returns-then-not-may_end-clause-not_whole
 returns-then-not-may_end-clause-not_whole c =
-    not_whole c.args.bytes.now c.loop-i.i (returns-then-not-may_end-clause-front c) (omega arith)
+    not_whole c.args.bytes.now c.loop-i.i (returns-then-not-may_end-clause-prefix c) (omega arith)
 
-pub returns-in-None-clause-front : goal.returns-in-None-clause-front
-returns-in-None-clause-front c =
+pub returns-in-None-clause-prefix : goal.returns-in-None-clause-prefix
+returns-in-None-clause-prefix c =
     stuck c.args.bytes.now c.loop-i.i c.loop-i.place (omega arith) c.requires c.loop-i.invariant (sym c.in-None.ensures)
 
 pub returns-in-None-clause-not_whole : goal.returns-in-None-clause-not_whole
 returns-in-None-clause-not_whole c =
-    not_whole c.args.bytes.now c.loop-i.i (returns-in-None-clause-front c) (omega arith)
+    not_whole c.args.bytes.now c.loop-i.i (returns-in-None-clause-prefix c) (omega arith)
 
 pub loop-i-preserved : goal.loop-i-preserved
 loop-i-preserved c =
@@ -33,8 +33,8 @@ pub returns-then-may_end-clause-whole : goal.returns-then-may_end-clause-whole
 returns-then-may_end-clause-whole c =
     ended c.args.bytes.now c.loop-i.i c.loop-i.place (omega arith) c.requires c.loop-i.invariant (search rules)
 
-pub returns-else-may_end-clause-front : goal.returns-else-may_end-clause-front
-returns-else-may_end-clause-front c =
+pub returns-else-may_end-clause-prefix : goal.returns-else-may_end-clause-prefix
+returns-else-may_end-clause-prefix c =
     unended c.args.bytes.now c.loop-i.i c.loop-i.place (omega arith) c.requires c.loop-i.invariant
 
 pub returns-else-may_end-clause-not_whole : goal.returns-else-may_end-clause-not_whole

@@ -1,6 +1,6 @@
 use Rattle.std.proofs.Common.{IsTrue, subst}
 use Rattle.std.specs.Prelude.{◌↔◌}
-use Rattle.cm_decl.specs.Graph.{WouldDepend}
+use Rattle.cm_decl.specs.GraphInside.{WouldDepend}
 use Rattle.cm_order.proofs.levels.Leaving.{would_row}
 use Rattle.cm_order.proofs.level.doomed_depends.Goals as goal
 

@@ -1,5 +1,5 @@
 use Rattle.std.proofs.Common.{refl, subst}
-use Rattle.cm_order.specs.Plans.{IsWay}
+use Rattle.cm_order.specs.Plans.{IsDescent}
 use Rattle.cm_order.proofs.searches.Reaching.{way_changed}
 use Rattle.cm_order.proofs.quick.quick.Goals as goal
 
@@ -8,7 +8,7 @@ returns-in_err-begin-clause-plan g c = c.begin.ensures.plan (g.V.View.rows c.arg
 
 pub descend-requires-clause-way : goal.descend-requires-clause-way
 descend-requires-clause-way g c =
-    subst (λ t. IsWay (g.V.View.rows c.args.view.now) t c.begin.new.self.way.items) c.in_ok-begin.ensures.top (c.begin.ensures.plan (g.V.View.rows c.args.view.now) c.requires.plan).way
+    subst (λ t. IsDescent (g.V.View.rows c.args.view.now) t c.begin.new.self.way.items) c.in_ok-begin.ensures.top (c.begin.ensures.plan (g.V.View.rows c.args.view.now) c.requires.plan).way
 
 pub returns-in_err-found-clause-plan : goal.returns-in_err-found-clause-plan
 returns-in_err-found-clause-plan g c =

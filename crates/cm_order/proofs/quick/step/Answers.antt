@@ -1,6 +1,6 @@
 use Rattle.std.proofs.Common.{rules, ◌≡◌, Some, sym, subst}
-use Rattle.cm_order.specs.declared.search.Visit.TheVariants.{Below}
-use Rattle.cm_order.specs.Plans.{IsWay}
+use Rattle.cm_order.specs.declared.search.VisitResult.TheVariants.{Below}
+use Rattle.cm_order.specs.Plans.{IsDescent}
 use Rattle.cm_order.proofs.searches.Reaching.{looked_at, gone_on}
 use Rattle.cm_order.proofs.quick.step.Goals as goal
 
@@ -14,7 +14,7 @@ returns-in_ok-push-3-clause-way g c =
 
 pub returns-in_err-push-2-clause-way : goal.returns-in_err-push-2-clause-way
 returns-in_err-push-2-clause-way g c =
-    subst (IsWay (g.V.View.rows c.args.view.now) c.args.top) (sym c.in_err-push-2.ensures.items)
+    subst (IsDescent (g.V.View.rows c.args.view.now) c.args.top) (sym c.in_err-push-2.ensures.items)
     (looked_at (g.V.View.rows c.args.view.now) c.args.top c.args.way.now.items c.pop.new.self.items c.push.new.self.items c.in-Some.stand c.glance.new.stand c.in-Some.ensures.items c.requires.way c.glance.ensures.same c.glance.ensures.known c.in_ok-push.ensures.items)
 
 pub returns-in_ok-push-2-clause-way : goal.returns-in_ok-push-2-clause-way

@@ -1,5 +1,5 @@
 use Rattle.std.proofs.Common.{string_bytes, ◌≡◌, ◌++◌, drop, flat_map}
-use Rattle.cm_program.specs.Printed.{texts_of}
+use Rattle.cm_program.specs.PrintedInside.{texts_of}
 use Rattle.cm_program.proofs.answers.push_answers.Given as goal
 
 -- what is still to be put behind the text makes the whole

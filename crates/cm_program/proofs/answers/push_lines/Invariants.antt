@@ -1,6 +1,6 @@
 use Rattle.std.proofs.Common.{string_bytes, ◌≡◌, List, ◌++◌, drop}
 use Rattle.cm_command.specs.declared.script.Line.{Line}
-use Rattle.cm_program.specs.Printed.{texts_of}
+use Rattle.cm_program.specs.PrintedInside.{texts_of}
 use Rattle.cm_program.proofs.answers.push_lines.Given as goal
 
 -- what is still to be put behind the text makes the whole

@@ -5,7 +5,7 @@ use Rattle.cm_program.proofs.audit.read_audit.Goals as goal
 
 pub returns-in-Ok-verdict_of-clause-verdict : goal.returns-in-Ok-verdict_of-clause-verdict
 returns-in-Ok-verdict_of-clause-verdict g c =
-    audited_some _ _ c.in-Ok.bytes c.in-Ok-verdict_of.verdict.line c.in-Ok-verdict_of.verdict.status c.in-Ok.ensures.front c.in-Ok.ensures.all
+    audited_some _ _ c.in-Ok.bytes c.in-Ok-verdict_of.verdict.line c.in-Ok-verdict_of.verdict.status c.in-Ok.ensures.prefix c.in-Ok.ensures.all
     (subst (λ (b : List ℕ). IsJournalVerdict b c.in-Ok-verdict_of.verdict.status c.in-Ok-verdict_of.verdict.line) c.as_slice.ensures c.in-Ok-verdict_of.ensures.verdict)
 
 pub returns-in-Ok-verdict_of-clause-ended : goal.returns-in-Ok-verdict_of-clause-ended

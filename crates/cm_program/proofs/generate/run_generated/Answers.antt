@@ -8,7 +8,7 @@ use Rattle.cm_program.proofs.generate.run_generated.Goals as goal
 pub returns-in_default-clause-runs : goal.returns-in_default-clause-runs
 returns-in_default-clause-runs g c =
     own_nothing g.G.Gates.log g.G.Gates.faults (Summary c.args.workload.size) None (script_of c.args.workload.seed c.args.workload.size) c.args.gates c.ended.result.gates c.ended.result.book.entries c.ended.result.status (g.K.Sink.written c.args.out.now)
-    c.ended.ensures.empty c.ended.ensures.gates (c.ended.ensures.status ∙ c.want_of_memory.ensures.status)
+    c.ended.ensures.empty c.ended.ensures.gates (c.ended.ensures.status ∙ c.out_of_memory.ensures.status)
 
 pub returns-clause-runs : goal.returns-clause-runs
 returns-clause-runs g c =

@@ -8,11 +8,11 @@ close_realm-requires-clause-passes g c =
 
 pub returns-clause-performs : goal.returns-clause-performs
 returns-clause-performs g c f new =
-    performs_by g.G.Gates.log g.G.Gates.faults c.args.manager.shelf c.args.manager.turn f c.args.phases.now c.args.passes c.args.gates c.run_lanes-passes.result c.close_realm.result c.performed_in.result
+    performs_by g.G.Gates.log g.G.Gates.faults c.args.manager.manifests c.args.manager.turn f c.args.phases.now c.args.passes c.args.gates c.run_lanes-passes.result c.close_realm.result c.performed_in.result
     new c.requires.gates c.run_lanes-passes.ensures.passes c.close_realm.ensures.closes c.close_realm.ensures.ended c.close_realm.ensures.frames c.performed_in.ensures.kept c.run_lanes-passes.ensures.ran
     c.performed_in.ensures.history c.performed_in.ensures.gates c.performed_in.ensures.said
 
 pub returns-clause-reported : goal.returns-clause-reported
 returns-clause-reported g c f new =
-    reported_by g.G.Gates.log g.G.Gates.faults c.args.wanted c.args.manager.shelf c.args.manager.turn f c.args.phases.now c.args.passes c.args.gates c.run_lanes-passes.result c.close_realm.result c.performed_in.result
+    reported_by g.G.Gates.log g.G.Gates.faults c.args.wanted c.args.manager.manifests c.args.manager.turn f c.args.phases.now c.args.passes c.args.gates c.run_lanes-passes.result c.close_realm.result c.performed_in.result
     new c.requires.gates c.run_lanes-passes.ensures.passes c.close_realm.ensures.closes c.close_realm.ensures.frames c.run_lanes-passes.ensures.ran c.performed_in.ensures.history c.performed_in.ensures.reported

@@ -4,17 +4,17 @@ use Rattle.std.specs.Prelude.{None}
 use Rattle.std.specs.Io.KnownBytes.{Keeps}
 use Rattle.cm_call.specs.Generated.{script_of}
 use Rattle.cm_program.specs.Headline.{RunsNothing, RunsScript}
-use Rattle.cm_program.specs.Run.{IsCheckStatus, IsRefusal, RunsAsServed, RunsOwn, RunsSome}
+use Rattle.cm_program.specs.Run.{IsCheckStatus, IsRefusalStatus, RunsAsServed, RunsOwn, RunsSome}
 use Rattle.cm_program.specs.Stock.{served_script}
-use Rattle.cm_program.specs.Written.{OfKnown, Says}
-use Rattle.cm_io.specs.Doors.{IsAt}
+use Rattle.cm_program.specs.Written.{OfKnown, SaysOnErr}
+use Rattle.cm_io.specs.Doors.{IsOpenAt}
 use Rattle.cm_io.specs.Outside.{Rose}
 use Rattle.cm_program.specs.Sessions.{RunsSessions}
 use Rattle.cm_call.specs.declared.call.RunOptions.{RunOptions}
 use Rattle.cm_call.specs.declared.call.ServeOptions.{ServeOptions}
 use Rattle.cm_call.specs.declared.call.Workload.{Workload}
 use Rattle.cm_call.specs.declared.call.Wanted.TheVariants.{Summary}
-use Rattle.cm_program.specs.Sessions.{served_frame, served_shelf}
+use Rattle.cm_program.specs.Sessions.{served_frame, served_manifests}
 use Rattle.cm_session.specs.Links.{view_of}
 use Rattle.cm_session.specs.Serving.{back_view}
 use Rattle.cm_program.proofs.links.Attending.{runs_no_session}
@@ -29,6 +29,9 @@ returns-in-Ok-Run g c =
     record {
       usage = not_script 2 c.run_script-ran.result.status refl c.run_script-ran.ensures.others;
       unusable = no_fault c.in-Ok-Run.ensures.gives c.in-Ok-Run.field-0-is;
+      untouched = no_fault c.in-Ok-Run.ensures.gives c.in-Ok-Run.field-0-is;
+      unread = λ none. absurd (none (inl (c.in-Ok-Run.options, asked c.in-Ok-Run.ensures.gives c.in-Ok-Run.field-0-is)));
+      unwritten = λ none. absurd (none (inl (inl (c.in-Ok-Run.options, asked c.in-Ok-Run.ensures.gives c.in-Ok-Run.field-0-is))));
       read = c.run_script-ran.ensures.read;
       write = c.run_script-ran.ensures.write;
       door = not_script 5 c.run_script-ran.result.status refl c.run_script-ran.ensures.others;
@@ -70,6 +73,9 @@ returns-in-Ok-Generate g c =
     record {
       usage = not_run 2 c.run_generated-ran.result.status refl c.run_generated-ran.ensures.others;
       unusable = no_fault c.in-Ok-Generate.ensures.gives c.in-Ok-Generate.field-0-is;
+      untouched = no_fault c.in-Ok-Generate.ensures.gives c.in-Ok-Generate.field-0-is;
+      unread = λ none. refl;
+      unwritten = λ none. absurd (none (inr (c.in-Ok-Generate.workload, asked c.in-Ok-Generate.ensures.gives c.in-Ok-Generate.field-0-is)));
       read = not_run 3 c.run_generated-ran.result.status refl c.run_generated-ran.ensures.others;
       write = c.run_generated-ran.ensures.cause;
       door = not_run 5 c.run_generated-ran.result.status refl c.run_generated-ran.ensures.others;
@@ -107,6 +113,9 @@ returns-in-Ok-Serve g c =
     record {
       usage = not_serve 2 c.run_sessions.result.status refl c.run_sessions.ensures.attended.others;
       unusable = no_fault c.in-Ok-Serve.ensures.gives c.in-Ok-Serve.field-0-is;
+      untouched = no_fault c.in-Ok-Serve.ensures.gives c.in-Ok-Serve.field-0-is;
+      unread = λ none. refl;
+      unwritten = λ none. refl;
       read = not_serve 3 c.run_sessions.result.status refl c.run_sessions.ensures.attended.others;
       write = not_serve 4 c.run_sessions.result.status refl c.run_sessions.ensures.attended.others;
       door = c.run_sessions.ensures.attended.failed;
@@ -131,7 +140,7 @@ returns-in-Ok-Serve g c =
       of_serve = λ o asks. record {
         status = c.run_sessions.ensures.attended.others;
         sessions =
-            subst (λ (x : ServeOptions). RunsSessions g.G.Gates.log g.G.Gates.faults (view_of g.D.Link.Source g.D.Link.Sink) (served_frame x) (served_shelf x) x.workers c.args.gates c.run_sessions.result.gates c.run_sessions.result.book.entries
+            subst (λ (x : ServeOptions). RunsSessions g.G.Gates.log g.G.Gates.faults (view_of g.D.Link.Source g.D.Link.Sink) (served_frame x) (served_manifests x) x.workers c.args.gates c.run_sessions.result.gates c.run_sessions.result.book.entries
             (map (back_view (view_of g.D.Link.Source g.D.Link.Sink)) c.run_sessions.result.links) c.run_sessions.result.status)
             (same_serving c.in-Ok-Serve.ensures.gives c.in-Ok-Serve.field-0-is asks) c.run_sessions.ensures.attended.runs;
         few = subst (λ (x : ServeOptions). length c.run_sessions.result.links ≤ x.sessions) (same_serving c.in-Ok-Serve.ensures.gives c.in-Ok-Serve.field-0-is asks) c.run_sessions.ensures.attended.few;
@@ -139,7 +148,7 @@ returns-in-Ok-Serve g c =
             subst (λ (x : ServeOptions). c.run_sessions.result.status ≡ 0 → (length c.run_sessions.result.links ≡ x.sessions) ⊎ Rose (g.D.Door.counts c.args.door).closings (g.D.Door.counts c.run_sessions.result.door).closings)
             (same_serving c.in-Ok-Serve.ensures.gives c.in-Ok-Serve.field-0-is asks) c.run_sessions.ensures.attended.done;
         place =
-            subst (λ (x : ServeOptions). c.run_sessions.result.status ≡ 0 → IsAt x.socket (g.D.Door.place c.run_sessions.result.door))
+            subst (λ (x : ServeOptions). c.run_sessions.result.status ≡ 0 → IsOpenAt x.socket (g.D.Door.place c.run_sessions.result.door))
             (same_serving c.in-Ok-Serve.ensures.gives c.in-Ok-Serve.field-0-is asks) c.run_sessions.ensures.place;
         untouched = (refl, refl);
       };
@@ -148,18 +157,21 @@ returns-in-Ok-Serve g c =
 pub returns-in-Err-Memory : goal.returns-in-Err-Memory
 returns-in-Err-Memory g c =
     record {
-      usage = λ is. not_six c.stopped-in-Err-Memory.ensures.status c.want_of_memory.ensures.status is refl;
-      unusable = λ asks. inr (at_six c.stopped-in-Err-Memory.ensures.status c.want_of_memory.ensures.status);
-      read = λ is. not_six c.stopped-in-Err-Memory.ensures.status c.want_of_memory.ensures.status is refl;
-      write = λ is. not_six c.stopped-in-Err-Memory.ensures.status c.want_of_memory.ensures.status is refl;
-      door = λ is. not_six c.stopped-in-Err-Memory.ensures.status c.want_of_memory.ensures.status is refl;
-      sound = λ is. not_six c.stopped-in-Err-Memory.ensures.status c.want_of_memory.ensures.status is refl;
+      usage = λ is. not_six c.stopped-in-Err-Memory.ensures.status c.out_of_memory.ensures.status is refl;
+      unusable = λ asks. inr (at_six c.stopped-in-Err-Memory.ensures.status c.out_of_memory.ensures.status);
+      untouched = λ asks. (refl, refl);
+      unread = λ none. refl;
+      unwritten = λ none. refl;
+      read = λ is. not_six c.stopped-in-Err-Memory.ensures.status c.out_of_memory.ensures.status is refl;
+      write = λ is. not_six c.stopped-in-Err-Memory.ensures.status c.out_of_memory.ensures.status is refl;
+      door = λ is. not_six c.stopped-in-Err-Memory.ensures.status c.out_of_memory.ensures.status is refl;
+      sound = λ is. not_six c.stopped-in-Err-Memory.ensures.status c.out_of_memory.ensures.status is refl;
       heard = λ three six. refl;
       whole = λ four six. refl;
       quiet = λ never. refl;
       silent = λ idle. Keeps-refl _;
       kept = λ none six. Keeps-refl _;
-      err = says_want g.E.Sink.written g.E.Sink.faults c.args.err.now c.want_of_memory.new.err c.stopped-in-Err-Memory.result.status (at_six c.stopped-in-Err-Memory.ensures.status c.want_of_memory.ensures.status) c.want_of_memory.ensures.said;
+      err = says_want g.E.Sink.written g.E.Sink.faults c.args.err.now c.out_of_memory.new.err c.stopped-in-Err-Memory.result.status (at_six c.stopped-in-Err-Memory.ensures.status c.out_of_memory.ensures.status) c.out_of_memory.ensures.said;
       history = empty_history c.stopped-in-Err-Memory.result.book.entries c.stopped-in-Err-Memory.ensures.empty;
       gates = ap length c.stopped-in-Err-Memory.ensures.gates ∙ c.requires.gates;
       empty = λ idle. (c.stopped-in-Err-Memory.ensures.empty, c.stopped-in-Err-Memory.ensures.gates);
@@ -168,46 +180,46 @@ returns-in-Err-Memory g c =
       given = search rules;
       unopened = λ none. (c.stopped-in-Err-Memory.ensures.links, c.stopped-in-Err-Memory.ensures.door);
       of_run = λ options asks. record {
-        status = inl (inr (inr (at_six c.stopped-in-Err-Memory.ensures.status c.want_of_memory.ensures.status)));
-        refused = λ is. not_six c.stopped-in-Err-Memory.ensures.status c.want_of_memory.ensures.status is refl;
-        read_out = λ is. not_six c.stopped-in-Err-Memory.ensures.status c.want_of_memory.ensures.status is refl;
-        faulty = of_faulty (IsRefusal c.stopped-in-Err-Memory.result.status) (g.S.Source.left c.args.input.now) (inr (inr (at_six c.stopped-in-Err-Memory.ensures.status c.want_of_memory.ensures.status)));
+        status = inl (inr (inr (at_six c.stopped-in-Err-Memory.ensures.status c.out_of_memory.ensures.status)));
+        refused = λ is. not_six c.stopped-in-Err-Memory.ensures.status c.out_of_memory.ensures.status is refl;
+        read_out = λ is. not_six c.stopped-in-Err-Memory.ensures.status c.out_of_memory.ensures.status is refl;
+        faulty = of_faulty (IsRefusalStatus c.stopped-in-Err-Memory.result.status) (g.S.Source.left c.args.input.now) (inr (inr (at_six c.stopped-in-Err-Memory.ensures.status c.out_of_memory.ensures.status)));
         headline = λ ran.
             known_nothing g.G.Gates.log g.G.Gates.faults (g.S.Source.left c.args.input.now) options.wanted options.repository c.args.gates c.stopped-in-Err-Memory.result.gates c.stopped-in-Err-Memory.result.book.entries c.stopped-in-Err-Memory.result.status (g.K.Sink.written c.args.out.now)
-            c.stopped-in-Err-Memory.ensures.empty c.stopped-in-Err-Memory.ensures.gates (at_six c.stopped-in-Err-Memory.ensures.status c.want_of_memory.ensures.status);
-        some = λ ran. some_unread _ _ _ _ (at_six c.stopped-in-Err-Memory.ensures.status c.want_of_memory.ensures.status) ((c.stopped-in-Err-Memory.ensures.empty, c.stopped-in-Err-Memory.ensures.gates), Keeps-refl _);
+            c.stopped-in-Err-Memory.ensures.empty c.stopped-in-Err-Memory.ensures.gates (at_six c.stopped-in-Err-Memory.ensures.status c.out_of_memory.ensures.status);
+        some = λ ran. some_unread _ _ _ _ (at_six c.stopped-in-Err-Memory.ensures.status c.out_of_memory.ensures.status) ((c.stopped-in-Err-Memory.ensures.empty, c.stopped-in-Err-Memory.ensures.gates), Keeps-refl _);
       };
       of_check = λ asks. record {
-        status = inr (inr (inr (inr (at_six c.stopped-in-Err-Memory.ensures.status c.want_of_memory.ensures.status))));
-        read_out = λ is. not_six c.stopped-in-Err-Memory.ensures.status c.want_of_memory.ensures.status is refl;
-        valid = λ is. not_six c.stopped-in-Err-Memory.ensures.status c.want_of_memory.ensures.status is refl;
-        invalid = λ is. not_six c.stopped-in-Err-Memory.ensures.status c.want_of_memory.ensures.status is refl;
-        told = λ is. not_six c.stopped-in-Err-Memory.ensures.status c.want_of_memory.ensures.status is refl;
+        status = inr (inr (inr (inr (at_six c.stopped-in-Err-Memory.ensures.status c.out_of_memory.ensures.status))));
+        read_out = λ is. not_six c.stopped-in-Err-Memory.ensures.status c.out_of_memory.ensures.status is refl;
+        valid = λ is. not_six c.stopped-in-Err-Memory.ensures.status c.out_of_memory.ensures.status is refl;
+        invalid = λ is. not_six c.stopped-in-Err-Memory.ensures.status c.out_of_memory.ensures.status is refl;
+        told = λ is. not_six c.stopped-in-Err-Memory.ensures.status c.out_of_memory.ensures.status is refl;
       };
       of_audit = λ asks. record {
-        status = inr (inr (inr (inr (at_six c.stopped-in-Err-Memory.ensures.status c.want_of_memory.ensures.status))));
-        read_out = λ is. not_six c.stopped-in-Err-Memory.ensures.status c.want_of_memory.ensures.status is refl;
-        legal = λ is. not_six c.stopped-in-Err-Memory.ensures.status c.want_of_memory.ensures.status is refl;
-        illegal = λ is. not_six c.stopped-in-Err-Memory.ensures.status c.want_of_memory.ensures.status is refl;
-        told = λ is. not_six c.stopped-in-Err-Memory.ensures.status c.want_of_memory.ensures.status is refl;
+        status = inr (inr (inr (inr (at_six c.stopped-in-Err-Memory.ensures.status c.out_of_memory.ensures.status))));
+        read_out = λ is. not_six c.stopped-in-Err-Memory.ensures.status c.out_of_memory.ensures.status is refl;
+        legal = λ is. not_six c.stopped-in-Err-Memory.ensures.status c.out_of_memory.ensures.status is refl;
+        illegal = λ is. not_six c.stopped-in-Err-Memory.ensures.status c.out_of_memory.ensures.status is refl;
+        told = λ is. not_six c.stopped-in-Err-Memory.ensures.status c.out_of_memory.ensures.status is refl;
       };
       of_generate = λ w asks. record {
-        status = inr (inr (at_six c.stopped-in-Err-Memory.ensures.status c.want_of_memory.ensures.status));
+        status = inr (inr (at_six c.stopped-in-Err-Memory.ensures.status c.out_of_memory.ensures.status));
         runs =
             own_nothing g.G.Gates.log g.G.Gates.faults (Summary w.size) None (script_of w.seed w.size) c.args.gates c.stopped-in-Err-Memory.result.gates c.stopped-in-Err-Memory.result.book.entries c.stopped-in-Err-Memory.result.status (g.K.Sink.written c.args.out.now)
-            c.stopped-in-Err-Memory.ensures.empty c.stopped-in-Err-Memory.ensures.gates (at_six c.stopped-in-Err-Memory.ensures.status c.want_of_memory.ensures.status);
+            c.stopped-in-Err-Memory.ensures.empty c.stopped-in-Err-Memory.ensures.gates (at_six c.stopped-in-Err-Memory.ensures.status c.out_of_memory.ensures.status);
         unmade = λ none. ((c.stopped-in-Err-Memory.ensures.empty, c.stopped-in-Err-Memory.ensures.gates), refl);
         unread = refl;
       };
       of_serve = λ o asks. record {
-        status = inr (inr (at_six c.stopped-in-Err-Memory.ensures.status c.want_of_memory.ensures.status));
+        status = inr (inr (at_six c.stopped-in-Err-Memory.ensures.status c.out_of_memory.ensures.status));
         sessions =
-            runs_no_session g.G.Gates.log g.G.Gates.faults (view_of g.D.Link.Source g.D.Link.Sink) (served_frame o) (served_shelf o) o.workers c.args.gates c.stopped-in-Err-Memory.result.gates c.stopped-in-Err-Memory.result.book.entries
+            runs_no_session g.G.Gates.log g.G.Gates.faults (view_of g.D.Link.Source g.D.Link.Sink) (served_frame o) (served_manifests o) o.workers c.args.gates c.stopped-in-Err-Memory.result.gates c.stopped-in-Err-Memory.result.book.entries
             (map (back_view (view_of g.D.Link.Source g.D.Link.Sink)) c.stopped-in-Err-Memory.result.links) c.stopped-in-Err-Memory.result.status
             c.stopped-in-Err-Memory.ensures.empty c.stopped-in-Err-Memory.ensures.gates (ap (map (back_view (view_of g.D.Link.Source g.D.Link.Sink))) c.stopped-in-Err-Memory.ensures.links);
         few = few_given c.stopped-in-Err-Memory.result.links o.sessions c.stopped-in-Err-Memory.ensures.links;
-        done = λ is. not_six c.stopped-in-Err-Memory.ensures.status c.want_of_memory.ensures.status is refl;
-        place = λ is. not_six c.stopped-in-Err-Memory.ensures.status c.want_of_memory.ensures.status is refl;
+        done = λ is. not_six c.stopped-in-Err-Memory.ensures.status c.out_of_memory.ensures.status is refl;
+        place = λ is. not_six c.stopped-in-Err-Memory.ensures.status c.out_of_memory.ensures.status is refl;
         untouched = (refl, refl);
       };
     }
@@ -217,6 +229,9 @@ returns-in-Err-Usage g c =
     record {
       usage = λ is. unusable c.in-Err-Usage.field-0 c.in-Err-Usage.ensures.gives c.in-Err-Usage.field-0-is;
       unusable = λ asks. inl c.stopped-in-Err-Usage.ensures.status;
+      untouched = λ asks. (refl, refl);
+      unread = λ none. refl;
+      unwritten = λ none. refl;
       read = λ is. not_two c.stopped-in-Err-Usage.ensures.status is refl;
       write = λ is. not_two c.stopped-in-Err-Usage.ensures.status is refl;
       door = λ is. not_two c.stopped-in-Err-Usage.ensures.status is refl;
@@ -246,6 +261,9 @@ returns-in-Ok-Check g c =
     record {
       usage = not_check 2 refl c.stopped.ensures.status c.run_check.ensures.others;
       unusable = no_fault c.in-Ok-Check.ensures.gives c.in-Ok-Check.field-0-is;
+      untouched = no_fault c.in-Ok-Check.ensures.gives c.in-Ok-Check.field-0-is;
+      unread = λ none. absurd (none (inr (inl (asked c.in-Ok-Check.ensures.gives c.in-Ok-Check.field-0-is))));
+      unwritten = λ none. absurd (none (inl (inr (inl (asked c.in-Ok-Check.ensures.gives c.in-Ok-Check.field-0-is)))));
       read = at_told c.stopped.ensures.status c.run_check.ensures.read;
       write = at_told c.stopped.ensures.status c.run_check.ensures.write;
       door = not_check 5 refl c.stopped.ensures.status c.run_check.ensures.others;
@@ -255,7 +273,7 @@ returns-in-Ok-Check g c =
       quiet = c.run_check.ensures.quiet;
       silent = check_idles c.stopped.ensures.status c.run_check.ensures.others c.run_check.ensures.silent;
       kept = λ none six. c.run_check.ensures.silent (inr (sym c.stopped.ensures.status ∙ six));
-      err = subst (λ (s : ℕ). Says g.E.Sink.written g.E.Sink.faults c.args.err.now c.run_check.new.err s) (sym c.stopped.ensures.status) c.run_check.ensures.err;
+      err = subst (λ (s : ℕ). SaysOnErr g.E.Sink.written g.E.Sink.faults c.args.err.now c.run_check.new.err s) (sym c.stopped.ensures.status) c.run_check.ensures.err;
       history = empty_history c.stopped.result.book.entries c.stopped.ensures.empty;
       gates = ap length c.stopped.ensures.gates ∙ c.requires.gates;
       empty = λ idle. (c.stopped.ensures.empty, c.stopped.ensures.gates);
@@ -269,7 +287,7 @@ returns-in-Ok-Check g c =
         read_out = at_told c.stopped.ensures.status c.run_check.ensures.ended;
         valid = at_told c.stopped.ensures.status c.run_check.ensures.valid;
         invalid = at_told c.stopped.ensures.status c.run_check.ensures.invalid;
-        told = at_told c.stopped.ensures.status c.run_check.ensures.front;
+        told = at_told c.stopped.ensures.status c.run_check.ensures.prefix;
       };
       of_audit = λ asks. no_other is_check c.in-Ok-Check.ensures.gives c.in-Ok-Check.field-0-is asks refl refl;
       of_generate = λ w asks. no_other is_check c.in-Ok-Check.ensures.gives c.in-Ok-Check.field-0-is asks refl refl;
@@ -281,6 +299,9 @@ returns-in-Ok-Audit g c =
     record {
       usage = not_check 2 refl c.stopped-in-Ok-Audit.ensures.status c.run_audit.ensures.others;
       unusable = no_fault c.in-Ok-Audit.ensures.gives c.in-Ok-Audit.field-0-is;
+      untouched = no_fault c.in-Ok-Audit.ensures.gives c.in-Ok-Audit.field-0-is;
+      unread = λ none. absurd (none (inr (inr (asked c.in-Ok-Audit.ensures.gives c.in-Ok-Audit.field-0-is))));
+      unwritten = λ none. absurd (none (inl (inr (inr (asked c.in-Ok-Audit.ensures.gives c.in-Ok-Audit.field-0-is)))));
       read = at_told c.stopped-in-Ok-Audit.ensures.status c.run_audit.ensures.read;
       write = at_told c.stopped-in-Ok-Audit.ensures.status c.run_audit.ensures.write;
       door = not_check 5 refl c.stopped-in-Ok-Audit.ensures.status c.run_audit.ensures.others;
@@ -290,7 +311,7 @@ returns-in-Ok-Audit g c =
       quiet = c.run_audit.ensures.quiet;
       silent = check_idles c.stopped-in-Ok-Audit.ensures.status c.run_audit.ensures.others c.run_audit.ensures.silent;
       kept = λ none six. c.run_audit.ensures.silent (inr (sym c.stopped-in-Ok-Audit.ensures.status ∙ six));
-      err = subst (λ (s : ℕ). Says g.E.Sink.written g.E.Sink.faults c.args.err.now c.run_audit.new.err s) (sym c.stopped-in-Ok-Audit.ensures.status) c.run_audit.ensures.err;
+      err = subst (λ (s : ℕ). SaysOnErr g.E.Sink.written g.E.Sink.faults c.args.err.now c.run_audit.new.err s) (sym c.stopped-in-Ok-Audit.ensures.status) c.run_audit.ensures.err;
       history = empty_history c.stopped-in-Ok-Audit.result.book.entries c.stopped-in-Ok-Audit.ensures.empty;
       gates = ap length c.stopped-in-Ok-Audit.ensures.gates ∙ c.requires.gates;
       empty = λ idle. (c.stopped-in-Ok-Audit.ensures.empty, c.stopped-in-Ok-Audit.ensures.gates);
@@ -305,7 +326,7 @@ returns-in-Ok-Audit g c =
         read_out = at_told c.stopped-in-Ok-Audit.ensures.status c.run_audit.ensures.ended;
         legal = at_told c.stopped-in-Ok-Audit.ensures.status c.run_audit.ensures.legal;
         illegal = at_told c.stopped-in-Ok-Audit.ensures.status c.run_audit.ensures.illegal;
-        told = at_told c.stopped-in-Ok-Audit.ensures.status c.run_audit.ensures.front;
+        told = at_told c.stopped-in-Ok-Audit.ensures.status c.run_audit.ensures.prefix;
       };
       of_generate = λ w asks. no_other is_audit c.in-Ok-Audit.ensures.gives c.in-Ok-Audit.field-0-is asks refl refl;
       of_serve = λ o asks. no_other is_audit c.in-Ok-Audit.ensures.gives c.in-Ok-Audit.field-0-is asks refl refl;

@@ -5,7 +5,7 @@ use Rattle.cm_program.proofs.running.run_served.Goals as goal
 pub returns-in_default-clause-runs : goal.returns-in_default-clause-runs
 returns-in_default-clause-runs g c =
     runs_nothing g.G.Gates.log g.G.Gates.faults c.args.wanted c.args.repo c.args.served c.args.gates c.ended.result.gates c.ended.result.book.entries c.ended.result.status (g.K.Sink.written c.args.out.now)
-    c.ended.ensures.empty c.ended.ensures.gates (c.ended.ensures.status ∙ c.want_of_memory.ensures.status)
+    c.ended.ensures.empty c.ended.ensures.gates (c.ended.ensures.status ∙ c.out_of_memory.ensures.status)
 
 pub returns-clause-runs : goal.returns-clause-runs
 returns-clause-runs g c =

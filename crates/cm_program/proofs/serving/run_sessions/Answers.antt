@@ -1,15 +1,15 @@
 use Rattle.std.proofs.Common.{◌≡◌, ◌∙◌}
 use Rattle.cm_session.specs.Links.{view_of}
 use Rattle.cm_session.specs.Serving.{back_view}
-use Rattle.cm_program.specs.Sessions.{served_frame, served_shelf}
+use Rattle.cm_program.specs.Sessions.{served_frame, served_manifests}
 use Rattle.cm_program.proofs.links.Doors.{at_is_open, at_same, attended_by, failed_run, unattended_for_fault, unattended_for_want}
 use Rattle.cm_program.proofs.serving.run_sessions.Goals as goal
 
 pub returns-in_default-clause-attended : goal.returns-in_default-clause-attended
 returns-in_default-clause-attended g c =
     unattended_for_want g.G.Gates.log g.G.Gates.faults (view_of g.D.Link.Source g.D.Link.Sink) g.D.Door.counts
-    (served_frame c.args.options) (served_shelf c.args.options) c.args.options.sessions c.args.options.workers c.args.gates c.args.door c.stopped.result
-    c.requires.gates c.stopped.ensures.empty c.stopped.ensures.gates c.stopped.ensures.links c.stopped.ensures.door (c.stopped.ensures.status ∙ c.want_of_memory.ensures.status)
+    (served_frame c.args.options) (served_manifests c.args.options) c.args.options.sessions c.args.options.workers c.args.gates c.args.door c.stopped.result
+    c.requires.gates c.stopped.ensures.empty c.stopped.ensures.gates c.stopped.ensures.links c.stopped.ensures.door (c.stopped.ensures.status ∙ c.out_of_memory.ensures.status)
 
 pub returns-in-Ready-clause-attended : goal.returns-in-Ready-clause-attended
 returns-in-Ready-clause-attended g c =
@@ -20,7 +20,7 @@ returns-in-Ready-clause-attended g c =
 pub returns-clause-attended : goal.returns-clause-attended
 returns-clause-attended g c =
     unattended_for_fault g.G.Gates.log g.G.Gates.faults (view_of g.D.Link.Source g.D.Link.Sink) g.D.Door.counts
-    (served_frame c.args.options) (served_shelf c.args.options) c.args.options.sessions c.args.options.workers c.args.gates (g.D.Door.counts c.args.door) c.listen.new.self c.stopped-in-Failed.result
+    (served_frame c.args.options) (served_manifests c.args.options) c.args.options.sessions c.args.options.workers c.args.gates (g.D.Door.counts c.args.door) c.listen.new.self c.stopped-in-Failed.result
     c.requires.gates c.stopped-in-Failed.ensures.empty c.stopped-in-Failed.ensures.gates c.stopped-in-Failed.ensures.links c.stopped-in-Failed.ensures.door (c.stopped-in-Failed.ensures.status ∙ c.door_fault.ensures.status)
     c.in-Failed.ensures.counts
 
@@ -28,7 +28,7 @@ pub attend-requires-clause-listening : goal.attend-requires-clause-listening
 attend-requires-clause-listening g c κs within = at_is_open _ _ c.in-Ready.ensures.place
 
 pub returns-in_default-clause-place : goal.returns-in_default-clause-place
-returns-in_default-clause-place g c = λ is. failed_run 5 c.stopped.ensures.status c.want_of_memory.ensures.status is
+returns-in_default-clause-place g c = λ is. failed_run 5 c.stopped.ensures.status c.out_of_memory.ensures.status is
 
 pub returns-in-Ready-clause-place : goal.returns-in-Ready-clause-place
 returns-in-Ready-clause-place g c =

@@ -27,11 +27,11 @@ returns-clause-attended g c f new =
       sixteen = back.ensures.gates;
       runs =
           subst (λ (status : ℕ). RunsSessions g.G.Gates.log g.G.Gates.faults (view_of g.D.Link.Source g.D.Link.Sink)
-          f c.args.manager.shelf c.args.workers c.args.gates back.result.gates c.close-book.result.entries
+          f c.args.manager.manifests c.args.workers c.args.gates back.result.gates c.close-book.result.entries
           (map (back_view (view_of g.D.Link.Source g.D.Link.Sink)) back.result.links) status)
           (sym told)
           (attended g.G.Gates.log g.G.Gates.faults (view_of g.D.Link.Source g.D.Link.Sink)
-          c.args.manager.shelf c.args.manager.turn f c.args.workers c.args.passes c.args.gates back.result c.close-book.result.entries
+          c.args.manager.manifests c.args.manager.turn f c.args.workers c.args.passes c.args.gates back.result c.close-book.result.entries
           new c.requires.gates back.ensures.passes (back.ensures.kept (own_passes c.args.manager.turn f c.args.passes new)) c.close-book.ensures.closes c.close-book.ensures.ended
           c.args.door back.ensures.served);
       given = back.ensures.links;

@@ -1,10 +1,10 @@
 use Rattle.std.proofs.Common.{◌≡◌, drop}
 use Rattle.serde_json.specs.View.{items_view}
 use Rattle.cm_read.specs.Environments.{registrations_in_at}
-use Rattle.cm_read.proofs.RowLemmas.{with_front}
+use Rattle.cm_read.proofs.RowLemmas.{with_prefix}
 use Rattle.cm_read.proofs.environments.registrations_in.Given as goal
 
 abbrev pub invariant-loop-item : goal.invariant-loop-item
 invariant-loop-item l =
-    with_front l.rows (registrations_in_at l.which l.at (items_view (drop l.item-index l.items)))
+    with_prefix l.rows (registrations_in_at l.which l.at (items_view (drop l.item-index l.items)))
     ≡ registrations_in_at l.which l.at (items_view l.items)

@@ -1,8 +1,8 @@
 use Rattle.std.proofs.Common.{◌≡◌, drop}
 use Rattle.serde_json.specs.View.{items_view}
 use Rattle.cm_read.specs.Fields.{texts_in_at}
-use Rattle.cm_read.proofs.RowLemmas.{with_front}
+use Rattle.cm_read.proofs.RowLemmas.{with_prefix}
 use Rattle.cm_read.proofs.fields.texts_in.Given as goal
 
 abbrev pub invariant-loop-value : goal.invariant-loop-value
-invariant-loop-value l = with_front l.texts (texts_in_at l.at l.key (items_view (drop l.value-index l.values))) ≡ texts_in_at l.at l.key (items_view l.values)
+invariant-loop-value l = with_prefix l.texts (texts_in_at l.at l.key (items_view (drop l.value-index l.values))) ≡ texts_in_at l.at l.key (items_view l.values)

@@ -1,7 +1,7 @@
 use Rattle.std.proofs.Common.{rules}
 use Rattle.std.specs.Map.Iter.{deref}
 use Rattle.std.proofs.lemmas.Map.Iter.{rest_more}
-use Rattle.cm_read.specs.Fields.{map_now}
+use Rattle.cm_read.specs.FieldsInside.{map_now}
 use Rattle.cm_read.proofs.reading.Keys.{unknown_keys_are, at_unknown, at_known}
 use Rattle.cm_read.proofs.fields.unknown_key.Goals as goal
 

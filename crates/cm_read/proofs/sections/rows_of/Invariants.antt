@@ -1,10 +1,10 @@
 use Rattle.std.proofs.Common.{◌≡◌, drop}
 use Rattle.serde_json.specs.View.{items_view}
 use Rattle.cm_read.specs.Sections.{rows_at}
-use Rattle.cm_read.proofs.RowLemmas.{with_front}
+use Rattle.cm_read.proofs.RowLemmas.{with_prefix}
 use Rattle.cm_read.proofs.sections.rows_of.Given as goal
 
 abbrev pub invariant-loop-item : goal.invariant-loop-item
 invariant-loop-item g l =
-    with_front l.rows (rows_at (g.T.Item.reads l.children) l.at (items_view (drop l.item-index l.items)))
-    ≡ rows_at (g.T.Item.reads l.children) l.fn.start (items_view l.items)
+    with_prefix l.rows (rows_at (g.T.SectionItem.reads l.children) l.at (items_view (drop l.item-index l.items)))
+    ≡ rows_at (g.T.SectionItem.reads l.children) l.fn.start (items_view l.items)

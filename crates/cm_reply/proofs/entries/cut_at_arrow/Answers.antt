@@ -1,13 +1,13 @@
 use Rattle.std.proofs.Common.{◌+◌, take, None, Some, sym, subst}
 use Rattle.std.proofs.lemmas.List.{take_rest}
 use Rattle.memchr.specs.Find.{FindsLastNeedle}
-use Rattle.cm_reply.specs.Lines.{IsCutAtLast}
+use Rattle.cm_reply.specs.LinesInside.{IsCutAtLast}
 use Rattle.cm_reply.proofs.back.Arrows.{cut_last, no_arrow}
 use Rattle.cm_reply.proofs.entries.cut_at_arrow.Goals as goal
 
 pub returns-in_default : goal.returns-in_default
-returns-in_default c = λ front rest e.
-    no_arrow c.args.line.now front rest (subst (λ n. FindsLastNeedle c.args.line.now n None) c.as_bytes.ensures.value c.in_default.ensures) e
+returns-in_default c = λ prefix rest e.
+    no_arrow c.args.line.now prefix rest (subst (λ n. FindsLastNeedle c.args.line.now n None) c.as_bytes.ensures.value c.in_default.ensures) e
 
 pub returns : goal.returns
 returns c =

@@ -1,5 +1,6 @@
 use Rattle.std.proofs.Common.{sym, subst}
-use Rattle.cm_names.specs.Moniker.{IsMonikerText, IsMonikerTextOf}
+use Rattle.cm_names.specs.Moniker.{IsMonikerTextOf}
+use Rattle.cm_names.specs.MonikerInside.{IsMonikerText}
 use Rattle.cm_names.proofs.texts.MonikerParts.{reads_one_way_lem, writes_its_text_lem}
 use Rattle.cm_reply.proofs.back.Created.{target_is}
 use Rattle.cm_reply.proofs.back.Cuts.{word_faults}

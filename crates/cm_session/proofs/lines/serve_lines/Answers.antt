@@ -1,5 +1,5 @@
 use Rattle.std.proofs.Common.{rules, ◌≡◌, ap, None, arith}
-use Rattle.cm_io.specs.Lines.{Reader}
+use Rattle.cm_io.specs.LinesInside.{Reader}
 use Rattle.cm_session.specs.Session.{most_lines}
 use Rattle.cm_session.proofs.spoken.Sessions.{going-ends, going-more, going-none, going-spent}
 use Rattle.cm_session.proofs.lines.serve_lines.Goals as goal

@@ -5,6 +5,6 @@ use Rattle.cm_session.proofs.lines.serve_lines.Given as goal
 
 abbrev pub invariant-loop-line : goal.invariant-loop-line
 invariant-loop-line g l =
-    Going l.manager.shelf l.fn.pass l.pass
+    Going l.manager.manifests l.fn.pass l.pass
     (gates_view g.G.Gates.log g.G.Gates.faults l.fn.gates) (gates_view g.G.Gates.log g.G.Gates.faults l.gates)
     (view_of g.L.Source g.L.Sink l.fn.link) (view_of g.L.Source g.L.Sink l.link) l.reader l.line

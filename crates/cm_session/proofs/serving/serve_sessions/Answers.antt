@@ -6,40 +6,40 @@ use Rattle.cm_session.proofs.serving.serve_sessions.Goals as goal
 
 pub returns-in_default : goal.returns-in_default
 returns-in_default g c =
-    let it = comes_not g.G.Gates.log g.G.Gates.faults (view_of g.D.Link.Source g.D.Link.Sink) g.D.Door.counts g.D.Door.place c.args.manager.now.shelf c.args.manager.now.turn c.args.sessions c.args.workers c.args.passes c.args.gates c.args.door c.unserved.result c.requires.passes c.requires.gates c.unserved.ensures in
+    let it = comes_not g.G.Gates.log g.G.Gates.faults (view_of g.D.Link.Source g.D.Link.Sink) g.D.Door.counts g.D.Door.place c.args.manager.now.manifests c.args.manager.now.turn c.args.sessions c.args.workers c.args.passes c.args.gates c.args.door c.unserved.result c.requires.passes c.requires.gates c.unserved.ensures in
     record { served = it.served; passes = it.passes_are; gates = it.gates_are; kept = it.kept; ended = it.ended; links = it.links; place = it.place; few = it.few; done = it.done; fault = it.fault; sound = it.sound }
 
 -- the door that comes back is the one that was given
 pub returns-in-Err : goal.returns-in-Err
 returns-in-Err g c =
-    let it = comes_not g.G.Gates.log g.G.Gates.faults (view_of g.D.Link.Source g.D.Link.Sink) g.D.Door.counts g.D.Door.place c.args.manager.now.shelf c.args.manager.now.turn c.args.sessions c.args.workers c.args.passes c.args.gates c.args.door c.unserved-in-Err.result c.requires.passes c.requires.gates (rw c.in-Err.ensures.err at c.unserved-in-Err.ensures) in
+    let it = comes_not g.G.Gates.log g.G.Gates.faults (view_of g.D.Link.Source g.D.Link.Sink) g.D.Door.counts g.D.Door.place c.args.manager.now.manifests c.args.manager.now.turn c.args.sessions c.args.workers c.args.passes c.args.gates c.args.door c.unserved-in-Err.result c.requires.passes c.requires.gates (rw c.in-Err.ensures.err at c.unserved-in-Err.ensures) in
     record { served = it.served; passes = it.passes_are; gates = it.gates_are; kept = it.kept; ended = it.ended; links = it.links; place = it.place; few = it.few; done = it.done; fault = it.fault; sound = it.sound }
 
-pub run_all-crew-requires-clause-ready : goal.run_all-crew-requires-clause-ready
-run_all-crew-requires-clause-ready g c κs within = ready_all c.args.manager.now.turn c.in-Ok-open_door.opened.0 _ c.args.workers c.args.passes c.in-Ok-open_door.opened.1 c.args.gates c.in-Ok.room.links.items c.make_crew-crew.result.items c.requires.passes c.in-Ok-open_door.ensures.new c.in-Ok.ensures.links (record { passes_are = c.make_crew-crew.ensures.passes; at_door_are = c.make_crew-crew.ensures.at_door; gates_are = c.make_crew-crew.ensures.gates; links_are = c.make_crew-crew.ensures.links }) c.make_crew-crew.ensures.well
+pub run_all-pool-requires-clause-ready : goal.run_all-pool-requires-clause-ready
+run_all-pool-requires-clause-ready g c κs within = ready_all c.args.manager.now.turn c.in-Ok-open_door.opened.0 _ c.args.workers c.args.passes c.in-Ok-open_door.opened.1 c.args.gates c.in-Ok.room.links.items c.make_pool-pool.result.items c.requires.passes c.in-Ok-open_door.ensures.new c.in-Ok.ensures.links (record { passes_are = c.make_pool-pool.ensures.passes; at_door_are = c.make_pool-pool.ensures.at_door; gates_are = c.make_pool-pool.ensures.gates; links_are = c.make_pool-pool.ensures.links }) c.make_pool-pool.ensures.well
 
 pub take_apart-parts-requires : goal.take_apart-parts-requires
 take_apart-parts-requires g c =
-    let worked = c.run_all-crew.ensures.worked in
+    let worked = c.run_all-pool.ensures.worked in
     record {
       passes = have_passes g.G.Gates.log g.G.Gates.faults _ _ _ _ _ worked;
       empty = c.in-Ok.ensures.no_parts;
-      room = room_left g.G.Gates.log g.G.Gates.faults _ _ _ c.args.manager.now.turn c.args.passes _ _ _ c.requires.passes c.make_crew-crew.ensures.passes worked c.in-Ok.ensures.parts;
+      room = room_left g.G.Gates.log g.G.Gates.faults _ _ _ c.args.manager.now.turn c.args.passes _ _ _ c.requires.passes c.make_pool-pool.ensures.passes worked c.in-Ok.ensures.parts;
     }
 
 pub hand_back-requires : goal.hand_back-requires
 hand_back-requires g c =
-    let all = c.make_crew-crew.ensures in
-    let ready = closing_ready g.G.Gates.log g.G.Gates.faults (view_of g.D.Link.Source g.D.Link.Sink) g.D.Door.counts g.D.Door.place c.args.manager.now.shelf c.args.manager.now.turn c.args.sessions c.args.workers c.args.passes c.args.gates c.args.door
-    c.in-Ok-open_door.opened.0 c.in-Ok-open_door.opened.1 c.in-Ok.room.links.items c.make_crew-crew.result.items c.run_all-crew.result.items c.take_apart-parts.result (vec_capacity c.in-Ok.room.back)
-    c.requires.passes c.in-Ok-open_door.ensures.new (record { passes_are = all.passes; at_door_are = all.at_door; gates_are = all.gates; links_are = all.links }) c.run_all-crew.ensures.worked c.take_apart-parts.ensures c.in-Ok-open_door.ensures.count c.in-Ok.ensures.back in
+    let all = c.make_pool-pool.ensures in
+    let ready = closing_ready g.G.Gates.log g.G.Gates.faults (view_of g.D.Link.Source g.D.Link.Sink) g.D.Door.counts g.D.Door.place c.args.manager.now.manifests c.args.manager.now.turn c.args.sessions c.args.workers c.args.passes c.args.gates c.args.door
+    c.in-Ok-open_door.opened.0 c.in-Ok-open_door.opened.1 c.in-Ok.room.links.items c.make_pool-pool.result.items c.run_all-pool.result.items c.take_apart-parts.result (vec_capacity c.in-Ok.room.back)
+    c.requires.passes c.in-Ok-open_door.ensures.new (record { passes_are = all.passes; at_door_are = all.at_door; gates_are = all.gates; links_are = all.links }) c.run_all-pool.ensures.worked c.take_apart-parts.ensures c.in-Ok-open_door.ensures.count c.in-Ok.ensures.back in
     record { all = ready.0; counts = ready.1; none = c.in-Ok.ensures.no_links }
 
 pub returns : goal.returns
 returns g c =
-    let all = c.make_crew-crew.ensures in
+    let all = c.make_pool-pool.ensures in
     let back = c.hand_back.ensures in
-    let it = comes g.G.Gates.log g.G.Gates.faults (view_of g.D.Link.Source g.D.Link.Sink) g.D.Door.counts g.D.Door.place c.args.manager.now.shelf c.args.manager.now.turn c.args.sessions c.args.workers c.args.passes c.args.gates c.args.door c.hand_back.result
-    c.in-Ok-open_door.opened.0 c.in-Ok-open_door.opened.1 c.in-Ok.room.links.items c.make_crew-crew.result.items c.run_all-crew.result.items c.take_apart-parts.result
-    c.requires.passes c.requires.gates c.requires.workers.0 c.in-Ok-open_door.ensures.new (record { passes_are = all.passes; at_door_are = all.at_door; gates_are = all.gates; links_are = all.links }) c.run_all-crew.ensures.worked c.take_apart-parts.ensures back.closed back.passes back.gates back.links in
+    let it = comes g.G.Gates.log g.G.Gates.faults (view_of g.D.Link.Source g.D.Link.Sink) g.D.Door.counts g.D.Door.place c.args.manager.now.manifests c.args.manager.now.turn c.args.sessions c.args.workers c.args.passes c.args.gates c.args.door c.hand_back.result
+    c.in-Ok-open_door.opened.0 c.in-Ok-open_door.opened.1 c.in-Ok.room.links.items c.make_pool-pool.result.items c.run_all-pool.result.items c.take_apart-parts.result
+    c.requires.passes c.requires.gates c.requires.workers.0 c.in-Ok-open_door.ensures.new (record { passes_are = all.passes; at_door_are = all.at_door; gates_are = all.gates; links_are = all.links }) c.run_all-pool.ensures.worked c.take_apart-parts.ensures back.closed back.passes back.gates back.links in
     record { served = it.served; passes = it.passes_are; gates = it.gates_are; kept = it.kept; ended = it.ended; links = it.links; place = it.place; few = it.few; done = it.done; fault = it.fault; sound = it.sound }

@@ -3,7 +3,7 @@ use Rattle.cm_session.proofs.work.Working.{ready_lock, ready_new, ready_pass, re
 use Rattle.cm_session.proofs.workers.work.Goals as goal
 
 pub returns-then-is_idle : goal.returns-then-is_idle
-returns-then-is_idle g c = record { worked = worked_idle g.G.Gates.log g.G.Gates.faults _ c.args.manager.now.shelf c.args.manager.now.turn c.args.door.now c.args.workers c.args.worker.now _ c.requires.ready c.in-Some.at_door (sym c.take.ensures.value ∙ c.in-Some.is) (c.is_idle.ensures.idle c.if-is_idle.true) refl refl refl refl refl }
+returns-then-is_idle g c = record { worked = worked_idle g.G.Gates.log g.G.Gates.faults _ c.args.manager.now.manifests c.args.manager.now.turn c.args.door.now c.args.workers c.args.worker.now _ c.requires.ready c.in-Some.at_door (sym c.take.ensures.value ∙ c.in-Some.is) (c.is_idle.ensures.idle c.if-is_idle.true) refl refl refl refl refl }
 
 pub serve_links-pass-requires-clause-lock : goal.serve_links-pass-requires-clause-lock
 serve_links-pass-requires-clause-lock g c κs within = ready_pass c.args.manager.now.turn c.args.door.now c.args.workers c.args.worker.now c.requires.ready c.in-Some-take.pass (sym c.take-2.ensures.value ∙ c.in-Some-take.is)
@@ -18,4 +18,4 @@ pub serve_links-pass-requires-clause-room : goal.serve_links-pass-requires-claus
 serve_links-pass-requires-clause-room g c κs within = ready_room c.args.manager.now.turn c.args.door.now c.args.workers c.args.worker.now c.requires.ready c.in-Some.at_door (sym c.take.ensures.value ∙ c.in-Some.is) (c.is_idle.ensures.serves c.if-is_idle.false)
 
 pub returns : goal.returns
-returns g c = record { worked = worked_served g.G.Gates.log g.G.Gates.faults _ c.args.manager.now.shelf c.args.manager.now.turn c.args.door.now c.args.workers c.args.worker.now _ c.requires.ready c.in-Some-take.pass c.serve_links-pass.result.0 c.in-Some.at_door c.serve_links-pass.result.1 c.serve_links-pass.result.2 (sym c.take-2.ensures.value ∙ c.in-Some-take.is) (sym c.take.ensures.value ∙ c.in-Some.is) (c.is_idle.ensures.serves c.if-is_idle.false) refl refl refl c.serve_links-pass.ensures.served }
+returns g c = record { worked = worked_served g.G.Gates.log g.G.Gates.faults _ c.args.manager.now.manifests c.args.manager.now.turn c.args.door.now c.args.workers c.args.worker.now _ c.requires.ready c.in-Some-take.pass c.serve_links-pass.result.0 c.in-Some.at_door c.serve_links-pass.result.1 c.serve_links-pass.result.2 (sym c.take-2.ensures.value ∙ c.in-Some-take.is) (sym c.take.ensures.value ∙ c.in-Some.is) (c.is_idle.ensures.serves c.if-is_idle.false) refl refl refl c.serve_links-pass.ensures.served }

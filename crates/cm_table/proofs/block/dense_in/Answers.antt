@@ -1,13 +1,13 @@
 use Rattle.std.proofs.Common.{◌∙◌, ap, sym, subst, Some, arith}
-use Rattle.cm_table.specs.Keys.{Rising}
+use Rattle.cm_table.specs.Keys.{Increasing}
 use Rattle.cm_table.specs.Slots.{inc_of, slot_of, slots_in}
-use Rattle.cm_table.proofs.lists.Halves.{part_rising, in_part}
+use Rattle.cm_table.proofs.lists.BinarySearch.{part_increasing, in_part}
 use Rattle.cm_table.proofs.block.dense_in.Goals as goal
 
 pub dense_at-requires : goal.dense_at-requires
 dense_at-requires c =
-    subst (Rising inc_of) (sym c.as_slice-slots.ensures.value)
-    (part_rising inc_of slots_in c.args.blocks.now c.args.place c.index-blocks-place.result (omega arith) c.requires)
+    subst (Increasing inc_of) (sym c.as_slice-slots.ensures.value)
+    (part_increasing inc_of slots_in c.args.blocks.now c.args.place c.index-blocks-place.result (omega arith) c.requires)
 
 pub returns-in-Some : goal.returns-in-Some
 returns-in-Some c =

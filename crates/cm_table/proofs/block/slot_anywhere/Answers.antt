@@ -1,16 +1,16 @@
 use Rattle.std.proofs.Common.{◌∙◌, sym, ap, subst}
-use Rattle.cm_table.specs.Keys.{Rising}
+use Rattle.cm_table.specs.Keys.{Increasing}
 use Rattle.cm_table.specs.Slots.{inc_of, slot_of, slots_in}
-use Rattle.cm_table.proofs.lists.Halves.{in_last, part_rising}
+use Rattle.cm_table.proofs.lists.BinarySearch.{in_last, part_increasing}
 use Rattle.cm_table.proofs.block.slot_anywhere.Goals as goal
 
 pub slot_at-requires : goal.slot_at-requires
 slot_at-requires c =
-    subst (Rising inc_of) (sym c.as_slice.ensures.value)
-    (part_rising inc_of slots_in c.args.blocks.now c.in-Some.place c.index-blocks-place.result c.in-Some.ensures.bound c.requires.rising)
+    subst (Increasing inc_of) (sym c.as_slice.ensures.value)
+    (part_increasing inc_of slots_in c.args.blocks.now c.in-Some.place c.index-blocks-place.result c.in-Some.ensures.bound c.requires.increasing)
 
 pub returns-in-Some : goal.returns-in-Some
 returns-in-Some c =
     c.slot_at.ensures
     ∙ ap (λ l. slot_of l c.args.inc) c.as_slice.ensures.value
-    ∙ sym (in_last inc_of slots_in c.args.blocks.now c.args.inc c.in-Some.place c.index-blocks-place.result c.requires.filled c.requires.rising c.in-Some.ensures)
+    ∙ sym (in_last inc_of slots_in c.args.blocks.now c.args.inc c.in-Some.place c.index-blocks-place.result c.requires.filled c.requires.increasing c.in-Some.ensures)

@@ -1,12 +1,12 @@
 use Rattle.std.proofs.Common.{leb, leb-true, arith, rules}
 use Rattle.std.proofs.lemmas.List.Sorted.{IsPartitionPoint-from_clause, IsPartitionedBy-leb}
 use Rattle.cm_table.specs.Slots.{inc_of}
-use Rattle.cm_table.proofs.lists.Halves.{rising_alone, not_le}
+use Rattle.cm_table.proofs.lists.BinarySearch.{increasing_alone, not_le}
 use Rattle.cm_table.proofs.block.slots_upto.Goals as goal
 
 pub returns : goal.returns
 returns c =
-    let parted = IsPartitionedBy-leb inc_of c.args.slots.now c.args.inc (rising_alone inc_of c.args.slots.now c.requires) in
+    let parted = IsPartitionedBy-leb inc_of c.args.slots.now c.args.inc (increasing_alone inc_of c.args.slots.now c.requires) in
     let point = IsPartitionPoint-from_clause (λ s. leb (inc_of s) c.args.inc) c.args.slots.now _ c.partition_point.ensures.partitioned parted (λ a r q k. search rules) in
     record {
       bound = c.partition_point.ensures.bound;

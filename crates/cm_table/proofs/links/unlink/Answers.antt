@@ -1,29 +1,29 @@
 use Rattle.std.proofs.Common.{◌≡◌, List, Some, None, ◌∙◌, sym, ap, subst}
 use Rattle.std.specs.Prelude.{option_and_then}
 use Rattle.cm_table.specs.declared.slot.Slot.{Slot}
-use Rattle.cm_table.specs.Keys.{Rising}
+use Rattle.cm_table.specs.Keys.{Increasing}
 use Rattle.cm_table.specs.Slots.{inc_of, flat, slot_of}
-use Rattle.cm_table.proofs.slots.Rowed.{rising_indexed, slots_rise}
+use Rattle.cm_table.proofs.slots.Rowed.{increasing_indexed, slots_rise}
 use Rattle.cm_table.proofs.slots.Linking.{IsSwapped, unlinked, unlinked_none, own_name, taken_rises}
 use Rattle.cm_table.proofs.links.unlink.Goals as goal
 
-pub parent_in-requires-clause-rising : goal.parent_in-requires-clause-rising
-parent_in-requires-clause-rising c =
-    subst (λ l. Rising inc_of (flat l)) (sym c.as_slice.ensures.value) (slots_rise c.requires.orderly.next (flat c.args.blocks.now.items) c.requires.orderly.orderly.rising)
+pub parent_in-requires-clause-increasing : goal.parent_in-requires-clause-increasing
+parent_in-requires-clause-increasing c =
+    subst (λ l. Increasing inc_of (flat l)) (sym c.as_slice.ensures.value) (slots_rise c.requires.orderly.next (flat c.args.blocks.now.items) c.requires.orderly.orderly.increasing)
 
-pub swap_in-requires-clause-rising : goal.swap_in-requires-clause-rising
-swap_in-requires-clause-rising c = slots_rise c.requires.orderly.next (flat c.args.blocks.now.items) c.requires.orderly.orderly.rising
+pub swap_in-requires-clause-increasing : goal.swap_in-requires-clause-increasing
+swap_in-requires-clause-increasing c = slots_rise c.requires.orderly.next (flat c.args.blocks.now.items) c.requires.orderly.orderly.increasing
 
-pub name_in-requires-clause-rising : goal.name_in-requires-clause-rising
-name_in-requires-clause-rising c =
-    subst (λ l. Rising inc_of (flat l)) (sym c.as_slice-2.ensures.value)
-    (subst (Rising inc_of) (sym c.swap_in.ensures.slots)
-    (rising_indexed c.in-Some.parent None (flat c.args.blocks.now.items) (slots_rise c.requires.orderly.next (flat c.args.blocks.now.items) c.requires.orderly.orderly.rising)))
+pub name_in-requires-clause-increasing : goal.name_in-requires-clause-increasing
+name_in-requires-clause-increasing c =
+    subst (λ l. Increasing inc_of (flat l)) (sym c.as_slice-2.ensures.value)
+    (subst (Increasing inc_of) (sym c.swap_in.ensures.slots)
+    (increasing_indexed c.in-Some.parent None (flat c.args.blocks.now.items) (slots_rise c.requires.orderly.next (flat c.args.blocks.now.items) c.requires.orderly.orderly.increasing)))
 
-pub swap_in-requires-2-clause-rising : goal.swap_in-requires-2-clause-rising
-swap_in-requires-2-clause-rising c =
-    subst (Rising inc_of) (sym c.swap_in.ensures.slots)
-    (rising_indexed c.in-Some.parent None (flat c.args.blocks.now.items) (slots_rise c.requires.orderly.next (flat c.args.blocks.now.items) c.requires.orderly.orderly.rising))
+pub swap_in-requires-2-clause-increasing : goal.swap_in-requires-2-clause-increasing
+swap_in-requires-2-clause-increasing c =
+    subst (Increasing inc_of) (sym c.swap_in.ensures.slots)
+    (increasing_indexed c.in-Some.parent None (flat c.args.blocks.now.items) (slots_rise c.requires.orderly.next (flat c.args.blocks.now.items) c.requires.orderly.orderly.increasing))
 
 pub take_out-requires-clause-name : goal.take_out-requires-clause-name
 take_out-requires-clause-name c =
@@ -52,5 +52,5 @@ returns-clause-links c =
     let up : option_and_then (λ s. s.row.parent) (slot_of ss c.args.inc) ≡ Some c.in-Some.parent =
     ap (λ l. option_and_then (λ s. s.row.parent) (slot_of (flat l) c.args.inc)) (sym c.as_slice.ensures.value) ∙ sym c.parent_in.ensures ∙ c.in-Some.is in
     let w : IsSwapped ss (flat c.swap_in.new.blocks.items) (flat c.swap_in-2.new.blocks.items) c.in-Some.parent c.swap_in.new.index c.take_out.new.index =
-    record { rise = slots_rise c.requires.orderly.next ss c.requires.orderly.orderly.rising; out = c.swap_in.ensures.slots; was = c.swap_in.ensures.index; back = c.swap_in-2.ensures.slots } in
+    record { rise = slots_rise c.requires.orderly.next ss c.requires.orderly.orderly.increasing; out = c.swap_in.ensures.slots; was = c.swap_in.ensures.index; back = c.swap_in-2.ensures.slots } in
     unlinked c.args.gone ss (flat c.swap_in.new.blocks.items) (flat c.swap_in-2.new.blocks.items) c.in-Some.parent c.args.inc c.swap_in.new.index c.take_out.new.index c.requires.orderly w up c.take_out.ensures.base c.take_out.ensures.kids c.take_out.ensures.names

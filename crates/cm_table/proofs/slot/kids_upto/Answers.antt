@@ -1,11 +1,11 @@
 use Rattle.std.proofs.Common.{ℕ, leb, leb-true, arith, rules}
 use Rattle.std.proofs.lemmas.List.Sorted.{IsPartitionPoint-from_clause, IsPartitionedBy-leb}
-use Rattle.cm_table.proofs.lists.Halves.{rising_alone, not_le}
+use Rattle.cm_table.proofs.lists.BinarySearch.{increasing_alone, not_le}
 use Rattle.cm_table.proofs.slot.kids_upto.Goals as goal
 
 pub returns : goal.returns
 returns c =
-    let parted = IsPartitionedBy-leb (λ (k : ℕ). k) c.args.kids.now c.args.above (rising_alone (λ (k : ℕ). k) c.args.kids.now c.requires) in
+    let parted = IsPartitionedBy-leb (λ (k : ℕ). k) c.args.kids.now c.args.above (increasing_alone (λ (k : ℕ). k) c.args.kids.now c.requires) in
     let point = IsPartitionPoint-from_clause (λ k. leb k c.args.above) c.args.kids.now _ c.partition_point.ensures.partitioned parted (λ a r q k. search rules) in
     record {
       bound = c.partition_point.ensures.bound;

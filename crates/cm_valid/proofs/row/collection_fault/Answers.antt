@@ -6,15 +6,15 @@ use Rattle.cm_decl.specs.declared.rows.Collection.{Collection}
 use Rattle.cm_decl.specs.declared.section.Section.TheVariants.{Children, Collections}
 use Rattle.cm_decl.specs.Rules.{RepeatedName}
 use Rattle.cm_decl.specs.Clashes.{place, clash, same_collection_name}
-use Rattle.cm_valid.specs.declared.found.Found.{Found}
-use Rattle.cm_valid.specs.Parts.{At, Finds}
+use Rattle.cm_valid.specs.declared.found.FoundFault.{FoundFault}
+use Rattle.cm_valid.specs.Parts.{At, FindsFault}
 use Rattle.cm_valid.proofs.ClashLemmas.{same_near}
 use Rattle.cm_valid.proofs.RowLemmas.{row_at, looked_through, first_named, clash_apart, clash_child, clash_collection, no_child, some_child, named_before, named_once, found_at}
 use Rattle.cm_valid.proofs.row.collection_fault.Goals as goal
 
 -- what was found among the earlier collections
 by_earlier : (d : Decl) (row : ℕ) (o : Option ℕ) → clash d RepeatedName Collections row ≡ option_map (place Collections) o
-    → Finds d (At Collections row) (option_map (λ first. found_at Collections row RepeatedName (Some (place Collections first))) o)
+    → FindsFault d (At Collections row) (option_map (λ first. found_at Collections row RepeatedName (Some (place Collections first))) o)
 by_earlier d row None clashing = named_once d Collections row (ap is_some clashing) (refl, (refl, (refl, (refl, (refl, (refl, (refl, tt)))))))
 by_earlier d row (Some first) clashing =
     named_before d Collections Collections row first (found_at Collections row RepeatedName (Some (place Collections first))) refl (ap is_some clashing) clashing
@@ -56,4 +56,4 @@ returns c =
     let at = row_at c.as_slice-collections.result.now d.collections row this (cc) c.requires.within c.index-collections-row.is in
     let clashing = clash_collection d row this (option_map (place Collections) first) at (no_child d this.name (sym c.has_child.ensures ∙ c.if-has_child.false))
     (first_named Collections (λ (k : Collection). k.name) c.as_slice-collections.result.now d.collections row this first first (cc) c.requires.within c.index-collections-row.is c.collection_named-first.ensures refl) in
-    subst (λ (f : Option Found). Finds d (At Collections row) f) (sym c.earlier.ensures) (by_earlier d row first clashing)
+    subst (λ (f : Option FoundFault). FindsFault d (At Collections row) f) (sym c.earlier.ensures) (by_earlier d row first clashing)

@@ -5,8 +5,8 @@ use Rattle.cm_decl.specs.declared.section.Section.TheVariants.{Exposes}
 use Rattle.cm_decl.specs.Rules.{UnknownRef, NotDeclared, RepeatedTarget, RequiredVoid, is_required_void}
 use Rattle.cm_decl.specs.Breaks.{breaks, has_unknown_source, has_undeclared_source}
 use Rattle.cm_decl.specs.Clashes.{place, clash}
-use Rattle.cm_valid.specs.declared.found.Found.{Found}
-use Rattle.cm_valid.specs.Parts.{At, Finds}
+use Rattle.cm_valid.specs.declared.found.FoundFault.{FoundFault}
+use Rattle.cm_valid.specs.Parts.{At, FindsFault}
 use Rattle.cm_valid.proofs.RowLemmas.{row_at, passes, finds, finds_none}
 use Rattle.cm_valid.proofs.row.expose_fault.Goals as goal
 
@@ -18,7 +18,7 @@ returns-then-is_unknown c =
     let rows : c.as_slice.result.now ≡ d.exposes = cc in
     let at : slice_get d.exposes row ≡ Some this = row_at c.as_slice.result.now d.exposes row this rows c.requires.within c.index-as_slice-row.is in
     let unknown : breaks d UnknownRef Exposes row ≡ true = passes (λ (r : Give). has_unknown_source d r) d.exposes row this true at (sym c.is_unknown.ensures ∙ c.if-is_unknown.true) in
-    subst (λ (f : Found). Finds d (At Exposes row) (Some f)) (sym c.alone.ensures) (finds d Exposes row 1 UnknownRef None refl (refl, tt) unknown refl)
+    subst (λ (f : FoundFault). FindsFault d (At Exposes row) (Some f)) (sym c.alone.ensures) (finds d Exposes row 1 UnknownRef None refl (refl, tt) unknown refl)
 
 pub returns-then-is_undeclared : goal.returns-then-is_undeclared
 returns-then-is_undeclared c =
@@ -29,7 +29,7 @@ returns-then-is_undeclared c =
     let at : slice_get d.exposes row ≡ Some this = row_at c.as_slice.result.now d.exposes row this rows c.requires.within c.index-as_slice-row.is in
     let unknown : breaks d UnknownRef Exposes row ≡ false = passes (λ (r : Give). has_unknown_source d r) d.exposes row this false at (sym c.is_unknown.ensures ∙ c.if-is_unknown.false) in
     let undeclared : breaks d NotDeclared Exposes row ≡ true = passes (λ (r : Give). has_undeclared_source d r) d.exposes row this true at (sym c.is_undeclared.ensures ∙ c.if-is_undeclared.true) in
-    subst (λ (f : Found). Finds d (At Exposes row) (Some f)) (sym c.alone-then-is_undeclared.ensures) (finds d Exposes row 2 NotDeclared None refl (refl, (unknown, tt)) undeclared refl)
+    subst (λ (f : FoundFault). FindsFault d (At Exposes row) (Some f)) (sym c.alone-then-is_undeclared.ensures) (finds d Exposes row 2 NotDeclared None refl (refl, (unknown, tt)) undeclared refl)
 
 pub returns-in-Some : goal.returns-in-Some
 returns-in-Some c =
@@ -42,7 +42,7 @@ returns-in-Some c =
     let undeclared : breaks d NotDeclared Exposes row ≡ false = passes (λ (r : Give). has_undeclared_source d r) d.exposes row this false at (sym c.is_undeclared.ensures ∙ c.if-is_undeclared.false) in
     let first = c.in-Some.first in
     let clashing : clash d RepeatedTarget Exposes row ≡ Some (place Exposes first) = sym c.expose_clash.ensures ∙ ap (option_map (place Exposes)) c.in-Some.is in
-    subst (λ (f : Found). Finds d (At Exposes row) (Some f)) (sym c.clash.ensures) (finds d Exposes row 4 RepeatedTarget (Some (place Exposes first)) refl (refl, (unknown, (undeclared, (refl, tt)))) (ap is_some clashing) clashing)
+    subst (λ (f : FoundFault). FindsFault d (At Exposes row) (Some f)) (sym c.clash.ensures) (finds d Exposes row 4 RepeatedTarget (Some (place Exposes first)) refl (refl, (unknown, (undeclared, (refl, tt)))) (ap is_some clashing) clashing)
 
 pub returns-then-is_required_void : goal.returns-then-is_required_void
 returns-then-is_required_void c =
@@ -56,7 +56,7 @@ returns-then-is_required_void c =
     let missing : c.expose_clash.result ≡ None = cc in
     let clashing : clash d RepeatedTarget Exposes row ≡ None = sym c.expose_clash.ensures ∙ ap (option_map (place Exposes)) missing in
     let void : breaks d RequiredVoid Exposes row ≡ true = passes (λ (r : Give). is_required_void r) d.exposes row this true at (sym c.is_required_void.ensures ∙ c.if-is_required_void.true) in
-    subst (λ (f : Found). Finds d (At Exposes row) (Some f)) (sym c.alone-then-is_required_void.ensures) (finds d Exposes row 7 RequiredVoid None refl (refl, (unknown, (undeclared, (refl, (ap is_some clashing, (refl, (refl, tt))))))) void refl)
+    subst (λ (f : FoundFault). FindsFault d (At Exposes row) (Some f)) (sym c.alone-then-is_required_void.ensures) (finds d Exposes row 7 RequiredVoid None refl (refl, (unknown, (undeclared, (refl, (ap is_some clashing, (refl, (refl, tt))))))) void refl)
 
 pub returns : goal.returns
 returns c =

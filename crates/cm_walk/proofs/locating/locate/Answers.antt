@@ -11,6 +11,6 @@ loop-depth-preserved g c =
     let next = g.S.Store.next_inc c.args.store.now in
     let child = c.in-Some.ensures.child ∙ ap (child_of rows c.loop-depth.at) c.get.ensures in (
       leads_on rows c.as_slice-name-items.result.now c.args.moniker.now.parts c.loop-depth.at c.in-Some.next c.loop-depth.depth c.name-item.result (located_from rows 0 0 c.args.moniker.now.parts) c.as_slice-name-items.ensures c.loop-depth-test.true c.name-item.is c.if-not-is_resolved.ensures.resolved child c.loop-depth.invariant.0,
-      ap is_some (child_lives rows next c.loop-depth.at c.in-Some.next c.name-item.result c.requires.orderly.rising (sym child)).1,
+      ap is_some (child_lives rows next c.loop-depth.at c.in-Some.next c.name-item.result c.requires.orderly.increasing (sym child)).1,
       two_more c.child.new.steps c.is_resolved.new.steps c.loop-depth.steps c.args.steps.now c.loop-depth.depth c.child.ensures.cost c.is_resolved.ensures.cost c.loop-depth.invariant.2,
     )

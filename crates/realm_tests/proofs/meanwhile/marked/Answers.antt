@@ -1,7 +1,7 @@
 use Rattle.std.proofs.Common.{◌≡◌, ℕ, true, refl, inl, subst, arith}
 use Rattle.cm_world.specs.declared.event.Event.TheVariants.{Mark}
 use Rattle.cm_world.specs.declared.reply.Reply.TheVariants.{Marked}
-use Rattle.cm_laws.specs.Story.{world_of, IsLegal, Tells}
+use Rattle.cm_laws.specs.Story.{world_of, IsLegal, AddsEntry}
 use Rattle.cm_laws.proofs.actions.Beginners.{still_may_end}
 use Rattle.realm_tests.proofs.meanwhile.marked.Goals as goal
 
@@ -11,8 +11,8 @@ one_not_zero e = absurd (omega arith)
 pub returns-in-Ok-Marked : goal.returns-in-Ok-Marked
 unfolding IsLegal
 returns-in-Ok-Marked c =
-    let tells : Tells c.args.realm.now c.mark.new.self 1 (Mark true c.args.inc) Marked =
-    subst (λ r. Tells c.args.realm.now c.mark.new.self 1 (Mark true c.args.inc) r)
+    let tells : AddsEntry c.args.realm.now c.mark.new.self 1 (Mark true c.args.inc) Marked =
+    subst (λ r. AddsEntry c.args.realm.now c.mark.new.self 1 (Mark true c.args.inc) r)
     c.in-Ok-Marked.field-0-is c.in-Ok-Marked.ensures.step in (
       c.marks_stay.ensures.closes (world_of c.mark.new.self) c.args.inc true
           (c.marks_stay.ensures.marks c.args.realm.now c.mark.new.self 1 c.args.inc true Marked

@@ -2,7 +2,7 @@ use Rattle.std.proofs.Common.{◌≡◌, ◌<◌, List, [], ◌∷◌, ◌++◌,
 use Rattle.std.specs.Prelude.{map}
 use Rattle.cm_decl.specs.declared.node.Node.{Node}
 use Rattle.cm_deps.specs.Edges.{holds, IsBelow}
-use Rattle.cm_deps.specs.Implied.{IsOrdered}
+use Rattle.cm_deps.specs.Implied.{IsOrderedGraph}
 use Rattle.cm_deps.specs.Nodes.{at}
 use Rattle.cm_deps.specs.Shapes.{IsShape, IsLeftRing}
 use Rattle.cm_deps.specs.Closure.{IsClosure}
@@ -22,14 +22,14 @@ arrange-requires-clause-some c =
 pub nodes_at-requires : goal.nodes_at-requires
 nodes_at-requires c =
     let r = c.in_ok-nodes.field-0 in
-    let is : IsOrdered r.after.items c.in-Ordered.full.items c.in-Ordered.order.items = subst (IsShape r.after.items) c.in-Ordered.is (subst (λ l. IsShape l c.in_ok-full.field-0) c.as_slice.ensures.value c.in_ok-full.ensures) in
+    let is : IsOrderedGraph r.after.items c.in-Ordered.full.items c.in-Ordered.order.items = subst (IsShape r.after.items) c.in-Ordered.is (subst (λ l. IsShape l c.in_ok-full.field-0) c.as_slice.ensures.value c.in_ok-full.ensures) in
     λ i held. subst (λ (l : List Node). i < length l) (sym c.as_slice-in-Ordered.ensures.value)
     (order_inside c.args.decl.now c.args.dynamic.now r.nodes.items r.after.items c.in-Ordered.full.items c.in-Ordered.order.items c.in_ok-nodes.ensures.edges is i (ap (λ l. holds l i) (sym c.as_slice-in-Ordered-2.ensures.value) ∙ held))
 
 pub returns-in-Ordered : goal.returns-in-Ordered
 returns-in-Ordered c =
     let r = c.in_ok-nodes.field-0 in
-    let is : IsOrdered r.after.items c.in-Ordered.full.items c.in-Ordered.order.items = subst (IsShape r.after.items) c.in-Ordered.is (subst (λ l. IsShape l c.in_ok-full.field-0) c.as_slice.ensures.value c.in_ok-full.ensures) in
+    let is : IsOrderedGraph r.after.items c.in-Ordered.full.items c.in-Ordered.order.items = subst (IsShape r.after.items) c.in-Ordered.is (subst (λ l. IsShape l c.in_ok-full.field-0) c.as_slice.ensures.value c.in_ok-full.ensures) in
     let list : c.in_ok-order-in-Ordered.order ≡ map (at r.nodes.items) c.in-Ordered.order.items =
     c.in_ok-order-in-Ordered.ensures ∙ ap (λ l. map (at l) c.as_slice-in-Ordered-2.result.now) c.as_slice-in-Ordered.ensures.value ∙ ap (map (at r.nodes.items)) c.as_slice-in-Ordered-2.ensures.value in
     let whole : IsClosure c.in-Ordered.full.items (length c.in-Ordered.full.items) c.in_ok-reached-in-Ordered.reached.items =

@@ -1,4 +1,4 @@
-use Rattle.cm_manager.specs.Runs.{Acts}
+use Rattle.cm_manager.specs.Runs.{RunsAction}
 use Rattle.cm_manager.proofs.starts.Launches.{begun_as, ended_acts, joined_acts, unfollowed, not_a_start, not_a_stop}
 use Rattle.cm_manager.proofs.manager.Manager.act_once.Goals as goal
 
@@ -27,7 +27,7 @@ returns-in-Ok-Quiet g c = record {
       begun_as _ _ _ _ _ _ _ _ _
       (λ f d a b by.
       let it = rw (c.in-Ok-Quiet.is, c.in-Ok-Quiet.field-0-is) at by in
-      Acts.quiet it.0 it.1)
+      RunsAction.quiet it.0 it.1)
       c.begin-pass.ensures.helps;
 }
 
@@ -35,6 +35,6 @@ pub returns-in-Err : goal.returns-in-Err
 returns-in-Err g c = record {
   helps =
       begun_as _ _ _ _ _ _ _ _ _
-      (λ f d a b by. Acts.cut {k = c.args.kind} {i = c.args.inc} (rw c.in-Err.is at by))
+      (λ f d a b by. RunsAction.cut {k = c.args.kind} {i = c.args.inc} (rw c.in-Err.is at by))
       c.begin-pass.ensures.helps;
 }

@@ -1,7 +1,7 @@
 use Rattle.std.proofs.Common.{false}
 use Rattle.cm_world.specs.declared.answer.Answer.TheVariants as answer
 use Rattle.cm_answers.specs.declared.question.Question.TheVariants as question
-use Rattle.cm_answers.specs.Answers.{answer_by}
+use Rattle.cm_answers.specs.AnswersInside.{answer_by}
 use Rattle.cm_manager.proofs.calling.Calling.{acts_on, answered_as}
 use Rattle.cm_manager.proofs.shutdowns.ShuttingDown.{reaches_on, Shutting, Destroying}
 use Rattle.cm_manager.proofs.onward.Streaming.{streamed_helps}

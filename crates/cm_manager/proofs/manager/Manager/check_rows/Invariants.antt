@@ -10,7 +10,7 @@ use Rattle.cm_manager.proofs.manager.Manager.check_rows.Given as goal
 abbrev pub invariant-loop-row : goal.invariant-loop-row
 invariant-loop-row g l = record {
   onward :
-      Onward l.self.shelf (Gathered OfRow (drop l.row-index l.fn.rows) l.all) (Gathered OfRow l.fn.rows []) l.fn.pass l.idle
+      Onward l.self.manifests (Gathered OfRow (drop l.row-index l.fn.rows) l.all) (Gathered OfRow l.fn.rows []) l.fn.pass l.idle
       (record { log = g.G.Gates.log l.fn.gates; faults = g.G.Gates.faults l.fn.gates })
       (record { log = g.G.Gates.log l.gates; faults = g.G.Gates.faults l.gates });
   known : IsSamePass (frame_of l.idle) l.idle l.idle;

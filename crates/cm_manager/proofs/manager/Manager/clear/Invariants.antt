@@ -12,7 +12,7 @@ use Rattle.cm_manager.proofs.manager.Manager.clear.Given as goal
 abbrev pub invariant-loop-row : goal.invariant-loop-row
 invariant-loop-row g l = record {
   onward :
-      Onward l.self.shelf (Clearing (drop l.row-index l.fn.rows)) (Clearing l.fn.rows) l.fn.pass l.idle
+      Onward l.self.manifests (Clearing (drop l.row-index l.fn.rows)) (Clearing l.fn.rows) l.fn.pass l.idle
       (record { log = g.G.Gates.log l.fn.gates; faults = g.G.Gates.faults l.fn.gates })
       (record { log = g.G.Gates.log l.gates; faults = g.G.Gates.faults l.gates });
   known : IsSamePass (frame_of l.idle) l.idle l.idle;

@@ -8,5 +8,5 @@ returns g c =
     let performs = c.call.ensures.performs in
     record {
       performs = performs;
-      removed = leaves_if command.Destroy IsRemoved c.answers_hold.ensures.removed c.args.self.now.shelf c.args.target.now c.args.pass _ _ _ c.call.result.1 performs;
+      removed = leaves_if command.Destroy IsRemoved c.answers_hold.ensures.removed c.args.self.now.manifests c.args.target.now c.args.pass _ _ _ c.call.result.1 performs;
     }

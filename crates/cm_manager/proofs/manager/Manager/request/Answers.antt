@@ -2,7 +2,7 @@ use Rattle.std.proofs.Common.{sym, ◌∙◌}
 use Rattle.cm_manager.specs.Asking.{frame_of}
 use Rattle.cm_answers.specs.Questions.{event_for}
 use Rattle.cm_manager.specs.Questions.{FollowsBy}
-use Rattle.cm_manager.specs.Runs.{Onces}
+use Rattle.cm_manager.specs.Runs.{StartsSingleRun}
 use Rattle.cm_manager.specs.Sweeps.{Sweeps}
 use Rattle.cm_manager.proofs.calling.Followings.{nothing_follows, something_follows, no_follow, start_follows, sweep_follows}
 use Rattle.cm_manager.proofs.manager.Manager.request.Goals as goal
@@ -23,7 +23,7 @@ returns-in-Start g c =
     let tried = c.try_request-pass in
     record {
       helps =
-          something_follows _ (event_for c.args.request) (λ f n. FollowsBy f n c.args.request) (λ f n x y. Onces f n c.in-Start.child x y c.start_once-pass.result.1) c.args.inc tried.result.1 c.start_once-pass.result.1
+          something_follows _ (event_for c.args.request) (λ f n. FollowsBy f n c.args.request) (λ f n x y. StartsSingleRun f n c.in-Start.child x y c.start_once-pass.result.1) c.args.inc tried.result.1 c.start_once-pass.result.1
           c.behind.result c.args.pass tried.result.0 c.start_once-pass.result.0 _ _ _
           (λ f n x y it. start_follows f n c.args.request c.args.inc c.in-Start.child tried.result.1 c.start_once-pass.result.1 x y (sym c.following-follow.ensures ∙ c.in-Start.is) it)
           tried.ensures.helps c.start_once-pass.ensures.helps (rw c.decided-answer.ensures at c.behind.ensures);

@@ -12,7 +12,7 @@ returns-in-None g c =
     let asked = c.ask-pass.ensures in
     let is = sym c.unmarked.ensures ∙ c.in-None.is in
     record {
-      helps = marked_shuts _ _ _ _ _ _ _ _ _ _ (marks_help c.args.self.now.shelf c.args.doom c.args.inc _ _ _ _ is asked.same asked.asked) c.stop_all.ensures.helps;
+      helps = marked_shuts _ _ _ _ _ _ _ _ _ _ (marks_help c.args.self.now.manifests c.args.doom c.args.inc _ _ _ _ is asked.same asked.asked) c.stop_all.ensures.helps;
       marked =
           none_or _ _
           (marked_next c.marks_stay.ensures.stays c.args.doom c.args.inc c.ask-pass.result.0 _ c.stop_all.ensures.helps.same

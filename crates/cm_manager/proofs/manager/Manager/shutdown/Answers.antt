@@ -1,4 +1,4 @@
-use Rattle.cm_laws.specs.Shutdowns.{IsOver}
+use Rattle.cm_laws.specs.ShutdownsInside.{IsShutBelow}
 use Rattle.cm_command.specs.declared.command.Command.TheVariants as command
 use Rattle.cm_manager.proofs.shutdowns.Answering.{leaves_if}
 use Rattle.cm_manager.proofs.manager.Manager.shutdown.Goals as goal
@@ -8,5 +8,5 @@ returns g c =
     let performs = c.call.ensures.performs in
     record {
       performs = performs;
-      shut = leaves_if command.Shutdown IsOver c.answers_hold.ensures.shut c.args.self.now.shelf c.args.target.now c.args.pass _ _ _ c.call.result.1 performs;
+      shut = leaves_if command.Shutdown IsShutBelow c.answers_hold.ensures.shut c.args.self.now.manifests c.args.target.now c.args.pass _ _ _ c.call.result.1 performs;
     }

@@ -1,6 +1,6 @@
 use Rattle.std.proofs.Common.{None, Some}
 use Rattle.cm_world.specs.declared.action.ActKind.TheVariants as kind
-use Rattle.cm_manager.specs.Runs.{Acts}
+use Rattle.cm_manager.specs.Runs.{RunsAction}
 use Rattle.cm_manager.proofs.starts.Launches.{begun_as, joined_acts}
 use Rattle.cm_manager.proofs.shutdowns.Sweepings.{begun_here, stopped_row}
 use Rattle.cm_manager.proofs.manager.Manager.stop_row.Goals as goal
@@ -35,7 +35,7 @@ returns-in-Ok-Quiet g c = record {
       begun_as _ _ _ _ _ _ _ _ _
       (λ f d a b by.
       let it = rw (c.in-Ok-Quiet.is, c.in-Ok-Quiet.field-0-is) at by in
-      Acts.quiet it.0 it.1)
+      RunsAction.quiet it.0 it.1)
       c.begin-pass.ensures.helps;
 }
 
@@ -43,6 +43,6 @@ pub returns : goal.returns
 returns g c = record {
   helps =
       begun_as _ _ _ _ _ _ _ _ _
-      (λ f d a b by. Acts.cut {k = kind.Stop} {i = c.args.inc} (rw c.in-Err.is at by))
+      (λ f d a b by. RunsAction.cut {k = kind.Stop} {i = c.args.inc} (rw c.in-Err.is at by))
       c.begin-pass.ensures.helps;
 }

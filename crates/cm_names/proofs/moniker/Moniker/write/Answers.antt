@@ -2,7 +2,7 @@ use Rattle.std.proofs.Common.{◌≡◌, ◌<◌, ◌++◌, [], ◌∷◌, lengt
 use Rattle.std.proofs.lemmas.List.{get_or-map, length-map}
 use Rattle.std.proofs.lemmas.List.Elements.{All-more}
 use Rattle.cm_names.specs.Child.{child_text}
-use Rattle.cm_names.specs.Moniker.{IsChild}
+use Rattle.cm_names.specs.Moniker.{IsChildName}
 use Rattle.cm_names.proofs.sets.JoinLemmas.{joined_more}
 use Rattle.cm_names.proofs.texts.MonikerParts.{written_whole, names_whole}
 use Rattle.cm_names.proofs.moniker.Moniker.write.Goals as goal
@@ -18,7 +18,7 @@ loop-i-preserved c =
     let none : c.loop-i.i ≡ 0 → c.if-i-gt0.text ≡ c.loop-i.text = elim c.if-i-gt0.branch [ then-i-gt0+in_ok-push_str w ↦ λ first. absurd (omega arith) | else-i-gt0 w ↦ λ _. search rules ] in
     record {
       text = c.in_ok-push_child.ensures.text ∙ joined_more 47 (map child_text c.args.self.now.parts) c.loop-i.i [] (child_text c.part-item.result) c.loop-i.text c.if-i-gt0.text (omega (arith, length-map c.args.self.now.parts child_text)) text_at c.loop-i.invariant.text slash none;
-      names = All-more IsChild c.args.self.now.parts c.loop-i.i c.part-item.result within c.loop-i.invariant.names (subst IsChild at c.in_ok-push_child.ensures.is_child);
+      names = All-more IsChildName c.args.self.now.parts c.loop-i.i c.part-item.result within c.loop-i.invariant.names (subst IsChildName at c.in_ok-push_child.ensures.is_child);
     }
 
 pub returns-clause-grammar : goal.returns-clause-grammar

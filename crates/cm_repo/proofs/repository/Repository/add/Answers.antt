@@ -1,5 +1,6 @@
 use Rattle.std.proofs.Common.{◌≡◌, ◌++◌, ◌∷◌, [], true, None, Ok, is_some, sym, ap, subst, ◌∙◌, rules, inl}
-use Rattle.cm_repo.specs.Blocks.{blocks_of, block_at, FindsAlso}
+use Rattle.cm_repo.specs.Blocks.{blocks_of, block_at}
+use Rattle.cm_repo.specs.BlocksInside.{FindsAlso}
 use Rattle.cm_repo.proofs.BlockLemmas.{is_some-block_at, none_from, blocks_of-insert, added-repeated, added-new, FindsAlso-push}
 use Rattle.cm_repo.proofs.repository.Repository.add.Goals as goal
 

@@ -6,7 +6,7 @@ use Rattle.cm_world.specs.declared.reply.Reply.TheVariants as reply
 use Rattle.cm_world.specs.World.{World, rows_fit}
 use Rattle.cm_world.specs.Create.{IsCreateReply, created_row}
 use Rattle.cm_world.specs.After.{with_row}
-use Rattle.cm_dynamic.specs.Laws.{CanTake}
+use Rattle.cm_dynamic.specs.Laws.{CanTakeChild}
 use Rattle.cm_laws.specs.Story.{world_of, entry_of}
 use Rattle.cm_steps.specs.Inside.{world_in}
 use Rattle.cm_steps.proofs.steps.Stepping.{one_pushed, kept_rows}
@@ -27,7 +27,7 @@ add_row-requires-clause-room c =
 
 pub add_row-requires-clause-takes : goal.add_row-requires-clause-takes
 add_row-requires-clause-takes c =
-    subst (λ (v : World). CanTake v.rows c.args.parent c.args.coll c.args.name) (ap world_of (sym c.self.view_is) ∙ c.self.invariant.stands.world) c.requires.takes
+    subst (λ (v : World). CanTakeChild v.rows c.args.parent c.args.coll c.args.name) (ap world_of (sym c.self.view_is) ∙ c.self.invariant.stands.world) c.requires.takes
 
 pub invariant_of-self-2 : goal.invariant_of-self-2
 invariant_of-self-2 c =

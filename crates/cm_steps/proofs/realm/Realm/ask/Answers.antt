@@ -3,8 +3,8 @@ use Rattle.cm_world.specs.Legal.{IsStep}
 use Rattle.cm_world.specs.declared.route.Start.TheVariants.{UseAt}
 use Rattle.cm_world.specs.Openings.{WalksUnless}
 use Rattle.cm_world.specs.World.{World}
-use Rattle.cm_world.specs.After.{moves}
-use Rattle.cm_laws.specs.Story.{world_of, entry_of, Tells}
+use Rattle.cm_world.specs.AfterInside.{moves}
+use Rattle.cm_laws.specs.Story.{world_of, entry_of, AddsEntry}
 use Rattle.cm_cache.specs.Keeping.{asked_by}
 use Rattle.cm_steps.specs.Asking.{may_ask, event_of, reply_of, refusal_of}
 use Rattle.cm_steps.specs.Inside.{world_in}
@@ -39,4 +39,4 @@ tell-requires-clause-step c =
 
 pub returns-clause-step : goal.returns-clause-step
 returns-clause-step c =
-    subst (λ e. IfOk c.tell.result (λ told. Tells c.args.self.now c.tell.new.self c.args.caller e told)) c.event_of-event.ensures c.tell.ensures.step
+    subst (λ e. IfOk c.tell.result (λ told. AddsEntry c.args.self.now c.tell.new.self c.args.caller e told)) c.event_of-event.ensures c.tell.ensures.step

@@ -15,11 +15,11 @@ use Rattle.cm_laws.specs.Story.{world_of, entry_of}
 use Rattle.cm_laws.specs.Tasks.{IsNumbered}
 use Rattle.cm_steps.proofs.steps.Counts.{open_less}
 use Rattle.cm_steps.proofs.actions.Ends.{inc-ended, can_take, kept_ended}
-use Rattle.cm_cache.specs.Beside.{is_emptied, followed, IsTold, goes_some_by}
+use Rattle.cm_cache.specs.Beside.{is_emptied, followed, IsReported, goes_some_by}
 use Rattle.cm_steps.specs.Planned.{IsPlannedBy}
 use Rattle.cm_cache.proofs.histories.Dooming.{ends_doom}
 use Rattle.cm_steps.specs.Inside.{world_in}
-use Rattle.cm_steps.proofs.asked.Keepers.{rising_in}
+use Rattle.cm_steps.proofs.asked.Keepers.{increasing_in}
 use Rattle.cm_steps.proofs.expiries.Closing.{orderly_in, still_closed}
 use Rattle.cm_steps.proofs.realm.Realm.end.Goals as goal
 
@@ -85,12 +85,12 @@ invariant_of-self c =
       most = ap (λ (h : History). h.limit) c.put_down.ensures.book;
       doomed = c.expire_by-doomed.result;
       told =
-          subst (IsTold (world_in c.self.inside) (entry_of c.args.caller (End c.args.action f) (Ended o)))
+          subst (IsReported (world_in c.self.inside) (entry_of c.args.caller (End c.args.action f) (Ended o)))
           (sym (
           c.expire_by-doomed.ensures.goes
           ∙ ap (λ rs. goes_some_by o rs c.inc_at-inc.result) c.end_at-finish.ensures.rows
           ∙ ap (λ i. goes_some_by o (rows_by i t.next_inc f o t.rows) i) here))
-          (ends_doom (world_in c.self.inside) c.args.caller c.args.action f o may.act (rising_in c.self.inside c.self.invariant.stands) may.there);
+          (ends_doom (world_in c.self.inside) c.args.caller c.args.action f o may.act (increasing_in c.self.inside c.self.invariant.stands) may.there);
       keeper =
           c.put_down.ensures.keeper
           ∙ ap (λ g. followed (End c.args.action g) (Ended o) c.expire_by-doomed.result c.self.inside.records.keeper) c.end_at-finish.ensures.finish;

@@ -13,9 +13,9 @@ use Rattle.cm_laws.proofs.actions.Tasks.{tasked_changed}
 use Rattle.cm_laws.proofs.sound.Expiries.{tasked_expired}
 use Rattle.cm_steps.specs.Inside.{world_in}
 use Rattle.cm_steps.proofs.steps.Stepping.{one_pushed, kept_rows}
-use Rattle.cm_cache.specs.Beside.{IsTold, goes_some}
+use Rattle.cm_cache.specs.Beside.{IsReported, goes_some}
 use Rattle.cm_cache.proofs.histories.Dooming.{exits_doom}
-use Rattle.cm_steps.proofs.asked.Keepers.{rising_in}
+use Rattle.cm_steps.proofs.asked.Keepers.{increasing_in}
 use Rattle.cm_steps.proofs.realm.Realm.leave.Goals as goal
 
 pub invariant_of-self-2 : goal.invariant_of-self-2
@@ -42,8 +42,8 @@ invariant_of-self-2 c =
       doomed = c.expire-doomed.result;
       unasked = refl;
       told =
-          subst (IsTold w e) (sym (c.expire-doomed.ensures.goes ∙ ap (λ (t : Tree). goes_some t.rows c.args.inc) c.set_on.ensures))
-          (exits_doom w c.args.caller c.args.inc c.in_ok-kept.kept (rising_in c.self.inside c.self.invariant.stands));
+          subst (IsReported w e) (sym (c.expire-doomed.ensures.goes ∙ ap (λ (t : Tree). goes_some t.rows c.args.inc) c.set_on.ensures))
+          (exits_doom w c.args.caller c.args.inc c.in_ok-kept.kept (increasing_in c.self.inside c.self.invariant.stands));
       keeper = c.put_down.ensures.keeper;
       plan = c.put_down.ensures.plan;
     })

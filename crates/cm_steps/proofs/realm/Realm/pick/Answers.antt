@@ -3,7 +3,7 @@ use Rattle.cm_world.specs.World.{World}
 use Rattle.cm_world.specs.Step.{may_close}
 use Rattle.cm_laws.specs.Story.{world_of}
 use Rattle.cm_steps.specs.Inside.{world_in}
-use Rattle.cm_steps.specs.Answers.{AnswersPick, PicksBy}
+use Rattle.cm_steps.specs.Answers.{AnswersPick, PicksOrWaits}
 use Rattle.cm_steps.proofs.steps.Stepping.{sound_in}
 use Rattle.cm_steps.proofs.actions.Waits.{picks_by}
 use Rattle.cm_steps.proofs.realm.Realm.pick.Goals as goal
@@ -19,6 +19,6 @@ pub pick_by-requires-clause-answer : goal.pick_by-requires-clause-answer
 pick_by-requires-clause-answer c =
     let w : World = world_in c.self.inside in
     let next : c.next_action-next.result ≡ w.next_action = c.next_action-next.ensures ∙ ap (λ xs. length xs + 1) c.as_slice.ensures.value in
-    subst (λ v. PicksBy v c.args.target c.in_ok-answer.answer) (sym c.self.invariant.stands.world)
+    subst (λ v. PicksOrWaits v c.args.target c.in_ok-answer.answer) (sym c.self.invariant.stands.world)
     (picks_by w c.args.target c.in_ok-answer.answer c.self.invariant.tasks
     (subst (λ n. AnswersPick w.rows n c.args.target c.in_ok-answer.answer) next c.in_ok-answer.ensures.answer))

@@ -2,10 +2,10 @@ use Rattle.std.proofs.Common.{◌≡◌, ◌+◌, sym, ◌∙◌, ap, subst, len
 use Rattle.cm_world.specs.World.{World}
 use Rattle.cm_world.specs.Step.{may_close}
 use Rattle.cm_world.specs.declared.event.Event.TheVariants.{Pick}
-use Rattle.cm_laws.specs.Story.{Story, Tells, world_of}
-use Rattle.cm_steps.specs.Steps.{Refuses, WaitsToPick}
+use Rattle.cm_laws.specs.Story.{Story, AddsEntry, world_of}
+use Rattle.cm_steps.specs.Steps.{RefusesStep, WaitsToPick}
 use Rattle.cm_steps.specs.Inside.{world_in}
-use Rattle.cm_steps.specs.Answers.{AnswersPick, PicksBy}
+use Rattle.cm_steps.specs.Answers.{AnswersPick, PicksOrWaits}
 use Rattle.cm_steps.proofs.steps.Stepping.{sound_in}
 use Rattle.cm_steps.proofs.actions.Waits.{picks_by}
 use Rattle.cm_steps.proofs.actions.Chosen.{this_some, chosen_can, never_busy}
@@ -23,7 +23,7 @@ this_answer-requires c = record {
 pub returns-in-Ok-clause-some : goal.returns-in-Ok-clause-some
 returns-in-Ok-clause-some c =
     let it = this_some (AnswersThis c.self.inside.table.rows c.next_action-next.result c.args.target c.args.inc) c.in_ok-found.found c.in-Some.answer c.in-Some.is c.in_ok-found.ensures.some in
-    record { step = subst (λ (s : Story). Tells s c.pick_by.new.self c.args.caller (Pick c.args.target) c.in-Ok.reply) c.self.view_is c.in-Ok.ensures.step; this = c.in-Ok.ensures.chosen c.args.inc it.this }
+    record { step = subst (λ (s : Story). AddsEntry s c.pick_by.new.self c.args.caller (Pick c.args.target) c.in-Ok.reply) c.self.view_is c.in-Ok.ensures.step; this = c.in-Ok.ensures.chosen c.args.inc it.this }
 
 pub returns-in-Err-clause-refused : goal.returns-in-Err-clause-refused
 returns-in-Err-clause-refused c =
@@ -34,4 +34,4 @@ returns-in-Err-clause-refused c =
     let can = chosen_can w c.args.target c.args.inc c.in-Some.answer picks it.this in
     let same : world_of c.args.self.now ≡ w = ap world_of (sym c.self.view_is) ∙ c.self.invariant.stands.world in
     never_busy c.args.self.now c.args.target c.in-Err.fault (subst (λ (v : World). CanPick v.rows c.args.target) (sym same) can)
-    (subst (λ (s : Story). Refuses s 2 (WaitsToPick (world_of s) c.args.target) c.in-Err.fault) c.self.view_is c.in-Err.ensures.refused)
+    (subst (λ (s : Story). RefusesStep s 2 (WaitsToPick (world_of s) c.args.target) c.in-Err.fault) c.self.view_is c.in-Err.ensures.refused)

@@ -1,7 +1,8 @@
 use Rattle.std.proofs.Common.{◌≡◌, Some, sym, ◌∙◌}
 use Rattle.cm_world.specs.declared.row.Row.{Row}
 use Rattle.cm_world.specs.declared.reply.Reply.TheVariants.{Shown}
-use Rattle.cm_world.specs.Rows.{row_of, facts_of}
+use Rattle.cm_world.specs.Rows.{row_of}
+use Rattle.cm_world.specs.RowsInside.{facts_of}
 use Rattle.cm_world.specs.Reports.{look_at, show_reply}
 use Rattle.cm_walk.proofs.ways.Up.{Told, told}
 use Rattle.cm_steps.proofs.read.Reading.{if_ok, shown_as}

@@ -7,4 +7,4 @@ use Rattle.cm_steps.proofs.replies.telling.told_below.Given as goal
 abbrev pub invariant-loop-inc : goal.invariant-loop-inc
 invariant-loop-inc g l =
     let rows = l.table.rows in
-    l.told ≡ filter_map (g.T.Told.told_of rows) (take l.inc-index (subtree rows l.top))
+    l.told ≡ filter_map (g.T.Reportable.told_of rows) (take l.inc-index (subtree rows l.top))

@@ -4,7 +4,7 @@ use Rattle.std.proofs.lemmas.List.{length-map}
 use Rattle.cm_world.specs.Rows.{child_of}
 use Rattle.cm_world.specs.End.{child_row, child_rows}
 use Rattle.cm_table.specs.Ready.{Ready}
-use Rattle.cm_table.specs.Keys.{Each}
+use Rattle.cm_table.specs.Keys.{EachItem}
 use Rattle.cm_table.specs.Slots.{rows_in}
 use Rattle.cm_table.specs.Numbering.{IsBare}
 use Rattle.cm_table.proofs.slots.Numbers.{rows_of_numbered, bare_numbered}
@@ -19,7 +19,7 @@ returns-clause-rows c =
 
 pub returns-clause-bare : goal.returns-clause-bare
 returns-clause-bare c =
-    subst (Each IsBare) (sym c.number_all.ensures) (bare_numbered c.args.parent c.args.first c.self.inside.children.items c.self.invariant.bare)
+    subst (EachItem IsBare) (sym c.number_all.ensures) (bare_numbered c.args.parent c.args.first c.self.inside.children.items c.self.invariant.bare)
 
 pub returns-clause-kids : goal.returns-clause-kids
 returns-clause-kids c =

@@ -5,7 +5,7 @@ use Rattle.cm_world.specs.World.{new_row}
 use Rattle.cm_world.specs.Sound.{IsOrderly}
 use Rattle.cm_table.specs.declared.slot.Slot.{Slot}
 use Rattle.cm_table.specs.Tree.{Tree}
-use Rattle.cm_table.specs.Keys.{Each, EachOf, Rising}
+use Rattle.cm_table.specs.Keys.{EachItem, EachOf, Increasing}
 use Rattle.cm_table.specs.Slots.{inc_of, flat, rows_in, slot_of, base_of, IsIndexed}
 use Rattle.cm_table.specs.Links.{IsLinked, IsSame}
 use Rattle.cm_table.specs.Numbering.{bare_slot}
@@ -17,9 +17,9 @@ use Rattle.cm_table.proofs.indexes.Indexing.{all_same}
 use Rattle.cm_table.proofs.slots.Joining.{parent_found, bases_low, rows_joined, all_joined}
 use Rattle.cm_table.proofs.table.Table.add.Goals as goal
 
-pub link-requires-clause-rising : goal.link-requires-clause-rising
-link-requires-clause-rising c =
-    subst (λ l. Rising inc_of (flat l)) (sym c.room_for.ensures.same) (slots_rise c.self.inside.next_inc (flat c.self.inside.blocks.items) c.self.invariant.orderly.rising)
+pub link-requires-clause-increasing : goal.link-requires-clause-increasing
+link-requires-clause-increasing c =
+    subst (λ l. Increasing inc_of (flat l)) (sym c.room_for.ensures.same) (slots_rise c.self.inside.next_inc (flat c.self.inside.blocks.items) c.self.invariant.orderly.increasing)
 
 pub link-requires-clause-lives : goal.link-requires-clause-lives
 link-requires-clause-lives c =
@@ -28,7 +28,7 @@ link-requires-clause-lives c =
 
 pub link-requires-clause-low : goal.link-requires-clause-low
 link-requires-clause-low c =
-    subst (λ l. Each (λ s. base_of s.index ≤ c.self.inside.next_inc) (flat l)) (sym c.room_for.ensures.same)
+    subst (λ l. EachItem (λ s. base_of s.index ≤ c.self.inside.next_inc) (flat l)) (sym c.room_for.ensures.same)
     (bases_low (flat c.self.inside.blocks.items) (rows_in (flat c.self.inside.blocks.items)) c.self.inside.next_inc c.self.invariant.indexed)
 
 pub push_block-requires-clause-room : goal.push_block-requires-clause-room
@@ -48,7 +48,7 @@ invariant_of-self-in-Err-link c =
       filled = c.link.ensures.filled;
       count = c.self.invariant.count ∙ sym long;
       orderly = subst (λ rs. IsOrderly rs c.self.inside.next_inc) (sym same) c.self.invariant.orderly;
-      indexed = subst (λ rs. Each (IsIndexed rs c.self.inside.next_inc) ts) (sym same) (all_same (rows_in ss) c.self.inside.next_inc ss ts says c.self.invariant.indexed);
+      indexed = subst (λ rs. EachItem (IsIndexed rs c.self.inside.next_inc) ts) (sym same) (all_same (rows_in ss) c.self.inside.next_inc ss ts says c.self.invariant.indexed);
     }
 
 pub returns-in-Err-link-clause-err : goal.returns-in-Err-link-clause-err

@@ -14,8 +14,8 @@ use Rattle.cm_table.proofs.slots.Rowed.{rows_changed, slots_rise}
 use Rattle.cm_table.proofs.indexes.Indexing.{all_changed, each_at}
 use Rattle.cm_table.proofs.table.Table.change.Goals as goal
 
-pub change_in-requires-clause-rising : goal.change_in-requires-clause-rising
-change_in-requires-clause-rising c = slots_rise c.self.inside.next_inc (flat c.self.inside.blocks.items) c.self.invariant.orderly.rising
+pub change_in-requires-clause-increasing : goal.change_in-requires-clause-increasing
+change_in-requires-clause-increasing c = slots_rise c.self.inside.next_inc (flat c.self.inside.blocks.items) c.self.invariant.orderly.increasing
 
 pub invariant_of-self : goal.invariant_of-self
 invariant_of-self c =

@@ -3,8 +3,8 @@ use Rattle.cm_world.specs.declared.row.Row.{Row}
 use Rattle.cm_world.specs.World.{root_row}
 use Rattle.cm_world.specs.Sound.{IsOrderly}
 use Rattle.cm_table.specs.declared.slot.Slot.{Slot}
-use Rattle.cm_table.specs.declared.block.Block.{Block}
-use Rattle.cm_table.specs.Keys.{Each, Filled}
+use Rattle.cm_table.specs.declared.block.RowBlock.{RowBlock}
+use Rattle.cm_table.specs.Keys.{EachItem, Filled}
 use Rattle.cm_table.specs.Slots.{flat, rows_in, slots_in, IsIndexed}
 use Rattle.cm_table.specs.Numbering.{bare_slot}
 use Rattle.cm_table.proofs.tree.First.{flat_first, orderly_first, indexed_first}
@@ -12,8 +12,8 @@ use Rattle.cm_table.proofs.table.Table.new.Goals as goal
 
 pub invariant_of-result : goal.invariant_of-result
 invariant_of-result c =
-    let b : Block = record { slots = c.in_ok-slots.slots } in
-    let bs : List Block = c.push.new.self.items in
+    let b : RowBlock = record { slots = c.in_ok-slots.slots } in
+    let bs : List RowBlock = c.push.new.self.items in
     let first : Slot = bare_slot (root_row c.args.url) in
     let one : bs ≡ b ∷ [] = c.in_ok-push.ensures.items ∙ ap (λ l. l ++ b ∷ []) c.new-blocks.ensures.items in
     let own : slots_in b ≡ first ∷ [] = c.in_ok-slots.ensures ∙ ap (λ (r : Row). bare_slot r ∷ []) c.root.ensures in
@@ -24,5 +24,5 @@ invariant_of-result c =
       filled = subst (Filled slots_in) (sym one) (subst (λ (l : List Slot). 0 < length l) (sym own) (omega arith), tt);
       count = sym (ap length to);
       orderly = subst (λ (l : List Slot). IsOrderly (rows_in l) 1) (sym to) (orderly_first c.args.url);
-      indexed = subst (λ (l : List Slot). Each (IsIndexed (rows_in l) 1) l) (sym to) (indexed_first c.args.url);
+      indexed = subst (λ (l : List Slot). EachItem (IsIndexed (rows_in l) 1) l) (sym to) (indexed_first c.args.url);
     }

@@ -4,7 +4,7 @@ use Rattle.cm_world.specs.Rows.{row_of}
 use Rattle.cm_world.specs.Sound.{IsOrderly}
 use Rattle.cm_table.specs.declared.slot.Slot.{Slot}
 use Rattle.cm_table.specs.Tree.{Tree}
-use Rattle.cm_table.specs.Keys.{Rising}
+use Rattle.cm_table.specs.Keys.{Increasing}
 use Rattle.cm_table.specs.Slots.{inc_of, flat, rows_in, slot_of}
 use Rattle.cm_table.specs.Leaf.{IsLeaf}
 use Rattle.cm_table.proofs.lists.Drops.{length-drop_first}
@@ -15,15 +15,15 @@ use Rattle.cm_table.proofs.indexes.Indexing.{all_gone, each_at}
 use Rattle.cm_table.proofs.tree.Removing.{parent_by_slots}
 use Rattle.cm_table.proofs.table.Table.remove_leaf.Goals as goal
 
-pub parent_in-parent-requires-clause-rising : goal.parent_in-parent-requires-clause-rising
-parent_in-parent-requires-clause-rising c =
-    subst (λ l. Rising inc_of (flat l)) (sym c.as_slice.ensures.value) (slots_rise c.self.inside.next_inc (flat c.self.inside.blocks.items) c.self.invariant.orderly.rising)
+pub parent_in-parent-requires-clause-increasing : goal.parent_in-parent-requires-clause-increasing
+parent_in-parent-requires-clause-increasing c =
+    subst (λ l. Increasing inc_of (flat l)) (sym c.as_slice.ensures.value) (slots_rise c.self.inside.next_inc (flat c.self.inside.blocks.items) c.self.invariant.orderly.increasing)
 
 pub unlink-requires-clause-orderly : goal.unlink-requires-clause-orderly
 unlink-requires-clause-orderly c = record { next = c.self.inside.next_inc; orderly = c.self.invariant.orderly; indexed = c.self.invariant.indexed }
 
-pub remove_in-requires-clause-rising : goal.remove_in-requires-clause-rising
-remove_in-requires-clause-rising c = unlinked_rise true c.args.leaf c.self.inside.next_inc (flat c.self.inside.blocks.items) (flat c.unlink.new.blocks.items) c.self.invariant.orderly.rising c.unlink.ensures.links
+pub remove_in-requires-clause-increasing : goal.remove_in-requires-clause-increasing
+remove_in-requires-clause-increasing c = unlinked_rise true c.args.leaf c.self.inside.next_inc (flat c.self.inside.blocks.items) (flat c.unlink.new.blocks.items) c.self.invariant.orderly.increasing c.unlink.ensures.links
 
 pub invariant_of-self : goal.invariant_of-self
 invariant_of-self c =

@@ -18,8 +18,8 @@ use Rattle.cm_table.proofs.table.Table.set_doomed.Goals as goal
 pub unlink-requires-clause-orderly : goal.unlink-requires-clause-orderly
 unlink-requires-clause-orderly c = record { next = c.self.inside.next_inc; orderly = c.self.invariant.orderly; indexed = c.self.invariant.indexed }
 
-pub change_in-requires-clause-rising : goal.change_in-requires-clause-rising
-change_in-requires-clause-rising c = unlinked_rise false c.args.inc c.self.inside.next_inc (flat c.self.inside.blocks.items) (flat c.unlink.new.blocks.items) c.self.invariant.orderly.rising c.unlink.ensures.links
+pub change_in-requires-clause-increasing : goal.change_in-requires-clause-increasing
+change_in-requires-clause-increasing c = unlinked_rise false c.args.inc c.self.inside.next_inc (flat c.self.inside.blocks.items) (flat c.unlink.new.blocks.items) c.self.invariant.orderly.increasing c.unlink.ensures.links
 
 pub invariant_of-self : goal.invariant_of-self
 invariant_of-self c =

@@ -3,15 +3,15 @@ use Rattle.std.specs.Prelude.{option_map, IfSome}
 use Rattle.cm_world.specs.Rows.{row_of}
 use Rattle.cm_table.specs.declared.slot.Slot.{Slot}
 use Rattle.cm_table.specs.Tree.{Tree}
-use Rattle.cm_table.specs.Keys.{Rising}
+use Rattle.cm_table.specs.Keys.{Increasing}
 use Rattle.cm_table.specs.Slots.{inc_of, flat, rows_in, slot_of, IsIndexed}
 use Rattle.cm_table.proofs.slots.Rowed.{row_of-slots, slots_rise}
 use Rattle.cm_table.proofs.indexes.Told.{if_found}
 use Rattle.cm_table.proofs.table.Table.slot.Goals as goal
 
-pub slot_in-requires-clause-rising : goal.slot_in-requires-clause-rising
-slot_in-requires-clause-rising c =
-    subst (λ l. Rising inc_of (flat l)) (sym c.as_slice.ensures.value) (slots_rise c.self.inside.next_inc (flat c.self.inside.blocks.items) c.self.invariant.orderly.rising)
+pub slot_in-requires-clause-increasing : goal.slot_in-requires-clause-increasing
+slot_in-requires-clause-increasing c =
+    subst (λ l. Increasing inc_of (flat l)) (sym c.as_slice.ensures.value) (slots_rise c.self.inside.next_inc (flat c.self.inside.blocks.items) c.self.invariant.orderly.increasing)
 
 pub returns-clause-row : goal.returns-clause-row
 returns-clause-row c =

@@ -7,7 +7,7 @@ use Rattle.cm_world.specs.Sound.{IsOrderly}
 use Rattle.cm_table.specs.declared.slot.Slot.{Slot}
 use Rattle.cm_table.specs.declared.change.Change.TheVariants.{Resolve}
 use Rattle.cm_table.specs.Tree.{Tree}
-use Rattle.cm_table.specs.Keys.{Each}
+use Rattle.cm_table.specs.Keys.{EachItem}
 use Rattle.cm_table.specs.Slots.{flat, rows_in, inc_of, with_row_by, IsIndexed}
 use Rattle.cm_table.specs.Change.{change_row, resolved}
 use Rattle.cm_table.proofs.lists.Editing.{edited}
@@ -17,11 +17,11 @@ use Rattle.cm_table.proofs.tree.Resolving.{IsTaken, taken_rows, rows_taken, mid_
 use Rattle.cm_table.proofs.lists.Fitting.{fit_below, fit_within}
 use Rattle.cm_table.proofs.table.Table.take.Goals as goal
 
-pub change_in-requires-clause-rising : goal.change_in-requires-clause-rising
-change_in-requires-clause-rising c = slots_rise c.self.inside.next_inc (flat c.self.inside.blocks.items) c.self.invariant.orderly.rising
+pub change_in-requires-clause-increasing : goal.change_in-requires-clause-increasing
+change_in-requires-clause-increasing c = slots_rise c.self.inside.next_inc (flat c.self.inside.blocks.items) c.self.invariant.orderly.increasing
 
-pub swap_in-requires-clause-rising : goal.swap_in-requires-clause-rising
-swap_in-requires-clause-rising c =
+pub swap_in-requires-clause-increasing : goal.swap_in-requires-clause-increasing
+swap_in-requires-clause-increasing c =
     mid_rises (flat c.self.inside.blocks.items) (flat c.change_in.new.blocks.items) c.args.inc c.self.inside.next_inc c.into_parts-parts.result.absolute c.into_parts-parts.result.decl c.self.invariant.orderly
     (subst IsValid (sym c.into_parts-parts.ensures.decl) c.into_parts-parts.ensures.valid) c.change_in.ensures.slots
 
@@ -54,7 +54,7 @@ invariant_of-self c =
     sym (rows_length ts) ∙ ap length rows ∙ length-taken c.args.inc next a d (rows_in ss) ∙ ap (λ n. n + length d.children) (rows_length ss) in
     let sound : IsOrderly (rows_in ts) (next + length d.children) =
     subst (λ rs. IsOrderly rs (next + length d.children)) (sym rows) (orderly_taken c.args.inc next a d (rows_in ss) c.self.invariant.orderly lives unresolved c.into_parts-parts.ensures.valid) in
-    let indexed : Each (IsIndexed (rows_in ts) (next + length d.children)) ts =
+    let indexed : EachItem (IsIndexed (rows_in ts) (next + length d.children)) ts =
     all_taken ss mid put ts news c.args.inc next a d c.into_parts-parts.result.index t c.self.invariant.orderly lives unresolved c.into_parts-parts.ensures.valid
     (record { base = c.into_parts-parts.ensures.base; kids = c.into_parts-parts.ensures.kids; names = c.into_parts-parts.ensures.names })
     c.into_parts-parts.ensures.rows c.into_parts-parts.ensures.bare c.self.invariant.indexed in
@@ -64,7 +64,7 @@ invariant_of-self c =
       filled = c.push_block.ensures.filled;
       count = omega (arith, c.count-count.ensures, long, c.self.invariant.count);
       orderly = subst (λ n. IsOrderly (rows_in ts) (next + n)) (sym c.count-count.ensures) sound;
-      indexed = subst (λ n. Each (IsIndexed (rows_in ts) (next + n)) ts) (sym c.count-count.ensures) indexed;
+      indexed = subst (λ n. EachItem (IsIndexed (rows_in ts) (next + n)) ts) (sym c.count-count.ensures) indexed;
     }
 
 pub returns-clause-rows : goal.returns-clause-rows

@@ -1,0 +1,105 @@
+#!/usr/bin/env python3
+"""Looks at whether each import of definitions and lemmas leads somewhere.
+
+    .ci/resolves.py
+
+Of each `use Rattle.CRATE...` of a crate of this repository the module has to be a file, a type or a function,
+and each name that it takes a definition, a constructor, a field, a variant or a constant there. A name behind
+a module's alias has to stand in that module. It proves nothing, and takes seconds, so it tells what a
+renaming or a moved definition forgot before a proof begins. What leads nowhere is printed, with status 1.
+"""
+
+import pathlib
+import re
+import sys
+
+import house
+
+TOP = pathlib.Path(__file__).resolve().parent.parent
+# The modules that the prover makes of a function, a type or a loop.
+MADE = {"Goals", "Given", "TheVariants", "TheConstants", "TheInside", "TheOwn", "Inside"}
+
+
+def names_of(path):
+    """All that a file of .antt defines: definitions, and what is indented with a type, as fields are."""
+    text = path.read_text(encoding="utf-8")
+    found = {it.name for it in house.definitions_in(text, "", "")}
+    found |= set(re.findall(r"^\s+(?:pub )?([^\s:(){}]+)(?: [^\n]*?)? : ", text, re.M))
+    found |= set(re.findall(r"^\s+(?:pub )?([^\s:(){}|]+)(?: \([^\n]*)?$", text, re.M))
+    for _, names, _, _, _ in house.imports_in(text):
+        found |= set(names)
+    return found
+
+
+class Places:
+    """Where names may lead: the modules of definitions and lemmas, and the words of the sources."""
+
+    def __init__(self):
+        self.crates = house.crates_of(TOP)
+        self.modules, self.texts = {}, {}
+        for part in ("specs", "proofs"):
+            for crate, path, module in house.antt_files(TOP, part):
+                self.modules[crate, module] = names_of(path)
+                self.texts[crate, module] = path.read_text(encoding="utf-8")
+        self.words = {crate: words_of(TOP / "crates" / crate / "src") for crate in self.crates}
+
+    def is_made(self, crate, name):
+        """Whether a name is of the sources, or of a type and a trait behind it, or the prover's own."""
+        words = self.words[crate]
+        pairs = (name[:n] in words and name[n:] in words for n in range(1, len(name)))
+        return name in words or name in MADE or name in ("declared", "laws") or any(pairs)
+
+    def lost(self, parts, names):
+        """The names of an import that lead nowhere. What a goal is called isn't looked at."""
+        crate = parts[1]
+        ends = (n for n in range(len(parts), 2, -1) if (crate, ".".join(parts[2:n])) in self.modules)
+        end = next(ends, None)
+        if end is None or parts[3:4] == ["declared"]:
+            is_goal = parts[2] == "proofs" and not MADE.isdisjoint(parts)
+            return [it for it in [*parts[3:], *([] if is_goal else names)] if not self.is_made(crate, it)]
+        have = self.modules[crate, ".".join(parts[2:end])]
+        return [it for it in [*parts[end:], *names] if it not in have]
+
+    def lost_by_alias(self, text, parts, alias):
+        """The names behind a module's alias that don't stand in the module."""
+        there = self.texts.get((parts[1], ".".join(parts[2:])))
+        if there is None:
+            return []
+        said = re.findall(rf"(?<![\w.]){re.escape(alias)}\.([^\W\d]\w*'*)", text)
+        return [it for it in sorted(set(said)) if not re.search(rf"(?<!\w){re.escape(it)}(?!\w)", there)]
+
+
+def words_of(folder):
+    """The names of a crate's sources, and those of its files."""
+    found = set()
+    for path in folder.rglob("*.rt"):
+        text = house.without_comments(path.read_text(encoding="utf-8"), False)
+        found |= {path.stem, *house.NAME.findall(text)}
+    return found
+
+
+def main():
+    places = Places()
+    lost, looked = [], 0
+    for path in sorted((TOP / "crates").rglob("*")):
+        if path.suffix not in (".rt", ".antt") or "out" in path.relative_to(TOP).parts:
+            continue
+        text = path.read_text(encoding="utf-8")
+        bare = house.without_comments(text, path.suffix == ".antt")
+        for there, names, alias, _, _ in house.imports_in(text):
+            parts = there.split(".")
+            if parts[0] != "Rattle" or len(parts) < 3 or parts[1] not in places.crates:
+                continue
+            looked += 1
+            missing = places.lost(parts, list(names.values()))
+            if not names:
+                missing += places.lost_by_alias(bare, parts, alias or parts[-1])
+            lost += [f"{path.relative_to(TOP)}: {there}: nothing is called {it}" for it in missing]
+    for it in lost:
+        print(f"resolves: {it}")
+    print(f"resolves: {looked} imports, {len(lost)} names that lead nowhere")
+    sys.exit(1 if lost else 0)
+
+
+if __name__ == "__main__":
+    main()

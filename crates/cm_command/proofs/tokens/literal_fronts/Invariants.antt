@@ -1,8 +1,0 @@
-use Rattle.std.proofs.Common.{take, map}
-use Rattle.std.specs.List.{Contains}
-use Rattle.cm_command.specs.Counts.{CountsFronts}
-use Rattle.cm_command.proofs.tokens.literal_fronts.Given as goal
-
--- the count of the literals so far
-abbrev pub invariant-loop-literal : goal.invariant-loop-literal
-invariant-loop-literal l = CountsFronts (Contains (take l.literal-index (map (λ x. x.now) l.literals))) l.word l.fronts

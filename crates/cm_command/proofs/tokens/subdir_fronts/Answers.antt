@@ -1,5 +1,0 @@
-use Rattle.cm_command.proofs.counts.PathCounts.{subdir_counts}
-use Rattle.cm_command.proofs.tokens.subdir_fronts.Goals as goal
-
-pub returns : goal.returns
-returns c = subdir_counts c.args.word.now c.part_fronts.result c.part_fronts.ensures

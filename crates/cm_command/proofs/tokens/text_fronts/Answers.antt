@@ -1,7 +1,0 @@
-use Rattle.std.proofs.Common.{rules}
-use Rattle.cm_command.proofs.counts.KindLemmas.{counts_literal}
-use Rattle.cm_command.proofs.tokens.text_fronts.Goals as goal
-
-pub returns : goal.returns
-returns c =
-    counts_literal c.args.literal.now c.args.word.now c.common_len.result (search rules) (search rules) (search rules) (search rules)

@@ -1,0 +1,31 @@
+-- Promised.
+-- Graphs with a node that stands for the component itself, and which node depends on which.
+use Rattle.std.specs.Prelude.{◌≡◌, ◌≢◌, Bool, IsTrue, ◌⊎◌}
+use Rattle.cm_decl.specs.Reach.{Reaches, NoCycle}
+
+-- a graph: the node of the component itself, which nodes it has, and its strong edges
+pub record RealmGraph (N : Type 0) : Type 0 where
+  pub own : N
+  pub has : N → Bool
+  pub edge : N → N → Bool
+
+-- a strong edge: the first strongly depends on the second
+abbrev pub Strong : {N : Type 0} → RealmGraph N → N → N → Type 0
+Strong r x y = IsTrue (r.edge x y)
+
+-- an implied edge: where there is no cycle, each child on which the component doesn't depend
+-- depends on the component
+pub record IsImplied {N : Type 0} (r : RealmGraph N) (x y : N) : Type 0 where
+  pub acyclic : NoCycle (Strong r)
+  pub node : IsTrue (r.has x)
+  pub child : x ≢ r.own
+  pub apart : Reaches (Strong r) r.own x → ⊥
+  pub own : y ≡ r.own
+
+-- the first depends directly on the second
+abbrev pub Directly : {N : Type 0} → RealmGraph N → N → N → Type 0
+Directly r x y = Strong r x y ⊎ IsImplied r x y
+
+-- the first depends on the second, directly or through others
+abbrev pub Depends : {N : Type 0} → RealmGraph N → N → N → Type 0
+Depends r x y = Reaches (Directly r) x y

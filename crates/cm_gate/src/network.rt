@@ -1,0 +1,83 @@
+//! Networks, over which a connection is made to who listens at a place.
+
+ghost use Rattle.std.specs.Prelude.{IfOk, take};
+ghost use Rattle.std.specs.Io.{ReadsAtMost};
+
+use cm_io::standard::read_through;
+use std::io;
+use std::io::Write;
+use std::net::Net;
+use std::os::unix::net::UnixStream;
+use std::time::Duration;
+
+/// How many seconds each read and each write may wait. A runner that stops a program gives it less.
+const PATIENCE: u64 = 30;
+
+/// A connection to who listened at a place.
+pub trait Connection: Drop {
+    ghost use Rattle.std.specs.Prelude.{ℕ, List};
+
+    /// All these bytes were written, from where the connection stood to where it stands now.
+    ghost wrote: { Self → List ℕ → Self → Type 0 };
+
+    /// These bytes were read, from where the connection stood to where it stands now.
+    ghost gave: { Self → List ℕ → Self → Type 0 };
+
+    /// Writes all these bytes.
+    fn send(&mut self, bytes: &[u8]) -> io::Result<()>
+        ensures wrote { IfOk result (λ _. wrote self.old bytes.now self.new) };
+
+    /// Reads the next bytes, as many as come at once and fit.
+    fn receive(&mut self, into: &mut [u8]) -> io::Result<usize>
+        ensures bound { ReadsAtMost result into.new }
+        ensures gave { IfOk result (λ count. gave self.old (take count into.new) self.new) };
+}
+
+/// Where connections are made to who listens at a place.
+///
+/// Each system that may open sockets is such a network, by Unix sockets, and says nothing of who
+/// listens where, or of what is said.
+pub trait Network {
+    ghost use Rattle.std.specs.Prelude.{ℕ, List};
+
+    /// A connection that was made.
+    type Connection: Connection;
+
+    /// A connection was made to who listens at a place of this network, and nothing was said yet.
+    ghost connected: { Self → List ℕ → Self.Connection → Type 0 };
+
+    /// Makes a connection to who listens at a place.
+    fn connect_to(&self, place: &str) -> io::Result<Self::Connection>
+        ensures { IfOk result (λ connection. connected self.now place.now connection) };
+}
+
+impl Connection for UnixStream {
+    ghost use Rattle.std.specs.Prelude.{⊤};
+
+    ghost wrote = { λ _ _ _. ⊤ };
+
+    ghost gave = { λ _ _ _. ⊤ };
+
+    fn send(&mut self, bytes: &[u8]) -> io::Result<()> {
+        self.write_all(bytes)
+    }
+
+    fn receive(&mut self, into: &mut [u8]) -> io::Result<usize> {
+        read_through(self, into)
+    }
+}
+
+impl<N: Net> Network for N {
+    ghost use Rattle.std.specs.Prelude.{⊤};
+
+    type Connection = UnixStream;
+
+    ghost connected = { λ _ _ _. ⊤ };
+
+    fn connect_to(&self, place: &str) -> io::Result<UnixStream> {
+        let stream = UnixStream::connect(self, place)?;
+        stream.set_read_timeout(Some(Duration::from_secs(PATIENCE)))?;
+        stream.set_write_timeout(Some(Duration::from_secs(PATIENCE)))?;
+        Ok(stream)
+    }
+}

@@ -1,0 +1,12 @@
+-- Inside.
+-- Clients stop before what they depend on.
+use Rattle.std.specs.Prelude.{List}
+use Rattle.cm_world.specs.declared.frame.Frame.{Frame}
+use Rattle.cm_world.specs.declared.reply.Entry.{Entry}
+use Rattle.cm_world.specs.World.{start}
+use Rattle.cm_world.specs.Legal.{Legal}
+use Rattle.cm_laws.specs.Clients.{PicksClientsFirst}
+
+-- in every legal history clients stop before what they depend on
+abbrev pub ClientsStopFirst : Type 0
+ClientsStopFirst = (f : Frame) (es : List Entry) → Legal (start f) es → PicksClientsFirst f es

@@ -1,0 +1,3 @@
+pub mod Prefixes
+pub mod MonikerPrefixes
+pub mod MonikerGrammar

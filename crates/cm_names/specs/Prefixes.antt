@@ -1,0 +1,13 @@
+-- Promised.
+-- How far a text can still become a text of some kind.
+use Rattle.std.specs.Prelude.{ℕ, ◌+◌, ◌<◌, ◌≤◌, List, ◌++◌, length, take}
+
+-- some text of the kind begins with it
+abbrev pub HasCompletion : (List ℕ → Type 0) → List ℕ → Type 0
+HasCompletion P t = (rest : List ℕ) × P (t ++ rest)
+
+-- n bytes are the longest prefix of the text that some text of the kind begins with
+pub record IsLongestPrefix (P : List ℕ → Type 0) (t : List ℕ) (n : ℕ) : Type 0 where
+  pub within : n ≤ length t
+  pub begins : HasCompletion P (take n t)
+  pub stops : n < length t → HasCompletion P (take (n + 1) t) → ⊥

@@ -1,1 +1,0 @@
-use Rattle.cm_reply.proofs.reading.read_front.Goals as goal

@@ -1,0 +1,1 @@
+use Rattle.cm_reply.proofs.reading.read_prefix.Goals as goal

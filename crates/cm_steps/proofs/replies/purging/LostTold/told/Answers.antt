@@ -1,6 +1,0 @@
-use Rattle.cm_steps.proofs.expiries.Removing.{is_lost}
-use Rattle.cm_steps.proofs.replies.purging.LostTold.told.Goals as goal
-
-pub returns : goal.returns
-returns c = λ r lives.
-    is_lost c.args.table.now.rows c.args.inc c.in_ok-moniker.moniker r c.in_ok-moniker.ensures lives

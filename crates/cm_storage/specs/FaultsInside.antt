@@ -1,0 +1,18 @@
+-- Inside.
+-- The faults of storage in a declaration.
+use Rattle.cm_decl.specs.declared.decl.Decl.{Decl}
+use Rattle.cm_decl.specs.declared.storage.Storage.{Storage}
+use Rattle.cm_decl.specs.Breaks.{passes_at}
+use Rattle.cm_env.specs.First.{rule}
+use Rattle.cm_env.specs.FirstInside.{IsFirstAt}
+use Rattle.cm_env.specs.First as first
+use Rattle.cm_env.specs.Repeats.{repeats_at}
+use Rattle.cm_storage.specs.declared.check.Found.{Found}
+use Rattle.cm_storage.specs.Faults.{is_from_nobody, is_to_nobody, is_of_nothing}
+
+-- each was found at the first row that breaks its rule
+pub record StorageFaultsFound (d : Decl) (f : Found) : Type 0 where
+  pub repeated : IsFirstAt (repeats_at (λ (s : Storage). s.name) d.storages) f.repeated
+  pub source : IsFirstAt (passes_at (is_from_nobody d) d.storages) f.source
+  pub target : IsFirstAt (passes_at (is_to_nobody d) d.storage_offers) f.target
+  pub storage : IsFirstAt (passes_at (is_of_nothing d) d.storage_offers) f.storage
